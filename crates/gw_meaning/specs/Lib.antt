@@ -1,0 +1,12 @@
+pub mod Statements
+pub mod Listing
+pub mod Machine
+pub mod Questions
+pub mod Changes
+pub mod Step
+pub mod Point
+pub use Rattle.gw_nums.specs.Range
+pub use Rattle.gw_expr.specs.Term
+pub use Rattle.gw_expr.specs.Stops
+pub use Rattle.gw_names.specs.Words
+pub use Rattle.gw_names.specs.Names

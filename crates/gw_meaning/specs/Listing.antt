@@ -1,0 +1,135 @@
+-- What a version says: its statements in order with the numbers of their own, the horizon, the replications and the
+-- step limit; and what it answers when it is asked for a block, a command or a label. (Manual: blocks and commands in
+-- order. Our own: numbers, replications and the step limit.)
+use Rattle.std.specs.Prelude.{ℕ, zero, suc, ◌+◌, Bool, true, false, ◌==◌, ◌&&◌, List, [], ◌∷◌, Option, Some, None, is_some, if◌then◌else◌, option_and_then, option_map, filter, length, slice_get}
+use Rattle.std.specs.List.{filter_map}
+use Rattle.std.specs.Str.{bytes_eq}
+use Rattle.gw_meaning.specs.declared.statement.Block.{Block}
+use Rattle.gw_meaning.specs.declared.statement.Block.TheVariants as blocks
+use Rattle.gw_meaning.specs.declared.statement.Command.{Command}
+use Rattle.gw_meaning.specs.declared.statement.Command.TheVariants as commands
+use Rattle.gw_meaning.specs.declared.statement.Body.{Body}
+use Rattle.gw_meaning.specs.declared.statement.Body.TheVariants as bodies
+use Rattle.gw_meaning.specs.declared.statement.Statement.{Statement}
+use Rattle.gw_meaning.specs.declared.statement.Numbered.{Numbered}
+use Rattle.gw_meaning.specs.declared.statement.Replication.{Replication}
+
+-- a version
+pub record Listing : Type 0 where
+  pub lines : List Numbered
+  pub horizon : ℕ
+  pub replications : List Replication
+  pub limit : ℕ
+
+-- the block that a statement is, if it is one
+abbrev pub block_of_body : Body → Option Block
+block_of_body (bodies.Block block) = Some block
+block_of_body (bodies.Command command) = None
+
+abbrev pub block_of : Numbered → Option Block
+block_of line = block_of_body line.statement.body
+
+abbrev pub is_block : Numbered → Bool
+is_block line = is_some (block_of line)
+
+-- the command that a statement is, if it is one
+abbrev pub command_of_body : Body → Option Command
+command_of_body (bodies.Block block) = None
+command_of_body (bodies.Command command) = Some command
+
+abbrev pub command_of : Numbered → Option Command
+command_of line = command_of_body line.statement.body
+
+-- whether a statement is a GENERATE
+abbrev pub is_generate_body : Body → Bool
+is_generate_body (bodies.Block (blocks.Generate mean offset limit priority)) = true
+is_generate_body (bodies.Block (blocks.Advance time)) = false
+is_generate_body (bodies.Block (blocks.Terminate count)) = false
+is_generate_body (bodies.Command command) = false
+
+abbrev pub is_generate : Numbered → Bool
+is_generate line = is_generate_body line.statement.body
+
+-- the statement with this number
+abbrev pub line_in : List Numbered → ℕ → Option Numbered
+line_in [] number = None
+line_in (line ∷ lines) number = if line.number == number then Some line else line_in lines number
+
+-- the number of the first block
+abbrev pub first_block : List Numbered → Option ℕ
+first_block [] = None
+first_block (line ∷ lines) = if is_block line then Some line.number else first_block lines
+
+-- the number of the block after the statement with this number
+abbrev pub after_in : List Numbered → ℕ → Option ℕ
+after_in [] number = None
+after_in (line ∷ lines) number = if line.number == number then first_block lines else after_in lines number
+
+-- the position among the blocks, behind `before` of them, of the block with this number
+abbrev pub position_in : ℕ → List Numbered → ℕ → Option ℕ
+position_in before [] number = None
+position_in before (line ∷ lines) number =
+    if line.number == number then (if is_block line then Some (before + 1) else None) else position_in (if is_block line then before + 1 else before) lines number
+
+-- whether a statement has this label
+abbrev pub has_label : List ℕ → Option (List ℕ) → Bool
+has_label name None = false
+has_label name (Some label) = bytes_eq label name
+
+-- the number of the block with this label
+abbrev pub labelled_in : List ℕ → List Numbered → Option ℕ
+labelled_in name [] = None
+labelled_in name (line ∷ lines) = if is_block line && has_label name line.statement.label then Some line.number else labelled_in name lines
+
+-- the numbers of the GENERATEs, in order
+abbrev pub generates_in : List Numbered → List ℕ
+generates_in [] = []
+generates_in (line ∷ lines) = if is_generate line then line.number ∷ generates_in lines else generates_in lines
+
+-- the i-th, from 1
+abbrev pub nth : {X : Type 0} → List X → ℕ → Option X
+nth xs zero = None
+nth xs (suc i) = slice_get xs i
+
+-- what a version answers: the block with a number
+abbrev pub block_at : Listing → ℕ → Option Block
+block_at t number = option_and_then block_of (line_in t.lines number)
+
+-- the number of the block after the block with a number
+abbrev pub after_at : Listing → ℕ → Option ℕ
+after_at t number = after_in t.lines number
+
+-- the position of the block with a number, from 1
+abbrev pub position_at : Listing → ℕ → Option ℕ
+position_at t number = position_in 0 t.lines number
+
+-- the number of the block with a label
+abbrev pub label_at : Listing → List ℕ → Option ℕ
+label_at t name = labelled_in name t.lines
+
+-- the i-th statement
+abbrev pub statement_at : Listing → ℕ → Option Statement
+statement_at t i = option_map (λ (l : Numbered). l.statement) (nth t.lines i)
+
+-- the i-th command
+abbrev pub command_at : Listing → ℕ → Option Command
+command_at t i = nth (filter_map command_of t.lines) i
+
+-- the i-th replication, in the order of adding
+abbrev pub replication_at : Listing → ℕ → Option Replication
+replication_at t i = nth t.replications i
+
+-- the seed of the replication with a number
+abbrev pub seed_in : List Replication → ℕ → Option ℕ
+seed_in [] number = None
+seed_in (r ∷ rs) number = if r.number == number then Some r.seed else seed_in rs number
+
+abbrev pub seed_at : Listing → ℕ → Option ℕ
+seed_at t number = seed_in t.replications number
+
+-- how many STARTs there are
+abbrev pub is_start : Command → Bool
+is_start (commands.Start count) = true
+
+abbrev pub starts : Listing → ℕ
+starts t = length (filter is_start (filter_map command_of t.lines))

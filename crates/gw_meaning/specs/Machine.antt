@@ -1,0 +1,65 @@
+-- The state of a run: both clocks, the termination count, what is done, the chains and the counts of the blocks.
+-- (Manual; that RESET's clock is kept as a moment is our own.)
+use Rattle.std.specs.Prelude.{ℕ, ◌+◌, ◌-◌, ◌^◌, Bool, false, ◌==◌, List, [], ◌∷◌, Option, Some, None, if◌then◌else◌, min, length}
+use Rattle.gw_meaning.specs.declared.transaction.Transaction.{Transaction}
+use Rattle.gw_meaning.specs.declared.transaction.Event.{Event}
+use Rattle.gw_meaning.specs.declared.transaction.Count.{Count}
+
+pub record Machine : Type 0 where
+  -- the absolute clock
+  pub clock : ℕ
+  -- the absolute clock at the last RESET or CLEAR: the relative clock counts from there
+  pub since : ℕ
+  -- what is left of the termination count of the START under way; 0 where none is under way
+  pub remaining : ℕ
+  -- commands done, and STARTs complete
+  pub commands : ℕ
+  pub complete : ℕ
+  -- whether the GENERATEs have their first transactions
+  pub primed : Bool
+  -- the number of the next transaction
+  pub next : ℕ
+  pub active : Option Transaction
+  -- the current chain: by priority, first in first out within
+  pub current : List Transaction
+  -- the future chain, in the order of coming onto it
+  pub future : List Event
+  -- what is counted at each block, in the order of first use
+  pub counts : List (ℕ × Count)
+
+-- the state before the first step
+abbrev pub zero_state : Machine
+zero_state = record { clock = 0; since = 0; remaining = 0; commands = 0; complete = 0; primed = false; next = 1; active = None; current = []; future = []; counts = [] }
+
+-- one more; a count of 64 bits stays at its greatest value, which no run is long enough to reach
+abbrev pub raised : ℕ → ℕ
+raised n = min (n + 1) (2 ^ 64 - 1)
+
+-- a block that nothing entered
+abbrev pub no_count : Count
+no_count = record { entries = 0; content = 0; made = 0 }
+
+-- what is counted at a block
+abbrev pub count_in : List (ℕ × Count) → ℕ → Option Count
+count_in [] place = None
+count_in (c ∷ cs) place = if place == c.0 then Some c.1 else count_in cs place
+
+abbrev pub or_no_count : Option Count → Count
+or_no_count None = no_count
+or_no_count (Some c) = c
+
+abbrev pub count_at : List (ℕ × Count) → ℕ → Count
+count_at counts place = or_no_count (count_in counts place)
+
+-- the counts with one of them set
+abbrev pub with_count : List (ℕ × Count) → ℕ → Count → List (ℕ × Count)
+with_count [] place c = (place, c) ∷ []
+with_count (d ∷ ds) place c = if place == d.0 then (d.0, c) ∷ ds else d ∷ with_count ds place c
+
+-- how many transactions live
+abbrev pub number_of_active : Option Transaction → ℕ
+number_of_active None = 0
+number_of_active (Some x) = 1
+
+abbrev pub live : Machine → ℕ
+live s = number_of_active s.active + length s.current + length s.future

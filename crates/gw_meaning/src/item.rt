@@ -1,0 +1,41 @@
+use gw_expr::Stop;
+use gw_nums::Time;
+
+/// A question that a step may ask of the version and the seed. Blocks go by the numbers of their statements.
+#[derive(Debug, Drop, PartialEq, Eq)]
+pub enum Item {
+    /// Which block is this?
+    Block(u64),
+    /// Which block comes after this one?
+    After(u64),
+    /// Which blocks are GENERATEs?
+    Generates,
+    /// What is the i-th command, from 1?
+    Cmd(u64),
+    /// What is the seed?
+    Seed,
+    /// Does this moment lie within the horizon?
+    Within(Time),
+}
+
+/// Why no step follows.
+#[derive(Clone, Copy, Debug, PartialEq, Eq)]
+pub enum End {
+    /// No command is left.
+    CommandsDone,
+    /// The least future time lies above the horizon.
+    Horizon,
+    /// There is no transaction to move.
+    Dry,
+    /// An attempt or a priming cannot be made.
+    Error(Stop),
+}
+
+/// How the run of a START stands at the point where its report is taken.
+#[derive(Clone, Copy, Debug, PartialEq, Eq)]
+pub enum Outcome {
+    Complete,
+    Horizon,
+    Dry,
+    Error(Stop),
+}

@@ -1,0 +1,19 @@
+//! What the language means: statements, a version's answers, the state, the questions of a step, the run.
+//!
+//! The definitions stand in `specs/`, in this order: Listing (what a version says), Machine (the state),
+//! Questions (what a step may ask, and programs of questions), Changes (what a move does to a state),
+//! Step (which move it is, and the run), Point (where a report is taken). The types here are the plain data
+//! that they speak of.
+#![tactic(auto)]
+
+mod item;
+mod moves;
+mod row;
+mod statement;
+mod transaction;
+
+pub use item::{End, Item, Outcome};
+pub use moves::{Arrival, Move};
+pub use row::Row;
+pub use statement::{Block, Body, Command, Numbered, Replication, Statement};
+pub use transaction::{Count, Event, Transaction};

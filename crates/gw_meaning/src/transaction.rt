@@ -1,0 +1,33 @@
+use gw_nums::{Time, Val};
+
+/// A transaction. Blocks are named by the numbers of their statements.
+#[derive(Clone, Debug, Drop)]
+pub struct Transaction {
+    /// From 1, in the order of making.
+    pub number: u64,
+    pub priority: Val,
+    /// The mark time: the absolute clock at which it entered its GENERATE, and 0 before.
+    pub mark: Time,
+    /// The block that it is in, and 0 before it entered its GENERATE.
+    pub current: u64,
+    /// The block that it goes to next, where that is set; else it goes to the block after the current one.
+    pub destination: Option<u64>,
+}
+
+/// A transaction on the future chain, with the moment at which it moves on.
+#[derive(Clone, Debug, Drop)]
+pub struct Event {
+    pub time: Time,
+    pub transaction: Transaction,
+}
+
+/// What is counted at a block.
+#[derive(Clone, Copy, Debug, PartialEq, Eq)]
+pub struct Count {
+    /// Transactions that entered the block.
+    pub entries: u64,
+    /// Transactions in the block.
+    pub content: u64,
+    /// Of a GENERATE, transactions that it made.
+    pub made: u64,
+}

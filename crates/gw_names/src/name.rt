@@ -1,0 +1,157 @@
+ghost use Rattle.std.specs.Prelude.{◌≡◌, ◌↔◌, IsTrue, IfOk, Some};
+ghost use Rattle.std.specs.Str.{bytes_eq};
+ghost use Rattle.std.specs.List.{list_all};
+ghost use Rattle.gw_names.specs.Names.{name_of, is_name_text, is_name_byte, is_barred};
+ghost use Rattle.gw_names.specs.Words.{upper_of};
+
+use crate::class::is_class;
+use crate::verb::Verb;
+use std::alloc::{AllocError, Global};
+use std::cmp::Ordering;
+use std::marker::Model;
+
+/// A name of a label, an entity or a definition, in upper case: 1 to 200 letters, digits and `_`, first a
+/// letter, and neither a verb nor the class of an attribute.
+#[derive(Debug, Drop)]
+pub struct Name {
+    bytes: Vec<u8>,
+}
+
+impl Model for Name {
+    ghost use Rattle.std.specs.Prelude.{ℕ, List, ◌≡◌, Some};
+    ghost use Rattle.gw_names.specs.Names.{name_of};
+
+    ghost Value = { List ℕ };
+
+    ghost view = { λ n. n.bytes.items };
+
+    ghost invariant = { λ n. name_of n.bytes.items ≡ Some n.bytes.items };
+}
+
+impl Name {
+    /// The name that the text spells, if it spells one.
+    #[tactic(auto, using(crate::proofs::InUpperCase::name_of_upper), unfolding(crate::specs::Names::name_of))]
+    pub fn read(alloc: Global, text: &[u8]) -> Result<Option<Name>, AllocError>
+        ensures { IfOk result (λ o. o ≡ name_of text.now) }
+    {
+        if !is_name_text(text) {
+            return Ok(None);
+        }
+        let bytes = upper(alloc, text)?;
+        if is_barred(&bytes) {
+            return Ok(None);
+        }
+        Ok(Some(Name { bytes }))
+    }
+
+    /// The name's bytes.
+    pub fn as_bytes(&self) -> &[u8]
+        ensures bytes { result.now ≡ self.now }
+        ensures is_name { name_of self.now ≡ Some self.now }
+    {
+        self.bytes.as_slice()
+    }
+
+    /// An equal name.
+    pub fn copy(&self, alloc: Global) -> Result<Name, AllocError>
+        ensures { IfOk result (λ n. n ≡ self.now) }
+    {
+        Ok(Name {
+            bytes: Vec::from_slice(alloc, self.bytes.as_slice())?,
+        })
+    }
+
+    // Whether the two are the same name.
+    fn is(&self, other: &Name) -> bool
+        ensures value { result ≡ bytes_eq self.now other.now }
+    {
+        self.bytes.as_slice() == other.bytes.as_slice()
+    }
+}
+
+impl PartialEq for Name {
+    ghost use Rattle.std.proofs.Common.{rules};
+    ghost use Rattle.std.specs.Cmp.Rules.{comparing};
+    ghost use Rattle.std.specs.Str.{bytes_eq};
+
+    ghost eq = { bytes_eq };
+
+    ghost laws = { Prim.search (comparing, rules) };
+
+    fn eq(&self, other: &Name) -> bool {
+        self.is(other)
+    }
+}
+
+impl Eq for Name {
+    ghost use Rattle.std.proofs.Common.{rules};
+    ghost use Rattle.std.specs.Cmp.Rules.{comparing};
+
+    ghost laws = { Prim.search (comparing, rules) };
+}
+
+impl Ord for Name {
+    ghost use Rattle.std.proofs.Common.{rules};
+    ghost use Rattle.std.specs.Cmp.Rules.{comparing};
+    ghost use Rattle.std.specs.Cmp.Lexicographic.{slice_cmp};
+    ghost use Rattle.std.specs.Ordering.{nat_cmp};
+
+    ghost cmp = { slice_cmp nat_cmp };
+
+    ghost total = { Prim.search (comparing, rules) };
+
+    ghost matches_partial_cmp = { Prim.search (comparing, rules) };
+
+    ghost matches_eq = { Prim.search (comparing, rules) };
+
+    fn cmp(&self, other: &Name) -> Ordering {
+        self.bytes.as_slice().cmp(&other.bytes.as_slice())
+    }
+}
+
+impl PartialOrd for Name {
+    ghost use Rattle.std.proofs.Common.{rules};
+    ghost use Rattle.std.specs.Cmp.{partial_order_from_own_ties};
+    ghost use Rattle.std.specs.Cmp.Rules.{comparing};
+    ghost use Rattle.std.specs.Cmp.Lexicographic.{slice_cmp};
+    ghost use Rattle.std.specs.Ordering.{nat_cmp, as_partial_cmp};
+
+    ghost partial_cmp = { as_partial_cmp (slice_cmp nat_cmp) };
+
+    ghost laws = { partial_order_from_own_ties (Prim.search (comparing, rules)) (Prim.search (comparing, rules)) };
+
+    fn partial_cmp(&self, other: &Name) -> Option<Ordering> {
+        Some(self.cmp(other))
+    }
+}
+
+// A letter and up to 199 letters, digits and `_` behind it.
+fn is_name_text(text: &[u8]) -> bool
+    ensures { result ≡ is_name_text text.now }
+{
+    match text {
+        [] => false,
+        [first, rest @ ..] => first.is_ascii_alphabetic()
+            && rest.len() <= 199
+            && are_name_bytes(rest),
+    }
+}
+
+fn are_name_bytes(text: &[u8]) -> bool
+    ensures { result ≡ list_all is_name_byte text.now }
+{
+    text.iter().all(|b| b.is_ascii_alphanumeric() || *b == b'_')
+}
+
+// A verb, or the class of an attribute.
+fn is_barred(word: &[u8]) -> bool
+    ensures { result ≡ is_barred word.now }
+{
+    Verb::read(word).is_some() || is_class(word)
+}
+
+fn upper(alloc: Global, text: &[u8]) -> Result<Vec<u8>, AllocError>
+    ensures { IfOk result (λ v. v.items ≡ upper_of text.now) }
+{
+    text.iter().map(|b| b.to_ascii_uppercase()).collect(alloc)
+}

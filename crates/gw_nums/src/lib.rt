@@ -1,0 +1,13 @@
+//! Whole numbers of the product: values, moments of the clock, and their digits.
+//!
+//! A [`Val`] lies in -1,000,000,000 to 1,000,000,000 and a [`Time`] in 0 to 1,001,000,000,000, by their types.
+//! Arithmetic is exact or refused, and a number is written as its decimal digits and nothing else.
+#![tactic(auto)]
+
+mod decimal;
+mod time;
+mod val;
+
+pub use decimal::put_decimal;
+pub use time::{LAST_CLOCK, LAST_TIME, Time};
+pub use val::{ArithmeticFault, GREATEST, Val, add};

@@ -1,0 +1,63 @@
+ghost use Rattle.std.specs.Prelude.{◌≡◌, ℕ, ◌+◌, ◌≤◌, ◌↔◌, IsSome, IfSome};
+
+use std::marker::Model;
+
+/// The greatest moment that the clock may reach, and the greatest horizon.
+pub const LAST_CLOCK: u64 = 1_000_000_000_000;
+
+/// The greatest moment that a transaction may be put at: the last clock and the greatest value.
+pub const LAST_TIME: u64 = 1_001_000_000_000;
+
+/// A moment of the simulation, in clock ticks from 0 to 1,001,000,000,000.
+#[derive(Clone, Copy, Debug, PartialEq, Eq, PartialOrd, Ord, Hash)]
+pub struct Time {
+    ticks: u64,
+}
+
+impl Model for Time {
+    ghost use Rattle.std.specs.Prelude.{ℕ, ◌≤◌};
+
+    ghost Value = { ℕ };
+
+    ghost view = { λ t. t.ticks };
+
+    ghost invariant = { λ t. t.ticks ≤ 1001000000000 };
+
+    ghost inverse = { λ n. record { ticks = n } };
+}
+
+impl Time {
+    /// The moment at which a run begins.
+    pub const ZERO: Time = Time { ticks: 0 };
+
+    /// The moment of this many ticks, up to [`LAST_TIME`].
+    pub fn new(ticks: u64) -> Option<Time>
+        ensures in_range { IsSome result ↔ (ticks ≤ 1001000000000) }
+        ensures value { IfSome result (λ t. t ≡ ticks) }
+    {
+        if ticks <= LAST_TIME {
+            Some(Time { ticks })
+        } else {
+            None
+        }
+    }
+
+    /// The ticks since the run began.
+    pub fn ticks(self) -> u64
+        ensures value { result ≡ self }
+        ensures bound { result ≤ 1001000000000 }
+    {
+        self.ticks
+    }
+
+    /// The moment `span` ticks later.
+    pub fn after(self, span: u64) -> Time
+        requires clock { self ≤ 1000000000000 }
+        requires span { span ≤ 1000000000 }
+        ensures { result ≡ self + span }
+    {
+        Time {
+            ticks: self.ticks + span,
+        }
+    }
+}
