@@ -1,0 +1,26 @@
+//! The bytes at the edge of the program: one source of bytes, and one sink.
+//!
+//! A [`Source`] gives the bytes of a model and then of a script, and a [`Sink`] takes the answers. [`write_all`]
+//! writes a slice, [`read_line`] reads a line, and [`split_model`] reads the text of a model up to its line
+//! `end`. A [`Budget`] counts the calls of [`Source::read`], of which one session makes [`READ_LIMIT`] at most.
+//!
+//! [`FromRead`] and [`ToWrite`] stand before std's readers and writers, and [`Bytes`] and [`Page`] are a source
+//! and a sink in memory that fail where they are told to.
+#![tactic(auto)]
+
+mod budget;
+mod line;
+mod memory;
+mod model;
+mod room;
+mod sink;
+mod source;
+mod std_io;
+
+pub use budget::{Budget, READ_LIMIT, ReadFault, read_byte};
+pub use line::{Line, read_line, without_cr};
+pub use memory::{Bytes, Page};
+pub use model::split_model;
+pub use sink::{Sink, write_all};
+pub use source::{Failed, Source};
+pub use std_io::{FromRead, ToWrite};

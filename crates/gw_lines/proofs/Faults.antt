@@ -1,0 +1,287 @@
+-- The first fault of a line: what is answered is in the family, and what is in the family is answered.
+use Rattle.std.proofs.Common.{◌≡◌, ◌≢◌, ℕ, ◌<◌, ◌||◌, not, Bool, true, false, List, [], ◌∷◌, ◌++◌, length, Option, Some, None, Result, Ok, Err, refl, sym, ap, subst, ◌∙◌, ◌⊎◌, inl, inr, arith}
+use Rattle.std.specs.Prelude.{IfErr, IsSome, is_some, nat_lt}
+use Rattle.std.specs.List.{list_all}
+use Rattle.std.proofs.lemmas.Bool.Decides.{nat_tests}
+use Rattle.std.proofs.lemmas.List.{append-nil}
+use Rattle.gw_names.specs.declared.verb.Verb.{Verb}
+use Rattle.gw_names.specs.Words.{upper_of}
+use Rattle.gw_names.specs.Names.{name_of}
+use Rattle.gw_meaning.specs.declared.statement.Body.{Body}
+use Rattle.gw_meaning.specs.declared.statement.Statement.{Statement}
+use Rattle.gw_lines.specs.declared.class.Class.TheVariants as class
+use Rattle.gw_lines.specs.declared.fault.LineFault.{LineFault}
+use Rattle.gw_lines.specs.declared.fault.LineFault.TheVariants as faults
+use Rattle.gw_lines.specs.Reading.{◌>>=◌, Fails, Gives}
+use Rattle.gw_lines.specs.Classes.{is_in, is_blank, front_of, rest_of, is_nothing, are_plain}
+use Rattle.gw_lines.specs.Bodies.{body_of}
+use Rattle.gw_lines.specs.Lines.{word_of, behind_word, verb_in, is_command, or_bad_label, label_of, plain_of, by_first, by_second, coded_of, fault_without_verb, behind_number, code_of, is_remark, line_in, line_of, statement_of}
+use Rattle.gw_lines.specs.Spelling.{AreIn, Stops, Head, Label, no_label, named, ArePlain}
+use Rattle.gw_lines.specs.Faulty.{is_read, Verbless, one_word, two_words, WordsFault, byte_with_verb, byte_without_verb, no_verb, bad_first_word, bad_label, verb_to_come, operand_fault, FirstFault, too_long, no_statement, in_words, Answers}
+use Rattle.gw_lines.proofs.Fronts.{either, both_true, front_again, rest_again, parts, front_all, rest_stops}
+use Rattle.gw_lines.proofs.Listings.{listing_of}
+use Rattle.gw_lines.proofs.Operands.{failed, err_is}
+use Rattle.gw_lines.proofs.Verbs.{body_fault, body_fault_again, body_to_come}
+use Rattle.gw_lines.proofs.Heads.{are_plain_upper, none_is, not_none, some_is_not, both_stop, no_word, blank_no_mark, mark_no_blank, head_first, head_second, at_head, head_is, label_again, labelled_head}
+use Rattle.gw_lines.proofs.Lines.{short_is, short_again, cut_of, cut_is, words_of, words_are}
+
+step_ok : {X Y : Type 0} (r : Result X LineFault) (next : X → Result Y LineFault) (x : X) (f : LineFault) → r ≡ Ok x → (r >>= next) ≡ Err f → next x ≡ Err f
+step_ok {X} r next x f p e = sym (ap (λ (t : Result X LineFault). t >>= next) p) ∙ e
+
+step_err : {X Y : Type 0} (r : Result X LineFault) (next : X → Result Y LineFault) (g f : LineFault) → r ≡ Err g → (r >>= next) ≡ Err f → f ≡ g
+step_err {X} {Y} r next g f p e =
+    let h : failed {A = Y} g ≡ Err f = sym (ap (λ (t : Result X LineFault). t >>= next) p) ∙ e in
+    err_is (failed {A = Y} g) f g h refl
+
+step_on : {X Y : Type 0} (r : Result X LineFault) (next : X → Result Y LineFault) (x : X) (z : Result Y LineFault) → r ≡ Ok x → next x ≡ z → (r >>= next) ≡ z
+step_on {X} r next x z p e = ap (λ (t : Result X LineFault). t >>= next) p ∙ e
+
+step_off : {X Y : Type 0} (r : Result X LineFault) (next : X → Result Y LineFault) (g : LineFault) → r ≡ Err g → (r >>= next) ≡ Err g
+step_off {X} r next g p = ap (λ (t : Result X LineFault). t >>= next) p
+
+abbrev statement_with : Option (List ℕ) → List ℕ → Body → Result Statement LineFault
+statement_with label o body = Ok (record { label = label; body = body; operands = o })
+
+body_failed : (r : Result Body LineFault) (label : Option (List ℕ)) (o : List ℕ) (f : LineFault) → (r >>= statement_with label o) ≡ Err f → r ≡ Err f
+body_failed (Ok body) label o f e = absurd cc
+body_failed (Err g) label o f e = ap failed (err_is (failed {A = Statement} g) g f refl e)
+
+plain_cases : (t : List ℕ) → ((are_plain t ≡ true) × (plain_of t ≡ Ok t)) ⊎ ((are_plain t ≡ false) × (plain_of t ≡ Err faults.BadByte))
+plain_cases t =
+    elim (either (are_plain t)) [
+      | inl plain ↦ inl (plain, rw plain refl)
+      | inr other ↦ inr (other, rw other refl)
+    ]
+
+true_false : {b : Bool} {A : Type 0} → b ≡ true → b ≡ false → A
+true_false h k = absurd (let e : true ≡ false = sym h ∙ k in cc)
+
+-- ---- words with a verb
+
+body_part : {words : List ℕ} {word : Option (List ℕ)} {verb : Verb} {kept : List ℕ} {label : Option (List ℕ)} (f : LineFault)
+    → Head words word verb kept → ArePlain word kept → Label word verb label → body_of verb (upper_of kept) ≡ Err f → WordsFault words f
+body_part {words} {word} {verb} {kept} {label} f h p l e =
+    elim (either (is_read verb)) [
+      | inl r ↦ let os = listing_of (upper_of kept) in operand_fault words word verb kept label os.0 f h p l r os.1 (body_fault verb os.1 f r e)
+      | inr r ↦ subst (λ (x : LineFault). WordsFault words x) (err_is (body_of verb (upper_of kept)) faults.UnknownVerb f (body_to_come verb (upper_of kept) r) e) (verb_to_come words word verb kept label h p l r)
+    ]
+
+bad_name : (o : Option (List ℕ)) → ((name : List ℕ) × (o ≡ Some name) × (or_bad_label o ≡ Ok name)) ⊎ ((o ≡ None) × (or_bad_label o ≡ Err faults.BadLabel))
+bad_name None = inr (refl, refl)
+bad_name (Some name) = inl (name, refl, refl)
+
+unlabelled : (verb : Verb) (word : List ℕ) → (is_command verb ≡ true) ⊎ (name_of word ≡ None) → label_of verb word ≡ Err faults.BadLabel
+unfolding label_of
+unlabelled verb word (inl c) = rw c refl
+unlabelled verb word (inr n) =
+    elim (either (is_command verb)) [
+      | inl c ↦ rw c refl
+      | inr c ↦ rw (c, n) refl
+    ]
+
+label_cases : (verb : Verb) (word : List ℕ) → ((name : List ℕ) × (is_command verb ≡ false) × (name_of word ≡ Some name)) ⊎ ((is_command verb ≡ true) ⊎ (name_of word ≡ None))
+label_cases verb word =
+    elim (either (is_command verb)) [
+      | inl c ↦ inr (inl c)
+      | inr c ↦ elim (bad_name (name_of word)) [
+        | inl n ↦ inl (n.0, c, n.1)
+        | inr n ↦ inr (inr n.0)
+      ]
+    ]
+
+kept_plain : (kept : List ℕ) → are_plain (upper_of kept) ≡ true → are_plain kept ≡ true
+kept_plain kept h = sym (are_plain_upper kept) ∙ h
+
+head_fault : {words : List ℕ} (word : Option (List ℕ)) {verb : Verb} {kept : List ℕ} (f : LineFault) → Head words word verb kept → at_head word verb kept ≡ Err f → WordsFault words f
+head_fault {words} None {verb} {kept} f h e =
+    elim (plain_cases (upper_of kept)) [
+      | inl p ↦ body_part f h (record { first = tt; list = kept_plain kept p.0 }) (no_label verb) (body_failed (body_of verb (upper_of kept)) None (upper_of kept) f (step_ok (plain_of (upper_of kept)) _ (upper_of kept) f p.1 e))
+      | inr p ↦ subst (λ (x : LineFault). WordsFault words x) (sym (step_err (plain_of (upper_of kept)) _ faults.BadByte f p.1 e))
+          (byte_with_verb words None verb kept h (λ a. true_false (are_plain_upper kept ∙ a.list) p.0))
+    ]
+head_fault {words} (Some word) {verb} {kept} f h e =
+    elim (plain_cases word) [
+      | inr w ↦ subst (λ (x : LineFault). WordsFault words x) (sym (step_err (plain_of word) _ faults.BadByte f w.1 e)) (byte_with_verb words (Some word) verb kept h (λ a. true_false a.first w.0))
+      | inl w ↦ elim (plain_cases (upper_of kept)) [
+        | inr p ↦ subst (λ (x : LineFault). WordsFault words x) (sym (step_err (plain_of (upper_of kept)) _ faults.BadByte f p.1 (step_ok (plain_of word) _ word f w.1 e)))
+            (byte_with_verb words (Some word) verb kept h (λ a. true_false (are_plain_upper kept ∙ a.list) p.0))
+        | inl p ↦
+            let plain : ArePlain (Some word) kept = record { first = w.0; list = kept_plain kept p.0 } in
+            let e2 = step_ok (plain_of (upper_of kept)) _ (upper_of kept) f p.1 (step_ok (plain_of word) _ word f w.1 e) in
+            elim (label_cases verb word) [
+              | inl n ↦ body_part f h plain (named word verb n.0 n.1 n.2) (body_failed (body_of verb (upper_of kept)) (Some n.0) (upper_of kept) f (step_ok (label_of verb word) _ n.0 f (label_again verb word n.0 n.1 n.2) e2))
+              | inr b ↦ subst (λ (x : LineFault). WordsFault words x) (sym (step_err (label_of verb word) _ faults.BadLabel f (unlabelled verb word b) e2)) (bad_label words word verb kept h plain b)
+            ]
+      ]
+    ]
+
+-- ---- words with no verb
+
+none_behind : (blanks : List ℕ) → AreIn class.Blank blanks → Stops class.Mark blanks
+none_behind [] h = tt
+none_behind (b ∷ bs) h = ap not (both_true (is_blank b) (list_all (is_in class.Blank) bs) h).0
+
+verbless_with : (words first second : List ℕ) → word_of words ≡ first → word_of (behind_word words) ≡ second → verb_in first ≡ None → verb_in second ≡ None → coded_of words ≡ Err (fault_without_verb words first second)
+unfolding coded_of
+verbless_with words first second a b n m =
+    ap (λ (o : Option Verb). by_first o words) (ap verb_in a ∙ n) ∙ ap (λ (o : Option Verb). by_second o words) (ap verb_in b ∙ m)
+    ∙ ap (λ (x : List ℕ). failed {A = Statement} (fault_without_verb words x (word_of (behind_word words)))) a ∙ ap (λ (x : List ℕ). failed {A = Statement} (fault_without_verb words first x)) b
+
+verbless_is : {words first second : List ℕ} → Verbless words first second → coded_of words ≡ Err (fault_without_verb words first second)
+verbless_is (one_word first blanks m n k) =
+    let s = none_behind blanks k in
+    let a : word_of (first ++ blanks) ≡ first = front_again class.Mark first blanks m s in
+    let none : rest_of class.Blank blanks ≡ [] = ap (rest_of class.Blank) (sym (append-nil blanks)) ∙ rest_again class.Blank blanks [] k tt in
+    let b : word_of (behind_word (first ++ blanks)) ≡ [] = ap word_of (ap (rest_of class.Blank) (rest_again class.Mark first blanks m s) ∙ none) in
+    verbless_with (first ++ blanks) first [] a b n no_word
+verbless_is (two_words first blanks second rest m n k some w more v s) =
+    let words = first ++ (blanks ++ (second ++ rest)) in
+    let t = blank_no_mark blanks (second ++ rest) k some in
+    let u = mark_no_blank second rest w more in
+    let a : word_of words ≡ first = front_again class.Mark first (blanks ++ (second ++ rest)) m t in
+    let b : behind_word words ≡ second ++ rest = ap (rest_of class.Blank) (rest_again class.Mark first (blanks ++ (second ++ rest)) m t) ∙ rest_again class.Blank blanks (second ++ rest) k u in
+    verbless_with words first second a (ap word_of b ∙ front_again class.Mark second rest w s) n v
+
+verbless_of : (words : List ℕ) → verb_in (word_of words) ≡ None → verb_in (word_of (behind_word words)) ≡ None → Verbless words (word_of words) (word_of (behind_word words))
+verbless_of words n m =
+    let rest = rest_of class.Mark words in
+    let blanks = front_of class.Blank rest in
+    let second = behind_word words in
+    let none_then = λ (e : word_of second ≡ []).
+    (let stop : Stops class.Mark second = subst (λ (t : List ℕ). Stops class.Mark t) (sym (parts class.Mark second ∙ ap (λ (t : List ℕ). t ++ rest_of class.Mark second) e)) (rest_stops class.Mark second) in
+    both_stop second stop (rest_stops class.Blank rest)) in
+    elim (either (is_nothing (word_of second))) [
+      | inl none ↦
+          let e : word_of second ≡ [] = none_is (word_of second) none in
+          let whole : words ≡ word_of words ++ blanks = parts class.Mark words ∙ ap (λ (t : List ℕ). word_of words ++ t) (parts class.Blank rest ∙ ap (λ (t : List ℕ). blanks ++ t) (none_then e) ∙ append-nil blanks) in
+          subst (λ (t : List ℕ). Verbless words (word_of words) t) (sym e)
+          (subst (λ (t : List ℕ). Verbless t (word_of words) []) (sym whole) (one_word (word_of words) blanks (front_all class.Mark words) n (front_all class.Blank rest)))
+      | inr given ↦
+          let more = not_none (word_of second) given in
+          let some : blanks ≢ [] = λ (e : blanks ≡ []).
+          (let same : rest ≡ second = parts class.Blank rest ∙ ap (λ (t : List ℕ). t ++ second) e in
+          let nothing : second ≡ [] = both_stop second (subst (λ (t : List ℕ). Stops class.Mark t) same (rest_stops class.Mark words)) (rest_stops class.Blank rest) in
+          more (ap word_of nothing)) in
+          let whole : words ≡ word_of words ++ (blanks ++ (word_of second ++ rest_of class.Mark second)) = parts class.Mark words ∙ ap (λ (t : List ℕ). word_of words ++ t) (parts class.Blank rest ∙ ap (λ (t : List ℕ). blanks ++ t) (parts class.Mark second)) in
+          subst (λ (t : List ℕ). Verbless t (word_of words) (word_of second)) (sym whole)
+          (two_words (word_of words) blanks (word_of second) (rest_of class.Mark second) (front_all class.Mark words) n (front_all class.Blank rest) some (front_all class.Mark second) more m (rest_stops class.Mark second))
+    ]
+
+name_cases : (first : List ℕ) → IsSome (name_of first) ⊎ (name_of first ≡ None)
+name_cases first =
+    elim (bad_name (name_of first)) [
+      | inl n ↦ inl (ap is_some n.1)
+      | inr n ↦ inr n.0
+    ]
+
+-- which of the faults it is
+which : (words first second : List ℕ) → Verbless words first second → WordsFault words (fault_without_verb words first second)
+unfolding fault_without_verb
+which words first second v =
+    elim (either (are_plain words)) [
+      | inr other ↦ rw other (byte_without_verb words first second v other)
+      | inl plain ↦ elim (either (is_nothing second)) [
+        | inl none ↦ rw (plain, none) (no_verb words first second v plain (inl (none_is second none)))
+        | inr some ↦ elim (name_cases first) [
+          | inl n ↦ let k : is_some (name_of first) ≡ true = n in rw (plain, some, k) (no_verb words first second v plain (inr n))
+          | inr n ↦ rw (plain, some, n) (bad_first_word words first second v plain (not_none second some) n)
+        ]
+      ]
+    ]
+
+-- ---- words
+
+second_fault : (words : List ℕ) (o : Option Verb) (f : LineFault) → verb_in (word_of words) ≡ None → verb_in (word_of (behind_word words)) ≡ o → coded_of words ≡ Err f → WordsFault words f
+second_fault words (Some verb) f n v e = let h = head_second words verb n v in head_fault (Some (word_of words)) f h (sym (head_is h) ∙ e)
+second_fault words None f n v e =
+    let b = verbless_of words n v in
+    subst (λ (x : LineFault). WordsFault words x) (err_is (coded_of words) _ f (verbless_is b) e) (which words (word_of words) (word_of (behind_word words)) b)
+
+first_fault : (words : List ℕ) (o : Option Verb) (f : LineFault) → verb_in (word_of words) ≡ o → coded_of words ≡ Err f → WordsFault words f
+first_fault words (Some verb) f v e = let h = head_first words verb v in head_fault None f h (sym (head_is h) ∙ e)
+first_fault words None f v e = second_fault words (verb_in (word_of (behind_word words))) f v refl e
+
+words_fault : (words : List ℕ) (f : LineFault) → coded_of words ≡ Err f → WordsFault words f
+words_fault words f e = first_fault words (verb_in (word_of words)) f refl e
+
+bad_byte_is : (word : Option (List ℕ)) (verb : Verb) (kept : List ℕ) → (ArePlain word kept → ⊥) → at_head word verb kept ≡ Err faults.BadByte
+bad_byte_is None verb kept u =
+    elim (plain_cases (upper_of kept)) [
+      | inl p ↦ absurd (u (record { first = tt; list = kept_plain kept p.0 }))
+      | inr p ↦ step_off (plain_of (upper_of kept)) _ faults.BadByte p.1
+    ]
+bad_byte_is (Some word) verb kept u =
+    elim (plain_cases word) [
+      | inr w ↦ step_off (plain_of word) _ faults.BadByte w.1
+      | inl w ↦ elim (plain_cases (upper_of kept)) [
+        | inl p ↦ absurd (u (record { first = w.0; list = kept_plain kept p.0 }))
+        | inr p ↦ step_on (plain_of word) _ word _ w.1 (step_off (plain_of (upper_of kept)) _ faults.BadByte p.1)
+      ]
+    ]
+
+plain_is : (t : List ℕ) → are_plain t ≡ true → plain_of t ≡ Ok t
+plain_is t h = rw h refl
+
+or_holds : (a b : Bool) → b ≡ true → (a || b) ≡ true
+or_holds true b h = refl
+or_holds false b h = h
+
+pub words_again : {words : List ℕ} {f : LineFault} → WordsFault words f → coded_of words ≡ Err f
+unfolding fault_without_verb
+words_again (byte_with_verb words word verb kept h u) = head_is h ∙ bad_byte_is word verb kept u
+words_again (byte_without_verb words first second v p) = verbless_is v ∙ rw p refl
+words_again (no_verb words first second v p (inl e)) = verbless_is v ∙ rw (p, e) refl
+words_again (no_verb words first second v p (inr n)) = verbless_is v ∙ rw (p, or_holds (is_nothing second) (is_some (name_of first)) n) refl
+words_again (bad_first_word words first second v p some n) = verbless_is v ∙ rw (p, some_is_not second some, n) refl
+words_again (bad_label words word verb kept h p b) =
+    head_is h ∙ step_on (plain_of word) _ word _ (plain_is word p.first) (step_on (plain_of (upper_of kept)) _ (upper_of kept) _ (plain_is (upper_of kept) (are_plain_upper kept ∙ p.list)) (step_off (label_of verb word) _ faults.BadLabel (unlabelled verb word b)))
+words_again (verb_to_come words word verb kept label h p l r) = head_is h ∙ labelled_head kept p l ∙ step_off (body_of verb (upper_of kept)) _ faults.UnknownVerb (body_to_come verb (upper_of kept) r)
+words_again (operand_fault words word verb kept label os f h p l r k o) = head_is h ∙ labelled_head kept p l ∙ step_off (body_of verb (upper_of kept)) _ f (body_fault_again verb k f r o)
+
+-- ---- lines
+
+long_is : (n : ℕ) → nat_lt 250 n ≡ true → 250 < n
+long_is n h = grind (arith, nat_tests)
+
+long_again : (n : ℕ) → 250 < n → nat_lt 250 n ≡ true
+long_again n h = grind (arith, nat_tests)
+
+pub fault_found : (text : List ℕ) (f : LineFault) → statement_of text ≡ Err f → FirstFault text f
+unfolding statement_of line_of line_in
+fault_found text f e =
+    elim (either (nat_lt 250 (length text))) [
+      | inl long ↦ let h : failed {A = Statement} faults.TooLong ≡ Err f = rw long at e in subst (λ (x : LineFault). FirstFault text x) (err_is (failed {A = Statement} faults.TooLong) faults.TooLong f refl h) (too_long text (long_is (length text) long))
+      | inr short ↦ elim (either (is_remark (code_of text))) [
+        | inl remark ↦
+            let h : failed {A = Statement} faults.UnknownVerb ≡ Err f = rw (short, remark) at e in
+            subst (λ (x : LineFault). FirstFault text x) (err_is (failed {A = Statement} faults.UnknownVerb) faults.UnknownVerb f refl h) (no_statement text (code_of text) (cut_of text (short_is (length text) short)) remark)
+        | inr code ↦
+            let w = words_of text (short_is (length text) short) code in
+            in_words text (behind_number (code_of text)) f w (words_fault (behind_number (code_of text)) f (sym (words_are text (behind_number (code_of text)) w) ∙ e))
+      ]
+    ]
+
+pub fault_again : {text : List ℕ} {f : LineFault} → FirstFault text f → statement_of text ≡ Err f
+unfolding statement_of line_of line_in
+fault_again (too_long text h) = rw (long_again (length text) h) refl
+fault_again (no_statement text code c r) = rw (short_again (length text) c.short, cut_is text code c, r) refl
+fault_again (in_words text words f h w) = words_are text words h ∙ words_again w
+
+-- ---- the clauses
+
+fails_with : (text : List ℕ) (f : LineFault) → Fails f (statement_of text) → Answers text f
+fails_with text faults.Memory h = tt
+fails_with text faults.TooLong h = fault_found text _ h
+fails_with text faults.BadByte h = fault_found text _ h
+fails_with text faults.UnknownVerb h = fault_found text _ h
+fails_with text faults.BadLabel h = fault_found text _ h
+fails_with text (faults.BadOperand n) h = fault_found text _ h
+fails_with text (faults.MissingOperand n) h = fault_found text _ h
+fails_with text (faults.ExtraOperand n) h = fault_found text _ h
+
+pub is_fault : (text : List ℕ) (r : Result Statement LineFault) → Gives (λ s. s) r (statement_of text) → IfErr r (λ f. Answers text f)
+is_fault text (Ok s) h = tt
+is_fault text (Err f) h = fails_with text f h
+
+pub is_faulty : (text : List ℕ) (r : Result Statement LineFault) → Gives (λ s. s) r (statement_of text) → (f : LineFault) → FirstFault text f → Gives (λ s. s) r (Err f)
+is_faulty text r h f k = subst (λ (x : Result Statement LineFault). Gives (λ s. s) r x) (fault_again k) h

@@ -1,0 +1,85 @@
+-- What stands at the front of a text, and what is left behind it.
+use Rattle.std.proofs.Common.{◌≡◌, ℕ, suc, ◌+◌, ◌==◌, Bool, true, false, not, ◌&&◌, List, [], ◌∷◌, ◌++◌, refl, sym, ap, ◌∙◌, ◌⊎◌, inl, inr, arith}
+use Rattle.std.specs.List.{prefix_len, list_all}
+use Rattle.std.proofs.lemmas.Bool.Decides.{nat_tests}
+use Rattle.std.proofs.lemmas.List.{take-append-drop}
+use Rattle.gw_lines.specs.declared.class.Class.{Class}
+use Rattle.gw_lines.specs.Classes.{is_in, front_of, rest_of}
+use Rattle.gw_lines.specs.Spelling.{AreIn, Stops}
+
+pub both_true : (a b : Bool) → (a && b) ≡ true → (a ≡ true) × (b ≡ true)
+both_true true b h = (refl, h)
+both_true false b h = absurd cc
+
+pub and_true : (a b : Bool) → a ≡ true → b ≡ true → (a && b) ≡ true
+and_true true b h k = k
+and_true false b h k = absurd cc
+
+pub and_false : (a : Bool) → (a && false) ≡ false
+and_false true = refl
+and_false false = refl
+
+pub not_true : (a : Bool) → not a ≡ true → a ≡ false
+not_true true h = absurd cc
+not_true false h = refl
+
+pub not_false : (a : Bool) → not a ≡ false → a ≡ true
+not_false true h = refl
+not_false false h = absurd cc
+
+pub either : (a : Bool) → (a ≡ true) ⊎ (a ≡ false)
+either true = inl refl
+either false = inr refl
+
+pub nonzero : (n : ℕ) → (suc n == 0) ≡ false
+nonzero n = grind (arith, nat_tests)
+
+one_plus : (n : ℕ) → 1 + n ≡ suc n
+one_plus n = omega arith
+
+front_yes : (class : Class) (b : ℕ) (bs : List ℕ) → is_in class b ≡ true → front_of class (b ∷ bs) ≡ b ∷ front_of class bs
+front_yes class b bs h = rw (h, one_plus (prefix_len (is_in class) bs)) refl
+
+front_no : (class : Class) (b : ℕ) (bs : List ℕ) → is_in class b ≡ false → front_of class (b ∷ bs) ≡ []
+front_no class b bs h = rw h refl
+
+rest_yes : (class : Class) (b : ℕ) (bs : List ℕ) → is_in class b ≡ true → rest_of class (b ∷ bs) ≡ rest_of class bs
+rest_yes class b bs h = rw (h, one_plus (prefix_len (is_in class) bs)) refl
+
+rest_no : (class : Class) (b : ℕ) (bs : List ℕ) → is_in class b ≡ false → rest_of class (b ∷ bs) ≡ b ∷ bs
+rest_no class b bs h = rw h refl
+
+-- what was put before a byte of another class stands at the front
+pub front_again : (class : Class) (text rest : List ℕ) → AreIn class text → Stops class rest → front_of class (text ++ rest) ≡ text
+front_again class [] [] h s = refl
+front_again class [] (b ∷ bs) h s = front_no class b bs s
+front_again class (t ∷ ts) rest h s =
+    let a = both_true (is_in class t) (list_all (is_in class) ts) h in
+    front_yes class t (ts ++ rest) a.0 ∙ ap (λ (x : List ℕ). t ∷ x) (front_again class ts rest a.1 s)
+
+pub rest_again : (class : Class) (text rest : List ℕ) → AreIn class text → Stops class rest → rest_of class (text ++ rest) ≡ rest
+rest_again class [] [] h s = refl
+rest_again class [] (b ∷ bs) h s = rest_no class b bs s
+rest_again class (t ∷ ts) rest h s =
+    let a = both_true (is_in class t) (list_all (is_in class) ts) h in
+    rest_yes class t (ts ++ rest) a.0 ∙ rest_again class ts rest a.1 s
+
+-- the parts of a text
+pub parts : (class : Class) (bytes : List ℕ) → bytes ≡ front_of class bytes ++ rest_of class bytes
+parts class bytes = sym (take-append-drop (prefix_len (is_in class) bytes) bytes)
+
+pub front_all : (class : Class) (bytes : List ℕ) → AreIn class (front_of class bytes)
+front_all class [] = refl
+front_all class (b ∷ bs) =
+    elim (either (is_in class b)) [
+      | inl y ↦ rw (front_yes class b bs y) (and_true (is_in class b) (list_all (is_in class) (front_of class bs)) y (front_all class bs))
+      | inr n ↦ rw (front_no class b bs n) refl
+    ]
+
+pub rest_stops : (class : Class) (bytes : List ℕ) → Stops class (rest_of class bytes)
+rest_stops class [] = tt
+rest_stops class (b ∷ bs) =
+    elim (either (is_in class b)) [
+      | inl y ↦ rw (rest_yes class b bs y) (rest_stops class bs)
+      | inr n ↦ rw (rest_no class b bs n) n
+    ]

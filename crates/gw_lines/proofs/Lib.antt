@@ -1,0 +1,12 @@
+pub mod Fronts
+pub mod Models
+pub mod Digits
+pub mod Listings
+pub mod Kept
+pub mod Bodies
+pub mod Heads
+pub mod Lines
+pub mod Operands
+pub mod Verbs
+pub mod Faults
+pub mod Whole

@@ -1,0 +1,41 @@
+-- Classes of bytes, and what stands at the front of a text. (Manual: blanks, words, operands, comments. Our own: a tab is a blank.)
+use Rattle.std.specs.Prelude.{ℕ, Bool, ◌==◌, ◌||◌, not, List, [], ◌∷◌, length, take, drop, nat_lt}
+use Rattle.std.specs.List.{prefix_len, list_all}
+use Rattle.std.specs.Char.{is_ascii_digit}
+use Rattle.gw_lines.specs.declared.class.Class.{Class}
+use Rattle.gw_lines.specs.declared.class.Class.TheVariants as class
+
+abbrev pub is_blank : ℕ → Bool
+is_blank b = b == 32 || b == 9
+
+-- whether a byte is of a class
+abbrev pub is_in : Class → ℕ → Bool
+is_in class.Blank b = is_blank b
+is_in class.Mark b = not (is_blank b)
+is_in class.Digit b = is_ascii_digit b
+is_in class.Operand b = not (b == 44)
+is_in class.Code b = not (b == 59)
+is_in class.Line b = not (b == 10)
+
+-- what stands at the front, of one class
+abbrev pub front_of : Class → List ℕ → List ℕ
+front_of class bytes = take (prefix_len (is_in class) bytes) bytes
+
+-- what is left behind it
+abbrev pub rest_of : Class → List ℕ → List ℕ
+rest_of class bytes = drop (prefix_len (is_in class) bytes) bytes
+
+-- what follows the first byte
+abbrev pub tail_of : List ℕ → List ℕ
+tail_of [] = []
+tail_of (b ∷ bs) = bs
+
+abbrev pub is_nothing : List ℕ → Bool
+is_nothing bytes = length bytes == 0
+
+-- a byte that may stand outside comments
+abbrev pub is_plain : ℕ → Bool
+is_plain b = nat_lt b 128
+
+abbrev pub are_plain : List ℕ → Bool
+are_plain bytes = list_all is_plain bytes

@@ -1,0 +1,16 @@
+pub mod Faults
+pub mod Reading
+pub mod Classes
+pub mod Numbers
+pub mod Operands
+pub mod Bodies
+pub mod Lines
+pub mod Models
+pub mod Whole
+pub mod Spelling
+pub mod Faulty
+pub use Rattle.gw_meaning.specs.Statements
+pub use Rattle.gw_nums.specs.Range
+pub use Rattle.gw_expr.specs.Term
+pub use Rattle.gw_names.specs.Words
+pub use Rattle.gw_names.specs.Names

@@ -1,0 +1,70 @@
+ghost use Rattle.std.specs.Prelude.{◌≡◌};
+ghost use Rattle.gw_lines.specs.Classes.{is_in, front_of, rest_of, is_blank, tail_of, are_plain};
+
+/// What the bytes of one part of a line have in common.
+#[derive(Clone, Copy, Debug, PartialEq, Eq)]
+pub enum Class {
+    /// Blanks and tabs.
+    Blank,
+    /// Bytes of words: all but blanks.
+    Mark,
+    Digit,
+    /// Bytes of one operand: all but commas.
+    Operand,
+    /// Bytes outside comments: all but `;`.
+    Code,
+    /// Bytes of one line: all but line feeds.
+    Line,
+}
+
+impl Class {
+    /// Whether the byte is of the class.
+    pub fn has(self, b: u8) -> bool
+        ensures { result ≡ is_in self b }
+    {
+        match self {
+            Class::Blank => is_blank(b),
+            Class::Mark => !is_blank(b),
+            Class::Digit => b.is_ascii_digit(),
+            Class::Operand => b != b',',
+            Class::Code => b != b';',
+            Class::Line => b != b'\n',
+        }
+    }
+}
+
+/// Whether the byte is a blank or a tab.
+pub fn is_blank(b: u8) -> bool
+    ensures { result ≡ is_blank b }
+{
+    b == b' ' || b == b'\t'
+}
+
+/// The bytes of the class at the front, and the rest.
+pub fn span(class: Class, bytes: &[u8]) -> (&[u8], &[u8])
+    ensures front { result.0.now ≡ front_of class bytes.now }
+    ensures rest { result.1.now ≡ rest_of class bytes.now }
+{
+    let mut n = 0;
+    while n < bytes.len() && class.has(bytes[n]) {
+        n += 1;
+    }
+    bytes.split_at(n)
+}
+
+/// What follows the first byte.
+pub fn tail(bytes: &[u8]) -> &[u8]
+    ensures { result.now ≡ tail_of bytes.now }
+{
+    match bytes {
+        [] => bytes,
+        [_, rest @ ..] => rest,
+    }
+}
+
+/// Whether each byte may stand outside comments.
+pub fn are_plain(text: &[u8]) -> bool
+    ensures { result ≡ are_plain text.now }
+{
+    text.iter().all(|b| *b < 128)
+}

@@ -1,0 +1,99 @@
+ghost use Rattle.std.specs.Prelude.{◌≡◌};
+ghost use Rattle.gw_lines.specs.Faults.{number_of, operand_of};
+
+use std::alloc::{AllocError, AllocFailed};
+use thiserror::Error;
+
+/// Why a line is no statement. The numbers L1 to L9 are the product's own; L8 is still to come.
+#[derive(Clone, Copy, Debug, PartialEq, Eq, Error)]
+pub enum LineFault {
+    /// L1: the line has more than 250 bytes.
+    #[error("the line has more than 250 bytes")]
+    TooLong,
+    /// L2: a byte of 128 or more stands outside comments.
+    #[error("a byte outside comments is not ASCII")]
+    BadByte,
+    /// L3: no verb among the first two words, or one that is still to come.
+    #[error("the line has no known verb")]
+    UnknownVerb,
+    /// L4: the word before the verb is no lawful name, or the verb takes no label.
+    #[error("the label is not lawful")]
+    BadLabel,
+    /// L5: the operand with this number, from 1, is not of a lawful form.
+    #[error("operand {0} is not lawful")]
+    BadOperand(u8),
+    /// L6: the operand with this number is absent and is needed.
+    #[error("operand {0} is missing")]
+    MissingOperand(u8),
+    /// L7: the verb has no operand with this number.
+    #[error("operand {0} is one too many")]
+    ExtraOperand(u8),
+    /// L9: memory ran out.
+    #[error("memory ran out")]
+    Memory,
+}
+
+/// The first faulty line of a model.
+#[derive(Clone, Copy, Debug, PartialEq, Eq, Error)]
+#[error("line {line}: {fault}")]
+pub struct FaultyLine {
+    /// The line's number, from 1.
+    pub line: u64,
+    /// Why it is no statement.
+    pub fault: LineFault,
+}
+
+impl LineFault {
+    /// The fault's number, which a report prints behind an L.
+    pub fn number(self) -> u8
+        ensures { result ≡ number_of self }
+    {
+        match self {
+            LineFault::TooLong => 1,
+            LineFault::BadByte => 2,
+            LineFault::UnknownVerb => 3,
+            LineFault::BadLabel => 4,
+            LineFault::BadOperand(_) => 5,
+            LineFault::MissingOperand(_) => 6,
+            LineFault::ExtraOperand(_) => 7,
+            LineFault::Memory => 9,
+        }
+    }
+
+    /// The number of the operand that is at fault, if one is.
+    pub fn operand(self) -> Option<u8>
+        ensures { result ≡ operand_of self }
+    {
+        match self {
+            LineFault::BadOperand(n) | LineFault::MissingOperand(n) | LineFault::ExtraOperand(n) =>
+                { Some(n) }
+            LineFault::TooLong
+            | LineFault::BadByte
+            | LineFault::UnknownVerb
+            | LineFault::BadLabel
+            | LineFault::Memory => None,
+        }
+    }
+}
+
+impl From<AllocError> for LineFault {
+    ghost use Rattle.std.specs.Prelude.{◌≡◌};
+    ghost use Rattle.gw_lines.specs.declared.fault.LineFault.TheVariants.{Memory};
+
+    ghost from_gives = { λ _ e. e ≡ Memory };
+
+    fn from(_error: AllocError) -> LineFault {
+        LineFault::Memory
+    }
+}
+
+impl<T: Drop> From<AllocFailed<T>> for LineFault {
+    ghost use Rattle.std.specs.Prelude.{◌≡◌};
+    ghost use Rattle.gw_lines.specs.declared.fault.LineFault.TheVariants.{Memory};
+
+    ghost from_gives = { λ _ e. e ≡ Memory };
+
+    fn from(_error: AllocFailed<T>) -> LineFault {
+        LineFault::Memory
+    }
+}

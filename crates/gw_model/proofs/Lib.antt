@@ -1,0 +1,5 @@
+pub mod Numbering
+pub mod Twice
+pub mod Wellness
+pub mod Apart
+pub mod Answering

@@ -1,0 +1,73 @@
+-- a version without a fault is what a version may be, and the other way round
+use Rattle.std.proofs.Common.{◌≡◌, ℕ, refl, false, ◌≤◌, length, Option, None, IfErr, Result, Ok, Err, nat_lt}
+use Rattle.std.specs.List.{list_any}
+use Rattle.std.proofs.lemmas.Bool.{ltb-false, le-ltb}
+use Rattle.gw_meaning.specs.Listing.{Listing}
+use Rattle.gw_meaning.specs.declared.statement.Replication.{Replication}
+use Rattle.gw_model.specs.Faults.{fault_of, is_too_long, has_bad_replication, is_bad_horizon, has_label_twice, is_bad_replication, has_number_twice, is_outside, IsFault}
+use Rattle.gw_model.specs.declared.fault.ModelFault.{ModelFault}
+use Rattle.gw_model.specs.declared.fault.ModelFault.TheVariants.{TooMany, BadSeed, BadHorizon, LabelTwice, Memory}
+use Rattle.gw_model.specs.Well.{Well, IsSeeded}
+use Rattle.gw_model.proofs.Apart.{or_parts, or_from, none_of, none_from, numbers_apart, numbers_once, labels_apart, labels_once}
+
+-- a number in range
+inside : (least greatest n : ℕ) → is_outside least greatest n ≡ false → (least ≤ n) × (n ≤ greatest)
+inside least greatest n h =
+    let parts = or_parts (nat_lt n least) (nat_lt greatest n) h in
+    (ltb-false n least parts.0, ltb-false greatest n parts.1)
+
+outside : (least greatest n : ℕ) → least ≤ n → n ≤ greatest → is_outside least greatest n ≡ false
+outside least greatest n low high = or_from (nat_lt n least) (nat_lt greatest n) (le-ltb n least low) (le-ltb greatest n high)
+
+pub seeded : (r : Replication) → is_bad_replication r ≡ false → IsSeeded r
+seeded r h =
+    let parts = or_parts (is_outside 1 2147483646 r.seed) (is_outside 1 1000000000 r.number) h in
+    let seed = inside 1 2147483646 r.seed parts.0 in
+    let number = inside 1 1000000000 r.number parts.1 in
+    record { least_seed = seed.0; greatest_seed = seed.1; least_number = number.0; greatest_number = number.1 }
+
+unseeded : (r : Replication) → IsSeeded r → is_bad_replication r ≡ false
+unseeded r s =
+    or_from (is_outside 1 2147483646 r.seed) (is_outside 1 1000000000 r.number)
+    (outside 1 2147483646 r.seed s.least_seed s.greatest_seed) (outside 1 1000000000 r.number s.least_number s.greatest_number)
+
+-- where no test of the scan holds, the version is well-formed
+pub well_from : (t : Listing) → is_too_long t.lines t.replications ≡ false → has_bad_replication t.replications ≡ false → is_bad_horizon t.horizon t.limit ≡ false → has_label_twice t.lines ≡ false → Well t
+well_from t long bad limits twice =
+    let sizes = or_parts (nat_lt 2000 (length t.lines)) (nat_lt 32 (length t.replications)) long in
+    let seeds = or_parts (list_any is_bad_replication t.replications) (has_number_twice t.replications) bad in
+    let bounds = or_parts (is_outside 1 1000000000000 t.horizon) (is_outside 1 1000000 t.limit) limits in
+    let horizon = inside 1 1000000000000 t.horizon bounds.0 in
+    let limit = inside 1 1000000 t.limit bounds.1 in
+    record {
+      statements = ltb-false 2000 (length t.lines) sizes.0;
+      replications = ltb-false 32 (length t.replications) sizes.1;
+      seeded = λ i r e. seeded r (none_of is_bad_replication t.replications seeds.0 i r e);
+      numbers_apart = numbers_apart t.replications seeds.1;
+      least_horizon = horizon.0;
+      greatest_horizon = horizon.1;
+      least_limit = limit.0;
+      greatest_limit = limit.1;
+      labels_apart = labels_apart t.lines twice;
+    }
+
+-- a well-formed version has no fault
+pub no_fault : (t : Listing) → Well t → fault_of t ≡ None
+no_fault t w =
+    let long : is_too_long t.lines t.replications ≡ false = or_from (nat_lt 2000 (length t.lines)) (nat_lt 32 (length t.replications)) (le-ltb 2000 (length t.lines) w.statements) (le-ltb 32 (length t.replications) w.replications) in
+    let bad : has_bad_replication t.replications ≡ false = or_from (list_any is_bad_replication t.replications) (has_number_twice t.replications) (none_from is_bad_replication t.replications (λ i r e. unseeded r (w.seeded i r e))) (numbers_once t.replications w.numbers_apart) in
+    let limits : is_bad_horizon t.horizon t.limit ≡ false = or_from (is_outside 1 1000000000000 t.horizon) (is_outside 1 1000000 t.limit) (outside 1 1000000000000 t.horizon w.least_horizon w.greatest_horizon) (outside 1 1000000 t.limit w.least_limit w.greatest_limit) in
+    let twice : has_label_twice t.lines ≡ false = labels_once t.lines w.labels_apart in
+    rw (long, bad, limits, twice)
+
+memory_alone : (first : Option ModelFault) (fault : ModelFault) → first ≡ None → IsFault first fault → fault ≡ Memory
+memory_alone first TooMany e h = cc
+memory_alone first BadSeed e h = cc
+memory_alone first BadHorizon e h = cc
+memory_alone first LabelTwice e h = cc
+memory_alone first Memory e h = refl
+
+-- a well-formed version is refused for memory alone
+pub only_memory : {X : Type 0} (t : Listing) → Well t → (result : Result X ModelFault) → IfErr result (IsFault (fault_of t)) → IfErr result (λ f. f ≡ Memory)
+only_memory t w (Ok x) h = tt
+only_memory t w (Err f) h = memory_alone (fault_of t) f (no_fault t w) h

@@ -1,0 +1,75 @@
+-- The first model fault of a version: the faults in their order, each by a scan of the version. (The codes M1 to M8 and
+-- the limits are the product's own.)
+use Rattle.std.specs.Prelude.{ℕ, Bool, false, ◌||◌, ◌==◌, ◌≡◌, List, [], ◌∷◌, Option, Some, None, is_some, if◌then◌else◌, length, nat_lt}
+use Rattle.std.specs.List.{list_any}
+use Rattle.gw_meaning.specs.Listing.{Listing, labelled_in}
+use Rattle.gw_model.specs.Listed.{block_label}
+use Rattle.gw_meaning.specs.declared.statement.Numbered.{Numbered}
+use Rattle.gw_meaning.specs.declared.statement.Replication.{Replication}
+use Rattle.gw_model.specs.declared.fault.ModelFault.{ModelFault}
+use Rattle.gw_model.specs.declared.fault.ModelFault.TheVariants.{TooMany, BadSeed, BadHorizon, LabelTwice, Memory}
+
+-- the fault's number, which a report prints behind an M
+abbrev pub number_of : ModelFault → ℕ
+number_of TooMany = 5
+number_of BadSeed = 6
+number_of BadHorizon = 7
+number_of LabelTwice = 1
+number_of Memory = 8
+
+-- more statements or replications than a version may have
+abbrev pub is_too_long : List Numbered → List Replication → Bool
+is_too_long lines rs = nat_lt 2000 (length lines) || nat_lt 32 (length rs)
+
+-- below the least or above the greatest
+abbrev pub is_outside : ℕ → ℕ → ℕ → Bool
+is_outside least greatest n = nat_lt n least || nat_lt greatest n
+
+-- a seed or a number of a replication that no version may have
+abbrev pub is_bad_replication : Replication → Bool
+is_bad_replication r = is_outside 1 2147483646 r.seed || is_outside 1 1000000000 r.number
+
+-- whether a replication with this number is there
+abbrev pub has_number : ℕ → List Replication → Bool
+has_number number rs = list_any (λ (r : Replication). r.number == number) rs
+
+-- whether two replications have one number
+abbrev pub has_number_twice : List Replication → Bool
+has_number_twice [] = false
+has_number_twice (r ∷ rs) = has_number r.number rs || has_number_twice rs
+
+abbrev pub has_bad_replication : List Replication → Bool
+has_bad_replication rs = list_any is_bad_replication rs || has_number_twice rs
+
+-- a horizon or a step limit that no version may have
+abbrev pub is_bad_horizon : ℕ → ℕ → Bool
+is_bad_horizon horizon limit = is_outside 1 1000000000000 horizon || is_outside 1 1000000 limit
+
+-- whether a block of these has the label
+abbrev pub is_labelled : Option (List ℕ) → List Numbered → Bool
+is_labelled None lines = false
+is_labelled (Some name) lines = is_some (labelled_in name lines)
+
+-- whether two blocks have one label
+abbrev pub has_label_twice : List Numbered → Bool
+has_label_twice [] = false
+has_label_twice (line ∷ lines) = is_labelled (block_label line) lines || has_label_twice lines
+
+-- the fault of the labels, if they have one
+abbrev pub label_fault_of : List Numbered → Option ModelFault
+label_fault_of lines = if has_label_twice lines then Some LabelTwice else None
+
+-- the first fault of a version, if it has one
+abbrev pub fault_of : Listing → Option ModelFault
+fault_of t =
+    if is_too_long t.lines t.replications
+    then Some TooMany
+    else (if has_bad_replication t.replications then Some BadSeed else (if is_bad_horizon t.horizon t.limit then Some BadHorizon else label_fault_of t.lines))
+
+-- the fault is the first one, or memory was refused
+abbrev pub IsFault : Option ModelFault → ModelFault → Type 0
+IsFault first TooMany = first ≡ Some TooMany
+IsFault first BadSeed = first ≡ Some BadSeed
+IsFault first BadHorizon = first ≡ Some BadHorizon
+IsFault first LabelTwice = first ≡ Some LabelTwice
+IsFault first Memory = Unit {0}

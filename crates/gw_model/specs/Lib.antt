@@ -1,0 +1,5 @@
+pub mod Listed
+pub mod Faults
+pub mod Well
+pub mod Tables
+pub use Rattle.gw_meaning.specs.Listing

@@ -1,0 +1,25 @@
+-- What a version may be, in the subject's own words. (Our own limits.)
+use Rattle.std.specs.Prelude.{ℕ, ◌≤◌, ◌<◌, ◌≡◌, ◌≢◌, List, Some, length, slice_get}
+use Rattle.gw_meaning.specs.Listing.{Listing}
+use Rattle.gw_model.specs.Listed.{block_label}
+use Rattle.gw_meaning.specs.declared.statement.Numbered.{Numbered}
+use Rattle.gw_meaning.specs.declared.statement.Replication.{Replication}
+
+-- a replication with a seed and a number in range
+pub record IsSeeded (r : Replication) : Type 0 where
+  pub least_seed : 1 ≤ r.seed
+  pub greatest_seed : r.seed ≤ 2147483646
+  pub least_number : 1 ≤ r.number
+  pub greatest_number : r.number ≤ 1000000000
+
+-- a version that may be run
+pub record Well (t : Listing) : Type 0 where
+  pub statements : length t.lines ≤ 2000
+  pub replications : length t.replications ≤ 32
+  pub seeded : (i : ℕ) (r : Replication) → slice_get t.replications i ≡ Some r → IsSeeded r
+  pub numbers_apart : (i j : ℕ) (r s : Replication) → i < j → slice_get t.replications i ≡ Some r → slice_get t.replications j ≡ Some s → r.number ≢ s.number
+  pub least_horizon : 1 ≤ t.horizon
+  pub greatest_horizon : t.horizon ≤ 1000000000000
+  pub least_limit : 1 ≤ t.limit
+  pub greatest_limit : t.limit ≤ 1000000
+  pub labels_apart : (i j : ℕ) (k l : Numbered) (m n : List ℕ) → i < j → slice_get t.lines i ≡ Some k → slice_get t.lines j ≡ Some l → block_label k ≡ Some m → block_label l ≡ Some n → m ≢ n

@@ -1,0 +1,16 @@
+//! A version of a model, as a type: its statements with the numbers of their own, the horizon, the
+//! replications and the step limit, all well-formed, and what it answers.
+#![tactic(auto)]
+
+mod fault;
+mod labels;
+mod limits;
+mod lines;
+mod lists;
+mod places;
+mod replications;
+mod tables;
+mod version;
+
+pub use fault::ModelFault;
+pub use version::Version;

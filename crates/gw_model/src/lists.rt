@@ -1,0 +1,65 @@
+ghost use Rattle.std.specs.Prelude.{◌≡◌, IfOk, length, filter, option_copied};
+ghost use Rattle.std.specs.List.{filter_map};
+ghost use Rattle.gw_meaning.specs.Listing.{command_of, is_block, is_start, generates_in, nth};
+
+use crate::lines::{command_of, is_block, is_generate};
+use gw_meaning::{Command, Numbered};
+use std::alloc::{AllocError, Global};
+
+/// The number of blocks among the lines.
+pub fn count_blocks(lines: &[Numbered]) -> u64
+    ensures { result ≡ length (filter is_block lines.now) }
+{
+    lines.iter().filter(|line| is_block(line)).count() as u64
+}
+
+/// The commands, in order.
+pub fn commands_of(alloc: Global, lines: &[Numbered]) -> Result<Vec<Command>, AllocError>
+    ensures { IfOk result (λ commands. commands.items ≡ filter_map command_of lines.now) }
+{
+    lines
+        .iter()
+        .filter_map(|line| command_of(line))
+        .collect(alloc)
+}
+
+/// The number of STARTs.
+pub fn count_starts(commands: &[Command]) -> u64
+    ensures { result ≡ length (filter is_start commands.now) }
+{
+    commands
+        .iter()
+        .filter(|command| is_start(**command))
+        .count() as u64
+}
+
+/// The numbers of the GENERATEs, in order.
+pub fn generates_of(alloc: Global, lines: &[Numbered]) -> Result<Vec<u64>, AllocError>
+    ensures { IfOk result (λ numbers. numbers.items ≡ generates_in lines.now) }
+{
+    let mut numbers = Vec::new(alloc);
+    for line in lines {
+        if is_generate(line) {
+            numbers.push(line.number)?;
+        }
+    }
+    Ok(numbers)
+}
+
+/// The i-th item, from 1.
+pub fn nth<T>(items: &[T], i: u64) -> Option<&T>
+    ensures { option_copied result ≡ nth items.now i }
+{
+    if i == 0 {
+        return None;
+    }
+    items.get(i as usize - 1)
+}
+
+fn is_start(command: Command) -> bool
+    ensures { result ≡ is_start command }
+{
+    match command {
+        Command::Start { .. } => true,
+    }
+}

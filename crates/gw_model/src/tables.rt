@@ -1,0 +1,53 @@
+ghost use Rattle.std.specs.Prelude.{◌≡◌, false, IfOk, OnOk, IfErr};
+ghost use Rattle.gw_model.specs.Faults.{IsFault, label_fault_of, has_label_twice};
+ghost use Rattle.gw_model.specs.Tables.{AreTablesOf};
+
+use crate::fault::ModelFault;
+use crate::labels::labels_of;
+use crate::lists::{commands_of, count_blocks, count_starts, generates_of};
+use crate::places::{Place, places_of};
+use gw_meaning::{Command, Numbered};
+use gw_names::Name;
+use std::alloc::Global;
+use std::collections::BTreeMap;
+
+/// What a version looks its answers up in.
+#[derive(Debug, Drop)]
+pub struct Tables {
+    /// For each number the place of its statement.
+    pub places: Vec<Option<Place>>,
+    /// The number of blocks.
+    pub blocks: u64,
+    /// The commands, in order.
+    pub commands: Vec<Command>,
+    /// The number of STARTs.
+    pub starts: u64,
+    /// The numbers of the GENERATEs, in order.
+    pub generates: Vec<u64>,
+    /// The number of the block with each label.
+    pub labels: BTreeMap<Name, u64>,
+}
+
+impl Tables {
+    /// The tables of these lines. No two blocks may have one label.
+    pub fn new(alloc: Global, lines: &[Numbered]) -> Result<Tables, ModelFault>
+        ensures tables { IfOk result (λ tables. AreTablesOf lines.now tables) }
+        ensures once { OnOk result (has_label_twice lines.now ≡ false) }
+        ensures err { IfErr result (IsFault (label_fault_of lines.now)) }
+    {
+        let labels = labels_of(alloc, lines)?;
+        let places = places_of(alloc, lines)?;
+        let blocks = count_blocks(lines);
+        let commands = commands_of(alloc, lines)?;
+        let starts = count_starts(commands.as_slice());
+        let generates = generates_of(alloc, lines)?;
+        Ok(Tables {
+            places,
+            blocks,
+            commands,
+            starts,
+            generates,
+            labels,
+        })
+    }
+}

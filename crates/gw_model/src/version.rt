@@ -1,0 +1,238 @@
+ghost use Rattle.std.specs.Prelude.{◌≡◌, ◌≤◌, ◌⊎◌, IfOk, OnOk, IfErr, IfSome, IsTrue, Some, None, option_copied, length, nat_le};
+ghost use Rattle.gw_meaning.specs.Listing.{block_at, after_at, position_at, label_at, command_at, generates_in, statement_at, starts, replication_at, seed_at};
+
+use crate::fault::ModelFault;
+use crate::limits::{is_bad_horizon, is_too_long};
+use crate::lines::{block_of, copy_lines, number};
+use crate::lists::nth;
+use crate::places::{after_of, line_of, position_of};
+use crate::replications::{has_bad_replication, seed_of};
+use crate::tables::Tables;
+use gw_meaning::{Block, Command, Numbered, Replication, Statement};
+use gw_names::Name;
+use gw_nums::Time;
+use std::alloc::{AllocError, Global};
+use std::marker::Model;
+
+/// A version of a model: at most 2,000 statements with the numbers of their own, a horizon, at most 32
+/// replications with their seeds, and a step limit. Each version has no model fault.
+#[derive(Debug, Drop)]
+pub struct Version {
+    lines: Vec<Numbered>,
+    tables: Tables,
+    horizon: Time,
+    replications: Vec<Replication>,
+    limit: u64,
+}
+
+impl Model for Version {
+    ghost use Rattle.gw_meaning.specs.Listing.{Listing};
+
+    ghost Value = { Listing };
+
+    ghost use Rattle.gw_model.specs.Tables.{IsKept};
+
+    ghost view = { λ v. record { lines = v.lines.items; horizon = v.horizon; replications = v.replications.items; limit = v.limit } };
+
+    ghost invariant = { λ v. IsKept (record { lines = v.lines.items; horizon = v.horizon; replications = v.replications.items; limit = v.limit }) v.tables };
+}
+
+impl Version {
+    ghost use Rattle.std.specs.Prelude.{◌≡◌, ◌⊎◌, ◌≤◌, IfOk, OnOk, IfErr, IsOk, Ok, Err, Some, None};
+    ghost use Rattle.gw_model.specs.Faults.{fault_of, IsFault};
+    ghost use Rattle.gw_model.specs.Well.{Well};
+    ghost use Rattle.gw_model.specs.declared.fault.ModelFault.TheVariants.{Memory};
+    ghost use Rattle.gw_model.specs.Listed.{listed, listing_of, blocks};
+
+    /// The version with these statements, which get the numbers 1, 2, 3 and so on, and these replications in
+    /// the order of adding; or the first fault, in the order M5, M6, M7, M1. M8 may come in place of any.
+    pub fn new(
+        alloc: Global,
+        statements: Vec<Statement>,
+        horizon: u64,
+        replications: Vec<Replication>,
+        limit: u64,
+    ) -> Result<Version, ModelFault>
+        ensures value { IfOk result (λ v. v ≡ listed statements.items horizon replications.items limit) }
+        ensures found { IfOk result (λ v. Well v) }
+        ensures none { OnOk result (fault_of (listed statements.items horizon replications.items limit) ≡ None) }
+        ensures fault { IfErr result (λ f. IsFault (fault_of (listed statements.items horizon replications.items limit)) f) }
+        ensures only { Well (listed statements.items horizon replications.items limit) → IfErr result (λ f. f ≡ Memory) }
+    {
+        let lines = number(alloc, statements)?;
+        Version::from_lines(alloc, lines, horizon, replications, limit)
+    }
+
+    // The version with these lines, or its first fault.
+    fn from_lines(
+        alloc: Global,
+        lines: Vec<Numbered>,
+        horizon: u64,
+        replications: Vec<Replication>,
+        limit: u64,
+    ) -> Result<Version, ModelFault>
+        ensures value { IfOk result (λ v. v ≡ listing_of lines.items horizon replications.items limit) }
+        ensures found { IfOk result (λ v. Well v) }
+        ensures none { OnOk result (fault_of (listing_of lines.items horizon replications.items limit) ≡ None) }
+        ensures fault { IfErr result (λ f. IsFault (fault_of (listing_of lines.items horizon replications.items limit)) f) }
+    {
+        if is_too_long(lines.as_slice(), replications.as_slice()) {
+            return Err(ModelFault::TooMany);
+        }
+        if has_bad_replication(replications.as_slice()) {
+            return Err(ModelFault::BadSeed);
+        }
+        let Some(time) = Time::new(horizon) else {
+            return Err(ModelFault::BadHorizon);
+        };
+        if is_bad_horizon(horizon, limit) {
+            return Err(ModelFault::BadHorizon);
+        }
+        let tables = Tables::new(alloc, lines.as_slice())?;
+        Ok(Version {
+            lines,
+            tables,
+            horizon: time,
+            replications,
+            limit,
+        })
+    }
+
+    /// An equal version. Its lines have no fault, so only memory can be refused.
+    pub fn copy(&self, alloc: Global) -> Result<Version, AllocError>
+        ensures { IfOk result (λ v. v ≡ self.now) }
+    {
+        let lines = copy_lines(alloc, self.lines.as_slice())?;
+        let replications = Vec::from_slice(alloc, self.replications.as_slice())?;
+        Version::from_lines(alloc, lines, self.horizon.ticks(), replications, self.limit).map_err(
+            |_| AllocError,
+        )
+    }
+
+    /// The block with this number.
+    pub fn block(&self, number: u64) -> Option<&Block>
+        ensures { option_copied result ≡ block_at self.now number }
+    {
+        match line_of(self.lines.as_slice(), self.tables.places.as_slice(), number) {
+            Some(line) => block_of(line),
+            None => None,
+        }
+    }
+
+    /// The number of the first block behind the statement with this number.
+    pub fn after(&self, number: u64) -> Option<u64>
+        ensures { result ≡ after_at self.now number }
+    {
+        after_of(self.tables.places.as_slice(), number)
+    }
+
+    /// The position of the block with this number, from 1, among the blocks.
+    pub fn position(&self, number: u64) -> Option<u64>
+        ensures { result ≡ position_at self.now number }
+    {
+        position_of(self.tables.places.as_slice(), number)
+    }
+
+    /// The number of the block with this label.
+    pub fn label(&self, name: &Name) -> Option<u64>
+        ensures { result ≡ label_at self.now name.now }
+    {
+        self.tables.labels.get(name).copied()
+    }
+
+    /// The i-th command, from 1.
+    pub fn command(&self, i: u64) -> Option<&Command>
+        ensures { option_copied result ≡ command_at self.now i }
+    {
+        nth(self.tables.commands.as_slice(), i)
+    }
+
+    /// The numbers of the GENERATEs, in order.
+    pub fn generates(&self) -> &[u64]
+        ensures { result.now ≡ generates_in self.now.lines }
+    {
+        self.tables.generates.as_slice()
+    }
+
+    /// The i-th statement, from 1.
+    pub fn statement(&self, i: u64) -> Option<&Statement>
+        ensures { option_copied result ≡ statement_at self.now i }
+    {
+        match nth(self.lines.as_slice(), i) {
+            Some(line) => Some(&line.statement),
+            None => None,
+        }
+    }
+
+    /// How many statements there are, at most 2,000.
+    pub fn statements(&self) -> usize
+        ensures value { result ≡ length self.now.lines }
+        ensures bound { result ≤ 2000 }
+    {
+        self.lines.len()
+    }
+
+    /// The statements with their numbers, in order.
+    pub fn lines(&self) -> &[Numbered]
+        ensures value { result.now ≡ self.now.lines }
+        ensures well { Well self.now }
+    {
+        self.lines.as_slice()
+    }
+
+    /// How many blocks there are.
+    pub fn blocks(&self) -> u64
+        ensures { result ≡ blocks self.now }
+    {
+        self.tables.blocks
+    }
+
+    /// How many STARTs there are.
+    pub fn starts(&self) -> u64
+        ensures { result ≡ starts self.now }
+    {
+        self.tables.starts
+    }
+
+    /// The i-th replication, from 1, in the order of adding.
+    pub fn replication(&self, i: u64) -> Option<Replication>
+        ensures { result ≡ replication_at self.now i }
+    {
+        nth(self.replications.as_slice(), i).copied()
+    }
+
+    /// The seed of the replication with this number, 1 to 2,147,483,646.
+    pub fn seed(&self, number: u64) -> Option<u64>
+        ensures value { result ≡ seed_at self.now number }
+        ensures least { IfSome result (λ s. 1 ≤ s) }
+        ensures greatest { IfSome result (λ s. s ≤ 2147483646) }
+    {
+        seed_of(self.replications.as_slice(), number)
+    }
+
+    /// The horizon, 1 to 1,000,000,000,000 ticks.
+    pub fn horizon(&self) -> Time
+        ensures value { result ≡ self.now.horizon }
+        ensures least { 1 ≤ result }
+        ensures greatest { result ≤ 1000000000000 }
+    {
+        self.horizon
+    }
+
+    /// Whether the moment lies within the horizon.
+    pub fn within(&self, time: Time) -> bool
+        ensures value { result ≡ nat_le time self.now.horizon }
+        ensures bound { IsTrue result → time ≤ 1000000000000 }
+    {
+        time <= self.horizon
+    }
+
+    /// The step limit, 1 to 1,000,000.
+    pub fn limit(&self) -> u64
+        ensures value { result ≡ self.now.limit }
+        ensures least { 1 ≤ result }
+        ensures greatest { result ≤ 1000000 }
+    {
+        self.limit
+    }
+}

@@ -1,0 +1,90 @@
+-- Laws of the lists behind the chains.
+use Rattle.std.proofs.Common.{◌≡◌, ℕ, zero, suc, ◌+◌, ◌-◌, ◌<◌, ◌≤◌, Bool, true, false, not, ◌||◌, cond, List, [], ◌∷◌, ◌++◌, length, get_or, take, drop, insert, refl, sym, ap, ◌∙◌, rules, arith, Option, Some, None, min, filter, append_assoc, append-nil, if◌then◌else◌}
+use Rattle.std.specs.List.{list_any}
+use Rattle.std.proofs.lemmas.List.{drop_more, take_more, take-append-drop}
+use Rattle.std.proofs.Math.Seq.{drop-length}
+use Rattle.gw_nums.specs.Range.{is_below}
+use Rattle.gw_meaning.specs.declared.transaction.Transaction.{Transaction}
+use Rattle.gw_meaning.specs.declared.transaction.Event.{Event}
+use Rattle.gw_meaning.specs.Changes.{lined_up, all_lined_up, due, is_due}
+use Rattle.gw_meaning.specs.Step.{least_time, sooner}
+
+-- what is left of a list begins with the item there
+pub item_drop : {X : Type 0} (xs : List X) (i : ℕ) (x : X) → i < length xs → x ≡ get_or xs i x → drop i xs ≡ x ∷ drop (i + 1) xs
+item_drop xs i x h is = drop_more xs i x h ∙ ap (λ y. y ∷ drop (i + 1) xs) (sym is)
+
+-- a test of each transaction whether its priority is not below this one's
+abbrev stands_before : Transaction → Transaction → Bool
+stands_before x z = not (is_below z.priority x.priority)
+
+-- behind no one
+lined_up_first : (x : Transaction) (ys : List Transaction) → list_any (stands_before x) ys ≡ false → lined_up x ys ≡ x ∷ ys
+lined_up_first x [] none = refl
+lined_up_first x (y ∷ ys) none = rw none refl
+
+any_behind : {X : Type 0} (f : X → Bool) (front : List X) (y : X) (back : List X) → f y ≡ true → list_any f (front ++ y ∷ back) ≡ true
+any_behind f [] y back h = rw h refl
+any_behind f (z ∷ zs) y back h = rw (any_behind f zs y back h) (elim (f z) as (λ b. (b || true) ≡ true) [ true ↦ refl | false ↦ refl ])
+
+-- behind y, the last of those that stand before
+lined_up_behind : (x : Transaction) (front : List Transaction) (y : Transaction) (back : List Transaction) → stands_before x y ≡ true → list_any (stands_before x) back ≡ false → lined_up x (front ++ y ∷ back) ≡ front ++ y ∷ x ∷ back
+lined_up_behind x [] y back before none = rw before (ap (λ zs. y ∷ zs) (lined_up_first x back none))
+lined_up_behind x (z ∷ zs) y back before none = rw (any_behind (stands_before x) (z ∷ zs) y back before) (ap (λ ws. z ∷ ws) (lined_up_behind x zs y back before none))
+
+-- behind the item at i, where it stands before and those after it do not
+pub lined_up_at : (x : Transaction) (xs : List Transaction) (i : ℕ) (y : Transaction) → i < length xs → y ≡ get_or xs i y → is_below y.priority x.priority ≡ false → list_any (λ (z : Transaction). not (is_below z.priority x.priority)) (drop (i + 1) xs) ≡ false → lined_up x xs ≡ insert xs (i + 1) x
+lined_up_at x xs i y h is above none =
+    let whole : xs ≡ take i xs ++ y ∷ drop (i + 1) xs = sym (take-append-drop i xs) ∙ ap (λ zs. take i xs ++ zs) (item_drop xs i y h is) in
+    let before : stands_before x y ≡ true = rw above refl in
+    let front : take (i + 1) xs ≡ take i xs ++ y ∷ [] = take_more xs i y h ∙ ap (λ z. take i xs ++ z ∷ []) (sym is) in
+    let split : take (i + 1) xs ++ x ∷ drop (i + 1) xs ≡ take i xs ++ y ∷ x ∷ drop (i + 1) xs = ap (λ zs. zs ++ x ∷ drop (i + 1) xs) front ∙ append_assoc (take i xs) (y ∷ []) (x ∷ drop (i + 1) xs) in
+    ap (lined_up x) whole ∙ (lined_up_behind x (take i xs) y (drop (i + 1) xs) before none ∙ (sym split ∙ ap (λ n. take (i + 1) xs ++ x ∷ drop n xs) (refl)))
+
+pub lined_up_none : (x : Transaction) (xs : List Transaction) → list_any (λ (z : Transaction). not (is_below z.priority x.priority)) xs ≡ false → lined_up x xs ≡ x ∷ xs
+lined_up_none x xs none = lined_up_first x xs none
+
+-- After i of the events of F have gone round: those that are not due stand behind the rest, those that are due on the chain.
+pub record Sorting (time : ℕ) (F : List Event) (C : List Transaction) (i : ℕ) (future : List Event) (current : List Transaction) : Type 0 where
+  pub kept : List Event
+  pub future_is : future ≡ drop i F ++ kept
+  pub kept_is : kept ++ filter (λ e. not (is_due time e)) (drop i F) ≡ filter (λ e. not (is_due time e)) F
+  pub current_is : all_lined_up (due time (drop i F)) current ≡ all_lined_up (due time F) C
+
+pub sorting_begins : (time : ℕ) (F : List Event) (C : List Transaction) → Sorting time F C 0 F C
+sorting_begins time F C = record { kept = []; future_is = sym (append-nil F); kept_is = refl; current_is = refl }
+
+-- the event that comes next
+next_event : (F : List Event) (i : ℕ) (e : Event) (rest kept : List Event) → i < length F → e ∷ rest ≡ drop i F ++ kept → (e ≡ get_or F i e) × (rest ≡ drop (i + 1) F ++ kept)
+next_event F i e rest kept h is =
+    let d = ap (λ zs. zs ++ kept) (drop_more F i e h) in
+    let both : e ∷ rest ≡ get_or F i e ∷ (drop (i + 1) F ++ kept) = is ∙ d in
+    (cc, cc)
+
+pub sorted_due : (time : ℕ) (F : List Event) (C : List Transaction) (i : ℕ) (e : Event) (rest : List Event) (current : List Transaction) → i < length F → is_due time e ≡ true → Sorting time F C i (e ∷ rest) current → Sorting time F C (i + 1) rest (lined_up e.transaction current)
+sorted_due time F C i e rest current h now s =
+    let n = next_event F i e rest s.kept h s.future_is in
+    let d = item_drop F i e h n.0 in
+    record { kept = s.kept; future_is = n.1; kept_is = (let k = s.kept_is in rw (d, now) at k); current_is = (let k = s.current_is in rw (d, now) at k) }
+
+pub sorted_kept : (time : ℕ) (F : List Event) (C : List Transaction) (i : ℕ) (e : Event) (rest : List Event) (current : List Transaction) → i < length F → is_due time e ≡ false → Sorting time F C i (e ∷ rest) current → Sorting time F C (i + 1) (rest ++ e ∷ []) current
+sorted_kept time F C i e rest current h later s =
+    let n = next_event F i e rest s.kept h s.future_is in
+    let d = item_drop F i e h n.0 in
+    record {
+      kept = s.kept ++ e ∷ [];
+      future_is = ap (λ zs. zs ++ e ∷ []) n.1 ∙ append_assoc (drop (i + 1) F) s.kept (e ∷ []);
+      kept_is = (let k = s.kept_is in append_assoc s.kept (e ∷ []) (filter (λ e. not (is_due time e)) (drop (i + 1) F)) ∙ (rw (d, later) at k));
+      current_is = (let k = s.current_is in rw (d, later) at k);
+    }
+
+pub sorting_ends : (time : ℕ) (F : List Event) (C : List Transaction) (i : ℕ) (future : List Event) (current : List Transaction) → i ≡ length F → Sorting time F C i future current → (future ≡ filter (λ e. not (is_due time e)) F) × (current ≡ all_lined_up (due time F) C)
+sorting_ends time F C i future current end s =
+    let d : drop i F ≡ [] = ap (λ n. drop n F) end ∙ drop-length F in
+    (s.future_is ∙ (rw d (sym (append-nil s.kept) ∙ (let k = s.kept_is in rw d at k))), (let k = s.current_is in rw d at k))
+
+-- how many are due among the rest, where the next one is
+pub due_next : (time : ℕ) (F : List Event) (i : ℕ) (e : Event) (rest kept : List Event) → i < length F → e ∷ rest ≡ drop i F ++ kept → length (due time (drop i F)) ≡ (if is_due time e then suc (length (due time (drop (i + 1) F))) else length (due time (drop (i + 1) F)))
+due_next time F i e rest kept h is =
+    let n = next_event F i e rest kept h is in
+    let d = item_drop F i e h n.0 in
+    rw d (elim (is_due time e) as (λ b. length (if b then e.transaction ∷ due time (drop (i + 1) F) else due time (drop (i + 1) F)) ≡ (if b then suc (length (due time (drop (i + 1) F))) else length (due time (drop (i + 1) F)))) [ true ↦ refl | false ↦ refl ])

@@ -1,0 +1,4 @@
+pub mod CountLaws
+pub mod ChainLaws
+pub mod Binding
+pub mod StepLaws

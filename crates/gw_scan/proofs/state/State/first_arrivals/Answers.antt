@@ -1,0 +1,10 @@
+use Rattle.std.proofs.Common.{[]}
+use Rattle.gw_meaning.specs.declared.item.Item.TheVariants as items
+use Rattle.gw_meaning.specs.Step.{arrivals_prog}
+use Rattle.gw_scan.proofs.Binding.{decides_asked}
+use Rattle.gw_scan.proofs.state.State.first_arrivals.Goals as goal
+
+pub returns : goal.returns
+returns c =
+    let case = c.args.case in
+    decides_asked case.version.now case.seed items.Generates (λ places. arrivals_prog c.args.self.now places []) _ _ _ _ c.in_ok-places.ensures.ok (rw (← c.in_ok-places.ensures.answer) c.arrivals.ensures)

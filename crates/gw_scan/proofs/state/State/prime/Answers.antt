@@ -1,0 +1,10 @@
+use Rattle.std.proofs.Common.{sym}
+use Rattle.gw_meaning.specs.declared.item.Item.TheVariants as items
+use Rattle.gw_meaning.specs.Step.{first_arrival}
+use Rattle.gw_scan.proofs.Binding.{decides_asked}
+use Rattle.gw_scan.proofs.state.State.prime.Goals as goal
+
+pub returns : goal.returns
+returns c =
+    let case = c.args.case in
+    decides_asked case.version.now case.seed (items.Block c.args.place) (first_arrival c.args.self.now c.args.place) _ _ _ _ c.in_ok-block.ensures.ok (rw (← c.in_ok-block.ensures.answer) c.first_arrival.ensures)

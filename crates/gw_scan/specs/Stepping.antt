@@ -1,0 +1,21 @@
+-- What a step of the code came to, against the step of the definitions.
+use Rattle.std.specs.Prelude.{◌≡◌, ℕ, Option, Some, None, Result, Ok, Err}
+use Rattle.gw_meaning.specs.declared.item.End.{End}
+use Rattle.gw_meaning.specs.Machine.{Machine, raised}
+use Rattle.gw_scan.specs.declared.steps.Turn.{Turn}
+use Rattle.gw_scan.specs.declared.steps.Turn.TheVariants as turns
+
+-- moved where the definition goes, to its state; ended where it ends, with nothing changed
+abbrev pub Steps : Result Machine End → Turn → Machine → Machine → Type 0
+Steps r turns.Moved old new = r ≡ Ok new
+Steps r (turns.Ended end) old new = (r ≡ Err end) × (new ≡ old)
+
+-- a step that moved is counted, and no other
+abbrev pub Counts : Turn → ℕ → ℕ → Type 0
+Counts turns.Moved old new = new ≡ raised old
+Counts (turns.Ended end) old new = new ≡ old
+
+-- the end of the definition, or none where it goes
+abbrev pub EndsAs : Result Machine End → Option End → Type 0
+EndsAs (Ok s) o = o ≡ None
+EndsAs (Err end) o = o ≡ Some end

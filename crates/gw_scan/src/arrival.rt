@@ -1,0 +1,140 @@
+// The next transaction of a GENERATE, and the first ones of all.
+ghost use Rattle.std.specs.Prelude.{◌≡◌, [], OnOk, option_copied};
+ghost use Rattle.gw_meaning.specs.Machine.{live, count_at};
+ghost use Rattle.gw_meaning.specs.Step.{arrival_prog, arrival_in_time, arrival_at, first_arrival, prime_prog, arrivals_prog, with_arrival};
+ghost use Rattle.gw_scan.specs.Deciding.{Decides, Comes};
+
+use crate::case::{Case, Halt, ask_block};
+use crate::state::State;
+use crate::uses::Uses;
+use gw_expr::{Expr, Stop};
+use gw_meaning::{Arrival, Block, End, Row};
+use gw_nums::Val;
+use std::alloc::{AllocError, Global};
+
+/// How many transactions may live.
+pub const LIVE_LIMIT: usize = 100_000;
+
+impl State {
+    // How many transactions live.
+    fn live(&self) -> usize
+        ensures { result ≡ live self.now }
+    {
+        let active = if self.active.is_some() { 1 } else { 0 };
+        active + self.current.len() + self.future.len()
+    }
+
+    // The next transaction of the GENERATE at `place`: its limit, then its time, then its priority.
+    pub(crate) fn arrival(
+        &self,
+        case: Case,
+        uses: &mut Uses,
+        place: u64,
+        time: &Option<Expr>,
+        limit: &Option<Expr>,
+        priority: &Option<Expr>,
+    ) -> Result<Option<Arrival>, Halt>
+        ensures { Decides case.entry.version.now case.entry.seed (arrival_prog self.now place (count_at self.now.counts place).made time.now limit.now priority.now) result uses.old uses.new }
+    {
+        if let Some(limit) = limit {
+            let limit = self.value(case, uses, limit)?;
+            if limit.is_negative() {
+                return Err(Halt::End(End::Error(Stop::BadCount)));
+            }
+            if limit.magnitude() <= self.count(place).made {
+                return Ok(None);
+            }
+        }
+        self.arrival_in_time(case, uses, place, time, priority)
+    }
+
+    fn arrival_in_time(
+        &self,
+        case: Case,
+        uses: &mut Uses,
+        place: u64,
+        time: &Option<Expr>,
+        priority: &Option<Expr>,
+    ) -> Result<Option<Arrival>, Halt>
+        ensures { Decides case.entry.version.now case.entry.seed (arrival_in_time self.now place time.now priority.now) result uses.old uses.new }
+    {
+        let time = self.value_or_zero(case, uses, time)?;
+        let priority = self.value_or_zero(case, uses, priority)?;
+        self.arrival_at(place, time, priority)
+    }
+
+    fn arrival_at(&self, place: u64, time: Val, priority: Val) -> Result<Option<Arrival>, Halt>
+        ensures { Comes (arrival_at self.now place time priority) result }
+    {
+        if time.is_negative() {
+            return Err(Halt::End(End::Error(Stop::NegativeTime)));
+        }
+        if LIVE_LIMIT <= self.live() {
+            return Err(Halt::End(End::Error(Stop::TooManyTransactions)));
+        }
+        Ok(Some(Arrival {
+            place,
+            time: self.clock.after(time.magnitude()),
+            priority,
+        }))
+    }
+
+    // The first transactions of the GENERATEs at these places, in order.
+    pub(crate) fn arrivals(
+        &self,
+        alloc: Global,
+        case: Case,
+        uses: &mut Uses,
+        places: &[u64],
+    ) -> Result<Row<Arrival>, Halt>
+        ensures { Decides case.entry.version.now case.entry.seed (arrivals_prog self.now places.now []) result uses.old uses.new }
+    {
+        let mut arrivals = Vec::new(alloc);
+        for place in places {
+            let arrival = self.prime(case, uses, *place)?;
+            put_if(&mut arrivals, arrival)?;
+        }
+        Ok(Row::from_vec(arrivals))
+    }
+
+    fn prime(&self, case: Case, uses: &mut Uses, place: u64) -> Result<Option<Arrival>, Halt>
+        ensures { Decides case.entry.version.now case.entry.seed (prime_prog self.now place) result uses.old uses.new }
+    {
+        let block = ask_block(case.version, uses, place)?;
+        self.first_arrival(case, uses, place, block)
+    }
+
+    fn first_arrival(
+        &self,
+        case: Case,
+        uses: &mut Uses,
+        place: u64,
+        block: Option<&Block>,
+    ) -> Result<Option<Arrival>, Halt>
+        ensures { Decides case.entry.version.now case.entry.seed (first_arrival self.now place (option_copied block.entry)) result uses.old uses.new }
+    {
+        match block {
+            Some(
+                Block::Generate {
+                    mean,
+                    offset,
+                    limit,
+                    priority,
+                },
+            ) => {
+                let time = if offset.is_some() { offset } else { mean };
+                self.arrival(case, uses, place, time, limit, priority)
+            }
+            _ => Ok(None),
+        }
+    }
+}
+
+fn put_if(arrivals: &mut Vec<Arrival>, arrival: Option<Arrival>) -> Result<(), AllocError>
+    ensures { OnOk result (arrivals.new.items ≡ with_arrival arrival arrivals.old.items) }
+{
+    if let Some(arrival) = arrival {
+        arrivals.push(arrival)?;
+    }
+    Ok(())
+}

@@ -1,0 +1,24 @@
+//! The state of a run and its steps.
+//!
+//! [`step`] is the step of the definitions: it makes the same move with the same questions, or says why none
+//! follows and changes nothing. Want of memory changes nothing either.
+#![tactic(auto)]
+
+mod arrival;
+mod case;
+mod chains;
+mod changes;
+mod counts;
+mod decide;
+mod making;
+mod state;
+mod steps;
+mod tally;
+mod uses;
+mod value;
+
+pub use case::{Case, Halt};
+pub use state::State;
+pub use steps::{Turn, end_at, step};
+pub use tally::Tally;
+pub use uses::Uses;
