@@ -1,0 +1,185 @@
+mod examples;
+
+use crate::run::run;
+use examples::EXAMPLES;
+use gw_script::{Bytes, Options, Page, session};
+use std::alloc::Global;
+use std::test::Fail;
+
+const ROOM: usize = 100_000;
+
+// What a run came to.
+#[derive(Drop)]
+struct Ended {
+    status: u8,
+    output: Page,
+    errors: Page,
+}
+
+// Runs the program over an input, whose reader may fail, with a writer of some room that takes some bytes a call.
+fn run_on(
+    alloc: Global,
+    input: &[u8],
+    read_failure: Option<u32>,
+    step: usize,
+    room: usize,
+) -> Ended {
+    let mut reader = Bytes::new(input, read_failure);
+    let mut output = Page::new(alloc, step, room);
+    let mut errors = Page::new(alloc, ROOM, ROOM);
+    let words: Vec<String> = Vec::new(alloc);
+    let status = run(alloc, &words, &mut reader, &mut output, &mut errors);
+    Ended {
+        status,
+        output,
+        errors,
+    }
+}
+
+#[test]
+fn examples_have_their_bytes(rt: HostRuntime) {
+    for example in EXAMPLES.iter() {
+        let ran = run_on(rt.alloc(), example.input, None, ROOM, ROOM);
+        assert_eq!(rt; ran.status, example.status, "{}", example.name);
+        assert_eq!(rt;
+            ran.output.text.as_slice(),
+            example.output,
+            "{}",
+            example.name
+        );
+        assert_eq!(rt;
+            ran.errors.text.as_slice(),
+            example.errors,
+            "{}",
+            example.name
+        );
+    }
+}
+
+// The example that the tests of failures use, and how many bytes it has.
+const SMALL: &[u8] = b"GENERATE 10\nADVANCE 3\nTERMINATE 1\nSTART 2\nend\nreport 1 1\nfrob\nquit\n";
+
+#[test]
+fn each_front_of_a_model_is_opened_or_refused(rt: HostRuntime) {
+    let model = b"Go GENERATE 10,,3,3,5\nADVANCE 12 ; hold\nTERMINATE 1\nSTART 2,NP\n";
+    for length in 0..=model.len() {
+        let ran = run_on(rt.alloc(), &model[..length], None, ROOM, ROOM);
+        assert!(rt; ran.status <= 1, "{length}");
+        assert_eq!(rt; ran.errors.text.is_empty(), ran.status == 0, "{length}");
+        assert!(rt; ran.output.text.is_empty(), "{length}");
+    }
+}
+
+#[test]
+fn a_reader_that_fails_stops_the_session(rt: HostRuntime) {
+    let whole = run_on(rt.alloc(), SMALL, None, ROOM, ROOM);
+    for reads in 0..SMALL.len() {
+        let ran = run_on(rt.alloc(), SMALL, Some(reads as u32), ROOM, ROOM);
+        assert_eq!(rt; ran.status, 3, "{reads}");
+        assert_eq!(rt;
+            ran.errors.text.as_slice(),
+            b"stopped: F3\n".as_slice(),
+            "{reads}"
+        );
+        assert!(rt;
+            whole
+                .output
+                .text
+                .as_slice()
+                .starts_with(ran.output.text.as_slice()),
+            "{reads}"
+        );
+    }
+}
+
+#[test]
+fn a_writer_that_fails_stops_the_session(rt: HostRuntime) {
+    let whole = run_on(rt.alloc(), SMALL, None, 1, ROOM);
+    assert_eq!(rt; whole.status, 0);
+    for room in 0..whole.output.text.len() {
+        let ran = run_on(rt.alloc(), SMALL, None, 7, room);
+        assert_eq!(rt; ran.status, 3, "{room}");
+        assert_eq!(rt;
+            ran.errors.text.as_slice(),
+            b"stopped: F4\n".as_slice(),
+            "{room}"
+        );
+        assert_eq!(rt; ran.output.text.len(), room);
+        assert!(rt;
+            whole
+                .output
+                .text
+                .as_slice()
+                .starts_with(ran.output.text.as_slice()),
+            "{room}"
+        );
+    }
+}
+
+// What a session writes under some options.
+fn said(alloc: Global, model: &[u8], options: Options, script: &[u8]) -> Page {
+    let mut output = Page::new(alloc, ROOM, ROOM);
+    let _ = session(
+        alloc,
+        model,
+        options,
+        &mut Bytes::new(script, None),
+        &mut output,
+    );
+    output
+}
+
+#[test]
+fn limits_and_horizons_cut_a_run(rt: HostRuntime) {
+    let model = b"GENERATE 10\nADVANCE 3\nTERMINATE 1\nSTART 2\n";
+    let short = said(
+        rt.alloc(),
+        model,
+        Options {
+            limit: 14,
+            ..Options::USUAL
+        },
+        b"report 1 1",
+    );
+    assert_eq!(rt; short.text.as_slice(), b"toolong\n".as_slice());
+    let enough = said(
+        rt.alloc(),
+        model,
+        Options {
+            limit: 15,
+            ..Options::USUAL
+        },
+        b"report 1 1",
+    );
+    assert!(rt; enough.text.as_slice().starts_with(b"report 0 1 1 491\n"));
+    let near = said(
+        rt.alloc(),
+        model,
+        Options {
+            horizon: 21,
+            ..Options::USUAL
+        },
+        b"report 1 1",
+    );
+    let head = b"report 0 1 1 522\nREPLICATION 1 SEED 1 START 1 HORIZON\n";
+    assert!(rt; near.text.as_slice().starts_with(&head[..13]));
+}
+
+#[test]
+fn a_word_is_refused(rt: HostRuntime) -> Result<(), Fail> {
+    let alloc = rt.alloc();
+    let mut words = Vec::new(alloc);
+    words.push(String::from_str(alloc, "--fast")?)?;
+    let mut output = Page::new(alloc, ROOM, ROOM);
+    let mut errors = Page::new(alloc, ROOM, ROOM);
+    let status = run(
+        alloc,
+        &words,
+        &mut Bytes::new(SMALL, None),
+        &mut output,
+        &mut errors,
+    );
+    assert_eq!(rt; status, 2);
+    assert_eq!(rt; errors.text.as_slice(), b"arguments\n".as_slice());
+    Ok(())
+}

@@ -1,0 +1,30 @@
+-- The columns and cells of the code, as texts of the layout. (Our own.)
+use Rattle.std.specs.Prelude.{ℕ, ℤ, List, [], ◌∷◌, ◌++◌, decimal, if◌then◌else◌}
+use Rattle.gw_nums.specs.Range.{magnitude, is_negative}
+use Rattle.gw_report.specs.Layout.{Column, heading_of}
+use Rattle.gw_report.specs.declared.column.Column as code
+use Rattle.gw_report.specs.declared.column.Cell.{Cell}
+use Rattle.gw_report.specs.declared.column.Cell.TheVariants.{Text, Number, Signed}
+
+-- a whole number, with a sign where it is below 0
+abbrev pub signed : ℤ → List ℕ
+signed z = if is_negative z then 45 ∷ decimal (magnitude z) else decimal (magnitude z)
+
+-- a column of the code
+abbrev pub column_of : code.Column → Column
+column_of column = record { title = column.0.now; width = column.1; side = column.2 }
+
+-- the text of a cell
+abbrev pub text_of_cell : Cell → List ℕ
+text_of_cell (Text text) = text.now
+text_of_cell (Number number) = decimal number
+text_of_cell (Signed value) = signed value
+
+-- an empty line, a heading, and the bytes of lines
+abbrev pub under_heading : List Column → List ℕ → List ℕ
+under_heading columns lines = 10 ∷ heading_of columns ++ lines
+
+-- the same, or nothing where there are no lines
+abbrev pub if_any : List Column → List ℕ → List ℕ
+if_any columns [] = []
+if_any columns (b ∷ bs) = under_heading columns (b ∷ bs)

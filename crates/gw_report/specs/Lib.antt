@@ -1,0 +1,7 @@
+pub mod Layout
+pub mod Cells
+pub mod Chains
+pub mod Blocks
+pub mod Report
+pub use Rattle.gw_meaning.specs.Listing
+pub use Rattle.gw_meaning.specs.Machine

@@ -1,0 +1,115 @@
+ghost use Rattle.std.specs.Prelude.{◌≡◌, ◌++◌, ◌∷◌, OnOk, [], map, decimal};
+ghost use Rattle.gw_report.specs.Layout.{blanks, cell_of, row_of, heading_of};
+ghost use Rattle.gw_report.specs.Cells.{column_of, text_of_cell, signed};
+
+use gw_nums::{Val, put_decimal};
+use std::alloc::AllocError;
+
+/// The side of its column on which a text stands.
+#[derive(Clone, Copy, Debug, PartialEq, Eq)]
+pub enum Side {
+    Left,
+    Right,
+}
+
+/// A column of a section: its title, its width, and the side on which its texts stand.
+#[derive(Clone, Copy, Debug)]
+pub struct Column(pub &'static [u8], pub usize, pub Side);
+
+/// What a row says in a column.
+#[derive(Clone, Copy, Debug)]
+pub enum Cell<'a> {
+    Text(&'a [u8]),
+    Number(u64),
+    Signed(Val),
+}
+
+/// Appends the heading of a section.
+#[tactic(auto, using(crate::proofs::Rows::item_drop), unfolding(crate::specs::Layout::heading_of, crate::specs::Layout::row_of))]
+pub fn put_heading(out: &mut Vec<u8>, columns: &[Column]) -> Result<(), AllocError>
+    ensures { OnOk result (out.new.items ≡ out.old.items ++ heading_of (map column_of columns.now)) }
+{
+    let mut before = b"".as_slice();
+    for column in columns {
+        out.extend_from_slice(before)?;
+        put_text(out, column, column.0)?;
+        before = b" ";
+    }
+    end_line(out)
+}
+
+/// Appends a row: its cells in their columns.
+#[tactic(auto, unfolding(crate::specs::Layout::row_of))]
+pub fn put_row(out: &mut Vec<u8>, columns: &[Column], cells: &[Cell]) -> Result<(), AllocError>
+    ensures { OnOk result (out.new.items ≡ out.old.items ++ row_of (map column_of columns.now) (map text_of_cell cells.now)) }
+{
+    let mut before = b"".as_slice();
+    for (column, cell) in columns.iter().zip(cells) {
+        out.extend_from_slice(before)?;
+        put_cell(out, column, cell)?;
+        before = b" ";
+    }
+    end_line(out)
+}
+
+fn end_line(out: &mut Vec<u8>) -> Result<(), AllocError>
+    ensures { OnOk result (out.new.items ≡ out.old.items ++ (10 ∷ [])) }
+{
+    out.push(b'\n')?;
+    Ok(())
+}
+
+fn put_cell(out: &mut Vec<u8>, column: &Column, cell: &Cell) -> Result<(), AllocError>
+    ensures { OnOk result (out.new.items ≡ out.old.items ++ cell_of (column_of column.now) (text_of_cell cell.now)) }
+{
+    match *cell {
+        Cell::Text(text) => put_text(out, column, text),
+        Cell::Number(number) => put_number(out, column, number),
+        Cell::Signed(value) => put_signed(out, column, value),
+    }
+}
+
+fn put_number(out: &mut Vec<u8>, column: &Column, number: u64) -> Result<(), AllocError>
+    ensures { OnOk result (out.new.items ≡ out.old.items ++ cell_of (column_of column.now) (decimal number)) }
+{
+    let mut digits = Vec::new(*out.allocator());
+    put_decimal(&mut digits, number)?;
+    put_text(out, column, digits.as_slice())
+}
+
+fn put_signed(out: &mut Vec<u8>, column: &Column, value: Val) -> Result<(), AllocError>
+    ensures { OnOk result (out.new.items ≡ out.old.items ++ cell_of (column_of column.now) (signed value)) }
+{
+    let mut digits = Vec::new(*out.allocator());
+    if value.is_negative() {
+        digits.push(b'-')?;
+    }
+    put_decimal(&mut digits, value.magnitude())?;
+    put_text(out, column, digits.as_slice())
+}
+
+fn put_text(out: &mut Vec<u8>, column: &Column, text: &[u8]) -> Result<(), AllocError>
+    ensures { OnOk result (out.new.items ≡ out.old.items ++ cell_of (column_of column.now) text.now) }
+{
+    let Column(_, width, side) = *column;
+    let spare = width.saturating_sub(text.len());
+    match side {
+        Side::Left => {
+            out.extend_from_slice(text)?;
+            put_blanks(out, spare)
+        }
+        Side::Right => {
+            put_blanks(out, spare)?;
+            out.extend_from_slice(text)
+        }
+    }
+}
+
+fn put_blanks(out: &mut Vec<u8>, count: usize) -> Result<(), AllocError>
+    ensures { OnOk result (out.new.items ≡ out.old.items ++ blanks count) }
+{
+    for _ in 0..count {
+        out.push(b' ')?;
+    }
+    Ok(())
+}

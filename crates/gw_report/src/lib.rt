@@ -1,0 +1,19 @@
+//! The standard report of one START of one replication, as bytes.
+//!
+//! [`print`] is the only call. A section is a table of columns and a function that appends its lines; the
+//! definition of the whole text, `specs/Report.antt`, and `report.rt` name the sections in the same order.
+#![tactic(auto)]
+
+mod blocks;
+mod column;
+mod current;
+mod future;
+mod head;
+mod line;
+mod names;
+mod place;
+mod report;
+mod section;
+mod title;
+
+pub use report::print;

@@ -1,0 +1,17 @@
+pub mod Opening
+pub mod Finding
+pub mod Requests
+pub mod Replying
+pub mod Turns
+pub mod Sessions
+pub use Rattle.gw_io.specs.Failures
+pub use Rattle.gw_io.specs.Line
+pub use Rattle.gw_io.specs.Model
+pub use Rattle.gw_io.specs.Reading
+pub use Rattle.gw_meaning.specs.Listing
+pub use Rattle.gw_meaning.specs.Point
+pub use Rattle.gw_meaning.specs.Step
+pub use Rattle.gw_lines.specs.Models
+pub use Rattle.gw_model.specs.Faults
+pub use Rattle.gw_model.specs.Listed
+pub use Rattle.gw_report.specs.Report

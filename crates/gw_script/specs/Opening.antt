@@ -1,0 +1,56 @@
+-- What a model and the options open: a version with replication 1, or the first faulty line, or the first model fault.
+-- (Our own.)
+use Rattle.std.specs.Prelude.{◌≡◌, ℕ, List, [], ◌∷◌, Option, Some, None, Result, Ok, Err}
+use Rattle.gw_lines.specs.declared.fault.FaultyLine.{FaultyLine}
+use Rattle.gw_lines.specs.declared.fault.LineFault.{LineFault}
+use Rattle.gw_lines.specs.declared.fault.LineFault.TheVariants as lines
+use Rattle.gw_lines.specs.Models.{model_of}
+use Rattle.gw_meaning.specs.declared.statement.Statement.{Statement}
+use Rattle.gw_meaning.specs.declared.statement.Replication.{Replication}
+use Rattle.gw_meaning.specs.Listing.{Listing}
+use Rattle.gw_model.specs.declared.fault.ModelFault.{ModelFault}
+use Rattle.gw_model.specs.Listed.{listed}
+use Rattle.gw_model.specs.Faults.{fault_of}
+use Rattle.gw_script.specs.declared.opening.Options.{Options}
+use Rattle.gw_script.specs.declared.fault.Fault.{Fault}
+use Rattle.gw_script.specs.declared.fault.Fault.TheVariants as faults
+
+-- the version that statements make under the options
+abbrev pub opened : List Statement → Options → Listing
+opened statements o = listed statements o.horizon (record { number = 1; seed = o.seed } ∷ []) o.limit
+
+-- the model's lines spell statements, and these make the version t, which has no fault
+pub record Opens (model : List ℕ) (o : Options) (t : Listing) : Type 0 where
+  pub statements : List Statement
+  pub spelled : model_of model ≡ Ok statements
+  pub is_version : t ≡ opened statements o
+  pub no_fault : fault_of t ≡ None
+
+-- the model's lines spell statements, and this is the first fault of what they make
+pub record HasFault (model : List ℕ) (o : Options) (fault : ModelFault) : Type 0 where
+  pub statements : List Statement
+  pub spelled : model_of model ≡ Ok statements
+  pub first : fault_of (opened statements o) ≡ Some fault
+
+-- why a model is refused: no fault of reading or writing is among the reasons
+abbrev pub Refuses : List ℕ → Options → Fault → Type 0
+Refuses model o (faults.Line faulty) = model_of model ≡ Err faulty
+Refuses model o (faults.Model fault) = HasFault model o fault
+Refuses model o faults.Read = ⊥
+Refuses model o faults.Write = ⊥
+Refuses model o faults.ReadLimit = ⊥
+Refuses model o faults.Memory = Unit {0}
+
+-- want of memory is one fault, wherever it came
+abbrev pub kind_of : LineFault → FaultyLine → Fault
+kind_of lines.Memory faulty = faults.Memory
+kind_of lines.TooLong faulty = faults.Line faulty
+kind_of lines.BadByte faulty = faults.Line faulty
+kind_of lines.UnknownVerb faulty = faults.Line faulty
+kind_of lines.BadLabel faulty = faults.Line faulty
+kind_of (lines.BadOperand n) faulty = faults.Line faulty
+kind_of (lines.MissingOperand n) faulty = faults.Line faulty
+kind_of (lines.ExtraOperand n) faulty = faults.Line faulty
+
+abbrev pub fault_of_line : FaultyLine → Fault
+fault_of_line faulty = kind_of faulty.fault faulty

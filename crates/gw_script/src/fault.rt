@@ -1,0 +1,35 @@
+use gw_lines::FaultyLine;
+use gw_model::ModelFault;
+use thiserror::Error;
+
+/// How a session came to its end.
+#[derive(Clone, Copy, Debug, PartialEq, Eq)]
+pub enum Over {
+    /// By the line `quit`.
+    Quit,
+    /// By the end of the input.
+    InputEnd,
+}
+
+/// Why a session stopped. F1 and F2 come before anything is written; behind F3 to F6 what was written stays.
+#[derive(Debug, Drop, Error)]
+pub enum Fault {
+    /// F1: a line of the model is faulty.
+    #[error("a line of the model is faulty")]
+    Line(FaultyLine),
+    /// F2: the model is no version.
+    #[error("the model is refused: {0}")]
+    Model(ModelFault),
+    /// F3: the reader failed.
+    #[error("the input could not be read")]
+    Read,
+    /// F4: the writer failed.
+    #[error("the output could not be written")]
+    Write,
+    /// F5: 16,777,216 calls of read were made, and another was wanted.
+    #[error("the input is too long")]
+    ReadLimit,
+    /// F6: a growth was refused.
+    #[error("out of memory")]
+    Memory,
+}
