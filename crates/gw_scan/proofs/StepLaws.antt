@@ -1,6 +1,5 @@
 -- A step is the move that is decided, made.
-use Rattle.std.proofs.Common.{◌≡◌, ℕ, List, [], ◌++◌, Option, Some, None, Result, Ok, Err, refl, ap, sym, ◌∙◌, append-nil}
-use Rattle.gw_meaning.specs.declared.item.Item.{Item}
+use Rattle.std.proofs.Common.{◌≡◌, ℕ, [], Some, None, Result, Ok, Err, refl, ap, sym, ◌∙◌, append-nil}
 use Rattle.gw_meaning.specs.declared.item.End.{End}
 use Rattle.gw_meaning.specs.declared.moves.Move.{Move}
 use Rattle.gw_meaning.specs.Listing.{Listing}

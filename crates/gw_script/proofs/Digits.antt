@@ -1,5 +1,5 @@
 -- Few digits make a number of few digits.
-use Rattle.std.proofs.Common.{◌≡◌, ℕ, zero, suc, ◌+◌, ◌-◌, ◌*◌, ◌^◌, ◌<◌, ◌≤◌, refl, ap, subst, rules, arith, add-zero, add-suc, add-one}
+use Rattle.std.proofs.Common.{◌≡◌, ℕ, zero, suc, ◌+◌, ◌-◌, ◌*◌, ◌^◌, ◌≤◌, subst, arith, add-zero, add-suc, add-one}
 use Rattle.std.proofs.Math.Nat.{pow-suc}
 
 ten_pow_more : (i k : ℕ) → 10 ^ i ≤ 10 ^ (i + k)

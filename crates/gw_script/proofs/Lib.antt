@@ -1,3 +1,4 @@
 pub mod Searching
 pub mod Digits
 pub mod Turning
+pub mod PointsFound

@@ -1,5 +1,5 @@
 -- A session, turn by turn: whatever is still to come, the output so far and what is said to the rest are what is said to all.
-use Rattle.std.proofs.Common.{◌≡◌, ℕ, zero, suc, ◌+◌, ◌-◌, ◌≤◌, Bool, true, false, List, [], ◌∷◌, ◌++◌, length, refl, ap, sym, subst, ◌∙◌, append_assoc, append-nil, length-append, arith, Result, Ok, Err, IfErr}
+use Rattle.std.proofs.Common.{◌≡◌, ℕ, ◌+◌, ◌≤◌, Bool, true, false, List, [], ◌∷◌, ◌++◌, length, refl, ap, sym, subst, ◌∙◌, append_assoc, append-nil, length-append, arith, Result, Ok, Err, IfErr}
 use Rattle.gw_io.specs.declared.budget.ReadFault.{ReadFault}
 use Rattle.gw_io.specs.declared.budget.ReadFault.TheVariants as reads
 use Rattle.gw_io.specs.Failures.{one_more}
@@ -12,7 +12,7 @@ use Rattle.gw_script.specs.declared.fault.Fault.{Fault}
 use Rattle.gw_script.specs.declared.fault.Fault.TheVariants as faults
 use Rattle.gw_script.specs.Requests.{request_of}
 use Rattle.gw_script.specs.Replying.{Answers, exact, refused, answer_of, is_quit}
-use Rattle.gw_script.specs.Sessions.{Says, nothing, line, last, quit, last_quit, Serves, Stops, StopsBy}
+use Rattle.gw_script.specs.Sessions.{Says, nothing, line, last, quit, last_quit, IsAllRead, Serves, Stops, StopsBy}
 use Rattle.gw_script.specs.Turns.{Replies, BreaksOff, BreaksBy, BreaksRefused, not_begun, begun, stopped_by, over_if}
 
 -- after some lines, before line n
@@ -55,13 +55,14 @@ turned_line took wrote took_on wrote_on t n left left' source s s' sink k k' tex
 }
 
 -- the last turn: something is said to what it reads, and it is written
-pub serves_last : {S K : Type 0} (took : S → List ℕ → S → Type 0) (wrote : K → List ℕ → K → Type 0) (took_on : (a b c : S) (x y : List ℕ) → took a x b → took b y c → took a (x ++ y) c) (wrote_on : (a b c : K) (x y : List ℕ) → wrote a x b → wrote b y c → wrote a (x ++ y) c) (t : Listing) (n left : ℕ) (source s s' : S) (sink k k' : K) (bytes front : List ℕ) (over : Over) → Turned took wrote t n left source s sink k → took s bytes s' → wrote k front k' → Says t n bytes front over → Serves took wrote t source s' sink k' over
-serves_last took wrote took_on wrote_on t n left source s s' sink k k' bytes front over before taken written says = record {
+pub serves_last : {S K : Type 0} (took : S → List ℕ → S → Type 0) (ended : S → Type 0) (wrote : K → List ℕ → K → Type 0) (took_on : (a b c : S) (x y : List ℕ) → took a x b → took b y c → took a (x ++ y) c) (wrote_on : (a b c : K) (x y : List ℕ) → wrote a x b → wrote b y c → wrote a (x ++ y) c) (t : Listing) (n left : ℕ) (source s s' : S) (sink k k' : K) (bytes front : List ℕ) (over : Over) → Turned took wrote t n left source s sink k → took s bytes s' → wrote k front k' → Says t n bytes front over → IsAllRead (ended s') over → Serves took ended wrote t source s' sink k' over
+serves_last took ended wrote took_on wrote_on t n left source s s' sink k k' bytes front over before taken written says all = record {
   input = before.input ++ bytes;
   output = before.output ++ front;
   taken = took_on source s s' before.input bytes before.taken taken;
   written = wrote_on sink k k' before.output front before.written written;
   says = before.onward bytes front over says;
+  all_read = all;
 }
 
 -- the session stops in a turn: a front of what is said to what it reads is written
@@ -143,3 +144,8 @@ broken_refused {K} wrote writes_of wrote_none t n text old new fault (begun fron
 pub if_err_weaker : {A : Type 0} (r : Result A Fault) (P Q : Fault → Type 0) → ((f : Fault) → P f → Q f) → IfErr r P → IfErr r Q
 if_err_weaker (Ok a) P Q h p = p
 if_err_weaker (Err f) P Q h p = h f p
+
+-- the end of the input was found, however the session ends behind it
+pub all_read_if : (b : Bool) (E : Type 0) → E → IsAllRead E (over_if b)
+all_read_if true E e = tt
+all_read_if false E e = e

@@ -1,6 +1,7 @@
 pub mod Opening
 pub mod Finding
 pub mod Requests
+pub mod Points
 pub mod Replying
 pub mod Turns
 pub mod Sessions

@@ -1,5 +1,5 @@
 -- What a script line is answered. (Our own.)
-use Rattle.std.specs.Prelude.{◌≡◌, ℕ, zero, suc, Bool, true, false, ◌==◌, ◌||◌, List, [], ◌∷◌, ◌++◌, Option, Some, None, if◌then◌else◌, length, codes, decimal, nat_lt}
+use Rattle.std.specs.Prelude.{◌≡◌, ℕ, Bool, true, false, ◌==◌, ◌||◌, List, [], ◌++◌, Option, Some, None, if◌then◌else◌, length, codes, decimal, nat_lt}
 use Rattle.gw_meaning.specs.Listing.{Listing, seed_at, starts}
 use Rattle.gw_report.specs.Report.{text_of}
 use Rattle.gw_script.specs.declared.point.Verdict.{Verdict}

@@ -1,5 +1,5 @@
 -- What a session writes to a script: one answer for each line, in order, up to `quit` or the end of the input. (Our own.)
-use Rattle.std.specs.Prelude.{◌≡◌, ◌≢◌, ℕ, ◌+◌, ◌-◌, ◌<◌, Bool, true, false, List, [], ◌∷◌, ◌++◌, codes, length}
+use Rattle.std.specs.Prelude.{◌≡◌, ℕ, ◌+◌, true, false, List, [], ◌∷◌, ◌++◌, length}
 use Rattle.gw_io.specs.Failures.{one_more}
 use Rattle.gw_io.specs.Line.{IsUnended, without_cr_of}
 use Rattle.gw_meaning.specs.Listing.{Listing}
@@ -19,13 +19,19 @@ pub data Says (t : Listing) : ℕ → List ℕ → List ℕ → Over → Type 0 
   quit : (n : ℕ) (line front : List ℕ) → IsUnended line → is_quit (request_of (without_cr_of line)) ≡ true → Answers t n (without_cr_of line) front → Says t n (line ++ 10 ∷ []) front overs.Quit
   last_quit : (n : ℕ) (line front : List ℕ) → IsUnended line → is_quit (request_of line) ≡ true → Answers t n line front → Says t n line front overs.Quit
 
+-- a session that ends with the input has read all of it
+abbrev pub IsAllRead : Type 0 → Over → Type 0
+IsAllRead ended overs.Quit = Unit {0}
+IsAllRead ended overs.InputEnd = ended
+
 -- a session read an input and wrote what is said to it
-pub record Serves {S K : Type 0} (took : S → List ℕ → S → Type 0) (wrote : K → List ℕ → K → Type 0) (t : Listing) (source source' : S) (sink sink' : K) (over : Over) : Type 0 where
+pub record Serves {S K : Type 0} (took : S → List ℕ → S → Type 0) (ended : S → Type 0) (wrote : K → List ℕ → K → Type 0) (t : Listing) (source source' : S) (sink sink' : K) (over : Over) : Type 0 where
   pub input : List ℕ
   pub output : List ℕ
   pub taken : took source input source'
   pub written : wrote sink output sink'
   pub says : Says t 1 input output over
+  pub all_read : IsAllRead (ended source') over
 
 -- why a session may stop: the reader failed, the writer failed, all calls of read were made, or a growth was refused
 abbrev pub StopsBy : Fault → ℕ → ℕ → ℕ → ℕ → ℕ → Type 0

@@ -5,6 +5,7 @@
 #![tactic(auto)]
 
 mod fault;
+mod laws;
 mod number;
 mod opening;
 mod point;
@@ -17,6 +18,7 @@ pub use gw_io::{
     Budget, Bytes, Failed, FromRead, Page, READ_LIMIT, ReadFault, Sink, Source, ToWrite,
     split_model,
 };
+pub use laws::points_are_found;
 pub use opening::{Options, open};
 pub use reply::report;
 pub use sessions::{serve, session};

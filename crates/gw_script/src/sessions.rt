@@ -24,7 +24,7 @@ pub fn serve<S: Source, K: Sink>(
     source: &mut S,
     sink: &mut K,
 ) -> Result<Over, Fault>
-    ensures serves { IfOk result (Serves S.took K.wrote version.now source.old source.new sink.old sink.new) }
+    ensures serves { IfOk result (Serves S.took S.ended K.wrote version.now source.old source.new sink.old sink.new) }
     ensures stops { IfErr result (Stops S.took S.failures K.wrote K.failures version.now source.old source.new sink.old sink.new) }
 {
     let mut budget = Budget::new();
@@ -58,7 +58,7 @@ pub fn session<S: Source, K: Sink>(
     source: &mut S,
     sink: &mut K,
 ) -> Result<Over, Fault>
-    ensures serves { IfOk result (λ over. (t : Listing) × Opens model.now options t × Serves S.took K.wrote t source.old source.new sink.old sink.new over) }
+    ensures serves { IfOk result (λ over. (t : Listing) × Opens model.now options t × Serves S.took S.ended K.wrote t source.old source.new sink.old sink.new over) }
     ensures stops { IfErr result (λ fault. (Refuses model.now options fault × (source.new ≡ source.old) × (sink.new ≡ sink.old))
         ⊎ ((t : Listing) × Opens model.now options t × Stops S.took S.failures K.wrote K.failures t source.old source.new sink.old sink.new fault)) }
 {

@@ -1,7 +1,6 @@
-use Rattle.std.proofs.Common.{◌≡◌, ℕ, ◌+◌, ◌-◌, ◌<◌, ◌≤◌, ◌∷◌, length, drop, true, false, suc, arith, rules, sym, ◌∙◌, refl, if◌then◌else◌}
-use Rattle.std.specs.VecDeque.{deque_len, deque_capacity}
-use Rattle.gw_meaning.specs.declared.transaction.Event.{Event}
-use Rattle.gw_meaning.specs.Changes.{due, is_due}
+use Rattle.std.proofs.Common.{◌≡◌, ◌+◌, ◌<◌, ◌∷◌, length, true, false, arith, sym, ◌∙◌}
+use Rattle.std.specs.VecDeque.{deque_len}
+use Rattle.gw_meaning.specs.Changes.{is_due}
 use Rattle.gw_scan.proofs.ChainLaws.{Sorting, sorted_due, sorted_kept, due_next}
 use Rattle.gw_scan.proofs.chains.take_due.Goals as goal
 use Rattle.gw_scan.proofs.chains.take_due.Goals.{then-eq, else-eq}

@@ -1,4 +1,4 @@
-use Rattle.std.proofs.Common.{◌≡◌, ◌+◌, ◌≤◌, drop, length}
+use Rattle.std.proofs.Common.{◌+◌, ◌≤◌, drop, length}
 use Rattle.std.specs.VecDeque.{deque_len, deque_capacity}
 use Rattle.gw_meaning.specs.Changes.{due}
 use Rattle.gw_scan.proofs.ChainLaws.{Sorting}

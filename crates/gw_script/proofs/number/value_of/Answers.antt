@@ -1,5 +1,5 @@
-use Rattle.std.proofs.Common.{◌≤◌, ◌<◌, ◌^◌, arith}
-use Rattle.gw_script.proofs.Digits.{ten_pow_small, ten_pow_next}
+use Rattle.std.proofs.Common.{◌≤◌, arith}
+use Rattle.gw_script.proofs.Digits.{ten_pow_small}
 use Rattle.gw_script.proofs.number.value_of.Goals as goal
 
 pub overflow_mul-value : goal.overflow_mul-value

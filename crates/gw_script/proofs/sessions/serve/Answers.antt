@@ -4,9 +4,9 @@ use Rattle.gw_io.specs.Line.{without_cr_of}
 use Rattle.gw_script.specs.declared.fault.Over.TheVariants as overs
 use Rattle.gw_script.specs.Requests.{request_of}
 use Rattle.gw_script.specs.Replying.{is_quit}
-use Rattle.gw_script.specs.Sessions.{nothing, quit, Stops, Serves}
+use Rattle.gw_script.specs.Sessions.{nothing, quit, Stops}
 use Rattle.gw_script.specs.Turns.{over_if}
-use Rattle.gw_script.proofs.Turning.{turned_none, turned_line, serves_last, stops_reading, stops_answering, says_whole, says_last, if_err_at}
+use Rattle.gw_script.proofs.Turning.{turned_none, turned_line, serves_last, stops_reading, stops_answering, says_whole, says_last, all_read_if, if_err_at}
 use Rattle.gw_script.proofs.sessions.serve.Goals as goal
 
 pub lines-init : goal.lines-init
@@ -37,7 +37,7 @@ returns-then-branch-clause-serves g c =
     let w : c.without_cr.result.now ≡ without_cr_of text = c.without_cr.ensures ∙ ap without_cr_of c.deref.ensures.value in
     let r = rw w at c.in_ok-reply-in-Whole.ensures.ok in
     let q : is_quit (request_of (without_cr_of text)) ≡ true = ap (λ l. is_quit (request_of l)) (sym w) ∙ (sym c.in_ok-reply-in-Whole.ensures.quit ∙ c.if-branch.true) in
-    serves_last g.S.Source.took g.K.Sink.wrote g.met.S.Source.onward g.met.K.Sink.onward c.args.version.now (c.lines.n + 1) c.lines.budget c.args.source.now c.lines.source c.read_line.new.source c.args.sink.now c.lines.sink c.reply.new.sink (text ++ 10 ∷ []) r.front overs.Quit c.lines.invariant.turned at.taken r.written (quit (c.lines.n + 1) text r.front at.line q r.answers)
+    serves_last g.S.Source.took g.S.Source.ended g.K.Sink.wrote g.met.S.Source.onward g.met.K.Sink.onward c.args.version.now (c.lines.n + 1) c.lines.budget c.args.source.now c.lines.source c.read_line.new.source c.args.sink.now c.lines.sink c.reply.new.sink (text ++ 10 ∷ []) r.front overs.Quit c.lines.invariant.turned at.taken r.written (quit (c.lines.n + 1) text r.front at.line q r.answers) tt
 
 pub lines-preserved : goal.lines-preserved
 lines-preserved g c =
@@ -55,7 +55,7 @@ lines-preserved g c =
 pub returns-in-End-clause-serves : goal.returns-in-End-clause-serves
 returns-in-End-clause-serves g c =
     let at = rw c.in-End.is at c.in-Ok.ensures in
-    serves_last g.S.Source.took g.K.Sink.wrote g.met.S.Source.onward g.met.K.Sink.onward c.args.version.now (c.lines.n + 1) c.lines.budget c.args.source.now c.lines.source c.read_line.new.source c.args.sink.now c.lines.sink c.lines.sink [] [] overs.InputEnd c.lines.invariant.turned at.taken (g.met.K.Sink.nothing c.lines.sink) (nothing (c.lines.n + 1))
+    serves_last g.S.Source.took g.S.Source.ended g.K.Sink.wrote g.met.S.Source.onward g.met.K.Sink.onward c.args.version.now (c.lines.n + 1) c.lines.budget c.args.source.now c.lines.source c.read_line.new.source c.args.sink.now c.lines.sink c.lines.sink [] [] overs.InputEnd c.lines.invariant.turned at.taken (g.met.K.Sink.nothing c.lines.sink) (nothing (c.lines.n + 1)) at.line
 
 pub returns-in_err-quit-in-Last-clause-stops : goal.returns-in_err-quit-in-Last-clause-stops
 returns-in_err-quit-in-Last-clause-stops g c =
@@ -73,4 +73,4 @@ returns-in-Last-clause-serves g c =
     let text = c.in-Last.line.items in
     let r = rw c.deref-in-Last.ensures.value at c.in_ok-quit-in-Last.ensures.ok in
     let q = rw c.deref-in-Last.ensures.value at c.in_ok-quit-in-Last.ensures.quit in
-    rw (c.over_if.ensures, q) (serves_last g.S.Source.took g.K.Sink.wrote g.met.S.Source.onward g.met.K.Sink.onward c.args.version.now (c.lines.n + 1) c.lines.budget c.args.source.now c.lines.source c.read_line.new.source c.args.sink.now c.lines.sink c.reply-in-Last.new.sink text r.front (over_if (is_quit (request_of text))) c.lines.invariant.turned at.taken r.written (says_last c.args.version.now (c.lines.n + 1) text r.front at.line.0 r.answers))
+    rw (c.over_if.ensures, q) (serves_last g.S.Source.took g.S.Source.ended g.K.Sink.wrote g.met.S.Source.onward g.met.K.Sink.onward c.args.version.now (c.lines.n + 1) c.lines.budget c.args.source.now c.lines.source c.read_line.new.source c.args.sink.now c.lines.sink c.reply-in-Last.new.sink text r.front (over_if (is_quit (request_of text))) c.lines.invariant.turned at.taken r.written (says_last c.args.version.now (c.lines.n + 1) text r.front at.line.0 r.answers) (all_read_if (is_quit (request_of text)) (g.S.Source.ended c.read_line.new.source) at.line.2))

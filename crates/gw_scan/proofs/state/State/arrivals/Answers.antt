@@ -1,8 +1,8 @@
-use Rattle.std.proofs.Common.{◌≡◌, ◌+◌, ◌<◌, ◌∷◌, [], Ok, drop, get_or, length, refl, ap, sym, ◌∙◌, arith, rules}
+use Rattle.std.proofs.Common.{◌≡◌, ◌+◌, ◌<◌, [], Ok, drop, get_or, length, ap, sym, arith, rules}
 use Rattle.std.proofs.lemmas.List.{drop_more}
 use Rattle.std.proofs.lemmas.Result.{err_from_is_err_and}
 use Rattle.std.proofs.Math.Seq.{drop-length}
-use Rattle.gw_meaning.specs.Questions.{Gives, ◌>>=◌}
+use Rattle.gw_meaning.specs.Questions.{◌>>=◌}
 use Rattle.gw_meaning.specs.Step.{arrivals_prog, prime_prog, with_arrival}
 use Rattle.gw_scan.proofs.Binding.{decides_exit, decides_whole, decides_gives}
 use Rattle.gw_scan.proofs.state.State.arrivals.Goals as goal

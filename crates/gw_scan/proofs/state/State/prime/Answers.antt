@@ -1,4 +1,3 @@
-use Rattle.std.proofs.Common.{sym}
 use Rattle.gw_meaning.specs.declared.item.Item.TheVariants as items
 use Rattle.gw_meaning.specs.Step.{first_arrival}
 use Rattle.gw_scan.proofs.Binding.{decides_asked}
