@@ -2,7 +2,8 @@ mod examples;
 
 use crate::run::run;
 use examples::EXAMPLES;
-use gw_script::{Bytes, Options, Page, session};
+use gw_names::{Key, Name};
+use gw_script::{Bytes, Options, Page, open, report, session};
 use std::alloc::Global;
 use std::test::Fail;
 
@@ -181,5 +182,26 @@ fn a_word_is_refused(rt: HostRuntime) -> Result<(), Fail> {
     );
     assert_eq!(rt; status, 2);
     assert_eq!(rt; errors.text.as_slice(), b"arguments\n".as_slice());
+    Ok(())
+}
+
+#[test]
+fn copies_and_reports_are_made_where_memory_suffices(rt: HostRuntime) -> Result<(), Fail> {
+    let alloc = rt.alloc();
+    let name = Name::read(alloc, b"Desk_1")?.ok_or("no name")?;
+    assert_eq!(rt; name.copy(alloc)?.as_bytes(), b"DESK_1".as_slice());
+    let key = Key::Named(name).copy(alloc)?;
+    assert!(rt; matches!(key, Key::Named(_)));
+    let version = open(
+        alloc,
+        b"Go GENERATE 10,,3\nTERMINATE 1\nSTART 2\n",
+        Options::USUAL,
+    )?;
+    let copy = version.copy(alloc)?;
+    assert_eq!(rt; copy.statements(), 3);
+    let statement = copy.statement(1).ok_or("no statement")?.copy(alloc)?;
+    assert_eq!(rt; statement.operands.as_slice(), b"10,,3".as_slice());
+    let text = report(alloc, &copy, 1, 1)?;
+    assert!(rt; text.as_slice().starts_with(b"report 0 1 1 "));
     Ok(())
 }
