@@ -240,7 +240,7 @@ words_again (operand_fault words word verb kept label os f h p l r k o) = head_i
 
 -- ---- lines
 
-long_is : (n : ℕ) → nat_lt 250 n ≡ true → 250 < n
+pub long_is : (n : ℕ) → nat_lt 250 n ≡ true → 250 < n
 long_is n h = grind (arith, nat_tests)
 
 long_again : (n : ℕ) → 250 < n → nat_lt 250 n ≡ true
@@ -278,6 +278,7 @@ fails_with text faults.BadLabel h = fault_found text _ h
 fails_with text (faults.BadOperand n) h = fault_found text _ h
 fails_with text (faults.MissingOperand n) h = fault_found text _ h
 fails_with text (faults.ExtraOperand n) h = fault_found text _ h
+fails_with text faults.BadPairs h = fault_found text _ h
 
 pub is_fault : (text : List ℕ) (r : Result Statement LineFault) → Gives (λ s. s) r (statement_of text) → IfErr r (λ f. Answers text f)
 is_fault text (Ok s) h = tt

@@ -37,13 +37,13 @@ nonzero n = grind (arith, nat_tests)
 one_plus : (n : ℕ) → 1 + n ≡ suc n
 one_plus n = omega arith
 
-front_yes : (class : Class) (b : ℕ) (bs : List ℕ) → is_in class b ≡ true → front_of class (b ∷ bs) ≡ b ∷ front_of class bs
+pub front_yes : (class : Class) (b : ℕ) (bs : List ℕ) → is_in class b ≡ true → front_of class (b ∷ bs) ≡ b ∷ front_of class bs
 front_yes class b bs h = rw (h, one_plus (prefix_len (is_in class) bs)) refl
 
 front_no : (class : Class) (b : ℕ) (bs : List ℕ) → is_in class b ≡ false → front_of class (b ∷ bs) ≡ []
 front_no class b bs h = rw h refl
 
-rest_yes : (class : Class) (b : ℕ) (bs : List ℕ) → is_in class b ≡ true → rest_of class (b ∷ bs) ≡ rest_of class bs
+pub rest_yes : (class : Class) (b : ℕ) (bs : List ℕ) → is_in class b ≡ true → rest_of class (b ∷ bs) ≡ rest_of class bs
 rest_yes class b bs h = rw (h, one_plus (prefix_len (is_in class) bs)) refl
 
 rest_no : (class : Class) (b : ℕ) (bs : List ℕ) → is_in class b ≡ false → rest_of class (b ∷ bs) ≡ b ∷ bs

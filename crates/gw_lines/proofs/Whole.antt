@@ -44,7 +44,7 @@ wanted_some (Ok None) s e = absurd cc
 wanted_some (Ok (Some t)) s e = ap (λ (x : Statement). done (Some x)) (ok_is t s e)
 wanted_some (Err f) s e = absurd cc
 
-spelled_is : {line : List ℕ} {s : Statement} → Spells line s → line_of line ≡ Ok (Some s)
+pub spelled_is : {line : List ℕ} {s : Statement} → Spells line s → line_of line ≡ Ok (Some s)
 unfolding statement_of
 spelled_is {line} {s} h = wanted_some (line_of line) s (spells_again line s h)
 
@@ -52,7 +52,7 @@ spelled_found : (line : List ℕ) (s : Statement) → line_of line ≡ Ok (Some 
 unfolding statement_of
 spelled_found line s e = spells_found line s (rw e refl)
 
-wanted_err : (r : Result (Option Statement) LineFault) (f : LineFault) → (r >>= wanted) ≡ Err f → (r ≡ Ok None) ⊎ (r ≡ Err f)
+pub wanted_err : (r : Result (Option Statement) LineFault) (f : LineFault) → (r >>= wanted) ≡ Err f → (r ≡ Ok None) ⊎ (r ≡ Err f)
 wanted_err (Ok None) f e = inl refl
 wanted_err (Ok (Some s)) f e = absurd cc
 wanted_err (Err g) f e = inr (ap failed (err_is (failed {A = Statement} g) g f refl e))
@@ -65,7 +65,7 @@ faulty_is {line} {f} u h =
       | inr e ↦ e
     ]
 
-faulty_found : (line : List ℕ) (f : LineFault) → line_of line ≡ Err f → FirstFault line f
+pub faulty_found : (line : List ℕ) (f : LineFault) → line_of line ≡ Err f → FirstFault line f
 unfolding statement_of
 faulty_found line f e = fault_found line f (rw e refl)
 
@@ -152,6 +152,7 @@ fails_at bytes line faults.BadLabel h = lines_faulty 1 (lines_of bytes) _ h
 fails_at bytes line (faults.BadOperand n) h = lines_faulty 1 (lines_of bytes) _ h
 fails_at bytes line (faults.MissingOperand n) h = lines_faulty 1 (lines_of bytes) _ h
 fails_at bytes line (faults.ExtraOperand n) h = lines_faulty 1 (lines_of bytes) _ h
+fails_at bytes line faults.BadPairs h = lines_faulty 1 (lines_of bytes) _ h
 
 pub model_fault : (bytes : List ℕ) (r : Result (Vec Statement) FaultyLine) → GivesModel (λ v. v.items) r (model_of bytes) → IfErr r (λ e. AnswersAt bytes e.line e.fault)
 model_fault bytes (Ok v) h = tt

@@ -16,6 +16,7 @@ is_in class.Digit b = is_ascii_digit b
 is_in class.Operand b = not (b == 44)
 is_in class.Code b = not (b == 59)
 is_in class.Line b = not (b == 10)
+is_in class.Part b = not (b == 124)
 
 -- what stands at the front, of one class
 abbrev pub front_of : Class → List ℕ → List ℕ

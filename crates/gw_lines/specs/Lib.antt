@@ -9,6 +9,8 @@ pub mod Models
 pub mod Whole
 pub mod Spelling
 pub mod Faulty
+pub mod Texts
+pub mod Edits
 pub use Rattle.gw_meaning.specs.Statements
 pub use Rattle.gw_nums.specs.Range
 pub use Rattle.gw_expr.specs.Term

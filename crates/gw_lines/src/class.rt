@@ -15,6 +15,8 @@ pub enum Class {
     Code,
     /// Bytes of one line: all but line feeds.
     Line,
+    /// Bytes of one line of an edit: all but `|`.
+    Part,
 }
 
 impl Class {
@@ -29,6 +31,7 @@ impl Class {
             Class::Operand => b != b',',
             Class::Code => b != b';',
             Class::Line => b != b'\n',
+            Class::Part => b != b'|',
         }
     }
 }

@@ -4,7 +4,7 @@ ghost use Rattle.gw_lines.specs.Faults.{number_of, operand_of};
 use std::alloc::{AllocError, AllocFailed};
 use thiserror::Error;
 
-/// Why a line is no statement. The numbers L1 to L9 are the product's own; L8 is still to come.
+/// Why a line is no statement. The numbers L1 to L9 are the product's own.
 #[derive(Clone, Copy, Debug, PartialEq, Eq, Error)]
 pub enum LineFault {
     /// L1: the line has more than 250 bytes.
@@ -28,6 +28,9 @@ pub enum LineFault {
     /// L7: the verb has no operand with this number.
     #[error("operand {0} is one too many")]
     ExtraOperand(u8),
+    /// L8: lines stand behind a statement that wants none.
+    #[error("the lines behind the statement are not lawful")]
+    BadPairs,
     /// L9: memory ran out.
     #[error("memory ran out")]
     Memory,
@@ -56,6 +59,7 @@ impl LineFault {
             LineFault::BadOperand(_) => 5,
             LineFault::MissingOperand(_) => 6,
             LineFault::ExtraOperand(_) => 7,
+            LineFault::BadPairs => 8,
             LineFault::Memory => 9,
         }
     }
@@ -71,6 +75,7 @@ impl LineFault {
             | LineFault::BadByte
             | LineFault::UnknownVerb
             | LineFault::BadLabel
+            | LineFault::BadPairs
             | LineFault::Memory => None,
         }
     }

@@ -10,7 +10,8 @@ use crate::words::read_code;
 use gw_meaning::Statement;
 use std::alloc::Global;
 
-const LONGEST: usize = 250;
+/// The most bytes that a line may have.
+pub const LONGEST: usize = 250;
 
 /// The statement that a line's text spells, or its first fault. A blank or a comment spells none.
 pub fn read_statement(alloc: Global, text: &[u8]) -> Result<Statement, LineFault>

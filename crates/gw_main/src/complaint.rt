@@ -1,33 +1,47 @@
-// What standard error says, and the status that goes with it.
+// What standard error is told, and the status that goes with it.
 ghost use Rattle.std.specs.Prelude.{◌≡◌, ◌++◌, IfOk, OnOk};
 ghost use Rattle.gw_lines.specs.Faults.{operand_of};
-ghost use Rattle.gw_main.specs.Complaints.{complaint_of, status_of, line_part, operand_part};
+ghost use Rattle.gw_main.specs.Complaints.{complaint_of, status_of, line_part, model_part, operand_part, IsToldAs, Tells};
 
 use gw_lines::{FaultyLine, LineFault};
+use gw_model::ModelFault;
 use gw_nums::put_decimal;
-use gw_script::Fault;
+use gw_script::{Fault, Sink};
 use std::alloc::{AllocError, Global};
 
-// The line that standard error gets for a fault.
-pub fn complaint(alloc: Global, fault: &Fault) -> Result<Vec<u8>, AllocError>
-    ensures { IfOk result (λ v. v.items ≡ complaint_of fault.now) }
+/// Tells standard error of a fault, as far as it takes that, and gives the fault that was told: a faulty line for whose
+/// text no memory was left is told as want of memory.
+pub fn complain<E: Sink>(alloc: Global, fault: Fault, errors: &mut E) -> Fault
+    ensures told { IsToldAs fault result }
+    ensures text { Tells E.wrote E.failures (complaint_of result) errors.old errors.new }
 {
-    match fault {
-        Fault::Line(faulty) => refused_line(alloc, *faulty),
-        Fault::Model(fault) => {
-            let mut text = Vec::from_slice(alloc, b"model refused: M")?;
-            put_decimal(&mut text, u64::from(fault.number()))?;
-            text.extend_from_slice(b"\n")?;
-            Ok(text)
+    match &fault {
+        Fault::Line(faulty) => {
+            match line_text(alloc, *faulty) {
+                Ok(text) => say(errors, &text),
+                Err(_) => {
+                    say(errors, b"stopped: F6\n");
+                    return Fault::Memory;
+                }
+            }
         }
-        Fault::Read => Vec::from_slice(alloc, b"stopped: F3\n"),
-        Fault::Write => Vec::from_slice(alloc, b"stopped: F4\n"),
-        Fault::ReadLimit => Vec::from_slice(alloc, b"stopped: F5\n"),
-        Fault::Memory => Vec::from_slice(alloc, b"stopped: F6\n"),
+        Fault::Model(model) => say(errors, model_text(*model)),
+        Fault::Read => say(errors, b"stopped: F3\n"),
+        Fault::Write => say(errors, b"stopped: F4\n"),
+        Fault::ReadLimit => say(errors, b"stopped: F5\n"),
+        Fault::Memory => say(errors, b"stopped: F6\n"),
     }
+    fault
 }
 
-fn refused_line(alloc: Global, faulty: FaultyLine) -> Result<Vec<u8>, AllocError>
+/// Tells standard error a line, as far as it takes that.
+pub fn say<E: Sink>(errors: &mut E, text: &[u8])
+    ensures { Tells E.wrote E.failures text.now errors.old errors.new }
+{
+    let _ = gw_io::write_all(errors, text);
+}
+
+fn line_text(alloc: Global, faulty: FaultyLine) -> Result<Vec<u8>, AllocError>
     ensures { IfOk result (λ v. v.items ≡ line_part faulty) }
 {
     let mut text = Vec::from_slice(alloc, b"model refused: line ")?;
@@ -49,7 +63,19 @@ fn put_operand(text: &mut Vec<u8>, fault: LineFault) -> Result<(), AllocError>
     Ok(())
 }
 
-// The status of the program behind a fault: 1 for a refused model, 3 for the rest.
+fn model_text(fault: ModelFault) -> &'static [u8]
+    ensures { result.now ≡ model_part fault }
+{
+    match fault {
+        ModelFault::TooMany => b"model refused: M5\n",
+        ModelFault::BadSeed => b"model refused: M6\n",
+        ModelFault::BadHorizon => b"model refused: M7\n",
+        ModelFault::LabelTwice => b"model refused: M1\n",
+        ModelFault::Memory => b"model refused: M8\n",
+    }
+}
+
+/// The status of the program behind a fault: 1 for a refused model, 3 for the rest.
 pub fn status(fault: &Fault) -> u8
     ensures { result ≡ status_of fault.now }
 {

@@ -1,10 +1,11 @@
 mod examples;
 
-use crate::run::run;
+use crate::run::{not_begun, run};
 use examples::EXAMPLES;
 use gw_names::{Key, Name};
 use gw_script::{Bytes, Options, Page, open, report, session};
 use std::alloc::Global;
+use std::io::ErrorKind;
 use std::test::Fail;
 
 const ROOM: usize = 100_000;
@@ -183,6 +184,18 @@ fn a_word_is_refused(rt: HostRuntime) -> Result<(), Fail> {
     assert_eq!(rt; status, 2);
     assert_eq!(rt; errors.text.as_slice(), b"arguments\n".as_slice());
     Ok(())
+}
+
+#[test]
+fn what_could_not_begin_is_told(rt: HostRuntime) {
+    for (error, status, text) in [
+        (ErrorKind::OutOfMemory, 3, b"stopped: F6\n".as_slice()),
+        (ErrorKind::InvalidData, 2, b"arguments\n".as_slice()),
+    ] {
+        let mut errors = Page::new(rt.alloc(), ROOM, ROOM);
+        assert_eq!(rt; not_begun(error, &mut errors), status);
+        assert_eq!(rt; errors.text.as_slice(), text);
+    }
 }
 
 #[test]

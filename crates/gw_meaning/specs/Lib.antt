@@ -4,6 +4,7 @@ pub mod Machine
 pub mod Questions
 pub mod Changes
 pub mod Step
+pub mod Reads
 pub mod Point
 pub use Rattle.gw_nums.specs.Range
 pub use Rattle.gw_expr.specs.Term

@@ -60,10 +60,10 @@ abbrev pub first_block : List Numbered → Option ℕ
 first_block [] = None
 first_block (line ∷ lines) = if is_block line then Some line.number else first_block lines
 
--- the number of the block after the statement with this number
+-- the number of the block after the block with this number
 abbrev pub after_in : List Numbered → ℕ → Option ℕ
 after_in [] number = None
-after_in (line ∷ lines) number = if line.number == number then first_block lines else after_in lines number
+after_in (line ∷ lines) number = if line.number == number then (if is_block line then first_block lines else None) else after_in lines number
 
 -- the position among the blocks, behind `before` of them, of the block with this number
 abbrev pub position_in : ℕ → List Numbered → ℕ → Option ℕ

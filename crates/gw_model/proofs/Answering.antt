@@ -37,7 +37,7 @@ line_behind front (line ∷ lines) before number =
     let next = cond (is_block line) (before + 1) before in
     let rest : line_in lines number ≡ option_and_then (λ (p : Place). slice_get (front ++ line ∷ lines) p.index) (place_in (length front + 1) next lines number) =
     rw (append_assoc front (line ∷ []) lines, length_push front line) at (line_behind (front ++ line ∷ []) lines next number) in
-    let place : Place = record { index = length front; after = first_block lines; position = cond (is_block line) (Some (before + 1)) None } in
+    let place : Place = record { index = length front; after = cond (is_block line) (first_block lines) None; position = cond (is_block line) (Some (before + 1)) None } in
     pick (line.number == number) line (line_in lines number) (λ (p : Place). slice_get (front ++ line ∷ lines) p.index) place (place_in (length front + 1) next lines number) (item_behind front lines line) rest
 
 -- the line at the place

@@ -60,7 +60,7 @@ no_fault t w =
     let twice : has_label_twice t.lines ≡ false = labels_once t.lines w.labels_apart in
     rw (long, bad, limits, twice)
 
-memory_alone : (first : Option ModelFault) (fault : ModelFault) → first ≡ None → IsFault first fault → fault ≡ Memory
+pub memory_alone : (first : Option ModelFault) (fault : ModelFault) → first ≡ None → IsFault first fault → fault ≡ Memory
 memory_alone first TooMany e h = cc
 memory_alone first BadSeed e h = cc
 memory_alone first BadHorizon e h = cc

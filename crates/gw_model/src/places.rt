@@ -13,7 +13,7 @@ use std::alloc::{AllocError, Global};
 pub struct Place {
     /// Its index among all statements.
     pub index: usize,
-    /// The number of the first block behind it.
+    /// The number of the next block, where it is a block.
     pub after: Option<u64>,
     /// Its position among the blocks, from 1, where it is a block.
     pub position: Option<u64>,
@@ -49,7 +49,7 @@ pub fn places_of(alloc: Global, lines: &[Numbered]) -> Result<Vec<Option<Place>>
                 line.number,
                 Place {
                     index,
-                    after,
+                    after: None,
                     position: None,
                 },
             )?;
@@ -85,7 +85,7 @@ pub fn line_of<'a>(
     }
 }
 
-/// The number of the first block behind the statement with this number.
+/// The number of the block after the block with this number.
 pub fn after_of(table: &[Option<Place>], number: u64) -> Option<u64>
     ensures { result ≡ option_and_then (λ (p : Place). p.after) (get_or table.now number None) }
 {

@@ -63,8 +63,9 @@ impl Version {
         Version::from_lines(alloc, lines, horizon, replications, limit)
     }
 
-    // The version with these lines, or its first fault.
-    fn from_lines(
+    /// The version with these statements, which have the numbers of their own, and these replications in the
+    /// order of adding; or the first fault, in the order M5, M6, M7, M1. M8 may come in place of any.
+    pub fn from_lines(
         alloc: Global,
         lines: Vec<Numbered>,
         horizon: u64,
@@ -75,6 +76,7 @@ impl Version {
         ensures found { IfOk result (λ v. Well v) }
         ensures none { OnOk result (fault_of (listing_of lines.items horizon replications.items limit) ≡ None) }
         ensures fault { IfErr result (λ f. IsFault (fault_of (listing_of lines.items horizon replications.items limit)) f) }
+        ensures only { Well (listing_of lines.items horizon replications.items limit) → IfErr result (λ f. f ≡ Memory) }
     {
         if is_too_long(lines.as_slice(), replications.as_slice()) {
             return Err(ModelFault::TooMany);
@@ -119,7 +121,7 @@ impl Version {
         }
     }
 
-    /// The number of the first block behind the statement with this number.
+    /// The number of the block after the block with this number.
     pub fn after(&self, number: u64) -> Option<u64>
         ensures { result ≡ after_at self.now number }
     {

@@ -1,5 +1,6 @@
 // What a move does to a state: reserve all that grows, then change.
 ghost use Rattle.std.specs.Prelude.{◌≡◌, ◌≤◌, OnOk, OnErr};
+ghost use Rattle.gw_meaning.specs.Machine.{raised};
 ghost use Rattle.gw_meaning.specs.Changes.{moved, placed};
 ghost use Rattle.gw_meaning.specs.declared.moves.Move.TheVariants as moves;
 ghost use Rattle.gw_scan.specs.Moves.{IsInClock};
@@ -8,13 +9,27 @@ use crate::chains::{count_due, take_due};
 use crate::counts::{cross, cross_out};
 use crate::making::{make, make_all};
 use crate::state::State;
+use crate::tally::Tally;
 use gw_meaning::{Arrival, Event, Move, Row, Transaction};
 use gw_nums::Time;
 use std::alloc::AllocError;
 
 impl State {
+    /// Makes a move and counts it, or changes nothing where a growth is refused. The clock may be set to at
+    /// most 1,000,000,000,000 ticks, which no move of a version goes beyond.
+    pub fn make(&mut self, step: Move, tally: &mut Tally) -> Result<(), AllocError>
+        requires { IsInClock step }
+        ensures ok { OnOk result (self.new ≡ moved self.old step) }
+        ensures tally { OnOk result (tally.new ≡ raised tally.old) }
+        ensures err { OnErr result ((self.new ≡ self.old) × (tally.new ≡ tally.old)) }
+    {
+        self.apply(step)?;
+        tally.raise();
+        Ok(())
+    }
+
     // Makes a move, or changes nothing where a growth is refused.
-    pub(crate) fn apply(&mut self, step: Move) -> Result<(), AllocError>
+    fn apply(&mut self, step: Move) -> Result<(), AllocError>
         requires { IsInClock step }
         ensures ok { OnOk result (self.new ≡ moved self.old step) }
         ensures err { OnErr result (self.new ≡ self.old) }

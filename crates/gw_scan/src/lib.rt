@@ -8,6 +8,7 @@ mod arrival;
 mod case;
 mod chains;
 mod changes;
+mod copy;
 mod counts;
 mod decide;
 mod making;
@@ -19,6 +20,6 @@ mod value;
 
 pub use case::{Case, Halt};
 pub use state::State;
-pub use steps::{Turn, end_at, step};
+pub use steps::{Next, Turn, end_at, next_move, step};
 pub use tally::Tally;
 pub use uses::Uses;

@@ -1,13 +1,13 @@
 // One step, and the end that stands in its place.
-ghost use Rattle.std.specs.Prelude.{◌≡◌, ◌++◌, IfOk, OnErr};
+ghost use Rattle.std.specs.Prelude.{◌≡◌, ◌++◌, IfOk, OnOk, OnErr};
 ghost use Rattle.gw_meaning.specs.Step.{step, step_items};
-ghost use Rattle.gw_scan.specs.Stepping.{Steps, Counts, EndsAs};
+ghost use Rattle.gw_scan.specs.Stepping.{Foretells, Steps, Counts, EndsAs};
 
 use crate::case::{Case, Halt};
 use crate::state::State;
 use crate::tally::Tally;
 use crate::uses::Uses;
-use gw_meaning::End;
+use gw_meaning::{End, Move};
 use gw_model::Version;
 use std::alloc::{AllocError, Global};
 
@@ -18,6 +18,15 @@ pub enum Turn {
     Moved,
     /// The run ends here, and nothing changed.
     Ended(End),
+}
+
+/// What comes next in a run.
+#[derive(Debug, Drop)]
+pub enum Next {
+    /// A step that does this.
+    Move(Move),
+    /// No step: the run ends here.
+    End(End),
 }
 
 /// Makes the step of the version with this seed, notes the items that it reads and counts it; or says why
@@ -36,21 +45,37 @@ pub fn step(
     ensures err { OnErr result ((state.new ≡ state.old) × (uses.new ≡ uses.old) × (tally.new ≡ tally.old)) }
 {
     let mark = uses.len();
-    let case = Case { version, seed };
-    match state.decide(alloc, case, uses) {
-        Ok(next) => match state.apply(next) {
-            Ok(()) => {
-                tally.raise();
-                Ok(Turn::Moved)
-            }
+    match next_move(alloc, version, seed, state, uses)? {
+        Next::End(end) => Ok(Turn::Ended(end)),
+        Next::Move(next) => match state.make(next, tally) {
+            Ok(()) => Ok(Turn::Moved),
             Err(error) => {
                 uses.truncate(mark);
                 Err(error)
             }
         },
+    }
+}
+
+/// Says what the step of the version with this seed is to do, and notes the items that it reads; or says why
+/// none follows, and notes nothing. [`State::make`] then makes it.
+pub fn next_move(
+    alloc: Global,
+    version: &Version,
+    seed: u64,
+    state: &State,
+    uses: &mut Uses,
+) -> Result<Next, AllocError>
+    ensures told { IfOk result (Foretells version.now seed state.now) }
+    ensures uses { OnOk result (uses.new ≡ uses.old ++ step_items version.now seed state.now) }
+    ensures err { OnErr result (uses.new ≡ uses.old) }
+{
+    let mark = uses.len();
+    match state.decide(alloc, Case { version, seed }, uses) {
+        Ok(next) => Ok(Next::Move(next)),
         Err(Halt::End(end)) => {
             uses.truncate(mark);
-            Ok(Turn::Ended(end))
+            Ok(Next::End(end))
         }
         Err(Halt::Memory) => {
             uses.truncate(mark);
@@ -69,9 +94,8 @@ pub fn end_at(
     ensures { IfOk result (EndsAs (step version.now seed state.now)) }
 {
     let mut uses = Uses::new(alloc);
-    match state.decide(alloc, Case { version, seed }, &mut uses) {
-        Ok(_) => Ok(None),
-        Err(Halt::End(end)) => Ok(Some(end)),
-        Err(Halt::Memory) => Err(AllocError),
+    match next_move(alloc, version, seed, state, &mut uses)? {
+        Next::Move(_) => Ok(None),
+        Next::End(end) => Ok(Some(end)),
     }
 }

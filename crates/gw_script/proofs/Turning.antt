@@ -133,7 +133,7 @@ if_err_at {A} r P e f is same h =
 
 -- an answer broke off where a growth was refused
 pub broken_refused : {K : Type 0} (wrote : K → List ℕ → K → Type 0) (writes_of : K → ℕ) (wrote_none : (a : K) → wrote a [] a) (t : Listing) (n : ℕ) (text : List ℕ) (old new : K) (fault : Fault) → BreaksRefused wrote writes_of (request_of text) old new fault → BreaksOff wrote writes_of t n text old new fault
-broken_refused {K} wrote writes_of wrote_none t n text old new fault (not_begun memory same) =
+broken_refused {K} wrote writes_of wrote_none t n text old new fault (not_begun other memory same) =
     let W : K → Type 0 = λ k. wrote old [] k in
     let C : Fault → Type 0 = λ f. BreaksBy f (writes_of old) (writes_of new) in
     record { front = []; left = answer_of t n text; answers = exact refl; written = subst W (sym same) (wrote_none old); cause = subst C (sym memory) tt }

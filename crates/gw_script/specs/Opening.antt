@@ -43,13 +43,7 @@ Refuses model o faults.Memory = Unit {0}
 -- want of memory is one fault, wherever it came
 abbrev pub kind_of : LineFault → FaultyLine → Fault
 kind_of lines.Memory faulty = faults.Memory
-kind_of lines.TooLong faulty = faults.Line faulty
-kind_of lines.BadByte faulty = faults.Line faulty
-kind_of lines.UnknownVerb faulty = faults.Line faulty
-kind_of lines.BadLabel faulty = faults.Line faulty
-kind_of (lines.BadOperand n) faulty = faults.Line faulty
-kind_of (lines.MissingOperand n) faulty = faults.Line faulty
-kind_of (lines.ExtraOperand n) faulty = faults.Line faulty
+kind_of fault faulty = faults.Line faulty
 
 abbrev pub fault_of_line : FaultyLine → Fault
 fault_of_line faulty = kind_of faulty.fault faulty

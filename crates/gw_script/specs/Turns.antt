@@ -42,7 +42,7 @@ pub record BreaksOff {K : Type 0} (wrote : K → List ℕ → K → Type 0) (wri
 
 -- saying that a growth was refused broke off: for no report it was not begun
 pub data BreaksRefused {K : Type 0} (wrote : K → List ℕ → K → Type 0) (writes : K → ℕ) (request : Request) (old new : K) (fault : Fault) : Type 0 where
-  not_begun : fault ≡ faults.Memory → new ≡ old → BreaksRefused wrote writes request old new fault
+  not_begun : is_report request ≡ false → fault ≡ faults.Memory → new ≡ old → BreaksRefused wrote writes request old new fault
   begun : (front left : List ℕ) → is_report request ≡ true → codes "memory\n" ≡ front ++ left → wrote old front new → fault ≡ faults.Write → writes new ≡ one_more (writes old) → BreaksRefused wrote writes request old new fault
 
 -- how a session ends behind its last line

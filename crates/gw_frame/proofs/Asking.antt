@@ -1,0 +1,51 @@
+-- A program of questions depends only on the answers; and what two programs, one after the other, come to and ask.
+use Rattle.std.proofs.Common.{◌≡◌, ℕ, ◌++◌, ◌∷◌, Ok, Err, refl, ap, ap₂}
+use Rattle.std.specs.List.{AllByRecursion}
+use Rattle.std.proofs.lemmas.List.Elements.{recursion_from_All}
+use Rattle.gw_meaning.specs.declared.item.Item.{Item}
+use Rattle.gw_meaning.specs.declared.item.Item.TheVariants as items
+use Rattle.gw_meaning.specs.declared.item.End.{End}
+use Rattle.gw_meaning.specs.Listing.{Listing}
+use Rattle.gw_meaning.specs.Questions.{ask, Prog, Gives, Ends, Asks, result_of, items_of, ◌>>=◌}
+use Rattle.gw_meaning.specs.Step.{step_prog, run_prog, items_if_moved}
+use Rattle.gw_frame.specs.Alike.{SameAnswer, AnswersAlike, UnseenEdit, UnseenStep}
+
+-- what is answered alike is the same answer
+same_answer : (t : Listing) (seed : ℕ) (u : Listing) (new_seed : ℕ) (i : Item) → SameAnswer t seed u new_seed i → ask u new_seed i ≡ ask t seed i
+same_answer t seed u new_seed (items.Block place) h = h
+same_answer t seed u new_seed (items.After place) h = h
+same_answer t seed u new_seed items.Generates h = h
+same_answer t seed u new_seed (items.Cmd i) h = h
+same_answer t seed u new_seed items.Seed h = h
+same_answer t seed u new_seed (items.Within time) h = h
+
+asks_alike : {A : Type 0} (t : Listing) (seed : ℕ) (u : Listing) (new_seed : ℕ) (p : Prog A) → AllByRecursion (SameAnswer t seed u new_seed) (items_of t seed p) → (result_of u new_seed p ≡ result_of t seed p) × (items_of u new_seed p ≡ items_of t seed p)
+asks_alike t seed u new_seed (Gives a) h = (refl, refl)
+asks_alike t seed u new_seed (Ends end) h = (refl, refl)
+asks_alike t seed u new_seed (Asks i k) h =
+    let rest = asks_alike t seed u new_seed (k (ask t seed i)) h.1 in
+    rw (same_answer t seed u new_seed i h.0) (rest.0, ap (λ is. i ∷ is) rest.1)
+
+-- a program that is answered alike comes to the same and asks the same
+pub same_answers : {A : Type 0} (t : Listing) (seed : ℕ) (u : Listing) (new_seed : ℕ) (p : Prog A) → AnswersAlike t seed u new_seed (items_of t seed p) → (result_of u new_seed p ≡ result_of t seed p) × (items_of u new_seed p ≡ items_of t seed p)
+same_answers t seed u new_seed p h = asks_alike t seed u new_seed p (recursion_from_All (SameAnswer t seed u new_seed) (items_of t seed p) h)
+
+pub unseen_edit : UnseenEdit
+unseen_edit t seed u new_seed n h = same_answers t seed u new_seed (run_prog n) h
+
+pub unseen_step : UnseenStep
+unseen_step t seed u new_seed s h =
+    let same = same_answers t seed u new_seed (step_prog s) h in
+    (same.0, same.1, ap₂ items_if_moved same.0 same.1)
+
+-- the first program gives a: the whole comes to what the second comes to on a, and its questions are behind the first's
+pub bind_gives : {A B : Type 0} (t : Listing) (seed : ℕ) (p : Prog A) (k : A → Prog B) (a : A) → result_of t seed p ≡ Ok a → (result_of t seed (p >>= k) ≡ result_of t seed (k a)) × (items_of t seed (p >>= k) ≡ items_of t seed p ++ items_of t seed (k a))
+bind_gives t seed (Gives b) k a is = let same : b ≡ a = cc in rw same (refl, refl)
+bind_gives t seed (Ends end) k a is = absurd cc
+bind_gives t seed (Asks i f) k a is = let h = bind_gives t seed (f (ask t seed i)) k a is in (h.0, ap (λ is. i ∷ is) h.1)
+
+-- the first program ends the run: so does the whole
+pub bind_ends : {A B : Type 0} (t : Listing) (seed : ℕ) (p : Prog A) (k : A → Prog B) (end : End) → result_of t seed p ≡ Err end → (result_of t seed (p >>= k) ≡ Err end) × (items_of t seed (p >>= k) ≡ items_of t seed p)
+bind_ends t seed (Gives b) k end is = absurd cc
+bind_ends t seed (Ends e) k end is = let same : e ≡ end = cc in rw same (refl, refl)
+bind_ends t seed (Asks i f) k end is = let h = bind_ends t seed (f (ask t seed i)) k end is in (h.0, ap (λ is. i ∷ is) h.1)

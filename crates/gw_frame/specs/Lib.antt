@@ -1,0 +1,5 @@
+pub mod Alike
+pub mod Reads
+pub mod Moved
+pub mod Positions
+pub use Rattle.gw_meaning.specs.Step

@@ -1,0 +1,36 @@
+// Laws above the definitions of the run.
+ghost use Rattle.gw_frame.specs.Alike.{UnseenEdit, UnseenStep};
+ghost use Rattle.gw_frame.specs.Moved.{StartStays, UnseenMove, UnseenMoveStep, UnseenMoveReads};
+ghost use Rattle.gw_frame.specs.Positions.{InsertionMoves, DeletionMoves};
+ghost use Rattle.gw_frame.specs.Reads.{RunAsksItsReads, UnseenStepReads, UnseenReads};
+
+/// A version that answers alike all that a run asked has the same run and is asked the same. So is each of its steps,
+/// from whatever state.
+pub fn unseen_edit()
+    ensures run { UnseenEdit }
+    ensures step { UnseenStep }
+{}
+
+/// What a run asked is what its steps read, one after another. A version that answers alike what the steps up to a
+/// moment read comes to the same state at that moment, and its steps up to there read the same.
+pub fn unseen_reads()
+    ensures asked { RunAsksItsReads }
+    ensures step { UnseenStepReads }
+    ensures run { UnseenReads }
+{}
+
+/// Where blocks have other places, and a version answers all that a run asked with the places moved, its run is the run
+/// with the places moved, in every transaction and every count, and it is asked for the moved places. So is each step,
+/// from a state and that state moved. A run begins in the same state as ever, where no transaction is at a block.
+pub fn unseen_move()
+    ensures start { StartStays }
+    ensures run { UnseenMove }
+    ensures step { UnseenMoveStep }
+    ensures reads { UnseenMoveReads }
+{}
+
+/// Where a block goes in, or out, the positions of the others move, and no two become one.
+pub fn position_maps()
+    ensures insertion { InsertionMoves }
+    ensures deletion { DeletionMoves }
+{}

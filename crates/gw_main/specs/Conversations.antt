@@ -1,0 +1,48 @@
+-- What the program does with its input: it takes a model off its front, and serves the script that stands behind it. (Our own.)
+use Rattle.std.specs.Prelude.{◌≡◌, ℕ, List, codes}
+use Rattle.gw_io.specs.declared.budget.ReadFault.{ReadFault}
+use Rattle.gw_io.specs.Model.{TakesModel, IsModelPart}
+use Rattle.gw_io.specs.Reading.{Breaks}
+use Rattle.gw_script.specs.Listing.{Listing}
+use Rattle.gw_script.specs.declared.fault.Fault.{Fault}
+use Rattle.gw_script.specs.declared.fault.Over.{Over}
+use Rattle.gw_script.specs.declared.opening.Options.{Options}
+use Rattle.gw_script.specs.Opening.{Opens, Refuses}
+use Rattle.gw_script.specs.Sessions.{Serves, Stops}
+use Rattle.gw_script.specs.Turns.{stopped_by}
+use Rattle.gw_main.specs.Complaints.{Tells, complaint_of, status_of}
+
+-- a model was taken off the reader, by at most 16,777,216 calls of which none failed; `between` is the moment behind it
+pub record Takes {S : Type 0} (took : S → List ℕ → S → Type 0) (ended : S → Type 0) (reads : S → ℕ) (reader between : S) (model : List ℕ) : Type 0 where
+  pub left : ℕ
+  pub takes : TakesModel took ended reader between 16777216 left model
+  pub uncounted : reads between ≡ reads reader
+
+-- a conversation came to its end: the model was taken and opened, and the session served what stands behind it
+pub record Converses {S K : Type 0} (took : S → List ℕ → S → Type 0) (ended : S → Type 0) (reads : S → ℕ) (wrote : K → List ℕ → K → Type 0) (o : Options) (reader reader' : S) (writer writer' : K) (over : Over) : Type 0 where
+  pub between : S
+  pub model : List ℕ
+  pub version : Listing
+  pub taken : Takes took ended reads reader between model
+  pub opens : Opens model o version
+  pub serves : Serves took ended wrote version between reader' writer writer' over
+
+-- a conversation stopped: within the model, with nothing written; behind a model that is refused, with nothing more read
+-- and nothing written; or in the session over the model
+pub data Fails {S K : Type 0} (took : S → List ℕ → S → Type 0) (ended : S → Type 0) (reads : S → ℕ) (wrote : K → List ℕ → K → Type 0) (writes : K → ℕ) (o : Options) (reader reader' : S) (writer writer' : K) (fault : Fault) : Type 0 where
+  in_model : (left : ℕ) (cause : ReadFault) → Breaks took reads IsModelPart reader reader' 16777216 left cause → fault ≡ stopped_by cause → writer' ≡ writer → Fails took ended reads wrote writes o reader reader' writer writer' fault
+  refused : (model : List ℕ) → Takes took ended reads reader reader' model → Refuses model o fault → writer' ≡ writer → Fails took ended reads wrote writes o reader reader' writer writer' fault
+  in_session : (between : S) (model : List ℕ) (version : Listing) → Takes took ended reads reader between model → Opens model o version → Stops took reads wrote writes version between reader' writer writer' fault → Fails took ended reads wrote writes o reader reader' writer writer' fault
+
+-- a run of the program without words: it served the script to its end, and standard error was told nothing; or it stopped
+-- for a fault, which standard error was told of, and the status is the fault's
+pub data Runs {S K E : Type 0} (took : S → List ℕ → S → Type 0) (ended : S → Type 0) (reads : S → ℕ) (wrote : K → List ℕ → K → Type 0) (writes : K → ℕ) (told : E → List ℕ → E → Type 0) (losses : E → ℕ) (o : Options) (reader reader' : S) (writer writer' : K) (errors errors' : E) (status : ℕ) : Type 0 where
+  served : (over : Over) → Converses took ended reads wrote o reader reader' writer writer' over → errors' ≡ errors → status ≡ 0 → Runs took ended reads wrote writes told losses o reader reader' writer writer' errors errors' status
+  stopped : (fault : Fault) → Fails took ended reads wrote writes o reader reader' writer writer' fault → Tells told losses (complaint_of fault) errors errors' → status ≡ status_of fault → Runs took ended reads wrote writes told losses o reader reader' writer writer' errors errors' status
+
+-- words are refused with nothing read and nothing written
+pub record RefusesWords {S K E : Type 0} (told : E → List ℕ → E → Type 0) (losses : E → ℕ) (reader reader' : S) (writer writer' : K) (errors errors' : E) (status : ℕ) : Type 0 where
+  pub status_is : status ≡ 2
+  pub unread : reader' ≡ reader
+  pub unwritten : writer' ≡ writer
+  pub tells : Tells told losses (codes "arguments\n") errors errors'

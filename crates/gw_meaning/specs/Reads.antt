@@ -1,0 +1,47 @@
+-- What a run reads: the items of each of its steps, and the first step that uses an item. (Our own.)
+use Rattle.std.specs.Prelude.{◌≡◌, ℕ, zero, suc, ◌<◌, Bool, true, false, ◌==◌, List, [], Option, Some, None, Result, Ok, Err, if◌then◌else◌, nat_lt, nat_le}
+use Rattle.std.specs.List.{list_any}
+use Rattle.gw_meaning.specs.declared.item.Item.{Item}
+use Rattle.gw_meaning.specs.declared.item.Item.TheVariants as items
+use Rattle.gw_meaning.specs.declared.item.End.{End}
+use Rattle.gw_meaning.specs.Listing.{Listing}
+use Rattle.gw_meaning.specs.Machine.{Machine}
+use Rattle.gw_meaning.specs.Step.{step_items, run}
+
+-- the items that the step from a state reads; none where the run ended before
+abbrev pub read_from : Listing → ℕ → Result Machine End → List Item
+read_from t seed (Ok s) = step_items t seed s
+read_from t seed (Err end) = []
+
+-- the items that step n of the run from zero reads
+abbrev pub reads : Listing → ℕ → ℕ → List Item
+reads t seed n = read_from t seed (run t seed n)
+
+-- whether an item is used where another is read: it is that item; a moment is used by each Clock step to a later one
+abbrev pub is_use : Item → Item → Bool
+is_use (items.Block place) (items.Block other) = other == place
+is_use (items.After place) (items.After other) = other == place
+is_use items.Generates items.Generates = true
+is_use (items.Cmd i) (items.Cmd j) = j == i
+is_use items.Seed items.Seed = true
+is_use (items.Within time) (items.Within other) = nat_lt time other
+is_use item other = false
+
+-- whether the i-th command or one behind it is read
+abbrev pub is_command_use : ℕ → Item → Bool
+is_command_use i (items.Cmd j) = nat_le i j
+is_command_use i other = false
+
+-- the earlier of two steps, where the second is the later one
+abbrev pub or_later : Option ℕ → Option ℕ → Option ℕ
+or_later None later = later
+or_later (Some n) later = Some n
+
+-- the first step below n that reads an item with a property
+abbrev pub first_reading : (Item → Bool) → Listing → ℕ → ℕ → Option ℕ
+first_reading p t seed zero = None
+first_reading p t seed (suc n) = or_later (first_reading p t seed n) (if list_any p (reads t seed n) then Some n else None)
+
+-- the first step below n that uses an item
+abbrev pub first_use : Item → Listing → ℕ → ℕ → Option ℕ
+first_use item = first_reading (is_use item)
