@@ -1,0 +1,198 @@
+-- What stays the record of a run: when a state is kept, when a step is made, when first uses are forgotten.
+use Rattle.std.proofs.Common.{◌≡◌, ◌⊎◌, ℕ, zero, suc, ◌+◌, ◌-◌, ◌<◌, ◌≤◌, Bool, true, false, cond, nat_eq, nat_lt, List, [], ◌∷◌, ◌++◌, length, get_or, slice_get, Option, Some, None, Ok, inl, inr, ⊎_elim, refl, sym, ap, subst, ◌∙◌, arith}
+use Rattle.std.specs.List.{list_any}
+use Rattle.std.proofs.lemmas.Bool.Decides.{nat_tests}
+use Rattle.std.proofs.lemmas.List.{length_push}
+use Rattle.std.proofs.lemmas.Option.{slice_get-get_or}
+use Rattle.std.proofs.lemmas.List.Sorted.{IsNonDecreasingBy-push}
+use Rattle.gw_meaning.specs.declared.item.Item.{Item}
+use Rattle.gw_meaning.specs.declared.moves.Move.{Move}
+use Rattle.gw_meaning.specs.declared.moves.Move.TheVariants as moves
+use Rattle.gw_meaning.specs.declared.transaction.Transaction.{Transaction}
+use Rattle.gw_meaning.specs.Listing.{Listing}
+use Rattle.gw_meaning.specs.Machine.{Machine, raised}
+use Rattle.gw_meaning.specs.Changes.{moved, with_active, picked}
+use Rattle.gw_meaning.specs.Step.{step, step_items, step_prog, run, run_prog}
+use Rattle.gw_meaning.specs.Reads.{or_later, is_use, read_from, first_use}
+use Rattle.gw_scan.proofs.Binding.{bind_gives}
+use Rattle.gw_record.specs.declared.kept.Kept.{Kept}
+use Rattle.gw_record.specs.declared.first_uses.FirstUses.{FirstUses}
+use Rattle.gw_record.specs.Steps.{below, AreBelow}
+use Rattle.gw_record.specs.Uses.{first_in}
+use Rattle.gw_record.specs.Tape.{Tape, Records, IsKeptUp, IsStartEnd, IsWanted, IsThere, IsOfRun, IsEndThere}
+use Rattle.gw_record.proofs.UseLaws.{reading_cut}
+
+-- the last of a longer list, or one of those before
+pushed_at : {X : Type 0} (xs : List X) (x : X) (i : ℕ) (y : X) → slice_get (xs ++ x ∷ []) i ≡ Some y → (slice_get xs i ≡ Some y) ⊎ ((i ≡ length xs) × (x ≡ y))
+pushed_at [] x zero y is = let same : x ≡ y = cc in inr (refl, same)
+pushed_at [] x (suc i) y is = absurd cc
+pushed_at (z ∷ xs) x zero y is = inl is
+pushed_at (z ∷ xs) x (suc i) y is = ⊎_elim (λ h. inl h) (λ h. inr (ap suc h.0, h.1)) (pushed_at xs x i y is)
+
+slice_get_more : {X : Type 0} (xs : List X) (x : X) (i : ℕ) (y : X) → slice_get xs i ≡ Some y → slice_get (xs ++ x ∷ []) i ≡ Some y
+slice_get_more [] x i y is = absurd cc
+slice_get_more (z ∷ xs) x zero y is = is
+slice_get_more (z ∷ xs) x (suc i) y is = slice_get_more xs x i y is
+
+slice_get_last : {X : Type 0} (xs : List X) (x : X) → slice_get (xs ++ x ∷ []) (length xs) ≡ Some x
+slice_get_last [] x = refl
+slice_get_last (z ∷ xs) x = slice_get_last xs x
+
+-- a kept state stays where one more is kept
+there_more : (xs : List Kept) (x : Kept) (m : ℕ) → IsThere xs m → IsThere (xs ++ x ∷ []) m
+there_more xs x m (i, e, is, at) = (i, e, slice_get_more xs x i e is, at)
+
+-- the moments of a START end are one
+same_end : (t : Listing) (seed k m n : ℕ) → IsStartEnd t seed k m → IsStartEnd t seed k n → m ≤ n
+same_end t seed k m n a b = go (nat_lt n m) refl where
+  go : (c : Bool) → nat_lt n m ≡ c → m ≤ n
+  go true e = absurd (a.first n b.state (grind (arith, nat_tests)) b.there b.complete)
+  go false e = grind (arith, nat_tests)
+
+-- the tip is a START end where one more is complete than were noted
+pub tip_is_end : (t : Listing) (seed : ℕ) (r : Tape) → Records t seed r → length r.ends < r.tip.complete → IsStartEnd t seed (length r.ends + 1) r.moment
+tip_is_end t seed r h more =
+    let one = h.tip_end in
+    record {
+      state = r.tip;
+      there = h.tip;
+      complete = omega (arith, more, one);
+      some = omega arith;
+      first = λ m u less is done. let few = h.all_ends m u less is in absurd (omega (arith, few, done));
+    }
+
+-- where no more are complete, a START end at the tip is noted and kept
+pub end_is_there : (t : Listing) (seed k : ℕ) (r : Tape) → Records t seed r → r.tip.complete ≤ length r.ends → IsStartEnd t seed k r.moment → IsThere r.kept r.moment
+end_is_there t seed k r h few end =
+    let found : Ok end.state ≡ Ok r.tip = sym end.there ∙ h.tip in
+    let same : end.state ≡ r.tip = cc in
+    let count : r.tip.complete ≡ k = ap (λ (s : Machine). s.complete) (sym same) ∙ end.complete in
+    let some = end.some in
+    let e : k - 1 + 1 ≡ k = omega (arith, some) in
+    let m : ℕ = get_or r.ends (k - 1) 0 in
+    let noted = h.ends (k - 1) m (slice_get-get_or r.ends (k - 1) 0 (omega (arith, some, count, few))) in
+    let is : IsStartEnd t seed k m = subst (λ n. IsStartEnd t seed n m) e noted.end in
+    let low = same_end t seed k m r.moment is end in
+    let high = same_end t seed k r.moment m end is in
+    let at : m ≡ r.moment = omega (arith, low, high) in
+    subst (λ n. IsThere r.kept n) at noted.kept
+
+-- the state at the tip is kept
+pub state_kept : (t : Listing) (seed : ℕ) (r : Tape) → Records t seed r → IsWanted t seed r.every r.moment → Records t seed (record r { kept = r.kept ++ (record { moment = r.moment; state = r.tip }) ∷ [] })
+state_kept t seed r h wanted =
+    let last : Kept = record { moment = r.moment; state = r.tip } in
+    record {
+      tip = h.tip;
+      within = h.within;
+      kept = λ i e is. ⊎_elim
+          (λ old. let o = h.kept i e old in record { there = o.there; wanted = o.wanted; below = o.below })
+          (λ new. subst (λ (e : Kept). IsOfRun t seed (record r { kept = r.kept ++ last ∷ [] }) e) new.1 (record { there = h.tip; wanted = wanted; below = omega arith }))
+          (pushed_at r.kept last i e is);
+      rising = IsNonDecreasingBy-push (λ (e : Kept). e.moment) r.kept last h.rising (λ d some. (h.kept (length r.kept - 1) (get_or r.kept (length r.kept - 1) d) (slice_get-get_or r.kept (length r.kept - 1) d (omega (arith, some)))).below);
+      all_kept = λ m less want. there_more r.kept last m (h.all_kept m less want);
+      ends = λ i m is. let o = h.ends i m is in record { end = o.end; below = o.below; kept = there_more r.kept last m o.kept };
+      ends_rise = h.ends_rise;
+      all_ends = h.all_ends;
+      tip_end = h.tip_end;
+      firsts = h.firsts;
+    }
+
+pub tip_is_there : (xs : List Kept) (x : Kept) → IsThere (xs ++ x ∷ []) x.moment
+tip_is_there xs x = (length xs, x, slice_get_last xs x, refl)
+
+-- the tip is noted as a START end
+pub end_kept : (t : Listing) (seed : ℕ) (r : Tape) → Records t seed r → length r.ends < r.tip.complete → IsThere r.kept r.moment → Records t seed (record r { ends = r.ends ++ r.moment ∷ [] })
+end_kept t seed r h more there =
+    let n : length (r.ends ++ r.moment ∷ []) ≡ length r.ends + 1 = length_push r.ends r.moment in
+    let end = tip_is_end t seed r h more in
+    let one = h.tip_end in
+    let R : Tape = record r { ends = r.ends ++ r.moment ∷ [] } in
+    record {
+      tip = h.tip;
+      within = h.within;
+      kept = λ i e is. let o = h.kept i e is in record { there = o.there; wanted = o.wanted; below = o.below };
+      rising = h.rising;
+      all_kept = h.all_kept;
+      ends = λ i m is. ⊎_elim
+          (λ old. let o = h.ends i m old in record { end = o.end; below = o.below; kept = o.kept })
+          (λ new. let P : ℕ → ℕ → Type 0 = λ k m. IsEndThere t seed R (k + 1) m in
+          subst (λ k. P k m) (sym new.0) (subst (λ m. P (length r.ends) m) new.1 (record { end = end; below = omega arith; kept = there })))
+          (pushed_at r.ends r.moment i m is);
+      ends_rise = IsNonDecreasingBy-push (λ (m : ℕ). m) r.ends r.moment h.ends_rise (λ d some. (h.ends (length r.ends - 1) (get_or r.ends (length r.ends - 1) d) (slice_get-get_or r.ends (length r.ends - 1) d (omega (arith, some)))).below);
+      all_ends = λ m u less is. let few = h.all_ends m u less is in omega (arith, few, n);
+      tip_end = omega (arith, one, n);
+      firsts = h.firsts;
+    }
+
+-- a move completes one START at most
+complete_active : (s : Machine) (o : Option Transaction) (f : Transaction → Machine) → ((x : Transaction) → (f x).complete ≤ s.complete + 1) → (with_active o f s).complete ≤ s.complete + 1
+complete_active s None f h = omega arith
+complete_active s (Some x) f h = h x
+
+complete_picked : (s : Machine) (xs : List Transaction) → (picked s xs).complete ≤ s.complete + 1
+complete_picked s [] = omega arith
+complete_picked s (x ∷ xs) = omega arith
+
+complete_done : (b : Bool) (n : ℕ) → cond b n (raised n) ≤ n + 1
+complete_done true n = omega arith
+complete_done false n = grind arith
+
+pub complete_moved : (s : Machine) (m : Move) → (moved s m).complete ≤ s.complete + 1
+complete_moved s (moves.Start count arrivals) = omega arith
+complete_moved s (moves.Generate place next) = complete_active s s.active _ (λ x. omega arith)
+complete_moved s (moves.Pass place) = complete_active s s.active _ (λ x. omega arith)
+complete_moved s (moves.Delay place until) = complete_active s s.active _ (λ x. omega arith)
+complete_moved s (moves.Terminate place count) = complete_active s s.active _ (λ x. complete_done _ s.complete)
+complete_moved s moves.Pick = complete_picked s s.current
+complete_moved s (moves.Clock time) = omega arith
+
+-- the run is one step longer
+run_on : (t : Listing) (seed n : ℕ) (s : Machine) → run t seed n ≡ Ok s → run t seed (suc n) ≡ step t seed s
+run_on t seed n s is = (bind_gives t seed (run_prog n) step_prog s is).0
+
+-- a step is made, and the items that it read are noted
+pub made : (t : Listing) (seed : ℕ) (r : Tape) (m : Move) (f : FirstUses) → Records t seed r → IsKeptUp t seed r → r.moment < t.limit → step t seed r.tip ≡ Ok (moved r.tip m) → ((item : Item) → first_in f item ≡ or_later (first_in r.firsts item) (cond (list_any (is_use item) (step_items t seed r.tip)) (Some r.moment) None)) → AreBelow (r.moment + 1) f.clock_steps → Records t seed (record r { moment = r.moment + 1; tip = moved r.tip m; firsts = f })
+made t seed r m f h up room goes noted clock =
+    let one : r.moment + 1 ≡ suc r.moment = omega arith in
+    record {
+      tip = ap (λ n. run t seed n) one ∙ (run_on t seed r.moment r.tip h.tip ∙ goes);
+      within = omega (arith, room);
+      kept = λ i e is. let o = h.kept i e is in let l = o.below in record { there = o.there; wanted = o.wanted; below = omega (arith, l) };
+      rising = h.rising;
+      all_kept = λ i less want. kept_before i less want (nat_eq i r.moment) refl;
+      ends = λ i e is. let o = h.ends i e is in let l = o.below in record { end = o.end; below = omega (arith, l); kept = o.kept };
+      ends_rise = h.ends_rise;
+      all_ends = λ i u less is. before i u less is (nat_eq i r.moment) refl;
+      tip_end = let c = complete_moved r.tip m in let e = up.end in omega (arith, c, e);
+      firsts = record { each = λ item. noted item ∙ (ap (λ o. or_later o (cond (list_any (is_use item) (step_items t seed r.tip)) (Some r.moment) None)) (h.firsts.each item) ∙ (ap (λ q. or_later (first_use item t seed r.moment) (cond (list_any (is_use item) (read_from t seed q)) (Some r.moment) None)) (sym h.tip) ∙ ap (λ n. first_use item t seed n) (sym one))); clock = clock };
+    } where
+      before : (i : ℕ) (u : Machine) → i < r.moment + 1 → run t seed i ≡ Ok u → (b : Bool) → nat_eq i r.moment ≡ b → u.complete ≤ length r.ends
+      before i u less is true e =
+          let at : i ≡ r.moment = grind (arith, nat_tests) in
+          let found : Ok u ≡ Ok r.tip = sym is ∙ (ap (λ i. run t seed i) at ∙ h.tip) in
+          let same : u ≡ r.tip = cc in
+          let few = up.end in
+          omega (arith, few, ap (λ (v : Machine). v.complete) same)
+      before i u less is false e = h.all_ends i u (grind (arith, nat_tests)) is
+
+      kept_before : (i : ℕ) → i < r.moment + 1 → IsWanted t seed r.every i → (b : Bool) → nat_eq i r.moment ≡ b → IsThere r.kept i
+      kept_before i less want true e =
+          let at : i ≡ r.moment = grind (arith, nat_tests) in
+          subst (λ n. IsThere r.kept n) (sym at) (up.state (subst (λ n. IsWanted t seed r.every n) at want))
+      kept_before i less want false e = h.all_kept i (grind (arith, nat_tests)) want
+
+-- what was noted of a step that was not made is forgotten
+pub forgotten : (t : Listing) (seed : ℕ) (r : Tape) (f : FirstUses) → Records t seed r → ((item : Item) → first_in f item ≡ below r.moment (first_in r.firsts item)) → AreBelow r.moment f.clock_steps → Records t seed (record r { firsts = f })
+forgotten t seed r f h cut clock =
+    record {
+      tip = h.tip;
+      within = h.within;
+      kept = λ i e is. let o = h.kept i e is in record { there = o.there; wanted = o.wanted; below = o.below };
+      rising = h.rising;
+      all_kept = h.all_kept;
+      ends = λ i m is. let o = h.ends i m is in record { end = o.end; below = o.below; kept = o.kept };
+      ends_rise = h.ends_rise;
+      all_ends = h.all_ends;
+      tip_end = h.tip_end;
+      firsts = record { each = λ item. cut item ∙ (ap (λ o. below r.moment o) (h.firsts.each item) ∙ reading_cut (is_use item) t seed r.moment r.moment (omega arith)); clock = clock };
+    }

@@ -1,0 +1,29 @@
+use Rattle.std.proofs.Common.{◌≡◌, sym, ◌∙◌, arith}
+use Rattle.gw_record.proofs.CutLaws.{cut_back, one_is_kept}
+use Rattle.gw_record.proofs.recorded.Recorded.cut.Goals as goal
+
+pub returns-in-Some-clause-records : goal.returns-in-Some-clause-records
+returns-in-Some-clause-records c = λ t seed h.
+    let within = rw c.as_slice.ensures.value at c.count_until-count.ensures.bound in
+    let parts = rw c.as_slice.ensures.value at c.count_until-count.ensures.parts in
+    (cut_back t seed _ c.args.moment _ _ c.in-Some.last c.go_back.new.self (rw (← c.self.view_is) at h) c.if-moment-self.true within parts (sym c.truncate.ensures.items ∙ c.in-Some.ensures.items) c.go_back.ensures).0
+
+pub returns-in-Some-clause-kept : goal.returns-in-Some-clause-kept
+returns-in-Some-clause-kept c = λ t seed h.
+    let within = rw c.as_slice.ensures.value at c.count_until-count.ensures.bound in
+    let parts = rw c.as_slice.ensures.value at c.count_until-count.ensures.parts in
+    rw (← c.self.view_is) (cut_back t seed _ c.args.moment _ _ c.in-Some.last c.go_back.new.self (rw (← c.self.view_is) at h) c.if-moment-self.true within parts (sym c.truncate.ensures.items ∙ c.in-Some.ensures.items) c.go_back.ensures).1
+
+pub returns-in-None-clause-records : goal.returns-in-None-clause-records
+returns-in-None-clause-records c = λ t seed h.
+    let within = rw c.as_slice.ensures.value at c.count_until-count.ensures.bound in
+    let parts = rw c.as_slice.ensures.value at c.count_until-count.ensures.parts in
+    let none : c.count_until-count.result ≡ 0 = grind (arith, within) in
+    absurd (one_is_kept t seed _ c.args.moment _ (rw (← c.self.view_is) at h) c.if-moment-self.true parts none)
+
+pub returns-in-None-clause-kept : goal.returns-in-None-clause-kept
+returns-in-None-clause-kept c = λ t seed h.
+    let within = rw c.as_slice.ensures.value at c.count_until-count.ensures.bound in
+    let parts = rw c.as_slice.ensures.value at c.count_until-count.ensures.parts in
+    let none : c.count_until-count.result ≡ 0 = grind (arith, within) in
+    absurd (one_is_kept t seed _ c.args.moment _ (rw (← c.self.view_is) at h) c.if-moment-self.true parts none)

@@ -1,0 +1,8 @@
+use Rattle.gw_meaning.specs.declared.item.Item.TheVariants as items
+use Rattle.gw_record.proofs.FirstLaws.{first_command}
+use Rattle.gw_record.proofs.recorded.Recorded.first_command.Goals as goal
+
+pub returns : goal.returns
+returns c = λ t seed h.
+    let kept = rw (← c.self.view_is) at h in
+    rw (← c.self.view_is) (first_command c.args.i c.self.inside.moment t seed _ _ c.least_from.ensures (λ k. kept.firsts.each (items.Cmd k)))

@@ -1,0 +1,26 @@
+-- What is noted of the first uses of items. (Our own.)
+use Rattle.std.specs.Prelude.{◌≡◌, ℕ, [], Option, None}
+use Rattle.gw_meaning.specs.declared.item.Item.{Item}
+use Rattle.gw_meaning.specs.declared.item.Item.TheVariants as items
+use Rattle.gw_meaning.specs.Listing.{Listing}
+use Rattle.gw_meaning.specs.Reads.{first_use}
+use Rattle.gw_record.specs.declared.first_uses.FirstUses.{FirstUses}
+use Rattle.gw_record.specs.Steps.{step_at, first_beyond, AreBelow}
+
+-- nothing is noted
+abbrev pub nothing_used : FirstUses
+nothing_used = record { blocks = []; afters = []; generates = None; commands = []; seed = None; clock_steps = [] }
+
+-- the step that is noted for an item
+abbrev pub first_in : FirstUses → Item → Option ℕ
+first_in f (items.Block place) = step_at f.blocks place
+first_in f (items.After place) = step_at f.afters place
+first_in f items.Generates = f.generates
+first_in f (items.Cmd i) = step_at f.commands i
+first_in f items.Seed = f.seed
+first_in f (items.Within time) = first_beyond time f.clock_steps
+
+-- what is noted are the first uses of the first n steps
+pub record AreFirstUses (t : Listing) (seed n : ℕ) (f : FirstUses) : Type 0 where
+  pub each : (item : Item) → first_in f item ≡ first_use item t seed n
+  pub clock : AreBelow n f.clock_steps

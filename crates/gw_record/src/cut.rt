@@ -1,0 +1,38 @@
+// Going back to a kept state.
+ghost use Rattle.std.specs.Prelude.{◌≡◌, ℕ};
+ghost use Rattle.gw_meaning.specs.Listing.{Listing};
+ghost use Rattle.gw_record.specs.Cutting.{WentBack};
+ghost use Rattle.gw_record.specs.Tape.{Records, IsLastKept};
+
+use crate::kept::{Kept, count_before, count_until};
+use crate::recorded::Recorded;
+
+impl Recorded {
+    /// Goes back to the last kept moment at or before another, where that is not at or behind the tip. It takes no
+    /// memory.
+    pub fn cut(&mut self, moment: u64)
+        ensures records { (t : Listing) (seed : ℕ) → Records t seed self.old → Records t seed self.new }
+        ensures kept { (t : Listing) (seed : ℕ) → Records t seed self.old → IsLastKept t seed self.old moment self.new.moment }
+        ensures every { self.new.every ≡ self.old.every }
+    {
+        if moment < self.moment {
+            let count = count_until(self.kept.as_slice(), moment);
+            self.kept.truncate(count);
+            match self.kept.pop() {
+                Some(last) => self.go_back(last),
+                None => (),
+            }
+        }
+    }
+
+    // Goes back to a state that is no longer among those kept.
+    fn go_back(&mut self, to: Kept)
+        ensures { WentBack self.old to self.new }
+    {
+        let count = count_before(self.ends.as_slice(), to.moment);
+        self.ends.truncate(count);
+        self.firsts.forget(to.moment);
+        self.moment = to.moment;
+        self.tip = to.state;
+    }
+}

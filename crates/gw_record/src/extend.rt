@@ -1,0 +1,151 @@
+// One step after another, each kept before it is left.
+ghost use Rattle.std.specs.Prelude.{◌≡◌, ◌+◌, ◌-◌, ◌≤◌, ◌<◌, ◌++◌, ℕ, Ok, IfOk, OnOk, OnErr, [], length, IsTrue, IsFalse};
+ghost use Rattle.gw_meaning.specs.Listing.{Listing};
+ghost use Rattle.gw_meaning.specs.Changes.{moved};
+ghost use Rattle.gw_meaning.specs.Machine.{raised};
+ghost use Rattle.gw_meaning.specs.Step.{step, step_items};
+ghost use Rattle.gw_scan.specs.Stepping.{Counts};
+ghost use Rattle.gw_scan.specs.Moves.{IsInClock};
+ghost use Rattle.gw_record.specs.Steps.{AreBelow};
+ghost use Rattle.gw_record.specs.Tape.{Records, IsKeptUp, IsWanted, IsThere};
+ghost use Rattle.gw_record.specs.Extending.{Goes, Extends, tallied};
+
+use crate::kept::Kept;
+use crate::recorded::Recorded;
+use gw_meaning::Move;
+use gw_model::Version;
+use gw_scan::{Next, Tally, Turn, Uses, next_move};
+use std::alloc::{AllocError, Global};
+
+impl Recorded {
+    /// Makes `steps` more steps of the version's run with this seed, or those up to the step limit or to the
+    /// run's end, counts them and says how many they are. Where memory is refused, the steps made stay.
+    pub fn extend(
+        &mut self,
+        alloc: Global,
+        version: &Version,
+        seed: u64,
+        steps: u64,
+        tally: &mut Tally,
+    ) -> Result<u64, AllocError>
+        requires { Records version.now seed self.old }
+        ensures records { Records version.now seed self.new }
+        ensures every { self.new.every ≡ self.old.every }
+        ensures done { IfOk result (λ made. Extends version.now seed steps made self.old self.new) }
+        ensures grows { self.old.moment ≤ self.new.moment }
+        ensures bound { self.new.moment ≤ self.old.moment + steps }
+        ensures tally { tally.new ≡ tallied tally.old (self.new.moment - self.old.moment) }
+    {
+        let mut uses = Uses::new(alloc);
+        for made in 0..steps {
+            if self.moment >= version.limit() {
+                return Ok(made);
+            }
+            match self.go(alloc, version, seed, &mut uses, tally)? {
+                Turn::Moved => (),
+                Turn::Ended(_) => return Ok(made),
+            }
+        }
+        Ok(steps)
+    }
+
+    // One step further, if the run goes on.
+    fn go(
+        &mut self,
+        alloc: Global,
+        version: &Version,
+        seed: u64,
+        uses: &mut Uses,
+        tally: &mut Tally,
+    ) -> Result<Turn, AllocError>
+        requires records { Records version.now seed self.old }
+        requires room { self.old.moment < version.now.limit }
+        requires bound { self.old.moment < 1000000 }
+        ensures records { Records version.now seed self.new }
+        ensures every { self.new.every ≡ self.old.every }
+        ensures told { IfOk result (λ turn. Goes version.now seed turn self.old self.new) }
+        ensures tally { IfOk result (λ turn. Counts turn tally.old tally.new) }
+        ensures err { OnErr result ((self.new.moment ≡ self.old.moment) × (tally.new ≡ tally.old)) }
+    {
+        self.keep_state()?;
+        self.keep_end()?;
+        uses.truncate(0);
+        match next_move(alloc, version, seed, &self.tip, uses)? {
+            Next::End(end) => Ok(Turn::Ended(end)),
+            Next::Move(next) => {
+                self.make(next, uses, tally)?;
+                Ok(Turn::Moved)
+            }
+        }
+    }
+
+    // Keeps the state at the tip where it stands at a multiple of the spacing or a START is complete there.
+    fn keep_state(&mut self) -> Result<(), AllocError>
+        ensures records { (t : Listing) (seed : ℕ) → Records t seed self.old → Records t seed self.new }
+        ensures ok { OnOk result ((t : Listing) (seed : ℕ) → Records t seed self.old → IsWanted t seed self.new.every self.new.moment → IsThere self.new.kept self.new.moment) }
+        ensures same { (self.new.moment ≡ self.old.moment) × (self.new.every ≡ self.old.every) × (self.new.tip ≡ self.old.tip) × (self.new.ends ≡ self.old.ends) × (self.new.firsts ≡ self.old.firsts) }
+    {
+        if self.is_wanted() && !self.is_there() {
+            let state = self.tip.copy()?;
+            self.kept.push(Kept {
+                moment: self.moment,
+                state,
+            })?;
+        }
+        Ok(())
+    }
+
+    // Whether the tip's state is to be kept when the run leaves it; if it is not, it may be there already.
+    fn is_wanted(&self) -> bool
+        ensures yes { IsTrue result → (t : Listing) (seed : ℕ) → Records t seed self.now → IsWanted t seed self.now.every self.now.moment }
+        ensures no { IsFalse result → (t : Listing) (seed : ℕ) → Records t seed self.now → IsWanted t seed self.now.every self.now.moment → IsThere self.now.kept self.now.moment }
+    {
+        self.moment % self.every == 0 || (self.ends.len() as u64) < self.tip.complete()
+    }
+
+    // Whether the tip's state is kept.
+    fn is_there(&self) -> bool
+        ensures yes { IsTrue result → IsThere self.now.kept self.now.moment }
+    {
+        match self.kept.last() {
+            Some(last) => last.moment == self.moment,
+            None => false,
+        }
+    }
+
+    // Notes the tip as a START end where it is one.
+    fn keep_end(&mut self) -> Result<(), AllocError>
+        ensures records { (t : Listing) (seed : ℕ) → Records t seed self.old → (IsWanted t seed self.old.every self.old.moment → IsThere self.old.kept self.old.moment) → Records t seed self.new }
+        ensures ok { OnOk result ((t : Listing) (seed : ℕ) → Records t seed self.old → self.new.tip.complete ≤ length self.new.ends) }
+        ensures same { (self.new.moment ≡ self.old.moment) × (self.new.every ≡ self.old.every) × (self.new.tip ≡ self.old.tip) × (self.new.kept ≡ self.old.kept) × (self.new.firsts ≡ self.old.firsts) }
+    {
+        if (self.ends.len() as u64) < self.tip.complete() {
+            self.ends.push(self.moment)?;
+        }
+        Ok(())
+    }
+
+    // Makes a step that reads these items, and notes them first.
+    fn make(&mut self, next: Move, uses: &Uses, tally: &mut Tally) -> Result<(), AllocError>
+        requires room { self.old.moment < 1000000 }
+        requires noted { AreBelow (self.old.moment + 1) self.old.firsts.clock_steps }
+        requires clock { IsInClock next }
+        ensures ok { OnOk result ((t : Listing) (seed : ℕ) → Records t seed self.old → IsKeptUp t seed self.old → self.old.moment < t.limit → uses.now ≡ step_items t seed self.old.tip → step t seed self.old.tip ≡ Ok (moved self.old.tip next) → Records t seed self.new) }
+        ensures moment { OnOk result (self.new.moment ≡ self.old.moment + 1) }
+        ensures every { self.new.every ≡ self.old.every }
+        ensures tally { OnOk result (tally.new ≡ raised tally.old) }
+        ensures err { OnErr result ((t : Listing) (seed : ℕ) → Records t seed self.old → Records t seed self.new) }
+        ensures still { OnErr result ((self.new.moment ≡ self.old.moment) × (tally.new ≡ tally.old)) }
+    {
+        if let Err(error) = self.firsts.note_all(uses.items(), self.moment) {
+            self.firsts.forget(self.moment);
+            return Err(error);
+        }
+        if let Err(error) = self.tip.make(next, tally) {
+            self.firsts.forget(self.moment);
+            return Err(error);
+        }
+        self.moment += 1;
+        Ok(())
+    }
+}

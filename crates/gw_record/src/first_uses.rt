@@ -1,0 +1,106 @@
+ghost use Rattle.std.specs.Prelude.{◌≡◌, ◌+◌, ◌<◌, ◌-◌, ◌^◌, ℕ, Some, None, if◌then◌else◌, OnOk, OnErr};
+ghost use Rattle.std.specs.List.{list_any};
+ghost use Rattle.gw_meaning.specs.declared.item.Item.{Item};
+ghost use Rattle.gw_meaning.specs.Reads.{or_later, is_use};
+ghost use Rattle.gw_record.specs.Steps.{below, AreBelow};
+ghost use Rattle.gw_record.specs.Uses.{first_in, nothing_used};
+
+use crate::clock_steps::ClockSteps;
+use crate::first_steps::FirstSteps;
+use gw_meaning::Item;
+use std::alloc::{AllocError, Global};
+
+/// For each item the first step of a run that used it, if any did.
+#[derive(Debug, Drop)]
+pub struct FirstUses {
+    /// By the numbers of the blocks' statements.
+    pub blocks: FirstSteps,
+    /// By the numbers of the blocks' statements, of the blocks after them.
+    pub afters: FirstSteps,
+    pub generates: Option<u64>,
+    /// From 1.
+    pub commands: FirstSteps,
+    pub seed: Option<u64>,
+    pub clock_steps: ClockSteps,
+}
+
+impl FirstUses {
+    /// Nothing used yet.
+    pub fn new(alloc: Global) -> FirstUses
+        ensures { result ≡ nothing_used }
+    {
+        FirstUses {
+            blocks: FirstSteps::new(alloc),
+            afters: FirstSteps::new(alloc),
+            generates: None,
+            commands: FirstSteps::new(alloc),
+            seed: None,
+            clock_steps: ClockSteps::new(alloc),
+        }
+    }
+
+    /// The first step that used an item.
+    pub fn get(&self, item: &Item) -> Option<u64>
+        ensures { result ≡ first_in self.now item.now }
+    {
+        match item {
+            Item::Block(place) => self.blocks.get(*place),
+            Item::After(place) => self.afters.get(*place),
+            Item::Generates => self.generates,
+            Item::Cmd(i) => self.commands.get(*i),
+            Item::Seed => self.seed,
+            Item::Within(time) => self.clock_steps.first_beyond(*time),
+        }
+    }
+
+    /// Notes that a step, no earlier than those noted, read these items.
+    pub fn note_all(&mut self, items: &[Item], step: u64) -> Result<(), AllocError>
+        requires step { step < 2 ^ 64 - 1 }
+        requires clock { AreBelow (step + 1) self.old.clock_steps }
+        ensures ok { OnOk result ((item : Item) → first_in self.new item ≡ or_later (first_in self.old item) (if list_any (is_use item) items.now then Some step else None)) }
+        ensures clock { AreBelow (step + 1) self.new.clock_steps }
+        ensures err { OnErr result ((item : Item) → below step (first_in self.new item) ≡ below step (first_in self.old item)) }
+    {
+        for item in items {
+            self.note(item, step)?;
+        }
+        Ok(())
+    }
+
+    // Notes that a step read an item.
+    fn note(&mut self, item: &Item, step: u64) -> Result<(), AllocError>
+        requires step { step < 2 ^ 64 - 1 }
+        requires clock { AreBelow (step + 1) self.old.clock_steps }
+        ensures ok { OnOk result ((q : Item) → first_in self.new q ≡ or_later (first_in self.old q) (if is_use q item.now then Some step else None)) }
+        ensures clock { AreBelow (step + 1) self.new.clock_steps }
+        ensures err { OnErr result (self.new ≡ self.old) }
+    {
+        match item {
+            Item::Block(place) => self.blocks.note(*place, step),
+            Item::After(place) => self.afters.note(*place, step),
+            Item::Generates => {
+                self.generates = self.generates.or(Some(step));
+                Ok(())
+            }
+            Item::Cmd(i) => self.commands.note(*i, step),
+            Item::Seed => {
+                self.seed = self.seed.or(Some(step));
+                Ok(())
+            }
+            Item::Within(time) => self.clock_steps.note(step, *time),
+        }
+    }
+
+    /// Forgets the steps from one on.
+    pub fn forget(&mut self, from: u64)
+        ensures value { (item : Item) → first_in self.new item ≡ below from (first_in self.old item) }
+        ensures clock { AreBelow from self.new.clock_steps }
+    {
+        self.blocks.forget(from);
+        self.afters.forget(from);
+        self.generates = self.generates.filter(|step| *step < from);
+        self.commands.forget(from);
+        self.seed = self.seed.filter(|step| *step < from);
+        self.clock_steps.forget(from);
+    }
+}

@@ -1,0 +1,21 @@
+//! Recorded runs: a run from zero with states kept on its way, and for each item the first step that uses it.
+//!
+//! [`Recorded::extend`] makes the steps of the definitions. Every state that a recorded run lends is the state of
+//! the run from zero at that moment, and [`Recorded::first_use`] is the first step that uses an item, no earlier
+//! and no later. [`Recorded::cut`] goes back to the last kept moment, without memory.
+#![tactic(auto)]
+
+mod clock_steps;
+mod cut;
+mod extend;
+mod first_steps;
+mod first_uses;
+mod kept;
+mod lookup;
+mod recorded;
+
+pub use clock_steps::{ClockStep, ClockSteps};
+pub use first_steps::FirstSteps;
+pub use first_uses::FirstUses;
+pub use kept::Kept;
+pub use recorded::Recorded;

@@ -1,0 +1,57 @@
+// What a recorded run answers, without a walk over its steps.
+ghost use Rattle.std.specs.Prelude.{◌≡◌, ◌≤◌, ℕ, option_copied};
+ghost use Rattle.gw_meaning.specs.Listing.{Listing};
+ghost use Rattle.gw_meaning.specs.Reads.{first_reading, first_use, is_command_use};
+ghost use Rattle.gw_meaning.specs.declared.item.Item.TheVariants as items;
+ghost use Rattle.gw_record.specs.Tape.{Records};
+ghost use Rattle.gw_record.specs.Lookups.{IsStateAt, IsEndOf};
+
+use crate::kept::state_in;
+use crate::recorded::Recorded;
+use gw_meaning::Item;
+use gw_nums::Time;
+use gw_scan::State;
+
+impl Recorded {
+    /// The state after so many steps, where it is kept: at the multiples of the spacing, at START ends and at
+    /// the tip.
+    pub fn state_at(&self, moment: u64) -> Option<&State>
+        ensures { (t : Listing) (seed : ℕ) → Records t seed self.now → IsStateAt t seed self.now moment (option_copied result) }
+    {
+        if moment == self.moment {
+            return Some(&self.tip);
+        }
+        state_in(self.kept.as_slice(), moment)
+    }
+
+    /// The moment right after the step that completed the k-th START, from 1, if it is complete.
+    pub fn start_end(&self, k: u64) -> Option<u64>
+        ensures { (t : Listing) (seed : ℕ) → Records t seed self.now → IsEndOf t seed self.now k result }
+    {
+        if k == 0 {
+            return None;
+        }
+        if let Some(moment) = self.ends.get((k - 1) as usize) {
+            return Some(*moment);
+        }
+        if self.tip.complete() == k {
+            Some(self.moment)
+        } else {
+            None
+        }
+    }
+
+    /// The first Clock step whose new time is later than this one.
+    pub fn first_clock(&self, time: Time) -> Option<u64>
+        ensures { (t : Listing) (seed : ℕ) → Records t seed self.now → result ≡ first_use (items.Within time) t seed self.now.moment }
+    {
+        self.first_use(&Item::Within(time))
+    }
+
+    /// The first step that read the i-th command, from 1, or one behind it.
+    pub fn first_command(&self, i: u64) -> Option<u64>
+        ensures { (t : Listing) (seed : ℕ) → Records t seed self.now → result ≡ first_reading (is_command_use i) t seed self.now.moment }
+    {
+        self.firsts.commands.least_from(i)
+    }
+}

@@ -1,0 +1,81 @@
+ghost use Rattle.std.specs.Prelude.{◌≡◌, ◌≤◌, ℕ, Ok};
+ghost use Rattle.gw_meaning.specs.Listing.{Listing};
+ghost use Rattle.gw_meaning.specs.Step.{run};
+ghost use Rattle.gw_meaning.specs.Reads.{first_use};
+ghost use Rattle.gw_record.specs.Carrying.{Carries};
+ghost use Rattle.gw_record.specs.Tape.{blank, Records};
+
+use crate::first_uses::FirstUses;
+use crate::kept::Kept;
+use gw_meaning::Item;
+use gw_scan::State;
+use std::alloc::{AllocError, Global};
+use std::marker::Model;
+
+/// A recorded run: the state at its tip, states kept on the way at the multiples of a spacing and at START ends,
+/// and the first step that uses each item.
+#[derive(Drop)]
+pub struct Recorded {
+    pub(crate) every: u64,
+    pub(crate) moment: u64,
+    pub(crate) tip: State,
+    pub(crate) kept: Vec<Kept>,
+    pub(crate) ends: Vec<u64>,
+    pub(crate) firsts: FirstUses,
+}
+
+impl Model for Recorded {
+    ghost use Rattle.std.specs.Prelude.{◌≤◌};
+    ghost use Rattle.gw_record.specs.Tape.{Tape};
+
+    ghost Value = { Tape };
+
+    ghost view = { λ r. record { every = r.every; moment = r.moment; tip = r.tip; kept = r.kept.items; ends = r.ends.items; firsts = r.firsts } };
+
+    ghost invariant = { λ r. 1 ≤ r.every };
+}
+
+impl Recorded {
+    /// The run of no steps, which is to keep the states at the multiples of `every` (1 to 1,000,000).
+    pub fn new(alloc: Global, every: u64) -> Recorded
+        requires { 1 ≤ every }
+        ensures value { result ≡ blank every }
+        ensures records { (t : Listing) (seed : ℕ) → Records t seed result }
+    {
+        Recorded {
+            every,
+            moment: 0,
+            tip: State::zero(alloc),
+            kept: Vec::new(alloc),
+            ends: Vec::new(alloc),
+            firsts: FirstUses::new(alloc),
+        }
+    }
+
+    /// How many steps are recorded: the tip's moment.
+    pub fn tip(&self) -> u64
+        ensures { result ≡ self.now.moment }
+    {
+        self.moment
+    }
+
+    /// The state at the tip.
+    pub fn state(&self) -> &State
+        ensures { result.now ≡ self.now.tip }
+    {
+        &self.tip
+    }
+
+    /// The first step that used an item, if any did: that read it, or, for a moment, that set the clock later.
+    pub fn first_use(&self, item: &Item) -> Option<u64>
+        ensures { (t : Listing) (seed : ℕ) → Records t seed self.now → result ≡ first_use item.now t seed self.now.moment }
+    {
+        self.firsts.get(item)
+    }
+
+    /// The record of one version's run is, as it stands, that of another version's that answers alike all that the
+    /// steps below the tip read: blocks go by the numbers of their statements, which edits leave alone.
+    pub fn carry(&self)
+        ensures { Carries self.now }
+    {}
+}
