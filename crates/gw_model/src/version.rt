@@ -203,6 +203,13 @@ impl Version {
         nth(self.replications.as_slice(), i).copied()
     }
 
+    /// The replications, in the order of adding.
+    pub fn replications(&self) -> &[Replication]
+        ensures { result.now ≡ self.now.replications }
+    {
+        self.replications.as_slice()
+    }
+
     /// The seed of the replication with this number, 1 to 2,147,483,646.
     pub fn seed(&self, number: u64) -> Option<u64>
         ensures value { result ≡ seed_at self.now number }

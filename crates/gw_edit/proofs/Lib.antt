@@ -1,0 +1,11 @@
+pub mod Checking
+pub mod Places
+pub mod Fronts
+pub mod LineLaws
+pub mod SameBlocks
+pub mod ChangeLaws
+pub mod Splits
+pub mod Seeds
+pub mod Untouching
+pub mod Numbers
+pub mod NumberLaws

@@ -1,0 +1,108 @@
+-- The version that an edit makes of a version, or its refusal. (Our own.)
+use Rattle.std.specs.Prelude.{ℕ, zero, suc, ◌+◌, ◌-◌, Bool, ◌==◌, List, [], ◌∷◌, ◌++◌, Option, Some, None, Result, Ok, Err, is_some, not, if◌then◌else◌, length, filter, insert, remove, map, max}
+use Rattle.gw_meaning.specs.declared.statement.Statement.{Statement}
+use Rattle.gw_meaning.specs.declared.statement.Numbered.{Numbered}
+use Rattle.gw_meaning.specs.declared.statement.Replication.{Replication}
+use Rattle.gw_meaning.specs.Listing.{Listing, seed_at}
+use Rattle.gw_lines.specs.declared.fault.LineFault.{LineFault}
+use Rattle.gw_lines.specs.Reading.{◌>>=◌}
+use Rattle.gw_lines.specs.Edits.{edit_of}
+use Rattle.gw_model.specs.declared.fault.ModelFault.{ModelFault}
+use Rattle.gw_model.specs.Faults.{fault_of, is_outside}
+use Rattle.gw_edit.specs.declared.edit.Edit.{Edit}
+use Rattle.gw_edit.specs.declared.edit.Edit.TheVariants as edits
+use Rattle.gw_edit.specs.declared.fault.EditFault.{EditFault}
+use Rattle.gw_edit.specs.declared.fault.EditFault.TheVariants.{NoSuchPlace, NoSuchReplication, ReplicationTwice, NoSuchStorage}
+use Rattle.gw_edit.specs.Faults.{of_line, of_model}
+
+-- the statement that an edit's text spells
+abbrev pub or_refusal : Result Statement LineFault → Result Statement EditFault
+or_refusal (Ok statement) = Ok statement
+or_refusal (Err fault) = Err (of_line fault)
+
+abbrev pub spelled_by : List ℕ → Result Statement EditFault
+spelled_by text = or_refusal (edit_of text)
+
+-- a version that has no fault
+abbrev pub unless_faulty : Option ModelFault → Listing → Result Listing EditFault
+unless_faulty None t = Ok t
+unless_faulty (Some fault) t = Err (of_model fault)
+
+unfoldable pub checked : Listing → Result Listing EditFault
+checked t = unless_faulty (fault_of t) t
+
+-- the greatest number of these lines, 0 where there are none; a line that comes in has the next one
+abbrev pub greatest_number : List Numbered → ℕ
+greatest_number [] = 0
+greatest_number (line ∷ lines) = max line.number (greatest_number lines)
+
+abbrev pub fresh_line : List Numbered → Statement → Numbered
+fresh_line lines statement = record { number = greatest_number lines + 1; statement = statement }
+
+-- the lines with another statement at an index, which keeps the number
+abbrev pub restated : List Numbered → ℕ → Statement → List Numbered
+restated [] i statement = []
+restated (line ∷ lines) zero statement = record line { statement = statement } ∷ lines
+restated (line ∷ lines) (suc i) statement = line ∷ restated lines i statement
+
+-- a version with a line more, a line less, another statement at a place
+abbrev pub with_line : Listing → ℕ → Statement → Listing
+with_line t place statement = record t { lines = insert t.lines (place - 1) (fresh_line t.lines statement) }
+
+abbrev pub without_line : Listing → ℕ → Listing
+without_line t place = record t { lines = remove t.lines (place - 1) }
+
+abbrev pub with_change : Listing → ℕ → Statement → Listing
+with_change t place statement = record t { lines = restated t.lines (place - 1) statement }
+
+-- the replications with another seed for a number, without a number
+abbrev pub with_seed : ℕ → ℕ → Replication → Replication
+with_seed number seed r = if r.number == number then record { number = number; seed = seed } else r
+
+abbrev pub reseeded : ℕ → ℕ → List Replication → List Replication
+reseeded number seed rs = map (with_seed number seed) rs
+
+abbrev pub without_number : ℕ → List Replication → List Replication
+without_number number rs = filter (λ (r : Replication). not (r.number == number)) rs
+
+-- whether a version has the replication
+abbrev pub has_replication : Listing → ℕ → Bool
+has_replication t number = is_some (seed_at t number)
+
+-- what each edit makes
+abbrev pub insert_made : Listing → ℕ → List ℕ → Result Listing EditFault
+insert_made t place text =
+    if is_outside 1 (length t.lines + 1) place then Err NoSuchPlace else (spelled_by text >>= (λ statement. checked (with_line t place statement)))
+
+abbrev pub delete_made : Listing → ℕ → Result Listing EditFault
+delete_made t place = if is_outside 1 (length t.lines) place then Err NoSuchPlace else checked (without_line t place)
+
+abbrev pub change_made : Listing → ℕ → List ℕ → Result Listing EditFault
+change_made t place text =
+    if is_outside 1 (length t.lines) place then Err NoSuchPlace else (spelled_by text >>= (λ statement. checked (with_change t place statement)))
+
+abbrev pub seed_made : Listing → ℕ → ℕ → Result Listing EditFault
+seed_made t number seed =
+    if has_replication t number then checked (record t { replications = reseeded number seed t.replications }) else Err NoSuchReplication
+
+abbrev pub replicate_made : Listing → ℕ → ℕ → Result Listing EditFault
+replicate_made t number seed =
+    if has_replication t number then Err ReplicationTwice else checked (record t { replications = t.replications ++ record { number = number; seed = seed } ∷ [] })
+
+abbrev pub drop_made : Listing → ℕ → Result Listing EditFault
+drop_made t number =
+    if has_replication t number then checked (record t { replications = without_number number t.replications }) else Err NoSuchReplication
+
+abbrev pub horizon_made : Listing → ℕ → Result Listing EditFault
+horizon_made t time = checked (record t { horizon = time })
+
+-- the version that an edit makes, or its refusal; there are no storages yet
+abbrev pub applied : Listing → Edit → Result Listing EditFault
+applied t (edits.Insert place text) = insert_made t place text
+applied t (edits.Delete place) = delete_made t place
+applied t (edits.Change place text) = change_made t place text
+applied t (edits.Capacity name amount) = Err NoSuchStorage
+applied t (edits.Seed replication seed) = seed_made t replication seed
+applied t (edits.Replicate replication seed) = replicate_made t replication seed
+applied t (edits.Drop replication) = drop_made t replication
+applied t (edits.Horizon time) = horizon_made t time

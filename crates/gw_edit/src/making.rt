@@ -1,0 +1,151 @@
+ghost use Rattle.std.specs.Prelude.{◌≡◌};
+ghost use Rattle.gw_model.specs.Listed.{listing_of};
+ghost use Rattle.gw_edit.specs.Applied.{applied, checked, insert_made, delete_made, change_made, seed_made, replicate_made, drop_made, horizon_made};
+ghost use Rattle.gw_edit.specs.Faults.{Gives};
+
+use crate::edit::Edit;
+use crate::fault::{EditFault, of_model};
+use crate::lines::{copy_lines, with_change, with_line, without_line};
+use crate::replications::{replications_of, reseeded, with_replication, without_number};
+use crate::text::spelled_by;
+use gw_meaning::{Numbered, Replication};
+use gw_model::Version;
+use std::alloc::Global;
+
+/// The edited version, or the first refusal, in the order E1, E4, E5, E6, E2, E3. E7 may come in place of any.
+/// The version itself stays as it is.
+pub fn apply(alloc: Global, version: &Version, edit: &Edit) -> Result<Version, EditFault>
+    // What is answered is what the edit makes, or memory was refused.
+    ensures { Gives result (applied version.now edit.now) }
+{
+    match edit {
+        Edit::Insert { place, text } => insert(alloc, version, *place, text.as_slice()),
+        Edit::Delete { place } => delete(alloc, version, *place),
+        Edit::Change { place, text } => change(alloc, version, *place, text.as_slice()),
+        Edit::Capacity { .. } => Err(EditFault::NoSuchStorage),
+        Edit::Seed { replication, seed } => reseed(alloc, version, *replication, *seed),
+        Edit::Replicate { replication, seed } => replicate(alloc, version, *replication, *seed),
+        Edit::Drop { replication } => drop_replication(alloc, version, *replication),
+        Edit::Horizon { time } => move_horizon(alloc, version, *time),
+    }
+}
+
+fn insert(alloc: Global, version: &Version, place: u64, text: &[u8]) -> Result<Version, EditFault>
+    ensures { Gives result (insert_made version.now place text.now) }
+{
+    if place < 1 || (version.statements() as u64 + 1) < place {
+        return Err(EditFault::NoSuchPlace);
+    }
+    let statement = spelled_by(alloc, text)?;
+    let lines = with_line(alloc, version.lines(), place as usize - 1, statement)?;
+    with_lines(alloc, version, lines)
+}
+
+fn delete(alloc: Global, version: &Version, place: u64) -> Result<Version, EditFault>
+    ensures { Gives result (delete_made version.now place) }
+{
+    if place < 1 || (version.statements() as u64) < place {
+        return Err(EditFault::NoSuchPlace);
+    }
+    let lines = without_line(alloc, version.lines(), place as usize - 1)?;
+    with_lines(alloc, version, lines)
+}
+
+fn change(alloc: Global, version: &Version, place: u64, text: &[u8]) -> Result<Version, EditFault>
+    ensures { Gives result (change_made version.now place text.now) }
+{
+    if place < 1 || (version.statements() as u64) < place {
+        return Err(EditFault::NoSuchPlace);
+    }
+    let statement = spelled_by(alloc, text)?;
+    let lines = with_change(alloc, version.lines(), place as usize - 1, statement)?;
+    with_lines(alloc, version, lines)
+}
+
+fn reseed(alloc: Global, version: &Version, number: u64, seed: u64) -> Result<Version, EditFault>
+    ensures { Gives result (seed_made version.now number seed) }
+{
+    if version.seed(number).is_none() {
+        return Err(EditFault::NoSuchReplication);
+    }
+    with_replications(alloc, version, reseeded(alloc, version, number, seed)?)
+}
+
+fn replicate(alloc: Global, version: &Version, number: u64, seed: u64) -> Result<Version, EditFault>
+    ensures { Gives result (replicate_made version.now number seed) }
+{
+    if version.seed(number).is_some() {
+        return Err(EditFault::ReplicationTwice);
+    }
+    with_replications(
+        alloc,
+        version,
+        with_replication(alloc, version, number, seed)?,
+    )
+}
+
+fn drop_replication(alloc: Global, version: &Version, number: u64) -> Result<Version, EditFault>
+    ensures { Gives result (drop_made version.now number) }
+{
+    if version.seed(number).is_none() {
+        return Err(EditFault::NoSuchReplication);
+    }
+    with_replications(alloc, version, without_number(alloc, version, number)?)
+}
+
+fn move_horizon(alloc: Global, version: &Version, time: u64) -> Result<Version, EditFault>
+    ensures { Gives result (horizon_made version.now time) }
+{
+    let lines = copy_lines(alloc, version.lines())?;
+    let replications = replications_of(alloc, version)?;
+    checked(alloc, lines, time, replications, version.limit())
+}
+
+// The version with other lines.
+fn with_lines(alloc: Global, version: &Version, lines: Vec<Numbered>) -> Result<Version, EditFault>
+    ensures { Gives result (checked (record version.now { lines = lines.items })) }
+{
+    let replications = replications_of(alloc, version)?;
+    checked(
+        alloc,
+        lines,
+        version.horizon().ticks(),
+        replications,
+        version.limit(),
+    )
+}
+
+// The version with other replications.
+fn with_replications(
+    alloc: Global,
+    version: &Version,
+    replications: Vec<Replication>,
+) -> Result<Version, EditFault>
+    ensures { Gives result (checked (record version.now { replications = replications.items })) }
+{
+    let lines = copy_lines(alloc, version.lines())?;
+    checked(
+        alloc,
+        lines,
+        version.horizon().ticks(),
+        replications,
+        version.limit(),
+    )
+}
+
+// The version of these parts, unless it has a fault.
+#[tactic(auto, using(crate::proofs::Checking::refused_by), unfolding(crate::specs::Applied::checked))]
+fn checked(
+    alloc: Global,
+    lines: Vec<Numbered>,
+    horizon: u64,
+    replications: Vec<Replication>,
+    limit: u64,
+) -> Result<Version, EditFault>
+    ensures { Gives result (checked (listing_of lines.items horizon replications.items limit)) }
+{
+    match Version::from_lines(alloc, lines, horizon, replications, limit) {
+        Ok(version) => Ok(version),
+        Err(fault) => Err(of_model(fault)),
+    }
+}

@@ -1,0 +1,73 @@
+ghost use Rattle.std.specs.Prelude.{◌≡◌, ◌++◌, ◌∷◌, [], IfOk};
+ghost use Rattle.gw_edit.specs.Applied.{reseeded, with_seed, without_number};
+
+use gw_meaning::Replication;
+use gw_model::Version;
+use std::alloc::{AllocError, Global};
+
+/// The replications, in the order of adding.
+pub fn replications_of(alloc: Global, version: &Version) -> Result<Vec<Replication>, AllocError>
+    ensures { IfOk result (λ rs. rs.items ≡ version.now.replications) }
+{
+    let mut replications = Vec::new(alloc);
+    while let Some(replication) = version.replication(replications.len() as u64 + 1) {
+        replications.push(replication)?;
+    }
+    Ok(replications)
+}
+
+/// The replications, where the one with this number has this seed.
+pub fn reseeded(
+    alloc: Global,
+    version: &Version,
+    number: u64,
+    seed: u64,
+) -> Result<Vec<Replication>, AllocError>
+    ensures { IfOk result (λ rs. rs.items ≡ reseeded number seed version.now.replications) }
+{
+    let replications = replications_of(alloc, version)?;
+    replications
+        .iter()
+        .map(|r| with_seed(r, number, seed))
+        .collect(alloc)
+}
+
+/// The replications and one more behind them.
+pub fn with_replication(
+    alloc: Global,
+    version: &Version,
+    number: u64,
+    seed: u64,
+) -> Result<Vec<Replication>, AllocError>
+    ensures { IfOk result (λ rs. rs.items ≡ version.now.replications ++ record { number = number; seed = seed } ∷ []) }
+{
+    let mut made = replications_of(alloc, version)?;
+    made.push(Replication { number, seed })?;
+    Ok(made)
+}
+
+/// The replications without the one with this number.
+pub fn without_number(
+    alloc: Global,
+    version: &Version,
+    number: u64,
+) -> Result<Vec<Replication>, AllocError>
+    ensures { IfOk result (λ rs. rs.items ≡ without_number number version.now.replications) }
+{
+    let replications = replications_of(alloc, version)?;
+    replications
+        .iter()
+        .copied()
+        .filter(|r| r.number != number)
+        .collect(alloc)
+}
+
+fn with_seed(replication: &Replication, number: u64, seed: u64) -> Replication
+    ensures { result ≡ with_seed number seed replication.now }
+{
+    if replication.number == number {
+        Replication { number, seed }
+    } else {
+        *replication
+    }
+}

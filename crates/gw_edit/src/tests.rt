@@ -1,0 +1,120 @@
+use crate::{Edit, EditFault, Touch, apply};
+use gw_lines::read_model;
+use gw_meaning::{Replication, Row};
+use gw_model::Version;
+use gw_names::Name;
+use std::alloc::Global;
+use std::test::Fail;
+
+const MODEL: &[u8] = b"GENERATE 10\nADVANCE 5\nTERMINATE 1\nSTART 3\n";
+
+fn version(alloc: Global) -> Result<Version, Fail> {
+    let statements = read_model(alloc, MODEL)?;
+    let replications = vec![in alloc; Replication { number: 1, seed: 7 }]?;
+    Ok(Version::new(alloc, statements, 1000, replications, 100)?)
+}
+
+fn row(alloc: Global, bytes: &[u8]) -> Result<Row<u8>, Fail> {
+    Ok(Row::from_vec(Vec::from_slice(alloc, bytes)?))
+}
+
+fn number_at(version: &Version, index: usize) -> Option<u64> {
+    match version.lines().get(index) {
+        Some(line) => Some(line.number),
+        None => None,
+    }
+}
+
+fn fault(alloc: Global, version: &Version, edit: &Edit) -> Option<EditFault> {
+    match apply(alloc, version, edit) {
+        Ok(_) => None,
+        Err(fault) => Some(fault),
+    }
+}
+
+#[test]
+fn lines_are_edited(rt: HostRuntime) -> Result<(), Fail> {
+    let alloc = rt.alloc();
+    let old = version(alloc)?;
+    let insert = Edit::Insert {
+        place: 2,
+        text: row(alloc, b"wait advance 12")?,
+    };
+    let new = apply(alloc, &old, &insert)?;
+    assert_eq!(rt; new.statements(), 5);
+    assert_eq!(rt; number_at(&new, 1), Some(5));
+    assert_eq!(rt; number_at(&new, 2), Some(2));
+    let touch = Touch::of_edit(&old, &insert, &new, 1);
+    assert_eq!(rt; touch.front, Some(1));
+    assert_eq!(rt; touch.block, Some(5));
+    assert_eq!(rt; touch.own, Some(5));
+    assert_eq!(rt; touch.commands, None);
+    let change = Edit::Change {
+        place: 1,
+        text: row(alloc, b"start 2")?,
+    };
+    let changed = apply(alloc, &new, &change.copy(alloc)?)?;
+    assert_eq!(rt; number_at(&changed, 0), Some(1));
+    assert_eq!(rt; changed.starts(), 2);
+    let touch = Touch::of_edit(&new, &change, &changed, 1);
+    assert_eq!(rt; touch.commands, Some(1));
+    assert!(rt; touch.generates);
+    let deleted = apply(alloc, &changed, &Edit::Delete { place: 5 })?;
+    assert_eq!(rt; deleted.statements(), 4);
+    Ok(())
+}
+
+#[test]
+fn the_rest_is_edited(rt: HostRuntime) -> Result<(), Fail> {
+    let alloc = rt.alloc();
+    let old = version(alloc)?;
+    let replicate = Edit::Replicate {
+        replication: 2,
+        seed: 9,
+    };
+    let two = apply(alloc, &old, &replicate)?;
+    assert_eq!(rt; two.seed(2), Some(9));
+    let reseed = Edit::Seed {
+        replication: 2,
+        seed: 8,
+    };
+    let reseeded = apply(alloc, &two, &reseed)?;
+    assert_eq!(rt; reseeded.seed(2), Some(8));
+    assert!(rt; Touch::of_edit(&two, &reseed, &reseeded, 2).seed);
+    assert!(rt; !Touch::of_edit(&two, &reseed, &reseeded, 1).seed);
+    let one = apply(alloc, &reseeded, &Edit::Drop { replication: 1 })?;
+    assert_eq!(rt;
+        one.replication(1),
+        Some(Replication { number: 2, seed: 8 })
+    );
+    let later = apply(alloc, &one, &Edit::Horizon { time: 5000 })?;
+    assert_eq!(rt; later.horizon().ticks(), 5000);
+    Ok(())
+}
+
+#[test]
+fn edits_are_refused(rt: HostRuntime) -> Result<(), Fail> {
+    let alloc = rt.alloc();
+    let old = version(alloc)?;
+    let far = Edit::Insert {
+        place: 6,
+        text: row(alloc, b"nothing")?,
+    };
+    assert_eq!(rt; fault(alloc, &old, &far), Some(EditFault::NoSuchPlace));
+    let near = Edit::Change {
+        place: 4,
+        text: row(alloc, b"advance 1|2")?,
+    };
+    assert_eq!(rt; fault(alloc, &old, &near).map(|f| f.number()), Some(2));
+    let horizon = Edit::Horizon { time: 0 };
+    assert_eq!(rt; fault(alloc, &old, &horizon).map(|f| f.number()), Some(3));
+    let Some(name) = Name::read(alloc, b"pool")? else {
+        return Ok(());
+    };
+    let capacity = Edit::Capacity { name, amount: 3 };
+    assert_eq!(rt;
+        fault(alloc, &old, &capacity),
+        Some(EditFault::NoSuchStorage)
+    );
+    Ok(())
+}

@@ -1,0 +1,16 @@
+//! What a script line asks for.
+//!
+//! [`request_of`] reads one line. The line is cut at its blanks (words), and its first word is looked up in the table
+//! of the commands (command). Each shape of what stands behind a command word has one reader (arguments), and a word
+//! of 1 to 18 digits is a number (number). A further command is a further line of the table, under its shape.
+#![tactic(auto)]
+
+mod arguments;
+mod command;
+mod number;
+mod request;
+#[cfg(test)]
+mod tests;
+mod words;
+
+pub use request::{LINE_LIMIT, Reason, Request, request_of};
