@@ -4,3 +4,4 @@ pub mod Memory
 pub mod Model
 pub mod Reading
 pub mod StdIo
+pub mod Whole

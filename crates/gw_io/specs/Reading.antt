@@ -23,6 +23,10 @@ IsSpentAt Read left = Unit {0}
 IsSpentAt Limit left = left ≡ 0
 IsSpentAt Memory left = Unit {0}
 
+-- any bytes at all
+abbrev pub AnyBytes : List ℕ → Type 0
+AnyBytes bytes = Unit {0}
+
 -- a reading ended in a fault: bytes with the property P were taken, by one call each, and the calls and
 -- the failures are counted
 pub record Breaks {S : Type 0} (took : S → List ℕ → S → Type 0) (failures : S → ℕ) (P : List ℕ → Type 0) (old new : S) (calls calls' : ℕ) (fault : ReadFault) : Type 0 where

@@ -1,15 +1,17 @@
 -- How a conversation stops: in the session behind its model, and for the fault that is told.
 use Rattle.std.proofs.Common.{◌≡◌, ℕ, List, ◌⊎◌, inl, inr, sym, subst}
+use Rattle.std.specs.Prelude.{IfErr, IfOk, MatchResult, Result, Ok, Err}
 use Rattle.gw_script.specs.Listing.{Listing}
 use Rattle.gw_io.specs.declared.budget.ReadFault.TheVariants as causes
 use Rattle.gw_lines.specs.declared.fault.FaultyLine.{FaultyLine}
 use Rattle.gw_script.specs.declared.fault.Fault.{Fault}
 use Rattle.gw_script.specs.declared.fault.Fault.TheVariants as faults
+use Rattle.gw_script.specs.declared.fault.Over.{Over}
 use Rattle.gw_script.specs.declared.opening.Options.{Options}
 use Rattle.gw_script.specs.Opening.{Opens, Refuses}
 use Rattle.gw_script.specs.Sessions.{Stops}
-use Rattle.gw_main.specs.Complaints.{IsToldAs}
-use Rattle.gw_main.specs.Conversations.{Takes, Fails, in_model, refused, in_session}
+use Rattle.gw_main.specs.Complaints.{IsToldAs, Tells, complaint_of, status_of}
+use Rattle.gw_main.specs.Conversations.{Ends, Takes, Fails, in_model, refused, in_session, served, stopped}
 
 -- a session behind the model that was taken stopped
 pub fails_behind : {S K : Type 0} (took : S → List ℕ → S → Type 0) (ended : S → Type 0) (reads : S → ℕ) (wrote : K → List ℕ → K → Type 0) (writes : K → ℕ) (o : Options) (reader between reader' : S) (writer writer' : K) (model : List ℕ) (fault : Fault) → Takes took ended reads reader between model → (Refuses model o fault × (reader' ≡ between) × (writer' ≡ writer)) ⊎ ((t : Listing) × Opens model o t × Stops took reads wrote writes t between reader' writer writer' fault) → Fails took ended reads wrote writes o reader reader' writer writer' fault
@@ -19,24 +21,24 @@ fails_behind {S} {K} took ended reads wrote writes o reader between reader' writ
 fails_behind {S} {K} took ended reads wrote writes o reader between reader' writer writer' model fault taken (inr h) = in_session between model h.0 taken h.1 h.2
 
 -- a conversation that stopped for a faulty line stopped, as far as can be said, for want of memory
-fails_of_memory : {S K : Type 0} (took : S → List ℕ → S → Type 0) (ended : S → Type 0) (reads : S → ℕ) (wrote : K → List ℕ → K → Type 0) (writes : K → ℕ) (o : Options) (reader reader' : S) (writer writer' : K) (faulty : FaultyLine) → Fails took ended reads wrote writes o reader reader' writer writer' (faults.Line faulty) → Fails took ended reads wrote writes o reader reader' writer writer' faults.Memory
+pub fails_of_memory : {S K : Type 0} (took : S → List ℕ → S → Type 0) (ended : S → Type 0) (reads : S → ℕ) (wrote : K → List ℕ → K → Type 0) (writes : K → ℕ) (o : Options) (reader reader' : S) (writer writer' : K) (faulty : FaultyLine) → Fails took ended reads wrote writes o reader reader' writer writer' (faults.Line faulty) → Fails took ended reads wrote writes o reader reader' writer writer' faults.Memory
 fails_of_memory took ended reads wrote writes o reader reader' writer writer' faulty (in_model left causes.Read breaks is unwritten) = absurd (cc)
 fails_of_memory took ended reads wrote writes o reader reader' writer writer' faulty (in_model left causes.Limit breaks is unwritten) = absurd (cc)
 fails_of_memory took ended reads wrote writes o reader reader' writer writer' faulty (in_model left causes.Memory breaks is unwritten) = absurd (cc)
 fails_of_memory took ended reads wrote writes o reader reader' writer writer' faulty (refused model taken refusal unwritten) = refused model taken tt unwritten
 fails_of_memory took ended reads wrote writes o reader reader' writer writer' faulty (in_session between model version taken opens stops) = absurd stops.cause
 
--- the conversation stopped for the fault that is told
-pub fails_told : {S K : Type 0} (took : S → List ℕ → S → Type 0) (ended : S → Type 0) (reads : S → ℕ) (wrote : K → List ℕ → K → Type 0) (writes : K → ℕ) (o : Options) (reader reader' : S) (writer writer' : K) (came told : Fault) → IsToldAs came told → Fails took ended reads wrote writes o reader reader' writer writer' came → Fails took ended reads wrote writes o reader reader' writer writer' told
-fails_told {S} {K} took ended reads wrote writes o reader reader' writer writer' came told is fails = go came is fails where
-  F : Fault → Type 0
-  F fault = Fails took ended reads wrote writes o reader reader' writer writer' fault
+-- what stopped for a fault stopped for the one that is told, where a faulty line may be told as want of memory
+pub is_told : (F : Fault → Type 0) → ((faulty : FaultyLine) → F (faults.Line faulty) → F faults.Memory) → (came told : Fault) → IsToldAs came told → F came → F told
+is_told F memory (faults.Line faulty) told (inl same) h = subst F (sym same) h
+is_told F memory (faults.Line faulty) told (inr as_memory) h = subst F (sym as_memory) (memory faulty h)
+is_told F memory (faults.Model fault) told same h = subst F (sym same) h
+is_told F memory faults.Read told same h = subst F (sym same) h
+is_told F memory faults.Write told same h = subst F (sym same) h
+is_told F memory faults.ReadLimit told same h = subst F (sym same) h
+is_told F memory faults.Memory told same h = subst F (sym same) h
 
-  go : (came : Fault) → IsToldAs came told → F came → F told
-  go (faults.Line faulty) (inl same) h = subst F (sym same) h
-  go (faults.Line faulty) (inr memory) h = subst F (sym memory) (fails_of_memory took ended reads wrote writes o reader reader' writer writer' faulty h)
-  go (faults.Model fault) same h = subst F (sym same) h
-  go faults.Read same h = subst F (sym same) h
-  go faults.Write same h = subst F (sym same) h
-  go faults.ReadLimit same h = subst F (sym same) h
-  go faults.Memory same h = subst F (sym same) h
+-- a conversation that was told of ended so
+pub ends_told : {E : Type 0} (told : E → List ℕ → E → Type 0) (losses : E → ℕ) (comes : Over → Type 0) (fails : Fault → Type 0) (errors errors' : E) (status : ℕ) (over : Result Over Fault) → IfOk over comes → IfErr over fails → ((faulty : FaultyLine) → fails (faults.Line faulty) → fails faults.Memory) → MatchResult over (λ _. (errors' ≡ errors) × (status ≡ 0)) (λ fault. (came : Fault) × IsToldAs fault came × Tells told losses (complaint_of came) errors errors' × (status ≡ status_of came)) → Ends told losses comes fails errors errors' status
+ends_told told losses comes fails errors errors' status (Ok over) came failed memory h = served over came h.0 h.1
+ends_told told losses comes fails errors errors' status (Err fault) came failed memory h = stopped h.0 (is_told fails memory fault h.0 h.1 failed) h.2 h.3

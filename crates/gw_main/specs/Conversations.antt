@@ -1,5 +1,5 @@
--- What the program does with its input: it takes a model off its front, and serves the script that stands behind it. (Our own.)
-use Rattle.std.specs.Prelude.{◌≡◌, ℕ, List, codes}
+-- What the program does with a model on its input: it takes a model off its front, and serves the script that stands behind it. (Our own.)
+use Rattle.std.specs.Prelude.{◌≡◌, ℕ, List}
 use Rattle.gw_io.specs.declared.budget.ReadFault.{ReadFault}
 use Rattle.gw_io.specs.Model.{TakesModel, IsModelPart}
 use Rattle.gw_io.specs.Reading.{Breaks}
@@ -34,15 +34,12 @@ pub data Fails {S K : Type 0} (took : S → List ℕ → S → Type 0) (ended : 
   refused : (model : List ℕ) → Takes took ended reads reader reader' model → Refuses model o fault → writer' ≡ writer → Fails took ended reads wrote writes o reader reader' writer writer' fault
   in_session : (between : S) (model : List ℕ) (version : Listing) → Takes took ended reads reader between model → Opens model o version → Stops took reads wrote writes version between reader' writer writer' fault → Fails took ended reads wrote writes o reader reader' writer writer' fault
 
--- a run of the program without words: it served the script to its end, and standard error was told nothing; or it stopped
--- for a fault, which standard error was told of, and the status is the fault's
-pub data Runs {S K E : Type 0} (took : S → List ℕ → S → Type 0) (ended : S → Type 0) (reads : S → ℕ) (wrote : K → List ℕ → K → Type 0) (writes : K → ℕ) (told : E → List ℕ → E → Type 0) (losses : E → ℕ) (o : Options) (reader reader' : S) (writer writer' : K) (errors errors' : E) (status : ℕ) : Type 0 where
-  served : (over : Over) → Converses took ended reads wrote o reader reader' writer writer' over → errors' ≡ errors → status ≡ 0 → Runs took ended reads wrote writes told losses o reader reader' writer writer' errors errors' status
-  stopped : (fault : Fault) → Fails took ended reads wrote writes o reader reader' writer writer' fault → Tells told losses (complaint_of fault) errors errors' → status ≡ status_of fault → Runs took ended reads wrote writes told losses o reader reader' writer writer' errors errors' status
+-- how a run ends whose conversation came to its end, or stopped for a fault: it served the script to its end, and standard
+-- error was told nothing; or standard error was told of the fault, and the status is the fault's
+pub data Ends {E : Type 0} (told : E → List ℕ → E → Type 0) (losses : E → ℕ) (comes : Over → Type 0) (fails : Fault → Type 0) (errors errors' : E) (status : ℕ) : Type 0 where
+  served : (over : Over) → comes over → errors' ≡ errors → status ≡ 0 → Ends told losses comes fails errors errors' status
+  stopped : (fault : Fault) → fails fault → Tells told losses (complaint_of fault) errors errors' → status ≡ status_of fault → Ends told losses comes fails errors errors' status
 
--- words are refused with nothing read and nothing written
-pub record RefusesWords {S K E : Type 0} (told : E → List ℕ → E → Type 0) (losses : E → ℕ) (reader reader' : S) (writer writer' : K) (errors errors' : E) (status : ℕ) : Type 0 where
-  pub status_is : status ≡ 2
-  pub unread : reader' ≡ reader
-  pub unwritten : writer' ≡ writer
-  pub tells : Tells told losses (codes "arguments\n") errors errors'
+-- a run of the program with its model on standard input
+abbrev pub Runs : {S K E : Type 0} → (S → List ℕ → S → Type 0) → (S → Type 0) → (S → ℕ) → (K → List ℕ → K → Type 0) → (K → ℕ) → (E → List ℕ → E → Type 0) → (E → ℕ) → Options → S → S → K → K → E → E → ℕ → Type 0
+Runs took ended reads wrote writes told losses o reader reader' writer writer' errors errors' status = Ends told losses (Converses took ended reads wrote o reader reader' writer writer') (Fails took ended reads wrote writes o reader reader' writer writer') errors errors' status

@@ -1,16 +1,22 @@
-//! The what-if workbench for GPSS World models: a model and a script on standard input, reports on standard output.
+//! The what-if workbench for GPSS World models: a model and a script in, reports on standard output.
 #![tactic(auto)]
 
+mod command;
 mod complaint;
+mod conversation;
+mod number;
 mod run;
 #[cfg(test)]
 mod tests;
+mod words;
 
-use gw_script::{FromRead, ToWrite};
-use run::{not_begun, run};
+use gw_script::{FromRead, ReadFault, ToWrite};
+use run::{not_begun, not_opened, run};
 use std::env::{self, Env};
+use std::fs;
 use std::io::{self, BufReader};
 use std::process::ExitCode;
+use std::rt::Files;
 
 fn main(rt: HostRuntime) -> ExitCode {
     let alloc = rt.alloc();
@@ -25,7 +31,8 @@ fn main(rt: HostRuntime) -> ExitCode {
     };
     let mut reader = FromRead::new(input);
     let mut writer = ToWrite::new(rt.stdout());
-    ExitCode::from(run(alloc, &words, &mut reader, &mut writer, &mut errors))
+    let open = |path: &str| model_file(&rt, path);
+    ExitCode::from(run(alloc, &words, open, &mut reader, &mut writer, &mut errors))
 }
 
 // The words behind the program's name.
@@ -35,4 +42,19 @@ fn words_of(rt: &(impl Env + AllocGlobal)) -> io::Result<Vec<String>> {
         words.push(word)?;
     }
     Ok(words)
+}
+
+// A model's file, opened.
+fn model_file<R: Files + AllocGlobal>(
+    rt: &R,
+    path: &str,
+) -> Result<FromRead<BufReader<R::File>>, ReadFault> {
+    match open_buffered(rt, path) {
+        Ok(file) => Ok(FromRead::new(file)),
+        Err(error) => Err(not_opened(error.kind())),
+    }
+}
+
+fn open_buffered<R: Files + AllocGlobal>(rt: &R, path: &str) -> io::Result<BufReader<R::File>> {
+    BufReader::new(rt.alloc(), fs::open(rt, path)?)
 }

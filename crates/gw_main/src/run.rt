@@ -1,77 +1,139 @@
-// The program over any words, reader and writers.
-ghost use Rattle.std.specs.Prelude.{◌≡◌, ◌≢◌, ◌<◌, IfOk, IfErr, length, codes};
-ghost use Rattle.gw_script.specs.Turns.{stopped_by};
-ghost use Rattle.gw_main.specs.Complaints.{Tells};
-ghost use Rattle.gw_main.specs.Conversations.{Converses, Fails, Runs, RefusesWords};
+// The program over any words, files, reader and writers.
+ghost use Rattle.std.specs.Prelude.{◌≡◌, ◌≢◌, MatchResult, codes, length, map};
+ghost use Rattle.std.specs.Fn.{FnOnceReturnsAt};
+ghost use Rattle.gw_io.specs.declared.budget.ReadFault.TheVariants.{Memory, Read};
+ghost use Rattle.gw_main.specs.Complaints.{IsToldAs, Tells, complaint_of, status_of};
+ghost use Rattle.gw_main.specs.Conversations.{Runs};
+ghost use Rattle.gw_main.specs.Programs.{Does, Helps, Proceeds, RunsAt};
 
 use crate::complaint::{complain, say, status};
-use gw_script::{Budget, Fault, Options, Over, ReadFault, Sink, Source, session, split_model};
+use crate::conversation::{converse, converse_over_file};
+use crate::words::{Asked, ModelAt, Refusal, read_words};
+use gw_script::{Fault, Options, Over, ReadFault, Sink, Source};
 use std::alloc::Global;
+use std::convert::AsStr;
 use std::io::ErrorKind;
 
-/// Runs the program: the model stands in front of the line `end`, and the script behind it. The status is 0 where the
-/// script was served; 1 where the model is refused; 2 for any word, since none is known; 3 where reading, writing or
-/// memory failed. What came is told to `errors`, as far as that takes it.
-pub fn run<S: Source, K: Sink, E: Sink>(
+/// Runs the program on the words behind its name. A model stands in front of the line `end` of the reader, with the
+/// script behind it, or in a file, which `opener` opens by its name, with the script on the reader.
+///
+/// The status is 0 where the script was served, or help was asked for; 1 where the model is refused; 2 where the words
+/// are; 3 where reading, writing or memory failed. Why it is not 0 is told to `errors`, as far as that takes it.
+pub fn run<
+    W: AsStr,
+    F: Source + Drop,
+    O: FnOnce(&str) -> Result<F, ReadFault>,
+    S: Source,
+    K: Sink,
+    E: Sink,
+>(alloc: Global, words: &[W], opener: O, reader: &mut S, writer: &mut K, errors: &mut E) -> u8
+    requires { O.IsAlwaysCallable opener }
+    ensures does { Does (FnOnceReturnsAt O.FnOnce opener) F.took F.ended F.failures S.took S.ended S.failures K.wrote K.failures E.wrote E.failures (map W.text words.now) reader.old reader.new writer.old writer.new errors.old errors.new result }
+    // Without words the model stands on the reader, and the options are the usual ones.
+    ensures usual { length words.now ≡ 0 → Runs S.took S.ended S.failures K.wrote K.failures E.wrote E.failures Options.USUAL reader.old reader.new writer.old writer.new errors.old errors.new result }
+{
+    let meant = read_words(alloc, words);
+    proceed(alloc, meant, opener, reader, writer, errors)
+}
+
+// What is told of a word that is no text, in the manner of clap.
+const NO_TEXT: &[u8] =
+    b"error: invalid UTF-8 was detected in one or more arguments\n\nFor more information, try '--help'.\n";
+
+/// Tells why the program could not begin, and gives its status: 3 for want of memory, and 2 for a word that is no text.
+pub fn not_begun<E: Sink>(error: ErrorKind, errors: &mut E) -> u8
+    ensures memory { error ≡ ErrorKind.OutOfMemory → (result ≡ 3) × Tells E.wrote E.failures (codes "stopped: F6\n") errors.old errors.new }
+    ensures word { error ≢ ErrorKind.OutOfMemory → (result ≡ 2) × Tells E.wrote E.failures (codes "error: invalid UTF-8 was detected in one or more arguments\n\nFor more information, try '--help'.\n") errors.old errors.new }
+{
+    match error {
+        ErrorKind::OutOfMemory => decline(errors, b"stopped: F6\n", 3),
+        _ => decline(errors, NO_TEXT, 2),
+    }
+}
+
+/// Why a file could not be opened: for want of memory, or as one that cannot be read.
+pub fn not_opened(error: ErrorKind) -> ReadFault
+    ensures memory { error ≡ ErrorKind.OutOfMemory → result ≡ Memory }
+    ensures others { error ≢ ErrorKind.OutOfMemory → result ≡ Read }
+{
+    match error {
+        ErrorKind::OutOfMemory => ReadFault::Memory,
+        _ => ReadFault::Read,
+    }
+}
+
+// Does what the words came to.
+fn proceed<F: Source + Drop, O: FnOnce(&str) -> Result<F, ReadFault>, S: Source, K: Sink, E: Sink>(
     alloc: Global,
-    words: &[String],
+    meant: Result<Asked<'_>, Refusal>,
+    opener: O,
     reader: &mut S,
     writer: &mut K,
     errors: &mut E,
 ) -> u8
-    ensures arguments { 0 < length words.now → RefusesWords E.wrote E.failures reader.old reader.new writer.old writer.new errors.old errors.new result }
-    ensures runs { length words.now ≡ 0 → Runs S.took S.ended S.failures K.wrote K.failures E.wrote E.failures Options.USUAL reader.old reader.new writer.old writer.new errors.old errors.new result }
+    requires { O.IsAlwaysCallable opener }
+    ensures { Proceeds (FnOnceReturnsAt O.FnOnce opener) F.took F.ended F.failures S.took S.ended S.failures K.wrote K.failures E.wrote E.failures meant.entry reader.old reader.new writer.old writer.new errors.old errors.new result }
 {
-    if !words.is_empty() {
-        say(errors, b"arguments\n");
-        return 2;
+    match meant {
+        Ok(asked) => serve(alloc, asked, opener, reader, writer, errors),
+        Err(Refusal::Help(text)) => help(text.as_bytes(), writer, errors),
+        Err(Refusal::Bad(text)) => decline(errors, text.as_bytes(), 2),
+        Err(Refusal::Memory) => decline(errors, b"stopped: F6\n", 3),
     }
-    match converse(alloc, reader, writer) {
+}
+
+// Runs what was asked for.
+fn serve<F: Source + Drop, O: FnOnce(&str) -> Result<F, ReadFault>, S: Source, K: Sink, E: Sink>(
+    alloc: Global,
+    asked: Asked<'_>,
+    opener: O,
+    reader: &mut S,
+    writer: &mut K,
+    errors: &mut E,
+) -> u8
+    requires { O.IsAlwaysCallable opener }
+    ensures { RunsAt (FnOnceReturnsAt O.FnOnce opener) F.took F.ended F.failures S.took S.ended S.failures K.wrote K.failures E.wrote E.failures asked.entry.model asked.entry.options reader.old reader.new writer.old writer.new errors.old errors.new result }
+{
+    match asked.model {
+        ModelAt::Input => end(
+            alloc,
+            converse(alloc, asked.options, reader, writer),
+            errors,
+        ),
+        ModelAt::File(path) => {
+            let opened = opener(path);
+            let over = converse_over_file(alloc, asked.options, opened, reader, writer);
+            end(alloc, over, errors)
+        }
+    }
+}
+
+// Tells how a conversation ended, and gives the status.
+fn end<E: Sink>(alloc: Global, over: Result<Over, Fault>, errors: &mut E) -> u8
+    ensures { MatchResult over (λ _. (errors.new ≡ errors.old) × (result ≡ 0))
+        (λ fault. (told : Fault) × IsToldAs fault told × Tells E.wrote E.failures (complaint_of told) errors.old errors.new × (result ≡ status_of told)) }
+{
+    match over {
         Ok(_) => 0,
         Err(fault) => status(&complain(alloc, fault, errors)),
     }
 }
 
-/// Tells why the program could not begin, and gives its status: 3 for want of memory, and 2 for a word that is no text.
-pub fn not_begun<E: Sink>(error: ErrorKind, errors: &mut E) -> u8
-    ensures memory { error ≡ ErrorKind.OutOfMemory → (result ≡ 3) × Tells E.wrote E.failures (codes "stopped: F6\n") errors.old errors.new }
-    ensures word { error ≢ ErrorKind.OutOfMemory → (result ≡ 2) × Tells E.wrote E.failures (codes "arguments\n") errors.old errors.new }
+// Writes the help.
+fn help<K: Sink, E: Sink>(text: &[u8], writer: &mut K, errors: &mut E) -> u8
+    ensures { Helps K.wrote K.failures E.wrote E.failures text.now writer.old writer.new errors.old errors.new result }
 {
-    match error {
-        ErrorKind::OutOfMemory => {
-            say(errors, b"stopped: F6\n");
-            3
-        }
-        _ => {
-            say(errors, b"arguments\n");
-            2
-        }
+    match gw_io::write_all(writer, text) {
+        Ok(()) => 0,
+        Err(_) => decline(errors, b"stopped: F4\n", 3),
     }
 }
 
-// Takes the model off the reader, and answers the script that stands behind it.
-fn converse<S: Source, K: Sink>(
-    alloc: Global,
-    reader: &mut S,
-    writer: &mut K,
-) -> Result<Over, Fault>
-    ensures converses { IfOk result (Converses S.took S.ended S.failures K.wrote Options.USUAL reader.old reader.new writer.old writer.new) }
-    ensures fails { IfErr result (Fails S.took S.ended S.failures K.wrote K.failures Options.USUAL reader.old reader.new writer.old writer.new) }
+// Tells why the program goes no further, and gives its status.
+fn decline<E: Sink>(errors: &mut E, text: &[u8], status: u8) -> u8
+    ensures status { result ≡ status }
+    ensures tells { Tells E.wrote E.failures text.now errors.old errors.new }
 {
-    let mut budget = Budget::new();
-    let model = match split_model(alloc, reader, &mut budget) {
-        Ok(model) => model,
-        Err(fault) => return Err(fault_of(fault)),
-    };
-    session(alloc, &model, Options::USUAL, reader, writer)
-}
-
-fn fault_of(fault: ReadFault) -> Fault
-    ensures { result ≡ stopped_by fault }
-{
-    match fault {
-        ReadFault::Read => Fault::Read,
-        ReadFault::Limit => Fault::ReadLimit,
-        ReadFault::Memory => Fault::Memory,
-    }
+    say(errors, text);
+    status
 }

@@ -1,9 +1,10 @@
 mod examples;
+mod words;
 
 use crate::run::{not_begun, run};
 use examples::EXAMPLES;
 use gw_names::{Key, Name};
-use gw_script::{Bytes, Options, Page, open, report, session};
+use gw_script::{Bytes, Options, Page, ReadFault, open, report, session};
 use std::alloc::Global;
 use std::io::ErrorKind;
 use std::test::Fail;
@@ -18,7 +19,8 @@ struct Ended {
     errors: Page,
 }
 
-// Runs the program over an input, whose reader may fail, with a writer of some room that takes some bytes a call.
+// Runs the program without words over an input, whose reader may fail, with a writer of some room that takes some bytes
+// a call.
 fn run_on(
     alloc: Global,
     input: &[u8],
@@ -26,16 +28,28 @@ fn run_on(
     step: usize,
     room: usize,
 ) -> Ended {
+    let words: [&str; 0] = [];
     let mut reader = Bytes::new(input, read_failure);
     let mut output = Page::new(alloc, step, room);
     let mut errors = Page::new(alloc, ROOM, ROOM);
-    let words: Vec<String> = Vec::new(alloc);
-    let status = run(alloc, &words, &mut reader, &mut output, &mut errors);
+    let status = run(
+        alloc,
+        &words,
+        no_file,
+        &mut reader,
+        &mut output,
+        &mut errors,
+    );
     Ended {
         status,
         output,
         errors,
     }
+}
+
+// There is no file.
+fn no_file(_path: &str) -> Result<Bytes<'static>, ReadFault> {
+    Err(ReadFault::Read)
 }
 
 #[test]
@@ -168,29 +182,14 @@ fn limits_and_horizons_cut_a_run(rt: HostRuntime) {
 }
 
 #[test]
-fn a_word_is_refused(rt: HostRuntime) -> Result<(), Fail> {
-    let alloc = rt.alloc();
-    let mut words = Vec::new(alloc);
-    words.push(String::from_str(alloc, "--fast")?)?;
-    let mut output = Page::new(alloc, ROOM, ROOM);
-    let mut errors = Page::new(alloc, ROOM, ROOM);
-    let status = run(
-        alloc,
-        &words,
-        &mut Bytes::new(SMALL, None),
-        &mut output,
-        &mut errors,
-    );
-    assert_eq!(rt; status, 2);
-    assert_eq!(rt; errors.text.as_slice(), b"arguments\n".as_slice());
-    Ok(())
-}
-
-#[test]
 fn what_could_not_begin_is_told(rt: HostRuntime) {
     for (error, status, text) in [
         (ErrorKind::OutOfMemory, 3, b"stopped: F6\n".as_slice()),
-        (ErrorKind::InvalidData, 2, b"arguments\n".as_slice()),
+        (
+            ErrorKind::InvalidData,
+            2,
+            b"error: invalid UTF-8 was detected in one or more arguments\n\nFor more information, try '--help'.\n".as_slice(),
+        ),
     ] {
         let mut errors = Page::new(rt.alloc(), ROOM, ROOM);
         assert_eq!(rt; not_begun(error, &mut errors), status);

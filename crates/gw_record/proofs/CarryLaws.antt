@@ -1,5 +1,5 @@
 -- The record of one version's run is that of a version that answers alike what the run read.
-use Rattle.std.proofs.Common.{◌≡◌, ℕ, zero, suc, ◌+◌, ◌<◌, ◌≤◌, Bool, true, false, cond, nat_eq, List, Some, None, Ok, inl, inr, ⊎_elim, refl, sym, ap, ◌∙◌, arith}
+use Rattle.std.proofs.Common.{◌≡◌, ℕ, zero, suc, ◌+◌, ◌<◌, ◌≤◌, Bool, true, false, cond, nat_eq, List, Option, Some, None, Ok, inl, inr, ⊎_elim, refl, sym, ap, ◌∙◌, arith}
 use Rattle.std.specs.List.{list_any}
 use Rattle.std.proofs.lemmas.Bool.Decides.{nat_tests}
 use Rattle.gw_meaning.specs.declared.item.Item.{Item}
@@ -24,14 +24,19 @@ run_to t seed (suc n) s m is less = go (nat_eq m (suc n)) refl (λ low. run_to t
   go false e rest = rest (grind (arith, nat_tests))
 
 -- runs that read the same have the same first readings
-pub same_readings : (p : Item → Bool) (t : Listing) (seed : ℕ) (u : Listing) (new_seed n : ℕ) → ((j : ℕ) → j < n → reads u new_seed j ≡ reads t seed j) → first_reading p u new_seed n ≡ first_reading p t seed n
+pub same_readings :
+    (p : Item → Bool) (t : Listing) (seed : ℕ) (u : Listing) (new_seed n : ℕ) →
+    ((j : ℕ) → j < n → reads u new_seed j ≡ reads t seed j) → first_reading p u new_seed n ≡ first_reading p t seed n
 same_readings p t seed u new_seed zero same = refl
 same_readings p t seed u new_seed (suc n) same =
     let before = same_readings p t seed u new_seed n (λ j less. same j (omega (arith, less))) in
     let last = same n (omega arith) in
-    ap (λ o. or_later o (cond (list_any p (reads u new_seed n)) (Some n) None)) before ∙ ap (λ (is : List Item). or_later (first_reading p t seed n) (cond (list_any p is) (Some n) None)) last
+    let later : List Item → Option ℕ = λ is. cond (list_any p is) (Some n) None in
+    ap (λ o. or_later o (later (reads u new_seed n))) before ∙ ap (λ is. or_later (first_reading p t seed n) (later is)) last
 
-module _ (t : Listing) (seed : ℕ) (u : Listing) (new_seed : ℕ) (r : Tape) (h : Records t seed r) (limit : u.limit ≡ t.limit) (alike : (j : ℕ) → j < r.moment → AnswersAlike t seed u new_seed (reads t seed j)) where
+module _ (t : Listing) (seed : ℕ) (u : Listing) (new_seed : ℕ) (r : Tape)
+    (h : Records t seed r) (limit : u.limit ≡ t.limit)
+    (alike : (j : ℕ) → j < r.moment → AnswersAlike t seed u new_seed (reads t seed j)) where
   there : (m : ℕ) (s : Machine) → m ≤ r.moment → run t seed m ≡ Ok s → run u new_seed m ≡ Ok s
   there m s low is = (unseen_reads t seed u new_seed m s is (λ j less. alike j (omega (arith, less, low)))).0
 
@@ -43,10 +48,22 @@ module _ (t : Listing) (seed : ℕ) (u : Listing) (new_seed : ℕ) (r : Tape) (h
       was ∙ ap (λ x. Ok x) same
 
   end_there : (k m : ℕ) → m ≤ r.moment → IsStartEnd t seed k m → IsStartEnd u new_seed k m
-  end_there k m low e = record { state = e.state; there = there m e.state low e.there; complete = e.complete; some = e.some; first = λ i s less is done. e.first i s less (back i s (omega (arith, less, low)) is) done }
+  end_there k m low e = record {
+    state = e.state;
+    there = there m e.state low e.there;
+    complete = e.complete;
+    some = e.some;
+    first = λ i s less is done. e.first i s less (back i s (omega (arith, less, low)) is) done;
+  }
 
   end_back : (k m : ℕ) → m ≤ r.moment → IsStartEnd u new_seed k m → IsStartEnd t seed k m
-  end_back k m low e = record { state = e.state; there = back m e.state low e.there; complete = e.complete; some = e.some; first = λ i s less is done. e.first i s less (there i s (omega (arith, less, low)) is) done }
+  end_back k m low e = record {
+    state = e.state;
+    there = back m e.state low e.there;
+    complete = e.complete;
+    some = e.some;
+    first = λ i s less is done. e.first i s less (there i s (omega (arith, less, low)) is) done;
+  }
 
   pub carried : Records u new_seed r
   carried =
@@ -54,14 +71,20 @@ module _ (t : Listing) (seed : ℕ) (u : Listing) (new_seed : ℕ) (r : Tape) (h
       record {
         tip = same.0;
         within = let w = h.within in omega (arith, w, limit);
-        kept = λ i e is. let o = h.kept i e is in record { there = there e.moment e.state o.below o.there; wanted = ⊎_elim (λ m. inl m) (λ (k, end). inr (k, end_there k e.moment o.below end)) o.wanted; below = o.below };
+        kept = λ i e is.
+            let o = h.kept i e is in
+            let wanted = ⊎_elim (λ m. inl m) (λ (k, end). inr (k, end_there k e.moment o.below end)) o.wanted in
+            record { there = there e.moment e.state o.below o.there; wanted = wanted; below = o.below };
         rising = h.rising;
         all_kept = λ m less want. h.all_kept m less (⊎_elim (λ m. inl m) (λ (k, end). inr (k, end_back k m (omega (arith, less)) end)) want);
         ends = λ i m is. let o = h.ends i m is in record { end = end_there (i + 1) m o.below o.end; below = o.below; kept = o.kept };
         ends_rise = h.ends_rise;
         all_ends = λ m s less is. h.all_ends m s less (back m s (omega (arith, less)) is);
         tip_end = h.tip_end;
-        firsts = record { each = λ item. h.firsts.each item ∙ sym (same_readings (is_use item) t seed u new_seed r.moment same.1); clock = h.firsts.clock };
+        firsts = record {
+          each = λ item. h.firsts.each item ∙ sym (same_readings (is_use item) t seed u new_seed r.moment same.1);
+          clock = h.firsts.clock;
+        };
       }
 
 pub carries : (r : Tape) → Carries r

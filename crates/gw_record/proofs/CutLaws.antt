@@ -4,7 +4,6 @@ use Rattle.std.proofs.lemmas.Bool.Decides.{nat_tests}
 use Rattle.std.proofs.Math.Nat.{zero-mod}
 use Rattle.std.proofs.lemmas.List.{length-take-le}
 use Rattle.std.proofs.lemmas.Option.{slice_get-get_or, slice_get_within, get_or_from_slice_get}
-use Rattle.std.specs.List.Sorted.{IsPartitionPoint, IsNonDecreasingBy}
 use Rattle.std.proofs.lemmas.List.Sorted.{IsNonDecreasingBy-take}
 use Rattle.gw_meaning.specs.declared.item.Item.{Item}
 use Rattle.gw_meaning.specs.Listing.{Listing}
@@ -13,6 +12,7 @@ use Rattle.gw_meaning.specs.Step.{run}
 use Rattle.gw_meaning.specs.Reads.{is_use}
 use Rattle.gw_record.specs.declared.kept.Kept.{Kept}
 use Rattle.gw_record.specs.declared.first_uses.FirstUses.{FirstUses}
+use Rattle.gw_record.specs.Parting.{AreInOrder, AreUntil, AreBefore}
 use Rattle.gw_record.specs.Steps.{below, AreBelow}
 use Rattle.gw_record.specs.Uses.{first_in}
 use Rattle.gw_record.specs.Tape.{Tape, Records, IsStartEnd, IsWanted, IsThere, IsLastKept, IsKept}
@@ -34,7 +34,9 @@ taken_at (y ∷ xs) (suc n) zero x is = (omega arith, is)
 taken_at (y ∷ xs) (suc n) (suc i) x is = let h = taken_at xs n i x is in (let l = h.0 in omega (arith, l), h.1)
 
 -- the last of the first n, and those in front of it
-pub popped : {X : Type 0} (xs rest : List X) (e : X) (n : ℕ) → n ≤ length xs → take n xs ≡ rest ++ e ∷ [] → (j : ℕ) × (n ≡ suc j) × (rest ≡ take j xs) × (slice_get xs j ≡ Some e)
+pub popped :
+    {X : Type 0} (xs rest : List X) (e : X) (n : ℕ) → n ≤ length xs → take n xs ≡ rest ++ e ∷ [] →
+    (j : ℕ) × (n ≡ suc j) × (rest ≡ take j xs) × (slice_get xs j ≡ Some e)
 popped [] [] e zero within is = absurd cc
 popped [] (r ∷ rest) e zero within is = absurd cc
 popped [] rest e (suc n) within is = absurd (omega (arith, within))
@@ -53,9 +55,9 @@ popped (x ∷ xs) (r ∷ rest) e (suc n) within is =
 
 module _ (t : Listing) (seed : ℕ) (r : Tape) (m n j k : ℕ) (e : Kept) (f : FirstUses)
     (h : Records t seed r) (before : m < r.moment)
-    (part : IsPartitionPoint (λ (e : Kept). nat_le e.moment m ≡ true) (λ e. nat_le e.moment m ≡ false) r.kept n)
+    (part : AreUntil r.kept m n)
     (next : n ≡ suc j) (at : slice_get r.kept j ≡ Some e)
-    (ends : IsPartitionPoint (λ (i : ℕ). nat_lt i e.moment ≡ true) (λ i. nat_lt i e.moment ≡ false) r.ends k) (few : k ≤ length r.ends)
+    (ends : AreBefore r.ends e.moment k) (few : k ≤ length r.ends)
     (cut : (item : Item) → first_in f item ≡ below e.moment (first_in r.firsts item)) (clock : AreBelow e.moment f.clock_steps) where
   inside : j < length r.kept
   inside = slice_get_within r.kept j e at
@@ -174,7 +176,11 @@ module _ (t : Listing) (seed : ℕ) (r : Tape) (m n j k : ℕ) (e : Kept) (f : F
       record {
         tip = own.0;
         within = omega (arith, e1, before, w);
-        kept = λ i d is. let p = taken_at r.kept j i d is in let o = h.kept i d p.1 in let l = p.0 in record { there = o.there; wanted = o.wanted; below = not_later i d p.1 (omega (arith, l)) };
+        kept = λ i d is.
+            let p = taken_at r.kept j i d is in
+            let o = h.kept i d p.1 in
+            let l = p.0 in
+            record { there = o.there; wanted = o.wanted; below = not_later i d p.1 (omega (arith, l)) };
         rising = IsNonDecreasingBy-take (λ (e : Kept). e.moment) j r.kept h.rising;
         all_kept = there_before;
         ends = λ i d is.
@@ -189,7 +195,12 @@ module _ (t : Listing) (seed : ℕ) (r : Tape) (m n j k : ℕ) (e : Kept) (f : F
         ends_rise = IsNonDecreasingBy-take (λ (m : ℕ). m) k r.ends h.ends_rise;
         all_ends = few_before;
         tip_end = one_more;
-        firsts = record { each = λ item. cut item ∙ (ap (λ o. below e.moment o) (h.firsts.each item) ∙ reading_cut (is_use item) t seed e.moment r.moment (omega (arith, e1, before))); clock = clock };
+        firsts = record {
+          each = λ item.
+              let low = reading_cut (is_use item) t seed e.moment r.moment (omega (arith, e1, before)) in
+              cut item ∙ (ap (λ o. below e.moment o) (h.firsts.each item) ∙ low);
+          clock = clock;
+        };
       }
 
   is_last : (i : ℕ) → IsKept t seed r i → i ≤ m → i ≤ e.moment
@@ -205,15 +216,32 @@ module _ (t : Listing) (seed : ℕ) (r : Tape) (m n j k : ℕ) (e : Kept) (f : F
   last_kept = let e1 = early in record { kept = record { below = omega (arith, e1, before); wanted = inr own.1 }; below = e1; last = is_last }
 
 -- a run that went back to the last of its states at or before a moment
-pub cut_back : (t : Listing) (seed : ℕ) (r : Tape) (m n : ℕ) (rest : List Kept) (e : Kept) (new : Tape) → Records t seed r → m < r.moment → n ≤ length r.kept → (IsNonDecreasingBy (λ (e : Kept). e.moment) r.kept → IsPartitionPoint (λ (e : Kept). nat_le e.moment m ≡ true) (λ e. nat_le e.moment m ≡ false) r.kept n) → take n r.kept ≡ rest ++ e ∷ [] → WentBack (record r { kept = rest }) e new → Records t seed new × IsLastKept t seed r m new.moment
+pub cut_back :
+    (t : Listing) (seed : ℕ) (r : Tape) (m n : ℕ) (rest : List Kept) (e : Kept) (new : Tape) →
+    Records t seed r → m < r.moment → n ≤ length r.kept → (AreInOrder r.kept → AreUntil r.kept m n) →
+    take n r.kept ≡ rest ++ e ∷ [] → WentBack (record r { kept = rest }) e new →
+    Records t seed new × IsLastKept t seed r m new.moment
 cut_back t seed r m n rest e new h before within part is w =
     let (j, next, front, at) = popped r.kept rest e n within is in
-    let made : Records t seed (record { every = new.every; moment = new.moment; tip = new.tip; kept = new.kept; ends = new.ends; firsts = new.firsts }) =
-    rw (w.every, w.moment, w.tip, w.kept, w.ends, front) (went_back t seed r m n j w.count e new.firsts h before (part h.rising) next at (w.before h.ends_rise) w.few w.firsts w.clock) in
-    (made, rw w.moment (last_kept t seed r m n j w.count e new.firsts h before (part h.rising) next at (w.before h.ends_rise) w.few w.firsts w.clock))
+    let until = part h.rising in
+    let ends = w.before h.ends_rise in
+    let back = went_back t seed r m n j w.count e new.firsts h before until next at ends w.few w.firsts w.clock in
+    let last = last_kept t seed r m n j w.count e new.firsts h before until next at ends w.few w.firsts w.clock in
+    let same : Tape = record {
+      every = new.every;
+      moment = new.moment;
+      tip = new.tip;
+      kept = new.kept;
+      ends = new.ends;
+      firsts = new.firsts;
+    } in
+    let made : Records t seed same = rw (w.every, w.moment, w.tip, w.kept, w.ends, front) back in
+    (made, rw w.moment last)
 
 -- moment 0 is kept, so there is one to go back to
-pub one_is_kept : (t : Listing) (seed : ℕ) (r : Tape) (m n : ℕ) → Records t seed r → m < r.moment → (IsNonDecreasingBy (λ (e : Kept). e.moment) r.kept → IsPartitionPoint (λ (e : Kept). nat_le e.moment m ≡ true) (λ e. nat_le e.moment m ≡ false) r.kept n) → n ≡ 0 → ⊥
+pub one_is_kept :
+    (t : Listing) (seed : ℕ) (r : Tape) (m n : ℕ) → Records t seed r → m < r.moment →
+    (AreInOrder r.kept → AreUntil r.kept m n) → n ≡ 0 → ⊥
 one_is_kept t seed r m n h before part none =
     let (i, e, is, at) = h.all_kept 0 (omega (arith, before)) (inl (zero-mod r.every)) in
     let inside = slice_get_within r.kept i e is in
@@ -223,7 +251,9 @@ one_is_kept t seed r m n h before part none =
     grind (arith, nat_tests, at)
 
 -- where the last state at or before a moment is of another, none is of it
-pub not_among : (kept : List Kept) (m n : ℕ) (d : Kept) → 1 ≤ n → n ≤ length kept → IsNonDecreasingBy (λ (e : Kept). e.moment) kept → IsPartitionPoint (λ (e : Kept). nat_le e.moment m ≡ true) (λ e. nat_le e.moment m ≡ false) kept n → ((get_or kept (n - 1) d).moment ≡ m → ⊥) → IsThere kept m → ⊥
+pub not_among :
+    (kept : List Kept) (m n : ℕ) (d : Kept) → 1 ≤ n → n ≤ length kept → AreInOrder kept → AreUntil kept m n →
+    ((get_or kept (n - 1) d).moment ≡ m → ⊥) → IsThere kept m → ⊥
 not_among kept m n d some within rising part other (i, e, is, at) = go (nat_lt i n) refl where
   inside : i < length kept
   inside = slice_get_within kept i e is

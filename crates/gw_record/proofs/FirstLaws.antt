@@ -15,7 +15,9 @@ module _ (p : Item → Bool) (t : Listing) (seed : ℕ) where
   IsFirstReading n None = (k : ℕ) → k < n → list_any p (reads t seed k) ≡ false
   IsFirstReading n (Some m) = (m < n) × (list_any p (reads t seed m) ≡ true) × ((k : ℕ) → k < m → list_any p (reads t seed k) ≡ false)
 
-  first_more : (n : ℕ) (o : Option ℕ) (b : Bool) → list_any p (reads t seed n) ≡ b → IsFirstReading n o → IsFirstReading (suc n) (or_later o (cond b (Some n) None))
+  first_more :
+      (n : ℕ) (o : Option ℕ) (b : Bool) → list_any p (reads t seed n) ≡ b → IsFirstReading n o →
+      IsFirstReading (suc n) (or_later o (cond b (Some n) None))
   first_more n (Some m) b e h = (let l = h.0 in omega (arith, l), h.1, h.2)
   first_more n None true e h = (omega arith, e, h)
   first_more n None false e h = λ k less. go k less (nat_eq k n) refl where
@@ -49,10 +51,15 @@ module _ (p : Item → Bool) (t : Listing) (seed : ℕ) where
       at_most false f = absurd (true≢false (sym is ∙ h.2 k (grind (arith, nat_tests))))
 
 -- who reads a command from the i-th on reads some command
-command_read : (i : ℕ) (read : List Item) → list_any (is_command_use i) read ≡ true → (j : ℕ) × (i ≤ j) × (list_any (is_use (items.Cmd j)) read ≡ true)
+command_read :
+    (i : ℕ) (read : List Item) → list_any (is_command_use i) read ≡ true →
+    (j : ℕ) × (i ≤ j) × (list_any (is_use (items.Cmd j)) read ≡ true)
 command_read i [] h = absurd (true≢false (sym h))
 command_read i (items.Cmd j ∷ read) h = go (nat_le i j) refl h (command_read i read) where
-  go : (b : Bool) → nat_le i j ≡ b → (b || list_any (is_command_use i) read) ≡ true → (list_any (is_command_use i) read ≡ true → (k : ℕ) × (i ≤ k) × (list_any (is_use (items.Cmd k)) read ≡ true)) → (k : ℕ) × (i ≤ k) × (list_any (is_use (items.Cmd k)) (items.Cmd j ∷ read) ≡ true)
+  go :
+      (b : Bool) → nat_le i j ≡ b → (b || list_any (is_command_use i) read) ≡ true →
+      (list_any (is_command_use i) read ≡ true → (k : ℕ) × (i ≤ k) × (list_any (is_use (items.Cmd k)) read ≡ true)) →
+      (k : ℕ) × (i ≤ k) × (list_any (is_use (items.Cmd k)) (items.Cmd j ∷ read) ≡ true)
   go true e h rest = (j, grind (arith, nat_tests), let same : (j == j) ≡ true = grind (arith, nat_tests) in rw same refl)
   go false e h rest = let (k, low, is) = rest h in (k, low, behind k (j == k) is) where
     behind : (k : ℕ) (b : Bool) → list_any (is_use (items.Cmd k)) read ≡ true → (b || list_any (is_use (items.Cmd k)) read) ≡ true
@@ -64,7 +71,10 @@ command_read i (item ∷ read) h = let (k, low, is) = command_read i read h in (
 command_from : (i j : ℕ) → i ≤ j → (read : List Item) → list_any (is_use (items.Cmd j)) read ≡ true → list_any (is_command_use i) read ≡ true
 command_from i j low [] h = absurd (true≢false (sym h))
 command_from i j low (items.Cmd k ∷ read) h = go (nat_eq k j) refl h (command_from i j low read) where
-  go : (b : Bool) → nat_eq k j ≡ b → (b || list_any (is_use (items.Cmd j)) read) ≡ true → (list_any (is_use (items.Cmd j)) read ≡ true → list_any (is_command_use i) read ≡ true) → (nat_le i k || list_any (is_command_use i) read) ≡ true
+  go :
+      (b : Bool) → nat_eq k j ≡ b → (b || list_any (is_use (items.Cmd j)) read) ≡ true →
+      (list_any (is_use (items.Cmd j)) read ≡ true → list_any (is_command_use i) read ≡ true) →
+      (nat_le i k || list_any (is_command_use i) read) ≡ true
   go true e h rest = let low_k : nat_le i k ≡ true = grind (arith, nat_tests, low) in rw low_k refl
   go false e h rest = behind (nat_le i k) (rest h) where
     behind : (b : Bool) → list_any (is_command_use i) read ≡ true → (b || list_any (is_command_use i) read) ≡ true
@@ -73,16 +83,32 @@ command_from i j low (items.Cmd k ∷ read) h = go (nat_eq k j) refl h (command_
 command_from i j low (item ∷ read) h = command_from i j low read h
 
 -- the least first step of the commands from the i-th on
-pub first_command : (i n : ℕ) (t : Listing) (seed : ℕ) (steps : List ℕ) (o : Option ℕ) → IsLeastFrom steps i o → ((k : ℕ) → step_at steps k ≡ first_reading (is_use (items.Cmd k)) t seed n) → o ≡ first_reading (is_command_use i) t seed n
-first_command i n t seed steps o least noted = first_same (is_command_use i) t seed n o (first_reading (is_command_use i) t seed n) (go o least) (first_is (is_command_use i) t seed n) where
-  unread : (k : ℕ) → ((j : ℕ) → i ≤ j → list_any (is_use (items.Cmd j)) (reads t seed k) ≡ true → ⊥) → (b : Bool) → list_any (is_command_use i) (reads t seed k) ≡ b → b ≡ false
-  unread k none false e = refl
-  unread k none true e = let (j, low, is) = command_read i (reads t seed k) e in absurd (none j low is)
+pub first_command :
+    (i n : ℕ) (t : Listing) (seed : ℕ) (steps : List ℕ) (o : Option ℕ) → IsLeastFrom steps i o →
+    ((k : ℕ) → step_at steps k ≡ first_reading (is_use (items.Cmd k)) t seed n) → o ≡ first_reading (is_command_use i) t seed n
+first_command i n t seed steps o least noted =
+    let first = first_reading (is_command_use i) t seed n in
+    first_same (is_command_use i) t seed n o first (go o least) (first_is (is_command_use i) t seed n) where
+      unread :
+          (k : ℕ) → ((j : ℕ) → i ≤ j → list_any (is_use (items.Cmd j)) (reads t seed k) ≡ true → ⊥) → (b : Bool) →
+          list_any (is_command_use i) (reads t seed k) ≡ b → b ≡ false
+      unread k none false e = refl
+      unread k none true e = let (j, low, is) = command_read i (reads t seed k) e in absurd (none j low is)
 
-  go : (o : Option ℕ) → IsLeastFrom steps i o → IsFirstReading (is_command_use i) t seed n o
-  go None h = λ k less. unread k (λ j low is. let (m, first, at) = first_no_later (is_use (items.Cmd j)) t seed n k less is in let none : None ≡ Some m = sym (h j low) ∙ (noted j ∙ first) in absurd cc) _ refl
-  go (Some m) h =
-      let (j, low, at) = h.0 in
-      let first : first_reading (is_use (items.Cmd j)) t seed n ≡ Some m = sym (noted j) ∙ at in
-      let is = subst (λ q. IsFirstReading (is_use (items.Cmd j)) t seed n q) first (first_is (is_use (items.Cmd j)) t seed n) in
-      (is.0, command_from i j low (reads t seed m) is.1, λ k less. unread k (λ q high was. let l = is.0 in let (f, found, early) = first_no_later (is_use (items.Cmd q)) t seed n k (omega (arith, less, l)) was in let no_less = h.1 q f high (noted q ∙ found) in omega (arith, no_less, early, less)) _ refl)
+      go : (o : Option ℕ) → IsLeastFrom steps i o → IsFirstReading (is_command_use i) t seed n o
+      go None h = λ k less. unread k (λ j low is.
+          let (m, first, at) = first_no_later (is_use (items.Cmd j)) t seed n k less is in
+          let none : None ≡ Some m = sym (h j low) ∙ (noted j ∙ first) in
+          absurd cc) _ refl
+      go (Some m) h =
+          let (j, low, at) = h.0 in
+          let first : first_reading (is_use (items.Cmd j)) t seed n ≡ Some m = sym (noted j) ∙ at in
+          let is = subst (λ q. IsFirstReading (is_use (items.Cmd j)) t seed n q) first (first_is (is_use (items.Cmd j)) t seed n) in (
+            is.0,
+            command_from i j low (reads t seed m) is.1,
+            λ k less. unread k (λ q high was.
+                let l = is.0 in
+                let (f, found, early) = first_no_later (is_use (items.Cmd q)) t seed n k (omega (arith, less, l)) was in
+                let no_less = h.1 q f high (noted q ∙ found) in
+                omega (arith, no_less, early, less)) _ refl,
+          )

@@ -23,7 +23,9 @@ use Rattle.gw_record.specs.Tape.{Tape, Records, IsKeptUp, IsStartEnd, IsWanted, 
 use Rattle.gw_record.proofs.UseLaws.{reading_cut}
 
 -- the last of a longer list, or one of those before
-pushed_at : {X : Type 0} (xs : List X) (x : X) (i : ℕ) (y : X) → slice_get (xs ++ x ∷ []) i ≡ Some y → (slice_get xs i ≡ Some y) ⊎ ((i ≡ length xs) × (x ≡ y))
+pushed_at :
+    {X : Type 0} (xs : List X) (x : X) (i : ℕ) (y : X) → slice_get (xs ++ x ∷ []) i ≡ Some y →
+    (slice_get xs i ≡ Some y) ⊎ ((i ≡ length xs) × (x ≡ y))
 pushed_at [] x zero y is = let same : x ≡ y = cc in inr (refl, same)
 pushed_at [] x (suc i) y is = absurd cc
 pushed_at (z ∷ xs) x zero y is = inl is
@@ -50,7 +52,9 @@ same_end t seed k m n a b = go (nat_lt n m) refl where
   go false e = grind (arith, nat_tests)
 
 -- the tip is a START end where one more is complete than were noted
-pub tip_is_end : (t : Listing) (seed : ℕ) (r : Tape) → Records t seed r → length r.ends < r.tip.complete → IsStartEnd t seed (length r.ends + 1) r.moment
+pub tip_is_end :
+    (t : Listing) (seed : ℕ) (r : Tape) → Records t seed r → length r.ends < r.tip.complete →
+    IsStartEnd t seed (length r.ends + 1) r.moment
 tip_is_end t seed r h more =
     let one = h.tip_end in
     record {
@@ -62,7 +66,9 @@ tip_is_end t seed r h more =
     }
 
 -- where no more are complete, a START end at the tip is noted and kept
-pub end_is_there : (t : Listing) (seed k : ℕ) (r : Tape) → Records t seed r → r.tip.complete ≤ length r.ends → IsStartEnd t seed k r.moment → IsThere r.kept r.moment
+pub end_is_there :
+    (t : Listing) (seed k : ℕ) (r : Tape) → Records t seed r → r.tip.complete ≤ length r.ends → IsStartEnd t seed k r.moment →
+    IsThere r.kept r.moment
 end_is_there t seed k r h few end =
     let found : Ok end.state ≡ Ok r.tip = sym end.there ∙ h.tip in
     let same : end.state ≡ r.tip = cc in
@@ -78,7 +84,9 @@ end_is_there t seed k r h few end =
     subst (λ n. IsThere r.kept n) at noted.kept
 
 -- the state at the tip is kept
-pub state_kept : (t : Listing) (seed : ℕ) (r : Tape) → Records t seed r → IsWanted t seed r.every r.moment → Records t seed (record r { kept = r.kept ++ (record { moment = r.moment; state = r.tip }) ∷ [] })
+pub state_kept :
+    (t : Listing) (seed : ℕ) (r : Tape) → Records t seed r → IsWanted t seed r.every r.moment →
+    Records t seed (record r { kept = r.kept ++ (record { moment = r.moment; state = r.tip }) ∷ [] })
 state_kept t seed r h wanted =
     let last : Kept = record { moment = r.moment; state = r.tip } in
     record {
@@ -86,9 +94,13 @@ state_kept t seed r h wanted =
       within = h.within;
       kept = λ i e is. ⊎_elim
           (λ old. let o = h.kept i e old in record { there = o.there; wanted = o.wanted; below = o.below })
-          (λ new. subst (λ (e : Kept). IsOfRun t seed (record r { kept = r.kept ++ last ∷ [] }) e) new.1 (record { there = h.tip; wanted = wanted; below = omega arith }))
+          (λ new.
+          let R : Tape = record r { kept = r.kept ++ last ∷ [] } in
+          subst (λ (e : Kept). IsOfRun t seed R e) new.1 (record { there = h.tip; wanted = wanted; below = omega arith }))
           (pushed_at r.kept last i e is);
-      rising = IsNonDecreasingBy-push (λ (e : Kept). e.moment) r.kept last h.rising (λ d some. (h.kept (length r.kept - 1) (get_or r.kept (length r.kept - 1) d) (slice_get-get_or r.kept (length r.kept - 1) d (omega (arith, some)))).below);
+      rising = IsNonDecreasingBy-push (λ (e : Kept). e.moment) r.kept last h.rising (λ d some.
+          let i : ℕ = length r.kept - 1 in
+          (h.kept i (get_or r.kept i d) (slice_get-get_or r.kept i d (omega (arith, some)))).below);
       all_kept = λ m less want. there_more r.kept last m (h.all_kept m less want);
       ends = λ i m is. let o = h.ends i m is in record { end = o.end; below = o.below; kept = there_more r.kept last m o.kept };
       ends_rise = h.ends_rise;
@@ -101,7 +113,9 @@ pub tip_is_there : (xs : List Kept) (x : Kept) → IsThere (xs ++ x ∷ []) x.mo
 tip_is_there xs x = (length xs, x, slice_get_last xs x, refl)
 
 -- the tip is noted as a START end
-pub end_kept : (t : Listing) (seed : ℕ) (r : Tape) → Records t seed r → length r.ends < r.tip.complete → IsThere r.kept r.moment → Records t seed (record r { ends = r.ends ++ r.moment ∷ [] })
+pub end_kept :
+    (t : Listing) (seed : ℕ) (r : Tape) → Records t seed r → length r.ends < r.tip.complete → IsThere r.kept r.moment →
+    Records t seed (record r { ends = r.ends ++ r.moment ∷ [] })
 end_kept t seed r h more there =
     let n : length (r.ends ++ r.moment ∷ []) ≡ length r.ends + 1 = length_push r.ends r.moment in
     let end = tip_is_end t seed r h more in
@@ -118,14 +132,18 @@ end_kept t seed r h more there =
           (λ new. let P : ℕ → ℕ → Type 0 = λ k m. IsEndThere t seed R (k + 1) m in
           subst (λ k. P k m) (sym new.0) (subst (λ m. P (length r.ends) m) new.1 (record { end = end; below = omega arith; kept = there })))
           (pushed_at r.ends r.moment i m is);
-      ends_rise = IsNonDecreasingBy-push (λ (m : ℕ). m) r.ends r.moment h.ends_rise (λ d some. (h.ends (length r.ends - 1) (get_or r.ends (length r.ends - 1) d) (slice_get-get_or r.ends (length r.ends - 1) d (omega (arith, some)))).below);
+      ends_rise = IsNonDecreasingBy-push (λ (m : ℕ). m) r.ends r.moment h.ends_rise (λ d some.
+          let i : ℕ = length r.ends - 1 in
+          (h.ends i (get_or r.ends i d) (slice_get-get_or r.ends i d (omega (arith, some)))).below);
       all_ends = λ m u less is. let few = h.all_ends m u less is in omega (arith, few, n);
       tip_end = omega (arith, one, n);
       firsts = h.firsts;
     }
 
 -- a move completes one START at most
-complete_active : (s : Machine) (o : Option Transaction) (f : Transaction → Machine) → ((x : Transaction) → (f x).complete ≤ s.complete + 1) → (with_active o f s).complete ≤ s.complete + 1
+complete_active :
+    (s : Machine) (o : Option Transaction) (f : Transaction → Machine) → ((x : Transaction) → (f x).complete ≤ s.complete + 1) →
+    (with_active o f s).complete ≤ s.complete + 1
 complete_active s None f h = omega arith
 complete_active s (Some x) f h = h x
 
@@ -151,7 +169,11 @@ run_on : (t : Listing) (seed n : ℕ) (s : Machine) → run t seed n ≡ Ok s �
 run_on t seed n s is = (bind_gives t seed (run_prog n) step_prog s is).0
 
 -- a step is made, and the items that it read are noted
-pub made : (t : Listing) (seed : ℕ) (r : Tape) (m : Move) (f : FirstUses) → Records t seed r → IsKeptUp t seed r → r.moment < t.limit → step t seed r.tip ≡ Ok (moved r.tip m) → ((item : Item) → first_in f item ≡ or_later (first_in r.firsts item) (cond (list_any (is_use item) (step_items t seed r.tip)) (Some r.moment) None)) → AreBelow (r.moment + 1) f.clock_steps → Records t seed (record r { moment = r.moment + 1; tip = moved r.tip m; firsts = f })
+pub made :
+    (t : Listing) (seed : ℕ) (r : Tape) (m : Move) (f : FirstUses) → Records t seed r → IsKeptUp t seed r → r.moment < t.limit →
+    step t seed r.tip ≡ Ok (moved r.tip m) →
+    ((item : Item) → first_in f item ≡ or_later (first_in r.firsts item) (cond (list_any (is_use item) (step_items t seed r.tip)) (Some r.moment) None)) →
+    AreBelow (r.moment + 1) f.clock_steps → Records t seed (record r { moment = r.moment + 1; tip = moved r.tip m; firsts = f })
 made t seed r m f h up room goes noted clock =
     let one : r.moment + 1 ≡ suc r.moment = omega arith in
     record {
@@ -164,8 +186,19 @@ made t seed r m f h up room goes noted clock =
       ends_rise = h.ends_rise;
       all_ends = λ i u less is. before i u less is (nat_eq i r.moment) refl;
       tip_end = let c = complete_moved r.tip m in let e = up.end in omega (arith, c, e);
-      firsts = record { each = λ item. noted item ∙ (ap (λ o. or_later o (cond (list_any (is_use item) (step_items t seed r.tip)) (Some r.moment) None)) (h.firsts.each item) ∙ (ap (λ q. or_later (first_use item t seed r.moment) (cond (list_any (is_use item) (read_from t seed q)) (Some r.moment) None)) (sym h.tip) ∙ ap (λ n. first_use item t seed n) (sym one))); clock = clock };
+      firsts = record { each = λ item. noted item ∙ each item; clock = clock };
     } where
+      each : (item : Item) →
+          or_later (first_in r.firsts item) (cond (list_any (is_use item) (step_items t seed r.tip)) (Some r.moment) None) ≡
+          first_use item t seed (r.moment + 1)
+      each item =
+          let later : List Item → Option ℕ = λ is. cond (list_any (is_use item) is) (Some r.moment) None in
+          let first = first_use item t seed r.moment in
+          let one : suc r.moment ≡ r.moment + 1 = omega arith in
+          ap (λ o. or_later o (later (step_items t seed r.tip))) (h.firsts.each item) ∙
+          (ap (λ q. or_later first (later (read_from t seed q))) (sym h.tip) ∙
+          ap (λ n. first_use item t seed n) one)
+
       before : (i : ℕ) (u : Machine) → i < r.moment + 1 → run t seed i ≡ Ok u → (b : Bool) → nat_eq i r.moment ≡ b → u.complete ≤ length r.ends
       before i u less is true e =
           let at : i ≡ r.moment = grind (arith, nat_tests) in
@@ -182,7 +215,10 @@ made t seed r m f h up room goes noted clock =
       kept_before i less want false e = h.all_kept i (grind (arith, nat_tests)) want
 
 -- what was noted of a step that was not made is forgotten
-pub forgotten : (t : Listing) (seed : ℕ) (r : Tape) (f : FirstUses) → Records t seed r → ((item : Item) → first_in f item ≡ below r.moment (first_in r.firsts item)) → AreBelow r.moment f.clock_steps → Records t seed (record r { firsts = f })
+pub forgotten :
+    (t : Listing) (seed : ℕ) (r : Tape) (f : FirstUses) → Records t seed r →
+    ((item : Item) → first_in f item ≡ below r.moment (first_in r.firsts item)) → AreBelow r.moment f.clock_steps →
+    Records t seed (record r { firsts = f })
 forgotten t seed r f h cut clock =
     record {
       tip = h.tip;
@@ -194,5 +230,10 @@ forgotten t seed r f h cut clock =
       ends_rise = h.ends_rise;
       all_ends = h.all_ends;
       tip_end = h.tip_end;
-      firsts = record { each = λ item. cut item ∙ (ap (λ o. below r.moment o) (h.firsts.each item) ∙ reading_cut (is_use item) t seed r.moment r.moment (omega arith)); clock = clock };
+      firsts = record {
+        each = λ item.
+            let same = reading_cut (is_use item) t seed r.moment r.moment (omega arith) in
+            cut item ∙ (ap (λ o. below r.moment o) (h.firsts.each item) ∙ same);
+        clock = clock;
+      };
     }

@@ -8,7 +8,9 @@ use Rattle.gw_meaning.specs.Reads.{or_later, first_reading, reads}
 use Rattle.gw_record.specs.Steps.{below}
 
 -- one more item of the same step
-pub or_later_more : (o : Option ℕ) (a b : Bool) (step : ℕ) → or_later (or_later o (cond a (Some step) None)) (cond b (Some step) None) ≡ or_later o (cond (a || b) (Some step) None)
+pub or_later_more :
+    (o : Option ℕ) (a b : Bool) (step : ℕ) →
+    or_later (or_later o (cond a (Some step) None)) (cond b (Some step) None) ≡ or_later o (cond (a || b) (Some step) None)
 or_later_more (Some n) a b step = refl
 or_later_more None true b step = refl
 or_later_more None false b step = refl

@@ -1,8 +1,8 @@
 -- What a recorded run that went back to one of its states has in common with what it was. (Our own.)
-use Rattle.std.specs.Prelude.{◌≡◌, ℕ, ◌≤◌, true, false, length, take, nat_lt}
-use Rattle.std.specs.List.Sorted.{IsNonDecreasingBy, IsPartitionPoint}
+use Rattle.std.specs.Prelude.{◌≡◌, ℕ, ◌≤◌, length, take}
 use Rattle.gw_meaning.specs.declared.item.Item.{Item}
 use Rattle.gw_record.specs.declared.kept.Kept.{Kept}
+use Rattle.gw_record.specs.Parting.{AreMoments, AreBefore}
 use Rattle.gw_record.specs.Steps.{below, AreBelow}
 use Rattle.gw_record.specs.Uses.{first_in}
 use Rattle.gw_record.specs.Tape.{Tape}
@@ -16,6 +16,6 @@ pub record WentBack (old : Tape) (to : Kept) (new : Tape) : Type 0 where
   pub count : ℕ
   pub few : count ≤ length old.ends
   pub ends : new.ends ≡ take count old.ends
-  pub before : IsNonDecreasingBy (λ (m : ℕ). m) old.ends → IsPartitionPoint (λ (m : ℕ). nat_lt m to.moment ≡ true) (λ m. nat_lt m to.moment ≡ false) old.ends count
+  pub before : AreMoments old.ends → AreBefore old.ends to.moment count
   pub firsts : (item : Item) → first_in new.firsts item ≡ below to.moment (first_in old.firsts item)
   pub clock : AreBelow to.moment new.firsts.clock_steps

@@ -12,5 +12,5 @@ IsStateAt t seed r m (Some s) = IsKept t seed r m × (run t seed m ≡ Ok s)
 
 -- the moment at which the k-th START was complete, if it was
 abbrev pub IsEndOf : Listing → ℕ → Tape → ℕ → Option ℕ → Type 0
-IsEndOf t seed r k None = (m : ℕ) → m ≤ r.moment → IsStartEnd t seed k m → ⊥
+IsEndOf t seed r k None = (m : ℕ) (s : Machine) → 1 ≤ k → m ≤ r.moment → run t seed m ≡ Ok s → s.complete ≡ k → ⊥
 IsEndOf t seed r k (Some m) = (m ≤ r.moment) × IsStartEnd t seed k m

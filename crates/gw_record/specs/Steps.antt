@@ -17,7 +17,9 @@ step_at steps number = known (get_or steps number never)
 -- the least step that is noted for a number from one on
 abbrev pub IsLeastFrom : List ℕ → ℕ → Option ℕ → Type 0
 IsLeastFrom steps number None = (k : ℕ) → number ≤ k → step_at steps k ≡ None
-IsLeastFrom steps number (Some least) = ((k : ℕ) × (number ≤ k) × (step_at steps k ≡ Some least)) × ((k n : ℕ) → number ≤ k → step_at steps k ≡ Some n → least ≤ n)
+IsLeastFrom steps number (Some least) =
+    ((k : ℕ) × (number ≤ k) × (step_at steps k ≡ Some least)) ×
+    ((k n : ℕ) → number ≤ k → step_at steps k ≡ Some n → least ≤ n)
 
 -- a step, where it lies below a bound
 abbrev pub below_of : ℕ → ℕ → Option ℕ

@@ -1,12 +1,12 @@
 -- A recorded run, and what makes it the record of a run from zero. (Our own.)
 use Rattle.std.specs.Prelude.{◌≡◌, ◌⊎◌, ℕ, ◌+◌, ◌%◌, ◌<◌, ◌≤◌, List, [], Some, Ok, length, slice_get}
-use Rattle.std.specs.List.Sorted.{IsNonDecreasingBy}
 use Rattle.gw_meaning.specs.Listing.{Listing}
 use Rattle.gw_meaning.specs.Machine.{Machine, zero_state}
 use Rattle.gw_meaning.specs.Step.{run}
 use Rattle.gw_meaning.specs.Point.{IsFirst}
 use Rattle.gw_record.specs.declared.kept.Kept.{Kept}
 use Rattle.gw_record.specs.declared.first_uses.FirstUses.{FirstUses}
+use Rattle.gw_record.specs.Parting.{AreInOrder, AreMoments}
 use Rattle.gw_record.specs.Uses.{AreFirstUses, nothing_used}
 
 -- what is recorded of a run: the state at the tip, after so many steps; states kept on the way, in order; the moments of
@@ -61,10 +61,10 @@ pub record Records (t : Listing) (seed : ℕ) (r : Tape) : Type 0 where
   pub tip : run t seed r.moment ≡ Ok r.tip
   pub within : r.moment ≤ t.limit
   pub kept : (i : ℕ) (e : Kept) → slice_get r.kept i ≡ Some e → IsOfRun t seed r e
-  pub rising : IsNonDecreasingBy (λ (e : Kept). e.moment) r.kept
+  pub rising : AreInOrder r.kept
   pub all_kept : (m : ℕ) → m < r.moment → IsWanted t seed r.every m → IsThere r.kept m
   pub ends : (i m : ℕ) → slice_get r.ends i ≡ Some m → IsEndThere t seed r (i + 1) m
-  pub ends_rise : IsNonDecreasingBy (λ (m : ℕ). m) r.ends
+  pub ends_rise : AreMoments r.ends
   pub all_ends : (m : ℕ) (u : Machine) → m < r.moment → run t seed m ≡ Ok u → u.complete ≤ length r.ends
   pub tip_end : r.tip.complete ≤ length r.ends + 1
   pub firsts : AreFirstUses t seed r.moment r.firsts

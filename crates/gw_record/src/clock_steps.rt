@@ -1,7 +1,8 @@
-ghost use Rattle.std.specs.Prelude.{◌≡◌, ◌+◌, ◌<◌, ℕ, [], Some, None, if◌then◌else◌, nat_lt, OnOk, OnErr, IsTrue, IsFalse, ◌≤◌, ◌-◌, length, slice_index_or, nat_le, true, false, option_map, slice_get};
-ghost use Rattle.std.specs.List.Sorted.{IsNonDecreasingBy, IsPartitionPoint};
+ghost use Rattle.std.specs.Prelude.{◌≡◌, ◌+◌, ◌<◌, ℕ, [], Some, None, if◌then◌else◌, nat_lt, OnOk, OnErr, IsTrue, IsFalse, ◌≤◌, ◌-◌, length, slice_index_or, option_map, slice_get};
+ghost use Rattle.std.specs.List.Sorted.{IsNonDecreasingBy};
 ghost use Rattle.gw_record.specs.declared.clock_steps.ClockStep.{ClockStep};
 ghost use Rattle.gw_meaning.specs.Reads.{or_later};
+ghost use Rattle.gw_record.specs.Parting.{AreUpTo, AreFirst};
 ghost use Rattle.gw_record.specs.Steps.{first_beyond, below, AreBelow, IsReached};
 
 use gw_nums::Time;
@@ -43,7 +44,7 @@ impl ClockSteps {
         }
     }
 
-    /// The first Clock step to a moment later than this one.
+    /// The first Clock step to a moment later than this one, if there is one.
     pub fn first_beyond(&self, time: Time) -> Option<u64>
         ensures { result ≡ first_beyond time self.now }
     {
@@ -51,10 +52,12 @@ impl ClockSteps {
         step_of(steps, count_until(steps, time))
     }
 
-    /// Notes a Clock step no earlier in the run than those that are noted.
+    /// Notes a Clock step no earlier in the run than those that are noted. Where memory is refused, nothing
+    /// changes.
     pub fn note(&mut self, step: u64, time: Time) -> Result<(), AllocError>
         requires { AreBelow (step + 1) self.old }
-        ensures ok { OnOk result ((t : ℕ) → first_beyond t self.new ≡ or_later (first_beyond t self.old) (if nat_lt t time then Some step else None)) }
+        ensures ok { OnOk result ((t : ℕ) →
+            first_beyond t self.new ≡ or_later (first_beyond t self.old) (if nat_lt t time then Some step else None)) }
         ensures below { OnOk result (AreBelow (step + 1) self.new) }
         ensures err { OnErr result (self.new ≡ self.old) }
     {
@@ -66,7 +69,8 @@ impl ClockSteps {
 
     // Whether the clock was never set to this moment or a later one.
     fn goes_beyond(&self, time: Time) -> bool
-        ensures last { IsTrue result → (d : ClockStep) → 0 < length self.now → (slice_index_or self.now (length self.now - 1) d).time ≤ time }
+        ensures last { IsTrue result → (d : ClockStep) → 0 < length self.now →
+            (slice_index_or self.now (length self.now - 1) d).time ≤ time }
         ensures known { IsFalse result → IsReached time self.now }
     {
         match self.steps.last() {
@@ -75,7 +79,7 @@ impl ClockSteps {
         }
     }
 
-    /// Forgets the steps from one on.
+    /// Forgets the steps from one on, that one too.
     pub fn forget(&mut self, from: u64)
         ensures value { (t : ℕ) → first_beyond t self.new ≡ below from (first_beyond t self.old) }
         ensures below { AreBelow from self.new }
@@ -88,7 +92,7 @@ impl ClockSteps {
 // How many of these Clock steps are to no moment later than this one.
 fn count_until(steps: &[ClockStep], time: Time) -> usize
     requires { IsNonDecreasingBy (λ (s : ClockStep). s.time) steps.now }
-    ensures { IsPartitionPoint (λ (s : ClockStep). nat_le s.time time ≡ true) (λ s. nat_le s.time time ≡ false) steps.now result }
+    ensures { AreUpTo steps.now time result }
 {
     steps.partition_point(|s| s.time <= time)
 }
@@ -96,7 +100,7 @@ fn count_until(steps: &[ClockStep], time: Time) -> usize
 // How many of these Clock steps lie below a step.
 fn count_below(steps: &[ClockStep], step: u64) -> usize
     requires { IsNonDecreasingBy (λ (s : ClockStep). s.step) steps.now }
-    ensures { IsPartitionPoint (λ (s : ClockStep). nat_lt s.step step ≡ true) (λ s. nat_lt s.step step ≡ false) steps.now result }
+    ensures { AreFirst steps.now step result }
 {
     steps.partition_point(|s| s.step < step)
 }

@@ -8,11 +8,12 @@ use crate::kept::{Kept, count_before, count_until};
 use crate::recorded::Recorded;
 
 impl Recorded {
-    /// Goes back to the last kept moment at or before another, where that is not at or behind the tip. It takes no
-    /// memory.
+    /// Goes back to the last kept moment at or before another, which is 0 at the least: what came after it is
+    /// forgotten. At the tip's moment or behind it nothing changes. It takes no memory.
     pub fn cut(&mut self, moment: u64)
         ensures records { (t : Listing) (seed : ℕ) → Records t seed self.old → Records t seed self.new }
-        ensures kept { (t : Listing) (seed : ℕ) → Records t seed self.old → IsLastKept t seed self.old moment self.new.moment }
+        ensures kept { (t : Listing) (seed : ℕ) → Records t seed self.old →
+            IsLastKept t seed self.old moment self.new.moment }
         ensures every { self.new.every ≡ self.old.every }
     {
         if moment < self.moment {

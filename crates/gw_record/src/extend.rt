@@ -19,7 +19,8 @@ use std::alloc::{AllocError, Global};
 
 impl Recorded {
     /// Makes `steps` more steps of the version's run with this seed, or those up to the step limit or to the
-    /// run's end, counts them and says how many they are. Where memory is refused, the steps made stay.
+    /// run's end, counts them and says how many they are: 0 where the run cannot go on. Where memory is refused,
+    /// the steps made stay, each with its first uses, and nothing stays of the one that was not made.
     pub fn extend(
         &mut self,
         alloc: Global,
@@ -50,7 +51,7 @@ impl Recorded {
     }
 
     // One step further, if the run goes on.
-    fn go(
+    pub(crate) fn go(
         &mut self,
         alloc: Global,
         version: &Version,
@@ -82,8 +83,10 @@ impl Recorded {
     // Keeps the state at the tip where it stands at a multiple of the spacing or a START is complete there.
     fn keep_state(&mut self) -> Result<(), AllocError>
         ensures records { (t : Listing) (seed : ℕ) → Records t seed self.old → Records t seed self.new }
-        ensures ok { OnOk result ((t : Listing) (seed : ℕ) → Records t seed self.old → IsWanted t seed self.new.every self.new.moment → IsThere self.new.kept self.new.moment) }
-        ensures same { (self.new.moment ≡ self.old.moment) × (self.new.every ≡ self.old.every) × (self.new.tip ≡ self.old.tip) × (self.new.ends ≡ self.old.ends) × (self.new.firsts ≡ self.old.firsts) }
+        ensures ok { OnOk result ((t : Listing) (seed : ℕ) → Records t seed self.old →
+            IsWanted t seed self.new.every self.new.moment → IsThere self.new.kept self.new.moment) }
+        ensures same { (self.new.moment ≡ self.old.moment) × (self.new.every ≡ self.old.every) ×
+            (self.new.tip ≡ self.old.tip) × (self.new.ends ≡ self.old.ends) × (self.new.firsts ≡ self.old.firsts) }
     {
         if self.is_wanted() && !self.is_there() {
             let state = self.tip.copy()?;
@@ -97,8 +100,10 @@ impl Recorded {
 
     // Whether the tip's state is to be kept when the run leaves it; if it is not, it may be there already.
     fn is_wanted(&self) -> bool
-        ensures yes { IsTrue result → (t : Listing) (seed : ℕ) → Records t seed self.now → IsWanted t seed self.now.every self.now.moment }
-        ensures no { IsFalse result → (t : Listing) (seed : ℕ) → Records t seed self.now → IsWanted t seed self.now.every self.now.moment → IsThere self.now.kept self.now.moment }
+        ensures yes { IsTrue result → (t : Listing) (seed : ℕ) → Records t seed self.now →
+            IsWanted t seed self.now.every self.now.moment }
+        ensures no { IsFalse result → (t : Listing) (seed : ℕ) → Records t seed self.now →
+            IsWanted t seed self.now.every self.now.moment → IsThere self.now.kept self.now.moment }
     {
         self.moment % self.every == 0 || (self.ends.len() as u64) < self.tip.complete()
     }
@@ -115,9 +120,12 @@ impl Recorded {
 
     // Notes the tip as a START end where it is one.
     fn keep_end(&mut self) -> Result<(), AllocError>
-        ensures records { (t : Listing) (seed : ℕ) → Records t seed self.old → (IsWanted t seed self.old.every self.old.moment → IsThere self.old.kept self.old.moment) → Records t seed self.new }
-        ensures ok { OnOk result ((t : Listing) (seed : ℕ) → Records t seed self.old → self.new.tip.complete ≤ length self.new.ends) }
-        ensures same { (self.new.moment ≡ self.old.moment) × (self.new.every ≡ self.old.every) × (self.new.tip ≡ self.old.tip) × (self.new.kept ≡ self.old.kept) × (self.new.firsts ≡ self.old.firsts) }
+        ensures records { (t : Listing) (seed : ℕ) → Records t seed self.old →
+            (IsWanted t seed self.old.every self.old.moment → IsThere self.old.kept self.old.moment) → Records t seed self.new }
+        ensures ok { OnOk result ((t : Listing) (seed : ℕ) →
+            Records t seed self.old → self.new.tip.complete ≤ length self.new.ends) }
+        ensures same { (self.new.moment ≡ self.old.moment) × (self.new.every ≡ self.old.every) ×
+            (self.new.tip ≡ self.old.tip) × (self.new.kept ≡ self.old.kept) × (self.new.firsts ≡ self.old.firsts) }
     {
         if (self.ends.len() as u64) < self.tip.complete() {
             self.ends.push(self.moment)?;
@@ -130,7 +138,10 @@ impl Recorded {
         requires room { self.old.moment < 1000000 }
         requires noted { AreBelow (self.old.moment + 1) self.old.firsts.clock_steps }
         requires clock { IsInClock next }
-        ensures ok { OnOk result ((t : Listing) (seed : ℕ) → Records t seed self.old → IsKeptUp t seed self.old → self.old.moment < t.limit → uses.now ≡ step_items t seed self.old.tip → step t seed self.old.tip ≡ Ok (moved self.old.tip next) → Records t seed self.new) }
+        ensures ok { OnOk result ((t : Listing) (seed : ℕ) →
+            Records t seed self.old → IsKeptUp t seed self.old → self.old.moment < t.limit →
+            uses.now ≡ step_items t seed self.old.tip → step t seed self.old.tip ≡ Ok (moved self.old.tip next) →
+            Records t seed self.new) }
         ensures moment { OnOk result (self.new.moment ≡ self.old.moment + 1) }
         ensures every { self.new.every ≡ self.old.every }
         ensures tally { OnOk result (tally.new ≡ raised tally.old) }

@@ -33,7 +33,7 @@ impl FirstSteps {
         }
     }
 
-    /// The first step that used this number.
+    /// The first step that used this number, if any did.
     pub fn get(&self, number: u64) -> Option<u64>
         ensures { result ≡ step_at self.now number }
     {
@@ -43,10 +43,12 @@ impl FirstSteps {
         }
     }
 
-    /// Notes that a step used this number, unless an earlier one is noted.
+    /// Notes that a step, below 2^64 - 1, used this number, unless one is noted already. Where memory is refused,
+    /// nothing changes.
     pub fn note(&mut self, number: u64, step: u64) -> Result<(), AllocError>
         requires { step < 2 ^ 64 - 1 }
-        ensures ok { OnOk result ((k : ℕ) → step_at self.new k ≡ (if number == k then or_later (step_at self.old k) (Some step) else step_at self.old k)) }
+        ensures ok { OnOk result ((k : ℕ) →
+            step_at self.new k ≡ (if number == k then or_later (step_at self.old k) (Some step) else step_at self.old k)) }
         ensures err { OnErr result (self.new ≡ self.old) }
     {
         self.make_room(number)?;
@@ -71,7 +73,7 @@ impl FirstSteps {
         Ok(())
     }
 
-    /// The least of the first steps of the numbers from one on.
+    /// The least of the first steps of the numbers from one on, if one of them was used.
     pub fn least_from(&self, number: u64) -> Option<u64>
         ensures { IsLeastFrom self.now number result }
     {
@@ -84,7 +86,7 @@ impl FirstSteps {
         }
     }
 
-    /// Forgets the steps from one on.
+    /// Forgets the steps from one on, that one too.
     pub fn forget(&mut self, from: u64)
         ensures { (k : ℕ) → step_at self.new k ≡ below from (step_at self.old k) }
     {

@@ -39,7 +39,7 @@ impl FirstUses {
         }
     }
 
-    /// The first step that used an item.
+    /// The first step that used an item, if any did.
     pub fn get(&self, item: &Item) -> Option<u64>
         ensures { result ≡ first_in self.now item.now }
     {
@@ -53,13 +53,16 @@ impl FirstUses {
         }
     }
 
-    /// Notes that a step, no earlier than those noted, read these items.
+    /// Notes that a step, no earlier than those noted, read these items. Where memory is refused, some of them are
+    /// noted, and what is noted of earlier steps stays.
     pub fn note_all(&mut self, items: &[Item], step: u64) -> Result<(), AllocError>
         requires step { step < 2 ^ 64 - 1 }
         requires clock { AreBelow (step + 1) self.old.clock_steps }
-        ensures ok { OnOk result ((item : Item) → first_in self.new item ≡ or_later (first_in self.old item) (if list_any (is_use item) items.now then Some step else None)) }
+        ensures ok { OnOk result ((item : Item) →
+            first_in self.new item ≡ or_later (first_in self.old item) (if list_any (is_use item) items.now then Some step else None)) }
         ensures clock { AreBelow (step + 1) self.new.clock_steps }
-        ensures err { OnErr result ((item : Item) → below step (first_in self.new item) ≡ below step (first_in self.old item)) }
+        ensures err { OnErr result ((item : Item) →
+            below step (first_in self.new item) ≡ below step (first_in self.old item)) }
     {
         for item in items {
             self.note(item, step)?;
@@ -71,7 +74,8 @@ impl FirstUses {
     fn note(&mut self, item: &Item, step: u64) -> Result<(), AllocError>
         requires step { step < 2 ^ 64 - 1 }
         requires clock { AreBelow (step + 1) self.old.clock_steps }
-        ensures ok { OnOk result ((q : Item) → first_in self.new q ≡ or_later (first_in self.old q) (if is_use q item.now then Some step else None)) }
+        ensures ok { OnOk result ((q : Item) →
+            first_in self.new q ≡ or_later (first_in self.old q) (if is_use q item.now then Some step else None)) }
         ensures clock { AreBelow (step + 1) self.new.clock_steps }
         ensures err { OnErr result (self.new ≡ self.old) }
     {
@@ -91,7 +95,7 @@ impl FirstUses {
         }
     }
 
-    /// Forgets the steps from one on.
+    /// Forgets the steps from one on, that one too.
     pub fn forget(&mut self, from: u64)
         ensures value { (item : Item) → first_in self.new item ≡ below from (first_in self.old item) }
         ensures clock { AreBelow from self.new.clock_steps }

@@ -12,10 +12,14 @@ mod first_steps;
 mod first_uses;
 mod kept;
 mod lookup;
+mod reach;
 mod recorded;
+#[cfg(test)]
+mod tests;
 
 pub use clock_steps::{ClockStep, ClockSteps};
 pub use first_steps::FirstSteps;
 pub use first_uses::FirstUses;
 pub use kept::Kept;
+pub use reach::Reach;
 pub use recorded::Recorded;

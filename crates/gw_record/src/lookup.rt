@@ -14,9 +14,10 @@ use gw_scan::State;
 
 impl Recorded {
     /// The state after so many steps, where it is kept: at the multiples of the spacing, at START ends and at
-    /// the tip.
+    /// the tip. There is none behind the tip.
     pub fn state_at(&self, moment: u64) -> Option<&State>
-        ensures { (t : Listing) (seed : ℕ) → Records t seed self.now → IsStateAt t seed self.now moment (option_copied result) }
+        ensures { (t : Listing) (seed : ℕ) → Records t seed self.now →
+            IsStateAt t seed self.now moment (option_copied result) }
     {
         if moment == self.moment {
             return Some(&self.tip);
@@ -24,7 +25,8 @@ impl Recorded {
         state_in(self.kept.as_slice(), moment)
     }
 
-    /// The moment right after the step that completed the k-th START, from 1, if it is complete.
+    /// The moment right after the step that completed the k-th START, from 1, if it is complete at the tip. There
+    /// is no START 0.
     pub fn start_end(&self, k: u64) -> Option<u64>
         ensures { (t : Listing) (seed : ℕ) → Records t seed self.now → IsEndOf t seed self.now k result }
     {
@@ -41,16 +43,18 @@ impl Recorded {
         }
     }
 
-    /// The first Clock step whose new time is later than this one.
+    /// The first step below the tip, from 0, that set the clock later than this time, if any did.
     pub fn first_clock(&self, time: Time) -> Option<u64>
-        ensures { (t : Listing) (seed : ℕ) → Records t seed self.now → result ≡ first_use (items.Within time) t seed self.now.moment }
+        ensures { (t : Listing) (seed : ℕ) → Records t seed self.now →
+            result ≡ first_use (items.Within time) t seed self.now.moment }
     {
         self.first_use(&Item::Within(time))
     }
 
-    /// The first step that read the i-th command, from 1, or one behind it.
+    /// The first step below the tip, from 0, that read the i-th command, from 1, or one behind it, if any did.
     pub fn first_command(&self, i: u64) -> Option<u64>
-        ensures { (t : Listing) (seed : ℕ) → Records t seed self.now → result ≡ first_reading (is_command_use i) t seed self.now.moment }
+        ensures { (t : Listing) (seed : ℕ) → Records t seed self.now →
+            result ≡ first_reading (is_command_use i) t seed self.now.moment }
     {
         self.firsts.commands.least_from(i)
     }

@@ -30,7 +30,14 @@ impl Model for Recorded {
 
     ghost Value = { Tape };
 
-    ghost view = { λ r. record { every = r.every; moment = r.moment; tip = r.tip; kept = r.kept.items; ends = r.ends.items; firsts = r.firsts } };
+    ghost view = { λ r. record {
+      every = r.every;
+      moment = r.moment;
+      tip = r.tip;
+      kept = r.kept.items;
+      ends = r.ends.items;
+      firsts = r.firsts;
+    } };
 
     ghost invariant = { λ r. 1 ≤ r.every };
 }
@@ -52,7 +59,7 @@ impl Recorded {
         }
     }
 
-    /// How many steps are recorded: the tip's moment.
+    /// How many steps are recorded, 0 up to the version's step limit: the tip's moment.
     pub fn tip(&self) -> u64
         ensures { result ≡ self.now.moment }
     {
@@ -66,9 +73,11 @@ impl Recorded {
         &self.tip
     }
 
-    /// The first step that used an item, if any did: that read it, or, for a moment, that set the clock later.
+    /// The first step below the tip, from 0, that used an item, if any did: that read it, or, for a moment, that
+    /// set the clock later.
     pub fn first_use(&self, item: &Item) -> Option<u64>
-        ensures { (t : Listing) (seed : ℕ) → Records t seed self.now → result ≡ first_use item.now t seed self.now.moment }
+        ensures { (t : Listing) (seed : ℕ) → Records t seed self.now →
+            result ≡ first_use item.now t seed self.now.moment }
     {
         self.firsts.get(item)
     }

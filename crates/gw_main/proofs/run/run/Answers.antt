@@ -1,11 +1,9 @@
-use Rattle.std.proofs.Common.{refl}
-use Rattle.gw_script.specs.declared.opening.TheConstants as constants
-use Rattle.gw_main.specs.Conversations.{served, stopped}
-use Rattle.gw_main.proofs.Conversing.{fails_told}
+use Rattle.std.proofs.Common.{map}
+use Rattle.std.specs.Fn.{FnOnceReturnsAt}
+use Rattle.gw_main.proofs.Usual.{no_texts, usual_run}
 use Rattle.gw_main.proofs.run.run.Goals as goal
 
-pub returns-in-Ok-clause-runs : goal.returns-in-Ok-clause-runs
-returns-in-Ok-clause-runs g c = λ none. served c.in-Ok.field-0 c.in-Ok.ensures.converses refl refl
-
-pub returns-in-Err-clause-runs : goal.returns-in-Err-clause-runs
-returns-in-Err-clause-runs g c = λ none. stopped c.complain.result (fails_told g.S.Source.took g.S.Source.ended g.S.Source.failures g.K.Sink.wrote g.K.Sink.failures constants.Options.USUAL c.args.reader.now c.converse.new.reader c.args.writer.now c.converse.new.writer c.in-Err.fault c.complain.result c.complain.ensures.told c.in-Err.ensures.fails) c.complain.ensures.text c.status.ensures
+pub returns-clause-usual : goal.returns-clause-usual
+returns-clause-usual g c = λ none.
+    usual_run (FnOnceReturnsAt g.O.FnOnce c.args.opener) g.F.Source.took g.F.Source.ended g.F.Source.failures g.S.Source.took g.S.Source.ended g.S.Source.failures g.K.Sink.wrote g.K.Sink.failures g.E.Sink.wrote g.E.Sink.failures g.met.S.Source.nothing (map g.W.AsStr.text c.args.words.now) c.args.reader.now c.proceed.new.reader c.args.writer.now c.proceed.new.writer c.args.errors.now c.proceed.new.errors c.proceed.result (no_texts g.W.AsStr.text c.args.words.now none)
+    (record { meant = c.read_words-meant.result; reading = c.read_words-meant.ensures; done = c.proceed.ensures })

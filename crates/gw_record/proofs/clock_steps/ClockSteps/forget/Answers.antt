@@ -6,7 +6,9 @@ use Rattle.gw_record.proofs.clock_steps.ClockSteps.forget.Goals as goal
 pub returns-clause-value : goal.returns-clause-value
 returns-clause-value c =
     let point = rw c.as_slice.ensures.value at c.count_below-count.ensures in
-    rw (← c.self.view_is) (λ t. ap (λ xs. first_beyond t xs) c.truncate.ensures.items ∙ first_beyond_taken t c.args.from c.self.inside.steps.items _ point.0 point.1)
+    rw (← c.self.view_is) (λ t.
+    let taken = first_beyond_taken t c.args.from c.self.inside.steps.items _ point.0 point.1 in
+    ap (λ xs. first_beyond t xs) c.truncate.ensures.items ∙ taken)
 
 pub returns-clause-below : goal.returns-clause-below
 returns-clause-below c =

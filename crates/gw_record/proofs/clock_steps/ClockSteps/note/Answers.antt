@@ -9,10 +9,13 @@ pub invariant_of-self : goal.invariant_of-self
 invariant_of-self c =
     let below = rw (← c.self.view_is) at c.requires in
     let last = rw (← c.self.view_is) at c.if-goes_beyond.ensures.last in
+    let steps = c.self.inside.steps.items in
     let s : ClockStep = record { step = c.args.step; time = c.args.time } in
-    let pushed : AreRising (c.self.inside.steps.items ++ s ∷ []) = record {
-      in_run = IsNonDecreasingBy-push (λ (r : ClockStep). r.step) c.self.inside.steps.items s c.self.invariant.in_run (λ d some. let h = below (length c.self.inside.steps.items - 1) d (omega (arith, some)) in omega (arith, h));
-      on_clock = IsNonDecreasingBy-push (λ (r : ClockStep). r.time) c.self.inside.steps.items s c.self.invariant.on_clock (λ d some. last refl d some);
+    let pushed : AreRising (steps ++ s ∷ []) = record {
+      in_run = IsNonDecreasingBy-push (λ (r : ClockStep). r.step) steps s c.self.invariant.in_run (λ d some.
+          let h = below (length steps - 1) d (omega (arith, some)) in
+          omega (arith, h));
+      on_clock = IsNonDecreasingBy-push (λ (r : ClockStep). r.time) steps s c.self.invariant.on_clock (λ d some. last refl d some);
     } in
     subst AreRising (sym c.in_ok-push.ensures.items) pushed
 

@@ -13,7 +13,12 @@ loop-item-preserved c =
       noted = λ q.
           let old = first_in c.args.self.now q in
           let one : Bool → Option ℕ = λ b. cond b (Some c.args.step) None in
+          let before = list_any (is_use q) (take c.loop-item.item-index c.args.items.now) in
+          let now = is_use q c.item-item.result in
           let more = list_any_more (is_use q) c.args.items.now c.loop-item.item-index c.item-item.result (search rules) in
-          c.in_ok-note.ensures.ok q ∙ (ap (λ o. or_later o (one (is_use q c.item-item.result))) (c.loop-item.invariant.noted q) ∙ (or_later_more old (list_any (is_use q) (take c.loop-item.item-index c.args.items.now)) (is_use q c.item-item.result) c.args.step ∙ ap (λ b. or_later old (one b)) (ap (λ (x : Item). list_any (is_use q) (take c.loop-item.item-index c.args.items.now) || is_use q x) c.item-item.is ∙ sym more)));
+          let either = ap (λ (x : Item). before || is_use q x) c.item-item.is ∙ sym more in
+          c.in_ok-note.ensures.ok q ∙
+          (ap (λ o. or_later o (one now)) (c.loop-item.invariant.noted q) ∙
+          (or_later_more old before now c.args.step ∙ ap (λ b. or_later old (one b)) either));
       clock = search rules;
     }

@@ -8,6 +8,8 @@ use Rattle.gw_record.proofs.first_uses.FirstUses.note_all.Given as goal
 
 abbrev pub invariant-loop-item : goal.invariant-loop-item
 invariant-loop-item l = record {
-  noted : (q : Item) → first_in l.self q ≡ or_later (first_in l.fn.self q) (if list_any (is_use q) (take l.item-index l.items) then Some l.step else None);
+  noted :
+      (q : Item) →
+      first_in l.self q ≡ or_later (first_in l.fn.self q) (if list_any (is_use q) (take l.item-index l.items) then Some l.step else None);
   clock : AreBelow (l.step + 1) l.self.clock_steps;
 }

@@ -6,13 +6,17 @@ pub returns-in-Some-clause-records : goal.returns-in-Some-clause-records
 returns-in-Some-clause-records c = λ t seed h.
     let within = rw c.as_slice.ensures.value at c.count_until-count.ensures.bound in
     let parts = rw c.as_slice.ensures.value at c.count_until-count.ensures.parts in
-    (cut_back t seed _ c.args.moment _ _ c.in-Some.last c.go_back.new.self (rw (← c.self.view_is) at h) c.if-moment-self.true within parts (sym c.truncate.ensures.items ∙ c.in-Some.ensures.items) c.go_back.ensures).0
+    let before = rw (← c.self.view_is) at h in
+    let taken = sym c.truncate.ensures.items ∙ c.in-Some.ensures.items in
+    (cut_back t seed _ c.args.moment _ _ c.in-Some.last c.go_back.new.self before c.if-moment-self.true within parts taken c.go_back.ensures).0
 
 pub returns-in-Some-clause-kept : goal.returns-in-Some-clause-kept
 returns-in-Some-clause-kept c = λ t seed h.
     let within = rw c.as_slice.ensures.value at c.count_until-count.ensures.bound in
     let parts = rw c.as_slice.ensures.value at c.count_until-count.ensures.parts in
-    rw (← c.self.view_is) (cut_back t seed _ c.args.moment _ _ c.in-Some.last c.go_back.new.self (rw (← c.self.view_is) at h) c.if-moment-self.true within parts (sym c.truncate.ensures.items ∙ c.in-Some.ensures.items) c.go_back.ensures).1
+    let before = rw (← c.self.view_is) at h in
+    let taken = sym c.truncate.ensures.items ∙ c.in-Some.ensures.items in
+    rw (← c.self.view_is) (cut_back t seed _ c.args.moment _ _ c.in-Some.last c.go_back.new.self before c.if-moment-self.true within parts taken c.go_back.ensures).1
 
 pub returns-in-None-clause-records : goal.returns-in-None-clause-records
 returns-in-None-clause-records c = λ t seed h.

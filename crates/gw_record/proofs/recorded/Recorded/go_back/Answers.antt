@@ -5,4 +5,15 @@ pub returns : goal.returns
 returns c =
     let few = rw c.as_slice.ensures.value at c.count_before-count.ensures.bound in
     let parts = rw c.as_slice.ensures.value at c.count_before-count.ensures.parts in
-    rw (← c.self.view_is) (record { every = refl; moment = refl; tip = refl; kept = refl; count = c.count_before-count.result; few = few; ends = c.truncate.ensures.items; before = parts; firsts = c.forget.ensures.value; clock = c.forget.ensures.clock })
+    rw (← c.self.view_is) (record {
+      every = refl;
+      moment = refl;
+      tip = refl;
+      kept = refl;
+      count = c.count_before-count.result;
+      few = few;
+      ends = c.truncate.ensures.items;
+      before = parts;
+      firsts = c.forget.ensures.value;
+      clock = c.forget.ensures.clock;
+    })

@@ -15,14 +15,25 @@ pub returns-clause-ok : goal.returns-clause-ok
 returns-clause-ok c = λ t seed h up room reads goes.
     let Goes : Tape → Type 0 = λ r. step t seed r.tip ≡ Ok (moved r.tip c.args.next) in
     let Reads : Tape → Type 0 = λ r. c.args.uses.now ≡ step_items t seed r.tip in
-    let Noted : List Item → Type 0 = λ is. (item : Item) → first_in c.note_all.new.self item ≡ or_later (first_in c.self.inside.firsts item) (cond (list_any (is_use item) is) (Some c.self.inside.moment) None) in
+    let Noted : List Item → Type 0 = λ is. (item : Item) → first_in c.note_all.new.self item ≡
+    or_later (first_in c.self.inside.firsts item) (cond (list_any (is_use item) is) (Some c.self.inside.moment) None) in
     let noted = subst Noted (c.items.ensures ∙ subst Reads (sym c.self.view_is) reads) c.in_default.ensures.ok in
-    rw c.in_default-make.ensures.ok (made t seed _ c.args.next c.note_all.new.self (rw (← c.self.view_is) at h) (rw (← c.self.view_is) at up) (rw (← c.self.view_is) at room) (subst Goes (sym c.self.view_is) goes) noted c.in_default.ensures.clock)
+    let before = rw (← c.self.view_is) at h in
+    let kept = rw (← c.self.view_is) at up in
+    let below = rw (← c.self.view_is) at room in
+    let moves = subst Goes (sym c.self.view_is) goes in
+    rw c.in_default-make.ensures.ok (made t seed _ c.args.next c.note_all.new.self before kept below moves noted c.in_default.ensures.clock)
 
 pub returns-in-Err-make-clause-err : goal.returns-in-Err-make-clause-err
 returns-in-Err-make-clause-err c = λ t seed h.
-    rw c.in-Err-make.ensures.err.0 (forgotten t seed _ c.forget-in-Err-make.new.self (rw (← c.self.view_is) at h) (λ item. c.forget-in-Err-make.ensures.value item ∙ (ap (λ o. below c.self.inside.moment o) (c.in_default.ensures.ok item) ∙ below_later c.self.inside.moment c.self.inside.moment _ _ (search rules))) c.forget-in-Err-make.ensures.clock)
+    let before = rw (← c.self.view_is) at h in
+    let moment = c.self.inside.moment in
+    rw c.in-Err-make.ensures.err.0 (forgotten t seed _ c.forget-in-Err-make.new.self before (λ item.
+    let noted = ap (λ o. below moment o) (c.in_default.ensures.ok item) in
+    c.forget-in-Err-make.ensures.value item ∙ (noted ∙ below_later moment moment _ _ (search rules)))
+    c.forget-in-Err-make.ensures.clock)
 
 pub returns-in-Err-clause-err : goal.returns-in-Err-clause-err
 returns-in-Err-clause-err c = λ t seed h.
-    forgotten t seed _ c.forget.new.self (rw (← c.self.view_is) at h) (λ item. c.forget.ensures.value item ∙ c.in-Err.ensures.err item) c.forget.ensures.clock
+    let before = rw (← c.self.view_is) at h in
+    forgotten t seed _ c.forget.new.self before (λ item. c.forget.ensures.value item ∙ c.in-Err.ensures.err item) c.forget.ensures.clock

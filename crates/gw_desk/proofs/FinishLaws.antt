@@ -1,0 +1,123 @@
+-- What the making of missing steps leaves of the desk.
+use Rattle.std.proofs.Common.{◌≡◌, ◌≢◌, ℕ, suc, ◌+◌, ◌-◌, ◌<◌, ◌≤◌, ◌==◌, nat_le, nat_lt, Bool, true, false, cond, List, [], ◌∷◌, length, get_or, set, Some, None, Result, Ok, Err, IfOk, OnOk, refl, sym, ap, subst, ◌∙◌, arith}
+use Rattle.std.proofs.lemmas.Bool.Decides.{nat_tests}
+use Rattle.std.proofs.lemmas.Option.{slice_get-get_or}
+use Rattle.std.specs.List.{position_or_len}
+use Rattle.std.proofs.lemmas.List.Quantifiers.{position-Some}
+use Rattle.std.proofs.lemmas.List.Sums.{fails_before_first}
+use Rattle.gw_meaning.specs.Listing.{Listing, seed_at}
+use Rattle.gw_meaning.specs.Step.{step}
+use Rattle.gw_record.specs.declared.reach.Reach.{Reach}
+use Rattle.gw_record.specs.declared.reach.Reach.TheVariants as reaches
+use Rattle.gw_record.specs.Tape.{Tape, Records}
+use Rattle.gw_record.specs.Extending.{tallied}
+use Rattle.gw_record.specs.Reaching.{Reaches, AreWanted}
+use Rattle.gw_desk.specs.declared.recording.Recording.{Recording}
+use Rattle.gw_desk.specs.Looking.{IsOpen}
+use Rattle.gw_desk.specs.Book.{Book, IsBook, run_in, place_in, IsRunOf, AreRuns}
+use Rattle.gw_desk.specs.Finishing.{Finishes, GoesOn}
+use Rattle.gw_desk.proofs.RunLaws.{run_in_at, run_in_set}
+
+-- where k STARTs are complete at the tip, k were complete at a moment up to it
+complete_there : (t : Listing) (seed k : ℕ) (r : Tape) → Records t seed r → 1 ≤ k → k ≤ r.tip.complete → IsOpen t seed k r.moment → ⊥
+complete_there t seed k r h some enough o = go (nat_le k (length r.ends)) refl where
+  go : (b : Bool) → nat_le k (length r.ends) ≡ b → ⊥
+  go true e =
+      let at : k - 1 + 1 ≡ k = omega (arith, some) in
+      let within : k - 1 < length r.ends = grind (arith, nat_tests) in
+      let end = h.ends (k - 1) (get_or r.ends (k - 1) 0) (slice_get-get_or r.ends (k - 1) 0 within) in
+      o.none (get_or r.ends (k - 1) 0) end.end.state end.below end.end.there (end.end.complete ∙ at)
+  go false e =
+      let one = h.tip_end in
+      let all : r.tip.complete ≡ k = grind (arith, nat_tests) in
+      o.none r.moment r.tip (omega arith) h.tip all
+
+-- where the making of steps stopped the recorded steps decide
+pub reach_shuts : (t : Listing) (seed k : ℕ) (r : Tape) (reach : Reach) → Records t seed r → 1 ≤ k → Reaches t seed k r reach → IsOpen t seed k r.moment → ⊥
+reach_shuts t seed k r reaches.Complete h some enough o = complete_there t seed k r h some enough o
+reach_shuts t seed k r (reaches.Ended end) h some (fewer, ends) o =
+    let there : Ok o.state ≡ Ok r.tip = sym o.there ∙ h.tip in
+    let same : o.state ≡ r.tip = cc in
+    let both : Ok o.next ≡ Err end = sym o.goes ∙ (ap (λ s. step t seed s) same ∙ ends) in
+    absurd cc
+reach_shuts t seed k r reaches.Limit h some (fewer, limit, goes) o = let b = o.below in omega (arith, b, limit)
+
+module _ (b : Book) (rep seed place : ℕ) (d : Recording) (new : Tape) (h : IsBook b) (is : seed_at b.version rep ≡ Some seed) (found : place_in b.runs rep ≡ Some place) (at : d ≡ get_or b.runs place d) where
+  first : (place < length b.runs) × (((get_or b.runs place d).number == rep) ≡ true) × ((k : ℕ) → k < place → ((get_or b.runs k d).number == rep) ≡ false)
+  first = position-Some (λ (r : Recording). r.number == rep) b.runs place d found
+
+  pub old_run : run_in b.runs rep ≡ Some d.run
+  old_run = run_in_at b.runs rep place d first.0 first.1 first.2 ∙ ap (λ (r : Recording). Some r.run) (sym at)
+
+  pub old_records : Records b.version seed d.run × (d.run.every ≡ b.every)
+  old_records = subst (λ o. IsRunOf b.version b.every (Some seed) o) old_run (subst (λ o. IsRunOf b.version b.every o (run_in b.runs rep)) is (h.runs rep))
+
+  number : d.number ≡ rep
+  number = let e : (d.number == rep) ≡ true = ap (λ (r : Recording). r.number == rep) at ∙ first.1 in grind (arith, nat_tests)
+
+  abbrev pub changed : List Recording
+  changed = set b.runs place (record { number = d.number; run = new })
+
+  changed_in : (n : ℕ) → run_in changed n ≡ cond (rep == n) (Some new) (run_in b.runs n)
+  changed_in n = run_in_set b.runs rep place d (record { number = d.number; run = new }) first.0 first.1 first.2 number n
+
+  pub new_run : run_in changed rep ≡ Some new
+  new_run = changed_in rep ∙ (let e : (rep == rep) ≡ true = grind (arith, nat_tests) in rw e refl)
+
+  pub others_stay : (n : ℕ) → n ≢ rep → run_in changed n ≡ run_in b.runs n
+  others_stay n other = changed_in n ∙ (let e : (rep == n) ≡ false = grind (arith, nat_tests, other) in rw e refl)
+
+  pub new_runs : Records b.version seed new → new.every ≡ b.every → AreRuns b.version b.every changed
+  new_runs records every n = subst (λ o. IsRunOf b.version b.every (seed_at b.version n) o) (sym (changed_in n)) (go (rep == n) refl) where
+    go : (x : Bool) → (rep == n) ≡ x → IsRunOf b.version b.every (seed_at b.version n) (cond x (Some new) (run_in b.runs n))
+    go true e =
+        let same : rep ≡ n = grind (arith, nat_tests) in
+        let with_seed : seed_at b.version n ≡ Some seed = ap (λ m. seed_at b.version m) (sym same) ∙ is in
+        subst (λ o. IsRunOf b.version b.every o (Some new)) (sym with_seed) (records, every)
+    go false e = h.runs n
+
+  pub still_book : (made : ℕ) → Records b.version seed new → new.every ≡ d.run.every → IsBook (record b { runs = changed; made = made })
+  still_book made records every = record { some = h.some; few = h.few; runs = new_runs records (every ∙ old_records.1) }
+
+  pub finishes : (k made : ℕ) → d.run.moment ≤ new.moment → AreWanted b.version seed k d.run.moment new.moment → made ≡ tallied b.made (new.moment - d.run.moment) → Finishes b rep k (record b { runs = changed; made = made })
+  finishes k made grows wanted counted =
+      record {
+        version = refl;
+        every = refl;
+        edits = refl;
+        others = others_stay;
+        steps = λ s a with_seed recorded.
+            let seeds : Some s ≡ Some seed = sym with_seed ∙ is in
+            let same_seed : s ≡ seed = cc in
+            let runs : Some a ≡ Some d.run = sym recorded ∙ old_run in
+            let same_run : a ≡ d.run = cc in
+            let P : ℕ → Tape → Type 0 = λ s a. GoesOn b rep k s a (record b { runs = changed; made = made }) in
+            subst (λ s. P s a) (sym same_seed) (subst (λ a. P seed a) (sym same_run) (record { run = new; there = new_run; grows = grows; wanted = wanted; made = counted }));
+      }
+
+  pub shut : (k : ℕ) (reach : Reach) → Records b.version seed new → 1 ≤ k → Reaches b.version seed k new reach → (r : Tape) → run_in changed rep ≡ Some r → IsOpen b.version seed k r.moment → ⊥
+  shut k reach records some reached r there o =
+      let runs : Some r ≡ Some new = sym there ∙ new_run in
+      let same : r ≡ new = cc in
+      reach_shuts b.version seed k new reach records some reached (subst (λ (a : Tape). IsOpen b.version seed k a.moment) same o)
+
+none_before : (rs : List Recording) (n : ℕ) → place_in rs n ≡ None → run_in rs n ≡ None
+none_before rs n none = go rs (λ k d less. fails_before_first (λ (r : Recording). r.number == n) rs k d (over (nat_lt (position_or_len (λ (r : Recording). r.number == n) rs) (length rs)) refl none k less)) where
+  over : (b : Bool) → nat_lt (position_or_len (λ (r : Recording). r.number == n) rs) (length rs) ≡ b → cond b (Some (position_or_len (λ (r : Recording). r.number == n) rs)) None ≡ None → (k : ℕ) → k < length rs → k < position_or_len (λ (r : Recording). r.number == n) rs
+  over true e is = absurd cc
+  over false e is = λ k less. grind (arith, nat_tests)
+
+  go : (xs : List Recording) → ((k : ℕ) (d : Recording) → k < length xs → ((get_or xs k d).number == n) ≡ false) → run_in xs n ≡ None
+  go [] h = refl
+  go (x ∷ xs) h = let e : (x.number == n) ≡ false = h 0 x (omega arith) in rw e (go xs (λ k d less. h (suc k) d (omega (arith, less))))
+
+-- the run of each replication is there
+pub is_there : (b : Book) (rep seed : ℕ) → IsBook b → seed_at b.version rep ≡ Some seed → place_in b.runs rep ≡ None → ⊥
+is_there b rep seed h is none =
+    let there = subst (λ o. IsRunOf b.version b.every o (run_in b.runs rep)) is (h.runs rep) in
+    subst (λ o. IsRunOf b.version b.every (Some seed) o) (none_before b.runs rep none) there
+
+-- what holds of each answer that is no want of memory
+pub on_each : {A E : Type 0} {X : Type 0} (P : A → Type 0) (result : Result A E) → IfOk result P → ((a : A) → P a → X) → OnOk result X
+on_each P (Ok a) h f = f a h
+on_each P (Err e) h f = tt

@@ -1,0 +1,11 @@
+pub mod PointsFound
+pub mod Looks
+pub mod BookLaws
+pub mod PeekLaws
+pub mod RunLaws
+pub mod FinishLaws
+pub mod TouchLaws
+pub mod RebaseLaws
+pub mod EditLaws
+pub mod PlayLaws
+pub mod HeadlineLaws

@@ -1,0 +1,14 @@
+pub mod Finding
+pub mod Points
+pub mod Ending
+pub mod Looking
+pub mod Book
+pub mod Replies
+pub mod Peeking
+pub mod Finishing
+pub mod Editing
+pub mod Touched
+pub mod Rebasing
+pub mod Playing
+pub mod Headline
+pub use Rattle.gw_record.specs.Tape

@@ -1,0 +1,28 @@
+-- What lists of events come to. (Our own.)
+use Rattle.std.specs.Prelude.{◌≡◌, ◌≢◌, ℕ, List, [], ◌∷◌}
+use Rattle.gw_desk.specs.declared.answer.Answer.TheVariants as answers
+use Rattle.gw_desk.specs.declared.play.Event.{Event}
+use Rattle.gw_desk.specs.declared.play.Event.TheVariants as events
+use Rattle.gw_desk.specs.declared.play.Reply.{Reply}
+use Rattle.gw_desk.specs.declared.play.Reply.TheVariants as replies
+use Rattle.gw_desk.specs.Book.{Book}
+use Rattle.gw_desk.specs.Replies.{answer_of}
+use Rattle.gw_desk.specs.Peeking.{IsUnfinished, Peeks, IsAnswer}
+use Rattle.gw_desk.specs.Finishing.{Finishes}
+use Rattle.gw_desk.specs.Editing.{Accepts, Refuses}
+
+-- one event: an edit is accepted, or refused, which changes nothing; a query is answered, from the recorded steps or with
+-- those that are missing
+abbrev pub Does : Book → Event → Reply → Book → Type 0
+Does b (events.Edit e) (replies.Edited n) c = Accepts b e c n
+Does b (events.Edit e) (replies.Refused fault) c = (c ≡ b) × Refuses b e fault
+Does b (events.Peek rep k) (replies.Answered answer) c = (c ≡ b) × Peeks b rep k answer
+Does b (events.Finish rep k) (replies.Answered answer) c =
+    IsAnswer (answer_of b.version b.edits rep k) answer × Finishes b rep k c × (answer ≢ answers.Memory → (n : ℕ) → IsUnfinished c rep k n → ⊥)
+Does b event reply c = ⊥
+
+-- one after another
+abbrev pub Plays : Book → List Event → List Reply → Book → Type 0
+Plays b [] [] c = c ≡ b
+Plays b (event ∷ more) (reply ∷ others) d = (c : Book) × Does b event reply c × Plays c more others d
+Plays b more others d = ⊥

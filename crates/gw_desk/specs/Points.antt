@@ -1,0 +1,38 @@
+-- What the search for a point finds, by what a point is. (Our own.)
+use Rattle.std.specs.Prelude.{◌≡◌, ℕ, ◌+◌, ◌≤◌, ◌⊎◌, None, Ok, Err}
+use Rattle.gw_meaning.specs.declared.item.End.{End}
+use Rattle.gw_meaning.specs.Listing.{Listing}
+use Rattle.gw_meaning.specs.Machine.{Machine}
+use Rattle.gw_meaning.specs.Step.{step, run}
+use Rattle.gw_meaning.specs.Point.{IsPoint, IsFirst, outcome_of}
+use Rattle.gw_desk.specs.Finding.{Verdict, Point, NoStart, TooLong, verdict}
+
+-- the run ends within the limit before START k, or behind the last command
+pub record EndsBefore (t : Listing) (seed k : ℕ) : Type 0 where
+  pub n : ℕ
+  pub s : Machine
+  pub end : End
+  pub within : n ≤ t.limit
+  pub there : run t seed n ≡ Ok s
+  pub ends : step t seed s ≡ Err end
+  pub before : (s.complete + 1 ≡ k → ⊥) ⊎ (outcome_of end ≡ None)
+  pub first : IsFirst t seed k n
+
+-- all steps of the limit are made, the run goes on, and k STARTs were never complete
+pub record GoesOn (t : Listing) (seed k : ℕ) : Type 0 where
+  pub s : Machine
+  pub u : Machine
+  pub there : run t seed t.limit ≡ Ok s
+  pub goes : step t seed s ≡ Ok u
+  pub incomplete : s.complete ≡ k → ⊥
+  pub first : IsFirst t seed k t.limit
+
+-- what a verdict says
+abbrev pub Means : Listing → ℕ → ℕ → Verdict → Type 0
+Means t seed k (Point s o) = (n : ℕ) × IsPoint t seed k n o s
+Means t seed k NoStart = EndsBefore t seed k
+Means t seed k TooLong = GoesOn t seed k
+
+-- every search for a point finds what a point is
+abbrev pub FindsPoints : Type 0
+FindsPoints = (t : Listing) (seed k : ℕ) → Means t seed k (verdict t seed k)

@@ -1,0 +1,86 @@
+ghost use Rattle.std.specs.Prelude.{◌≡◌, ◌≤◌, IfOk, option_copied, option_map};
+ghost use Rattle.gw_record.specs.Tape.{Tape};
+ghost use Rattle.gw_desk.specs.Book.{run_in, blank_runs};
+
+use crate::recording::{Recording, blank_runs, run_of};
+use gw_model::Version;
+use gw_record::Recorded;
+use gw_scan::Tally;
+use std::alloc::{AllocError, Global};
+use std::marker::Model;
+
+/// A version of a model kept open, with the recorded run of each of its replications.
+#[derive(Drop)]
+pub struct Desk {
+    pub(crate) version: Version,
+    pub(crate) every: u64,
+    pub(crate) edits: u64,
+    pub(crate) runs: Vec<Recording>,
+    pub(crate) tally: Tally,
+}
+
+impl Model for Desk {
+    ghost use Rattle.gw_desk.specs.Book.{Book, IsBook};
+
+    ghost Value = { Book };
+
+    ghost view = { λ d. record { version = d.version; every = d.every; edits = d.edits; runs = d.runs.items; made = d.tally } };
+
+    ghost invariant = { λ d. IsBook (record { version = d.version; every = d.every; edits = d.edits; runs = d.runs.items; made = d.tally }) };
+}
+
+impl Desk {
+    /// The desk with this version and runs of no steps, which keep their states at the multiples of `every`, 1 to
+    /// 1,000,000.
+    pub fn new(alloc: Global, version: Version, every: u64) -> Result<Desk, AllocError>
+        requires { 1 ≤ every }
+        ensures { IfOk result (λ d. d ≡ record { version = version; every = every; edits = 0; runs = blank_runs every version.replications; made = 0 }) }
+    {
+        let runs = blank_runs(alloc, version.replications(), every)?;
+        Ok(Desk {
+            version,
+            every,
+            edits: 0,
+            runs,
+            tally: Tally::new(),
+        })
+    }
+
+    /// The version that is open.
+    pub fn version(&self) -> &Version
+        ensures { result.now ≡ self.now.version }
+    {
+        &self.version
+    }
+
+    /// How many edits were accepted, at most 4,096.
+    pub fn edits(&self) -> u64
+        ensures { result ≡ self.now.edits }
+    {
+        self.edits
+    }
+
+    /// The recorded run of a replication; none where there is no such replication.
+    pub fn run(&self, rep: u64) -> Option<&Recorded>
+        ensures { option_copied result ≡ run_in self.now.runs rep }
+    {
+        run_of(self.runs.as_slice(), rep)
+    }
+
+    /// How many steps are recorded of a replication; none where there is no such replication.
+    pub fn recorded(&self, rep: u64) -> Option<u64>
+        ensures { result ≡ option_map (λ (r : Tape). r.moment) (run_in self.now.runs rep) }
+    {
+        match self.run(rep) {
+            Some(run) => Some(run.tip()),
+            None => None,
+        }
+    }
+
+    /// How many steps were made.
+    pub fn made(&self) -> u64
+        ensures { result ≡ self.now.made }
+    {
+        self.tally.count()
+    }
+}

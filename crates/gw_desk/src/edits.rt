@@ -1,0 +1,37 @@
+// Edits of the version that is open.
+ghost use Rattle.std.specs.Prelude.{◌≡◌, IfOk, IfErr, OnErr};
+ghost use Rattle.gw_desk.specs.Editing.{Accepts, Refuses};
+
+use crate::desk::Desk;
+use crate::rebase::{add_missing, keep_those_of, rebase_all};
+use gw_edit::{Edit, EditFault, apply};
+use std::alloc::Global;
+
+/// How many edits a desk accepts.
+const HISTORY: u64 = 4_096;
+
+impl Desk {
+    /// Edits the version, and answers the number of accepted edits; or refuses, and changes nothing. Of each recorded
+    /// run that stays it throws away only what lies after its last kept moment at or before the first step that read
+    /// something touched. E8 comes before all else, at 4,096 accepted edits; E7 may come in place of any.
+    pub fn edit(&mut self, alloc: Global, edit: &Edit) -> Result<u64, EditFault>
+        ensures accepted { IfOk result (Accepts self.old edit.now self.new) }
+        ensures refused { IfErr result (Refuses self.old edit.now) }
+        ensures err { OnErr result (self.new ≡ self.old) }
+    {
+        if self.edits >= HISTORY {
+            return Err(EditFault::HistoryFull);
+        }
+        let new = match apply(alloc, &self.version, edit) {
+            Ok(new) => new,
+            Err(fault) => return Err(fault),
+        };
+        self.runs.reserve(new.replications().len())?;
+        rebase_all(&mut self.runs, &self.version, edit, &new);
+        add_missing(&mut self.runs, alloc, new.replications(), self.every);
+        keep_those_of(&mut self.runs, &new);
+        self.version = new;
+        self.edits += 1;
+        Ok(self.edits)
+    }
+}

@@ -1,0 +1,60 @@
+// Queries with the steps that are missing.
+ghost use Rattle.std.specs.Prelude.{◌≡◌, ◌≢◌, ◌⊎◌, ◌<◌, ◌≤◌, ℕ, Some, OnOk};
+ghost use Rattle.gw_meaning.specs.Listing.{seed_at, starts};
+ghost use Rattle.gw_record.specs.Tape.{Tape};
+ghost use Rattle.gw_desk.specs.declared.answer.Answer.TheVariants as answers;
+ghost use Rattle.gw_desk.specs.Book.{run_in};
+ghost use Rattle.gw_desk.specs.Looking.{IsOpen};
+ghost use Rattle.gw_desk.specs.Replies.{answer_of};
+ghost use Rattle.gw_desk.specs.Peeking.{IsUnfinished, IsAnswer};
+ghost use Rattle.gw_desk.specs.Finishing.{Finishes};
+
+use crate::answer::Answer;
+use crate::desk::Desk;
+use crate::recording::place_of;
+use gw_record::Reach;
+use std::alloc::{AllocError, Global};
+
+impl Desk {
+    /// The report of START `k` of a replication, or that there is no such START or replication, or that the step limit
+    /// decides nothing. It makes just the steps that are missing for that; where memory is refused, the steps made stay.
+    pub fn finish(&mut self, alloc: Global, rep: u64, k: u64) -> Answer
+        ensures answer { IsAnswer (answer_of self.old.version self.old.edits rep k) result }
+        ensures steps { Finishes self.old rep k self.new }
+        ensures decided { result ≢ answers.Memory → (n : ℕ) → IsUnfinished self.new rep k n → ⊥ }
+        ensures idle { (k < 1) ⊎ (starts self.old.version < k) → self.new ≡ self.old }
+    {
+        let Some(seed) = self.version.seed(rep) else {
+            return Answer::NoReplication;
+        };
+        if k == 0 || self.version.starts() < k {
+            return Answer::NoStart;
+        }
+        match self.make_steps(alloc, rep, k, seed) {
+            Ok(_) => self.peek(alloc, rep, k),
+            Err(_) => Answer::Memory,
+        }
+    }
+
+    // Makes the steps that are missing for a START that there is.
+    fn make_steps(
+        &mut self,
+        alloc: Global,
+        rep: u64,
+        k: u64,
+        seed: u64,
+    ) -> Result<Reach, AllocError>
+        requires seed { seed_at self.old.version rep ≡ Some seed }
+        requires some { 1 ≤ k }
+        ensures steps { Finishes self.old rep k self.new }
+        ensures shut { OnOk result ((r : Tape) → run_in self.new.runs rep ≡ Some r → IsOpen self.new.version seed k r.moment → ⊥) }
+    {
+        match place_of(self.runs.as_slice(), rep) {
+            Some(place) => {
+                let run = &mut self.runs[place].run;
+                run.reach(alloc, &self.version, seed, k, &mut self.tally)
+            }
+            None => unreachable!(),
+        }
+    }
+}

@@ -1,0 +1,15 @@
+// Laws above the definitions that the contracts of the calls cite.
+ghost use Rattle.gw_desk.specs.Headline.{ReportsAreRight};
+ghost use Rattle.gw_desk.specs.Points.{FindsPoints};
+
+/// Every search for the point of a START finds what a point is: the first moment at which so many STARTs are complete,
+/// or the moment at which the run ends during that START; or that the run ends before it, or goes on past the limit.
+pub fn points_are_found()
+    ensures { FindsPoints }
+{}
+
+/// After any list of edits and queries that [`Desk::play`](crate::Desk::play) played, each report handed out is, byte for
+/// byte, the report of a run from zero of the version of the edits accepted so far; a refused edit changes nothing.
+pub fn reports_are_right()
+    ensures { ReportsAreRight }
+{}

@@ -1,0 +1,88 @@
+// The program's command line.
+ghost use Rattle.std.specs.Prelude.{◌≡◌, IfOk, false};
+ghost use Rattle.clap.specs.Words.{app_of, rule_of};
+ghost use Rattle.gw_main.specs.Words.{gpssbench, model_rule, option_rule};
+
+use clap::{Arg, Command};
+use std::alloc::{AllocError, Global};
+
+const ABOUT: &str =
+    "Runs a GPSS World model and answers the lines of a script about it, each at once, with reports.";
+
+const SESSION: &str =
+    "A session on standard input: the model in front of a line `end`, and the script behind it.
+
+  GENERATE 10 ; a patient every 10 ticks of the clock
+  ADVANCE 3   ; is seen for 3 ticks
+  TERMINATE 1 ; and leaves;
+  START 2     ; the run is complete when 2 have left
+  end
+  report 1 1
+  quit
+
+`report r k` asks for the report of replication r at the end of its START number k. The answer to
+`report 1 1` begins with the line `report 0 1 1 491`: no edits so far, replication 1, START 1, and
+491 bytes of text, which follow. `quit` ends the session, and so does the end of the input.
+
+With the model in a file, standard input is the script alone:
+
+  $ gpssbench clinic.gps --seed 7 < questions.txt
+
+The program ends with status 0 when the script was served, 1 when the model is refused, 2 when the
+words behind its name are, and 3 when reading, writing or memory failed. Standard error says why.";
+
+/// The command line of the program, whose words begin behind the program's name.
+pub fn command<'a>(alloc: Global) -> Result<Command<'a>, AllocError>
+    ensures { IfOk result (λ c. app_of c ≡ gpssbench) }
+{
+    Command::new(alloc, "gpssbench")
+        .no_binary_name(true)
+        .about(ABOUT)
+        .after_help(SESSION)
+        .arg(model(alloc))?
+        .arg(option(
+            alloc,
+            "seed",
+            "S",
+            "Seed of replication 1: 1 to 2147483646 [default: 1]",
+        ))?
+        .arg(option(
+            alloc,
+            "horizon",
+            "T",
+            "Last clock tick of a run: 1 to 1000000000000 [default: 1000000000]",
+        ))?
+        .arg(option(
+            alloc,
+            "every",
+            "K",
+            "Steps from one kept state of a run to the next: 1 to 1000000 [default: 1000]",
+        ))?
+        .arg(option(
+            alloc,
+            "limit",
+            "L",
+            "Steps that a run may take: 1 to 1000000 [default: 1000000]",
+        ))
+}
+
+// The word for the model.
+fn model<'a>(alloc: Global) -> Arg<'a>
+    ensures rule { rule_of result ≡ model_rule }
+    ensures local { result.global ≡ false }
+{
+    Arg::new(alloc, "model").value_name("MODEL").help(
+        "File with the model, or - for a model on standard input [default: -]",
+    )
+}
+
+// An option with one word.
+fn option<'a>(alloc: Global, name: &'a str, value: &'a str, help: &'a str) -> Arg<'a>
+    ensures rule { rule_of result ≡ option_rule name.entry.now }
+    ensures local { result.global ≡ false }
+{
+    Arg::new(alloc, name)
+        .long(name)
+        .value_name(value)
+        .help(help)
+}

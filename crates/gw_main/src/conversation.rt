@@ -1,0 +1,60 @@
+// A conversation over a model and a script: the model on standard input or in a file, the script on standard input.
+ghost use Rattle.std.specs.Prelude.{IfOk, IfErr, ◌≡◌};
+ghost use Rattle.gw_script.specs.Turns.{stopped_by};
+ghost use Rattle.gw_main.specs.Conversations.{Converses, Fails};
+ghost use Rattle.gw_main.specs.Files.{FileConverses, FileFails};
+
+use gw_io::read_all;
+use gw_script::{Budget, Fault, Options, Over, ReadFault, Sink, Source, session, split_model};
+use std::alloc::Global;
+
+/// Takes the model off the reader, up to its line `end`, and answers the script that stands behind it.
+pub fn converse<S: Source, K: Sink>(
+    alloc: Global,
+    options: Options,
+    reader: &mut S,
+    writer: &mut K,
+) -> Result<Over, Fault>
+    ensures converses { IfOk result (Converses S.took S.ended S.failures K.wrote options reader.old reader.new writer.old writer.new) }
+    ensures fails { IfErr result (Fails S.took S.ended S.failures K.wrote K.failures options reader.old reader.new writer.old writer.new) }
+{
+    let mut budget = Budget::new();
+    let model = match split_model(alloc, reader, &mut budget) {
+        Ok(model) => model,
+        Err(fault) => return Err(fault_of(fault)),
+    };
+    session(alloc, &model, options, reader, writer)
+}
+
+/// Takes all of the model from the file that was opened, if it was, and answers the script that stands on the reader.
+pub fn converse_over_file<F: Source + Drop, S: Source, K: Sink>(
+    alloc: Global,
+    options: Options,
+    opened: Result<F, ReadFault>,
+    reader: &mut S,
+    writer: &mut K,
+) -> Result<Over, Fault>
+    ensures converses { IfOk result (FileConverses F.took F.ended F.failures S.took S.ended K.wrote options opened reader.old reader.new writer.old writer.new) }
+    ensures fails { IfErr result (FileFails F.took F.ended F.failures S.took S.failures K.wrote K.failures options opened reader.old reader.new writer.old writer.new) }
+{
+    let mut file = match opened {
+        Ok(file) => file,
+        Err(fault) => return Err(fault_of(fault)),
+    };
+    let mut budget = Budget::new();
+    let bytes = match read_all(alloc, &mut file, &mut budget) {
+        Ok(bytes) => bytes,
+        Err(fault) => return Err(fault_of(fault)),
+    };
+    session(alloc, &bytes, options, reader, writer)
+}
+
+fn fault_of(fault: ReadFault) -> Fault
+    ensures { result ≡ stopped_by fault }
+{
+    match fault {
+        ReadFault::Read => Fault::Read,
+        ReadFault::Limit => Fault::ReadLimit,
+        ReadFault::Memory => Fault::Memory,
+    }
+}

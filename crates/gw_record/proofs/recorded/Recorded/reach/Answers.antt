@@ -1,0 +1,32 @@
+use Rattle.std.proofs.Common.{◌-◌, ◌<◌, None, rules, ap, sym, subst, ◌∙◌}
+use Rattle.gw_meaning.specs.Machine.{raised}
+use Rattle.gw_meaning.specs.Step.{step}
+use Rattle.gw_scan.specs.Stepping.{EndsAs}
+use Rattle.gw_record.specs.Tape.{Tape}
+use Rattle.gw_record.specs.Extending.{tallied}
+use Rattle.gw_record.specs.Reaching.{AreWanted}
+use Rattle.gw_record.proofs.ReachLaws.{wanted_more, tallied_more, goes_on}
+use Rattle.gw_record.proofs.recorded.Recorded.reach.Goals as goal
+
+pub loop-moment-preserved : goal.loop-moment-preserved
+loop-moment-preserved c =
+    let t = c.args.version.now in
+    let seed = c.args.seed in
+    let from = c.args.self.now.moment in
+    let i = c.loop-moment.invariant in
+    let fewer : c.loop-moment.self.tip.complete < c.args.k = search rules in
+    let went = (rw c.in-Moved.is at c.in_ok-go.ensures.told) in
+    let counted = (rw c.in-Moved.is at c.in_ok-go.ensures.tally) in
+    record {
+      records = c.in_ok-go.ensures.records;
+      every = c.in_ok-go.ensures.every ∙ i.every;
+      moment = search rules;
+      grows = search rules;
+      wanted = subst (λ n. AreWanted c.args.version.now c.args.seed c.args.k c.args.self.now.moment n) (sym went) (wanted_more t seed c.args.k from c.loop-moment.self.moment c.loop-moment.self.tip i.wanted i.records.tip fewer);
+      tally = counted ∙ (ap (λ n. raised n) i.tally ∙ (tallied_more c.args.tally.now from c.loop-moment.self.moment i.grows ∙ ap (λ n. tallied c.args.tally.now (n - c.args.self.now.moment)) (sym went)));
+    }
+
+pub returns-clause-reached : goal.returns-clause-reached
+returns-clause-reached c =
+    let Ends : Tape → Type 0 = λ r. EndsAs (step c.args.version.now c.args.seed r.tip) None in
+    (search rules, search rules, goes_on _ (subst Ends c.self-2.view_is (rw c.in-None.is at c.in_ok-end.ensures)))
