@@ -1,7 +1,7 @@
 -- How a conversation over a model file stops: in the session over its model, and for the fault that is told.
 use Rattle.std.proofs.Common.{◌≡◌, ℕ, List, ◌⊎◌, inl, inr}
 use Rattle.std.specs.Prelude.{Result}
-use Rattle.gw_script.specs.Listing.{Listing}
+use Rattle.gw_desk.specs.Book.{Book}
 use Rattle.gw_io.specs.declared.budget.ReadFault.{ReadFault}
 use Rattle.gw_io.specs.declared.budget.ReadFault.TheVariants as causes
 use Rattle.gw_lines.specs.declared.fault.FaultyLine.{FaultyLine}
@@ -13,7 +13,7 @@ use Rattle.gw_script.specs.Sessions.{Stops}
 use Rattle.gw_main.specs.Files.{FileFails, TakesFile, in_file, in_session, refused, unopened}
 
 -- a session over the model that was taken stopped
-pub fails_over : {F S K : Type 0} (took_file : F → List ℕ → F → Type 0) (ended_file : F → Type 0) (reads_file : F → ℕ) (took : S → List ℕ → S → Type 0) (reads : S → ℕ) (wrote : K → List ℕ → K → Type 0) (writes : K → ℕ) (o : Options) (opened : Result F ReadFault) (reader reader' : S) (writer writer' : K) (model : List ℕ) (fault : Fault) → TakesFile took_file ended_file reads_file opened model → (Refuses model o fault × (reader' ≡ reader) × (writer' ≡ writer)) ⊎ ((t : Listing) × Opens model o t × Stops took reads wrote writes t reader reader' writer writer' fault) → FileFails took_file ended_file reads_file took reads wrote writes o opened reader reader' writer writer' fault
+pub fails_over : {F S K : Type 0} (took_file : F → List ℕ → F → Type 0) (ended_file : F → Type 0) (reads_file : F → ℕ) (took : S → List ℕ → S → Type 0) (reads : S → ℕ) (wrote : K → List ℕ → K → Type 0) (writes : K → ℕ) (o : Options) (opened : Result F ReadFault) (reader reader' : S) (writer writer' : K) (model : List ℕ) (fault : Fault) → TakesFile took_file ended_file reads_file opened model → (Refuses model o fault × (reader' ≡ reader) × (writer' ≡ writer)) ⊎ ((b : Book) × Opens model o b × Stops took reads wrote writes b reader reader' writer writer' fault) → FileFails took_file ended_file reads_file took reads wrote writes o opened reader reader' writer writer' fault
 fails_over took_file ended_file reads_file took reads wrote writes o opened reader reader' writer writer' model fault taken (inl h) = refused model taken h.0 h.1 h.2
 fails_over took_file ended_file reads_file took reads wrote writes o opened reader reader' writer writer' model fault taken (inr h) = in_session model h.0 taken h.1 h.2
 
@@ -26,4 +26,4 @@ file_fails_of_memory took_file ended_file reads_file took reads wrote writes o o
 file_fails_of_memory took_file ended_file reads_file took reads wrote writes o opened reader reader' writer writer' faulty (in_file file behind left causes.Limit e breaks is unread unwritten) = absurd (cc)
 file_fails_of_memory took_file ended_file reads_file took reads wrote writes o opened reader reader' writer writer' faulty (in_file file behind left causes.Memory e breaks is unread unwritten) = absurd (cc)
 file_fails_of_memory took_file ended_file reads_file took reads wrote writes o opened reader reader' writer writer' faulty (refused model taken refusal unread unwritten) = refused model taken tt unread unwritten
-file_fails_of_memory took_file ended_file reads_file took reads wrote writes o opened reader reader' writer writer' faulty (in_session model version taken opens stops) = absurd stops.cause
+file_fails_of_memory took_file ended_file reads_file took reads wrote writes o opened reader reader' writer writer' faulty (in_session model book taken opens stops) = absurd stops.cause

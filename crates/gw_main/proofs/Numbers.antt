@@ -6,7 +6,7 @@ use Rattle.std.specs.Char.{is_ascii_digit}
 use Rattle.std.specs.Str.Parse.{ParsesUnsigned}
 use Rattle.std.proofs.lemmas.Str.Parse.{IsNumeralModel, numerals_by_fold, parse_gives, digits_value_short}
 use Rattle.std.proofs.lemmas.Grind.{common_steps}
-use Rattle.gw_script.specs.Requests.{number_of, value_of}
+use Rattle.gw_request.specs.Numbers.{number_of, value_of}
 
 own : IsNumeralModel (λ ds. list_all is_ascii_digit ds ≡ true) (value_of 0)
 own = numerals_by_fold _ (search rules) value_of (search rules)

@@ -3,7 +3,7 @@ use Rattle.std.specs.Prelude.{◌≡◌, ℕ, List}
 use Rattle.gw_io.specs.declared.budget.ReadFault.{ReadFault}
 use Rattle.gw_io.specs.Model.{TakesModel, IsModelPart}
 use Rattle.gw_io.specs.Reading.{Breaks}
-use Rattle.gw_script.specs.Listing.{Listing}
+use Rattle.gw_desk.specs.Book.{Book}
 use Rattle.gw_script.specs.declared.fault.Fault.{Fault}
 use Rattle.gw_script.specs.declared.fault.Over.{Over}
 use Rattle.gw_script.specs.declared.opening.Options.{Options}
@@ -22,17 +22,17 @@ pub record Takes {S : Type 0} (took : S → List ℕ → S → Type 0) (ended : 
 pub record Converses {S K : Type 0} (took : S → List ℕ → S → Type 0) (ended : S → Type 0) (reads : S → ℕ) (wrote : K → List ℕ → K → Type 0) (o : Options) (reader reader' : S) (writer writer' : K) (over : Over) : Type 0 where
   pub between : S
   pub model : List ℕ
-  pub version : Listing
+  pub book : Book
   pub taken : Takes took ended reads reader between model
-  pub opens : Opens model o version
-  pub serves : Serves took ended wrote version between reader' writer writer' over
+  pub opens : Opens model o book
+  pub serves : Serves took ended wrote book between reader' writer writer' over
 
 -- a conversation stopped: within the model, with nothing written; behind a model that is refused, with nothing more read
 -- and nothing written; or in the session over the model
 pub data Fails {S K : Type 0} (took : S → List ℕ → S → Type 0) (ended : S → Type 0) (reads : S → ℕ) (wrote : K → List ℕ → K → Type 0) (writes : K → ℕ) (o : Options) (reader reader' : S) (writer writer' : K) (fault : Fault) : Type 0 where
   in_model : (left : ℕ) (cause : ReadFault) → Breaks took reads IsModelPart reader reader' 16777216 left cause → fault ≡ stopped_by cause → writer' ≡ writer → Fails took ended reads wrote writes o reader reader' writer writer' fault
   refused : (model : List ℕ) → Takes took ended reads reader reader' model → Refuses model o fault → writer' ≡ writer → Fails took ended reads wrote writes o reader reader' writer writer' fault
-  in_session : (between : S) (model : List ℕ) (version : Listing) → Takes took ended reads reader between model → Opens model o version → Stops took reads wrote writes version between reader' writer writer' fault → Fails took ended reads wrote writes o reader reader' writer writer' fault
+  in_session : (between : S) (model : List ℕ) (book : Book) → Takes took ended reads reader between model → Opens model o book → Stops took reads wrote writes book between reader' writer writer' fault → Fails took ended reads wrote writes o reader reader' writer writer' fault
 
 -- how a run ends whose conversation came to its end, or stopped for a fault: it served the script to its end, and standard
 -- error was told nothing; or standard error was told of the fault, and the status is the fault's

@@ -6,7 +6,7 @@ use Rattle.clap.specs.Kinds.{Kinds}
 use Rattle.clap.specs.Simple.{on_top}
 use Rattle.clap.specs.declared.error.kind.ErrorKind.{ErrorKind}
 use Rattle.clap.specs.declared.error.kind.ErrorKind.TheVariants as kinds
-use Rattle.gw_script.specs.Requests.{number_of}
+use Rattle.gw_request.specs.Numbers.{number_of}
 use Rattle.gw_script.specs.declared.opening.Options.{Options}
 use Rattle.gw_script.specs.declared.opening.TheConstants as constants
 use Rattle.gw_main.specs.declared.words.ModelAt.{ModelAt}

@@ -1,5 +1,5 @@
 // A conversation over a model and a script: the model on standard input or in a file, the script on standard input.
-ghost use Rattle.std.specs.Prelude.{IfOk, IfErr, ◌≡◌};
+ghost use Rattle.std.specs.Prelude.{IfOk, IfErr, ◌≡◌, ◌≤◌};
 ghost use Rattle.gw_script.specs.Turns.{stopped_by};
 ghost use Rattle.gw_main.specs.Conversations.{Converses, Fails};
 ghost use Rattle.gw_main.specs.Files.{FileConverses, FileFails};
@@ -15,6 +15,7 @@ pub fn converse<S: Source, K: Sink>(
     reader: &mut S,
     writer: &mut K,
 ) -> Result<Over, Fault>
+    requires { 1 ≤ options.every }
     ensures converses { IfOk result (Converses S.took S.ended S.failures K.wrote options reader.old reader.new writer.old writer.new) }
     ensures fails { IfErr result (Fails S.took S.ended S.failures K.wrote K.failures options reader.old reader.new writer.old writer.new) }
 {
@@ -34,6 +35,7 @@ pub fn converse_over_file<F: Source + Drop, S: Source, K: Sink>(
     reader: &mut S,
     writer: &mut K,
 ) -> Result<Over, Fault>
+    requires { 1 ≤ options.every }
     ensures converses { IfOk result (FileConverses F.took F.ended F.failures S.took S.ended K.wrote options opened reader.old reader.new writer.old writer.new) }
     ensures fails { IfErr result (FileFails F.took F.ended F.failures S.took S.failures K.wrote K.failures options opened reader.old reader.new writer.old writer.new) }
 {

@@ -2,7 +2,7 @@
 ghost use Rattle.std.specs.Prelude.{◌≡◌};
 ghost use Rattle.std.specs.List.{list_all};
 ghost use Rattle.std.specs.Char.{is_ascii_digit};
-ghost use Rattle.gw_script.specs.Requests.{number_of};
+ghost use Rattle.gw_request.specs.Numbers.{number_of};
 ghost use Rattle.gw_main.specs.Words.{within};
 
 /// The number that a word is, where it is one of 1 to 18 digits and lies within the limits.

@@ -1,5 +1,5 @@
 // The program over any words, files, reader and writers.
-ghost use Rattle.std.specs.Prelude.{◌≡◌, ◌≢◌, MatchResult, codes, length, map};
+ghost use Rattle.std.specs.Prelude.{◌≡◌, ◌≢◌, ◌≤◌, IfOk, MatchResult, codes, length, map};
 ghost use Rattle.std.specs.Fn.{FnOnceReturnsAt};
 ghost use Rattle.gw_io.specs.declared.budget.ReadFault.TheVariants.{Memory, Read};
 ghost use Rattle.gw_main.specs.Complaints.{IsToldAs, Tells, complaint_of, status_of};
@@ -71,7 +71,8 @@ fn proceed<F: Source + Drop, O: FnOnce(&str) -> Result<F, ReadFault>, S: Source,
     writer: &mut K,
     errors: &mut E,
 ) -> u8
-    requires { O.IsAlwaysCallable opener }
+    requires callable { O.IsAlwaysCallable opener }
+    requires every { IfOk meant (λ asked. 1 ≤ asked.options.every) }
     ensures { Proceeds (FnOnceReturnsAt O.FnOnce opener) F.took F.ended F.failures S.took S.ended S.failures K.wrote K.failures E.wrote E.failures meant.entry reader.old reader.new writer.old writer.new errors.old errors.new result }
 {
     match meant {
@@ -91,7 +92,8 @@ fn serve<F: Source + Drop, O: FnOnce(&str) -> Result<F, ReadFault>, S: Source, K
     writer: &mut K,
     errors: &mut E,
 ) -> u8
-    requires { O.IsAlwaysCallable opener }
+    requires callable { O.IsAlwaysCallable opener }
+    requires every { 1 ≤ asked.options.every }
     ensures { RunsAt (FnOnceReturnsAt O.FnOnce opener) F.took F.ended F.failures S.took S.ended S.failures K.wrote K.failures E.wrote E.failures asked.entry.model asked.entry.options reader.old reader.new writer.old writer.new errors.old errors.new result }
 {
     match asked.model {

@@ -1,10 +1,12 @@
+ghost use Rattle.std.specs.Prelude.{◌≤◌};
+
 mod examples;
 mod words;
 
 use crate::run::{not_begun, run};
 use examples::EXAMPLES;
 use gw_names::{Key, Name};
-use gw_script::{Bytes, Options, Page, ReadFault, open, report, session};
+use gw_script::{Bytes, Options, Page, ReadFault, open, session};
 use std::alloc::Global;
 use std::io::ErrorKind;
 use std::test::Fail;
@@ -133,7 +135,9 @@ fn a_writer_that_fails_stops_the_session(rt: HostRuntime) {
 }
 
 // What a session writes under some options.
-fn said(alloc: Global, model: &[u8], options: Options, script: &[u8]) -> Page {
+fn said(alloc: Global, model: &[u8], options: Options, script: &[u8]) -> Page
+    requires { 1 ≤ options.every }
+{
     let mut output = Page::new(alloc, ROOM, ROOM);
     let _ = session(
         alloc,
@@ -204,16 +208,33 @@ fn copies_and_reports_are_made_where_memory_suffices(rt: HostRuntime) -> Result<
     assert_eq!(rt; name.copy(alloc)?.as_bytes(), b"DESK_1".as_slice());
     let key = Key::Named(name).copy(alloc)?;
     assert!(rt; matches!(key, Key::Named(_)));
-    let version = open(
+    let desk = open(
         alloc,
         b"Go GENERATE 10,,3\nTERMINATE 1\nSTART 2\n",
         Options::USUAL,
     )?;
-    let copy = version.copy(alloc)?;
+    let copy = desk.version().copy(alloc)?;
     assert_eq!(rt; copy.statements(), 3);
     let statement = copy.statement(1).ok_or("no statement")?.copy(alloc)?;
     assert_eq!(rt; statement.operands.as_slice(), b"10,,3".as_slice());
-    let text = report(alloc, &copy, 1, 1)?;
-    assert!(rt; text.as_slice().starts_with(b"report 0 1 1 "));
     Ok(())
+}
+
+// Edits that touch nothing read, the middle of a run, and all of it, each with the report behind it.
+const WHAT_IF: &[u8] =
+    b"report 1 1\ninsert 3 ADVANCE 5\nreport 1 1\ndelete 3\nreport 1 1\nchange 2 ADVANCE 4\nreport 1 1\ninsert 5 START 1\nreport 1 2\nreport 1 1\nreplicate 2 9\nall 1\nseed 1 7\nhorizon 21\nall 1\ndrop 1\nlist\nreport 1 1\nreport 2 2\n";
+
+#[test]
+fn answers_do_not_depend_on_the_kept_states(rt: HostRuntime) {
+    let model = b"GENERATE 10\nADVANCE 3\nTERMINATE 1\nSTART 2\n";
+    let usual = said(rt.alloc(), model, Options::USUAL, WHAT_IF);
+    assert!(rt; usual.text.as_slice().starts_with(b"report 0 1 1 491\n"));
+    for every in [1, 2, 4, 1_000_000] {
+        let options = Options {
+            every,
+            ..Options::USUAL
+        };
+        let page = said(rt.alloc(), model, options, WHAT_IF);
+        assert_eq!(rt; page.text.as_slice(), usual.text.as_slice(), "{every}");
+    }
 }

@@ -1,4 +1,4 @@
-pub mod Searching
-pub mod Digits
+pub mod Asking
+pub mod Answering
+pub mod Reporting
 pub mod Turning
-pub mod PointsFound

@@ -1,4 +1,5 @@
--- What a model and the options open: a version with replication 1, or the first faulty line, or the first model fault.
+-- What a model and the options open: a version with replication 1 and nothing recorded, or the first faulty line, or the
+-- first model fault.
 -- (Our own.)
 use Rattle.std.specs.Prelude.{◌≡◌, ℕ, List, [], ◌∷◌, Some, None, Ok, Err}
 use Rattle.gw_lines.specs.declared.fault.FaultyLine.{FaultyLine}
@@ -10,6 +11,7 @@ use Rattle.gw_meaning.specs.Listing.{Listing}
 use Rattle.gw_model.specs.declared.fault.ModelFault.{ModelFault}
 use Rattle.gw_model.specs.Listed.{listed}
 use Rattle.gw_model.specs.Faults.{fault_of}
+use Rattle.gw_desk.specs.Book.{Book, blank_runs}
 use Rattle.gw_script.specs.declared.opening.Options.{Options}
 use Rattle.gw_script.specs.declared.fault.Fault.{Fault}
 use Rattle.gw_script.specs.declared.fault.Fault.TheVariants as faults
@@ -18,12 +20,22 @@ use Rattle.gw_script.specs.declared.fault.Fault.TheVariants as faults
 abbrev pub opened : List Statement → Options → Listing
 opened statements o = listed statements o.horizon (record { number = 1; seed = o.seed } ∷ []) o.limit
 
+-- a version on a desk, with nothing edited and nothing recorded
+abbrev pub book_of : Listing → ℕ → Book
+book_of t every = record { version = t; every = every; edits = 0; runs = blank_runs every t.replications; made = 0 }
+
 -- the model's lines spell statements, and these make the version t, which has no fault
-pub record Opens (model : List ℕ) (o : Options) (t : Listing) : Type 0 where
+pub record OpensVersion (model : List ℕ) (o : Options) (t : Listing) : Type 0 where
   pub statements : List Statement
   pub spelled : model_of model ≡ Ok statements
   pub is_version : t ≡ opened statements o
   pub no_fault : fault_of t ≡ None
+
+-- the model's lines spell statements, and these make a version with no fault, which lies on the desk b
+pub record Opens (model : List ℕ) (o : Options) (b : Book) : Type 0 where
+  pub version : Listing
+  pub opens : OpensVersion model o version
+  pub is_book : b ≡ book_of version o.every
 
 -- the model's lines spell statements, and this is the first fault of what they make
 pub record HasFault (model : List ℕ) (o : Options) (fault : ModelFault) : Type 0 where

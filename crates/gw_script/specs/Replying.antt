@@ -1,32 +1,14 @@
--- What a script line is answered. (Our own.)
-use Rattle.std.specs.Prelude.{◌≡◌, ℕ, Bool, true, false, ◌==◌, ◌||◌, List, [], ◌++◌, Option, Some, None, if◌then◌else◌, length, codes, decimal, nat_lt}
-use Rattle.gw_meaning.specs.Listing.{Listing, seed_at, starts}
-use Rattle.gw_report.specs.Report.{text_of}
-use Rattle.gw_script.specs.declared.point.Verdict.{Verdict}
-use Rattle.gw_script.specs.declared.point.Verdict.TheVariants as verdicts
-use Rattle.gw_script.specs.declared.request.Request.{Request}
-use Rattle.gw_script.specs.declared.request.Request.TheVariants as requests
-use Rattle.gw_script.specs.declared.request.Reason.{Reason}
-use Rattle.gw_script.specs.declared.request.Reason.TheVariants as reasons
-use Rattle.gw_script.specs.Finding.{verdict}
-use Rattle.gw_script.specs.Requests.{request_of}
-
--- a report with its heading line: the accepted edits, the replication, the START and the length
-abbrev pub ready : ℕ → ℕ → List ℕ → List ℕ
-ready rep k text = codes "report 0 " ++ decimal rep ++ codes " " ++ decimal k ++ codes " " ++ decimal (length text) ++ codes "\n" ++ text
-
-abbrev pub told : Listing → ℕ → ℕ → Verdict → List ℕ
-told t rep k (verdicts.Point s o) = ready rep k (text_of t rep k s o)
-told t rep k verdicts.NoStart = codes "nostart\n"
-told t rep k verdicts.TooLong = codes "toolong\n"
-
--- the answer to `report rep k`: of a replication that there is, and a START that there is, what the run from zero comes to
-abbrev pub reported_with : Listing → ℕ → ℕ → Option ℕ → List ℕ
-reported_with t rep k None = codes "noreplication\n"
-reported_with t rep k (Some seed) = if k == 0 || nat_lt (starts t) k then codes "nostart\n" else told t rep k (verdict t seed k)
-
-abbrev pub reported : Listing → ℕ → ℕ → List ℕ
-reported t rep k = reported_with t rep k (seed_at t rep)
+-- What a script line is answered, and what it leaves of the desk. (The table of script lines.)
+use Rattle.std.specs.Prelude.{◌≡◌, ◌⊎◌, ℕ, Bool, true, false, IsTrue, List, [], ◌++◌, codes, decimal}
+use Rattle.gw_request.specs.declared.request.Request.{Request}
+use Rattle.gw_request.specs.declared.request.Request.TheVariants as requests
+use Rattle.gw_request.specs.declared.request.Reason.{Reason}
+use Rattle.gw_request.specs.declared.request.Reason.TheVariants as reasons
+use Rattle.gw_request.specs.Requests.{request_of, may_want_memory}
+use Rattle.gw_desk.specs.Book.{Book}
+use Rattle.gw_script.specs.Answers.{Reports, PeeksAs, ReportsAll}
+use Rattle.gw_script.specs.Changes.{Edits}
+use Rattle.gw_script.specs.Printing.{listing_of}
 
 -- the word for what is wrong with a line
 abbrev pub word_of : Reason → List ℕ
@@ -34,31 +16,44 @@ word_of reasons.Long = codes "long"
 word_of reasons.Command = codes "command"
 word_of reasons.Arguments = codes "arguments"
 
--- the answer to the n-th line
-abbrev pub reply_of : Listing → ℕ → Request → List ℕ
-reply_of t n requests.Nothing = []
-reply_of t n (requests.Report rep k) = reported t rep k
-reply_of t n requests.Quit = codes "bye\n"
-reply_of t n (requests.Bad reason) = codes "? " ++ decimal n ++ codes " " ++ word_of reason ++ codes "\n"
+-- these bytes, and the desk is as it was
+abbrev pub Says : List ℕ → Book → List ℕ → Book → Type 0
+Says text b front b' = (front ≡ text) × (b' ≡ b)
 
-abbrev pub answer_of : Listing → ℕ → List ℕ → List ℕ
-answer_of t n line = reply_of t n (request_of line)
+-- what the n-th line is answered, by what it asks for
+abbrev pub Replies : Book → ℕ → Request → List ℕ → Book → Type 0
+Replies b n requests.Nothing front b' = Says [] b front b'
+Replies b n (requests.Edit e) front b' = Edits b e front b'
+Replies b n (requests.Report rep k) front b' = Reports b rep k front b'
+Replies b n (requests.Peek rep k) front b' = PeeksAs b rep k front × (b' ≡ b)
+Replies b n (requests.All k) front b' = ReportsAll b k front b'
+Replies b n requests.List front b' = ((front ≡ listing_of b.version) ⊎ (front ≡ codes "memory\n")) × (b' ≡ b)
+Replies b n requests.Quit front b' = Says (codes "bye\n") b front b'
+Replies b n (requests.Bad reason) front b' = Says (codes "? " ++ decimal n ++ codes " " ++ word_of reason ++ codes "\n") b front b'
 
 -- whether a line ends the session
 abbrev pub is_quit : Request → Bool
 is_quit requests.Nothing = false
+is_quit (requests.Edit e) = false
 is_quit (requests.Report rep k) = false
+is_quit (requests.Peek rep k) = false
+is_quit (requests.All k) = false
+is_quit requests.List = false
 is_quit requests.Quit = true
 is_quit (requests.Bad reason) = false
 
--- whether a line asks for a report, which may be answered with want of memory
-abbrev pub is_report : Request → Bool
-is_report requests.Nothing = false
-is_report (requests.Report rep k) = true
-is_report requests.Quit = false
-is_report (requests.Bad reason) = false
+-- whether a line asks a query, which may be answered with want of memory
+abbrev pub is_query : Request → Bool
+is_query requests.Nothing = false
+is_query (requests.Edit e) = false
+is_query (requests.Report rep k) = true
+is_query (requests.Peek rep k) = true
+is_query (requests.All k) = true
+is_query requests.List = true
+is_query requests.Quit = false
+is_query (requests.Bad reason) = false
 
--- what may be answered: the answer, or for a report that its growth was refused
-pub data Answers (t : Listing) (n : ℕ) (line : List ℕ) (front : List ℕ) : Type 0 where
-  exact : front ≡ answer_of t n line → Answers t n line front
-  refused : is_report (request_of line) ≡ true → front ≡ codes "memory\n" → Answers t n line front
+-- what may be answered to the n-th line, and what it leaves: an edit for whose reading a growth was refused is refused
+pub data Answers (b : Book) (n : ℕ) (line front : List ℕ) (b' : Book) : Type 0 where
+  read : Replies b n (request_of line) front b' → Answers b n line front b'
+  unread : IsTrue (may_want_memory line) → front ≡ codes "refused E7\n" → b' ≡ b → Answers b n line front b'

@@ -3,13 +3,13 @@ use Rattle.std.specs.Prelude.{◌≡◌, ℕ, Bool, true, false, List, ◌++◌,
 use Rattle.gw_io.specs.declared.budget.ReadFault.{ReadFault}
 use Rattle.gw_io.specs.declared.budget.ReadFault.TheVariants as reads
 use Rattle.gw_io.specs.Failures.{one_more}
-use Rattle.gw_meaning.specs.Listing.{Listing}
+use Rattle.gw_desk.specs.Book.{Book}
+use Rattle.gw_request.specs.declared.request.Request.{Request}
 use Rattle.gw_script.specs.declared.fault.Fault.{Fault}
 use Rattle.gw_script.specs.declared.fault.Fault.TheVariants as faults
 use Rattle.gw_script.specs.declared.fault.Over.{Over}
 use Rattle.gw_script.specs.declared.fault.Over.TheVariants as overs
-use Rattle.gw_script.specs.declared.request.Request.{Request}
-use Rattle.gw_script.specs.Replying.{Answers, is_report}
+use Rattle.gw_script.specs.Replying.{is_query}
 
 -- the fault of a session that a fault of reading is
 abbrev pub stopped_by : ReadFault → Fault
@@ -17,10 +17,10 @@ stopped_by reads.Read = faults.Read
 stopped_by reads.Limit = faults.ReadLimit
 stopped_by reads.Memory = faults.Memory
 
--- an answer was written
-pub record Replies {K : Type 0} (wrote : K → List ℕ → K → Type 0) (t : Listing) (n : ℕ) (line : List ℕ) (old new : K) : Type 0 where
+-- an answer was written: bytes that may be answered, which leave the desk so
+pub record Writes {K : Type 0} (wrote : K → List ℕ → K → Type 0) (A : List ℕ → Book → Type 0) (old new : K) (after : Book) : Type 0 where
   pub front : List ℕ
-  pub answers : Answers t n line front
+  pub answers : A front after
   pub written : wrote old front new
 
 -- why an answer broke off: the writer failed, or a growth was refused
@@ -32,18 +32,19 @@ BreaksBy faults.Write writes writes' = writes' ≡ one_more writes
 BreaksBy faults.ReadLimit writes writes' = ⊥
 BreaksBy faults.Memory writes writes' = Unit {0}
 
--- a front part of an answer was written
-pub record BreaksOff {K : Type 0} (wrote : K → List ℕ → K → Type 0) (writes : K → ℕ) (t : Listing) (n : ℕ) (line : List ℕ) (old new : K) (fault : Fault) : Type 0 where
+-- a front part of an answer was written: bytes that may be answered begin with it
+pub record BreaksOff {K : Type 0} (wrote : K → List ℕ → K → Type 0) (writes : K → ℕ) (A : List ℕ → Book → Type 0) (old new : K) (fault : Fault) : Type 0 where
   pub front : List ℕ
   pub left : List ℕ
-  pub answers : Answers t n line (front ++ left)
+  pub after : Book
+  pub answers : A (front ++ left) after
   pub written : wrote old front new
   pub cause : BreaksBy fault (writes old) (writes new)
 
--- saying that a growth was refused broke off: for no report it was not begun
+-- saying that a growth was refused broke off: for no query it was not begun
 pub data BreaksRefused {K : Type 0} (wrote : K → List ℕ → K → Type 0) (writes : K → ℕ) (request : Request) (old new : K) (fault : Fault) : Type 0 where
-  not_begun : is_report request ≡ false → fault ≡ faults.Memory → new ≡ old → BreaksRefused wrote writes request old new fault
-  begun : (front left : List ℕ) → is_report request ≡ true → codes "memory\n" ≡ front ++ left → wrote old front new → fault ≡ faults.Write → writes new ≡ one_more (writes old) → BreaksRefused wrote writes request old new fault
+  not_begun : is_query request ≡ false → fault ≡ faults.Memory → new ≡ old → BreaksRefused wrote writes request old new fault
+  begun : (front left : List ℕ) → is_query request ≡ true → codes "memory\n" ≡ front ++ left → wrote old front new → fault ≡ faults.Write → writes new ≡ one_more (writes old) → BreaksRefused wrote writes request old new fault
 
 -- how a session ends behind its last line
 abbrev pub over_if : Bool → Over

@@ -1,24 +1,26 @@
-//! Lines in, bytes out: a session over one open model.
+//! Lines in, bytes out: a session over one desk.
 //!
 //! [`session`] opens the model, reads the script line by line and answers each line; what it wrote is what the
-//! model and the script mean. So far each report is found by a run from zero.
+//! model and the script mean. The version stays open on a desk from line to line, so that a report makes only the
+//! steps that no earlier line made.
 #![tactic(auto)]
 
+mod answers;
+mod edits;
 mod fault;
-mod laws;
-mod number;
+mod listing;
 mod opening;
-mod point;
+mod queries;
 mod reply;
-mod request;
 mod sessions;
+#[cfg(test)]
+mod tests;
 
 pub use fault::{Fault, Over};
+pub use gw_desk::{Desk, points_are_found};
 pub use gw_io::{
     Budget, Bytes, Failed, FromRead, Page, READ_LIMIT, ReadFault, Sink, Source, ToWrite,
     split_model,
 };
-pub use laws::points_are_found;
 pub use opening::{Options, open};
-pub use reply::report;
 pub use sessions::{serve, session};

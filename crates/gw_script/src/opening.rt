@@ -1,8 +1,9 @@
-// From a model's bytes and the options to a version.
-ghost use Rattle.std.specs.Prelude.{◌≡◌, IfOk, IfErr};
-ghost use Rattle.gw_script.specs.Opening.{Opens, Refuses, fault_of_line};
+// From a model's bytes and the options to a desk.
+ghost use Rattle.std.specs.Prelude.{◌≡◌, ◌≤◌, IfOk, IfErr};
+ghost use Rattle.gw_script.specs.Opening.{Opens, OpensVersion, Refuses, fault_of_line};
 
 use crate::fault::Fault;
+use gw_desk::Desk;
 use gw_lines::{FaultyLine, LineFault, read_model};
 use gw_meaning::Replication;
 use gw_model::{ModelFault, Version};
@@ -15,7 +16,7 @@ pub struct Options {
     pub seed: u64,
     /// The horizon in clock ticks, from 1 to 1,000,000,000,000.
     pub horizon: u64,
-    /// How many steps lie between two kept states, from 1 to 1,000,000. It has no effect so far.
+    /// How many steps lie between two kept states, from 1 to 1,000,000.
     pub every: u64,
     /// The step limit of a run, from 1 to 1,000,000.
     pub limit: u64,
@@ -32,8 +33,20 @@ impl Options {
 }
 
 /// Opens a model with replication 1: F1 for its first faulty line, F2 for its first model fault.
-pub fn open(alloc: Global, model: &[u8], options: Options) -> Result<Version, Fault>
+pub fn open(alloc: Global, model: &[u8], options: Options) -> Result<Desk, Fault>
+    requires { 1 ≤ options.every }
     ensures opens { IfOk result (Opens model.now options) }
+    ensures refuses { IfErr result (Refuses model.now options) }
+{
+    let version = open_version(alloc, model, options)?;
+    match Desk::new(alloc, version, options.every) {
+        Ok(desk) => Ok(desk),
+        Err(_) => Err(Fault::Memory),
+    }
+}
+
+fn open_version(alloc: Global, model: &[u8], options: Options) -> Result<Version, Fault>
+    ensures opens { IfOk result (OpensVersion model.now options) }
     ensures refuses { IfErr result (Refuses model.now options) }
 {
     let statements = match read_model(alloc, model) {

@@ -1,64 +1,34 @@
 // What a script line is answered.
-ghost use Rattle.std.specs.Prelude.{◌≡◌, ◌++◌, codes, decimal, IfOk};
-ghost use Rattle.gw_script.specs.Replying.{ready, reported, reply_of, word_of};
+ghost use Rattle.std.specs.Prelude.{◌≡◌, ◌++◌, codes, decimal, IfOk, OnErr, true};
+ghost use Rattle.gw_script.specs.Replying.{Replies, word_of, is_quit, is_query};
 
-use crate::point::{Verdict, find};
-use crate::request::{Reason, Request};
-use gw_model::Version;
+use crate::edits::edit;
+use crate::listing::list;
+use crate::queries::{peek, report, report_all};
+use gw_desk::Desk;
 use gw_nums::put_decimal;
-use gw_report::print;
+use gw_request::{Reason, Request};
 use std::alloc::{AllocError, Global};
 
-/// The answer to `report rep k`: the report with its heading line, or one of the lines `nostart`, `toolong`
-/// and `noreplication`.
-pub fn report(alloc: Global, version: &Version, rep: u64, k: u64) -> Result<Vec<u8>, AllocError>
-    ensures { IfOk result (λ v. v.items ≡ reported version.now rep k) }
-{
-    let Some(seed) = version.seed(rep) else {
-        return Vec::from_slice(alloc, b"noreplication\n");
-    };
-    if k == 0 || version.starts() < k {
-        return Vec::from_slice(alloc, b"nostart\n");
-    }
-    match find(alloc, version, seed, k)? {
-        Verdict::Point(state, outcome) => {
-            let text = print(alloc, version, rep, k, &state, outcome)?;
-            headed(alloc, rep, k, &text)
-        }
-        Verdict::NoStart => Vec::from_slice(alloc, b"nostart\n"),
-        Verdict::TooLong => Vec::from_slice(alloc, b"toolong\n"),
-    }
-}
-
-// A report behind its heading line.
-fn headed(alloc: Global, rep: u64, k: u64, text: &[u8]) -> Result<Vec<u8>, AllocError>
-    ensures { IfOk result (λ v. v.items ≡ ready rep k text.now) }
-{
-    let mut answer = Vec::from_slice(alloc, b"report 0 ")?;
-    put_decimal(&mut answer, rep)?;
-    answer.extend_from_slice(b" ")?;
-    put_decimal(&mut answer, k)?;
-    answer.extend_from_slice(b" ")?;
-    put_decimal(&mut answer, text.len() as u64)?;
-    answer.extend_from_slice(b"\n")?;
-    answer.extend_from_slice(text)?;
-    Ok(answer)
-}
-
-// The answer to the n-th line.
+/// The answer to the n-th line. Where a growth was refused for it, a query may be answered so.
 pub fn answer(
     alloc: Global,
-    version: &Version,
+    desk: &mut Desk,
     n: u64,
-    request: Request,
+    request: &Request,
 ) -> Result<Vec<u8>, AllocError>
-    ensures { IfOk result (λ v. v.items ≡ reply_of version.now n request) }
+    ensures ok { IfOk result (λ v. Replies desk.old n request.now v.items desk.new) }
+    ensures err { OnErr result (is_query request.now ≡ true → Replies desk.old n request.now (codes "memory\n") desk.new) }
 {
     match request {
         Request::Nothing => Ok(Vec::new(alloc)),
-        Request::Report { rep, k } => report(alloc, version, rep, k),
+        Request::Edit(change) => edit(alloc, desk, change),
+        Request::Report { rep, k } => report(alloc, desk, *rep, *k),
+        Request::Peek { rep, k } => peek(alloc, desk, *rep, *k),
+        Request::All { k } => report_all(alloc, desk, *k),
+        Request::List => list(alloc, desk.version()),
         Request::Quit => Vec::from_slice(alloc, b"bye\n"),
-        Request::Bad(reason) => refusal(alloc, n, reason),
+        Request::Bad(reason) => refusal(alloc, n, *reason),
     }
 }
 
@@ -81,4 +51,21 @@ fn word(reason: Reason) -> &'static [u8]
         Reason::Command => b"command",
         Reason::Arguments => b"arguments",
     }
+}
+
+/// Whether the request ends the session.
+pub fn is_quit(request: &Request) -> bool
+    ensures { result ≡ is_quit request.now }
+{
+    matches!(request, Request::Quit)
+}
+
+/// Whether the request is a query, which may be answered with want of memory.
+pub fn is_query(request: &Request) -> bool
+    ensures { result ≡ is_query request.now }
+{
+    matches!(
+        request,
+        Request::Report { .. } | Request::Peek { .. } | Request::All { .. } | Request::List
+    )
 }

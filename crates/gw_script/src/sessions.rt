@@ -1,31 +1,31 @@
 // A session: the script's lines, answered one after another.
-ghost use Rattle.std.specs.Prelude.{◌≡◌, ◌⊎◌, true, codes, IfOk, IfErr, OnOk, OnErr};
+ghost use Rattle.std.specs.Prelude.{◌≡◌, ◌≤◌, ◌⊎◌, true, false, codes, IfOk, IfErr, OnOk, OnErr};
 ghost use Rattle.gw_io.specs.Failures.{one_more, WritesPart};
-ghost use Rattle.gw_meaning.specs.Listing.{Listing};
+ghost use Rattle.gw_desk.specs.Book.{Book};
+ghost use Rattle.gw_request.specs.Requests.{request_of};
 ghost use Rattle.gw_script.specs.Opening.{Opens, Refuses};
-ghost use Rattle.gw_script.specs.Replying.{is_quit, is_report};
-ghost use Rattle.gw_script.specs.Requests.{request_of};
+ghost use Rattle.gw_script.specs.Replying.{Answers, Replies, is_quit, is_query};
 ghost use Rattle.gw_script.specs.Sessions.{Serves, Stops};
-ghost use Rattle.gw_script.specs.Turns.{Replies, BreaksOff, BreaksRefused, stopped_by, over_if};
+ghost use Rattle.gw_script.specs.Turns.{Writes, BreaksOff, BreaksRefused, stopped_by, over_if};
 
 use crate::fault::{Fault, Over};
 use crate::opening::{Options, open};
-use crate::reply::answer;
-use crate::request::{Request, request_of};
+use crate::reply::{answer, is_query, is_quit};
+use gw_desk::Desk;
 use gw_io::{Budget, Line, ReadFault, Sink, Source, read_line, without_cr, write_all};
-use gw_model::Version;
+use gw_request::{Request, request_of};
 use std::alloc::Global;
 
-/// Answers the lines of a script over an open version, up to `quit` or the end of the input. At most 16,777,216
+/// Answers the lines of a script over a desk, up to `quit` or the end of the input. At most 16,777,216
 /// calls of read are made. Behind a fault what was written stays, and the session is over.
 pub fn serve<S: Source, K: Sink>(
     alloc: Global,
-    version: &Version,
+    desk: &mut Desk,
     source: &mut S,
     sink: &mut K,
 ) -> Result<Over, Fault>
-    ensures serves { IfOk result (Serves S.took S.ended K.wrote version.now source.old source.new sink.old sink.new) }
-    ensures stops { IfErr result (Stops S.took S.failures K.wrote K.failures version.now source.old source.new sink.old sink.new) }
+    ensures serves { IfOk result (Serves S.took S.ended K.wrote desk.old source.old source.new sink.old sink.new) }
+    ensures stops { IfErr result (Stops S.took S.failures K.wrote K.failures desk.old source.old source.new sink.old sink.new) }
 {
     let mut budget = Budget::new();
     let mut n = 0u64;
@@ -37,12 +37,12 @@ pub fn serve<S: Source, K: Sink>(
         };
         match line {
             Line::Whole(line) => {
-                if reply(alloc, version, n, without_cr(&line), sink)? {
+                if reply(alloc, desk, n, without_cr(&line), sink)? {
                     return Ok(Over::Quit);
                 }
             }
             Line::Last(line) => {
-                let quit = reply(alloc, version, n, &line, sink)?;
+                let quit = reply(alloc, desk, n, &line, sink)?;
                 return Ok(over_if(quit));
             }
             Line::End => return Ok(Over::InputEnd),
@@ -58,12 +58,13 @@ pub fn session<S: Source, K: Sink>(
     source: &mut S,
     sink: &mut K,
 ) -> Result<Over, Fault>
-    ensures serves { IfOk result (λ over. (t : Listing) × Opens model.now options t × Serves S.took S.ended K.wrote t source.old source.new sink.old sink.new over) }
+    requires { 1 ≤ options.every }
+    ensures serves { IfOk result (λ over. (b : Book) × Opens model.now options b × Serves S.took S.ended K.wrote b source.old source.new sink.old sink.new over) }
     ensures stops { IfErr result (λ fault. (Refuses model.now options fault × (source.new ≡ source.old) × (sink.new ≡ sink.old))
-        ⊎ ((t : Listing) × Opens model.now options t × Stops S.took S.failures K.wrote K.failures t source.old source.new sink.old sink.new fault)) }
+        ⊎ ((b : Book) × Opens model.now options b × Stops S.took S.failures K.wrote K.failures b source.old source.new sink.old sink.new fault)) }
 {
-    let version = open(alloc, model, options)?;
-    serve(alloc, &version, source, sink)
+    let mut desk = open(alloc, model, options)?;
+    serve(alloc, &mut desk, source, sink)
 }
 
 fn over_if(quit: bool) -> Over
@@ -82,38 +83,70 @@ fn fault_of(fault: ReadFault) -> Fault
     }
 }
 
-// Answers one line, and says whether it ends the session. A report that a growth was refused for is answered so.
+// Answers one line, and says whether it ends the session. An edit for whose reading a growth was refused is refused.
 fn reply<K: Sink>(
     alloc: Global,
-    version: &Version,
+    desk: &mut Desk,
     n: u64,
     line: &[u8],
     sink: &mut K,
 ) -> Result<bool, Fault>
     ensures quit { IfOk result (λ quit. quit ≡ is_quit (request_of line.now)) }
-    ensures ok { OnOk result (Replies K.wrote version.now n line.now sink.old sink.new) }
+    ensures ok { OnOk result (Writes K.wrote (Answers desk.old n line.now) sink.old sink.new desk.new) }
     ensures same { OnOk result (K.failures sink.new ≡ K.failures sink.old) }
-    ensures err { IfErr result (BreaksOff K.wrote K.failures version.now n line.now sink.old sink.new) }
+    ensures err { IfErr result (λ f. BreaksOff K.wrote K.failures (Answers desk.old n line.now) sink.old sink.new f) }
 {
-    let request = request_of(line);
-    match answer(alloc, version, n, request) {
+    match request_of(alloc, line) {
+        Ok(request) => fulfil(alloc, desk, n, &request, sink),
+        Err(_) => refuse_unread(sink),
+    }
+}
+
+fn refuse_unread<K: Sink>(sink: &mut K) -> Result<bool, Fault>
+    ensures quit { IfOk result (λ quit. quit ≡ false) }
+    ensures ok { OnOk result (K.wrote sink.old (codes "refused E7\n") sink.new) }
+    ensures same { OnOk result (K.failures sink.new ≡ K.failures sink.old) }
+    ensures fault { IfErr result (λ f. f ≡ Fault.Write) }
+    ensures part { OnErr result (WritesPart K.wrote sink.old (codes "refused E7\n") sink.new) }
+    ensures counted { OnErr result (K.failures sink.new ≡ one_more (K.failures sink.old)) }
+{
+    match send(sink, b"refused E7\n") {
+        Ok(()) => Ok(false),
+        Err(fault) => Err(fault),
+    }
+}
+
+// Does what a line asks for, and answers it. A query that a growth was refused for is answered so.
+fn fulfil<K: Sink>(
+    alloc: Global,
+    desk: &mut Desk,
+    n: u64,
+    request: &Request,
+    sink: &mut K,
+) -> Result<bool, Fault>
+    ensures quit { IfOk result (λ quit. quit ≡ is_quit request.now) }
+    ensures ok { OnOk result (Writes K.wrote (Replies desk.old n request.now) sink.old sink.new desk.new) }
+    ensures same { OnOk result (K.failures sink.new ≡ K.failures sink.old) }
+    ensures err { IfErr result (λ f. BreaksOff K.wrote K.failures (Replies desk.old n request.now) sink.old sink.new f) }
+{
+    match answer(alloc, desk, n, request) {
         Ok(text) => {
             send(sink, &text)?;
             Ok(is_quit(request))
         }
-        Err(_) => reply_refused(request, sink),
+        Err(_) => fulfil_refused(request, sink),
     }
 }
 
-// Says that a growth was refused for a report; at any other line the session ends.
-fn reply_refused<K: Sink>(request: Request, sink: &mut K) -> Result<bool, Fault>
-    ensures report { OnOk result (is_report request ≡ true) }
-    ensures quit { IfOk result (λ quit. quit ≡ is_quit request) }
+// Says that a growth was refused for a query; at any other line the session ends.
+fn fulfil_refused<K: Sink>(request: &Request, sink: &mut K) -> Result<bool, Fault>
+    ensures query { OnOk result (is_query request.now ≡ true) }
+    ensures quit { IfOk result (λ quit. quit ≡ is_quit request.now) }
     ensures ok { OnOk result (K.wrote sink.old (codes "memory\n") sink.new) }
     ensures same { OnOk result (K.failures sink.new ≡ K.failures sink.old) }
-    ensures err { IfErr result (λ f. BreaksRefused K.wrote K.failures request sink.old sink.new f) }
+    ensures err { IfErr result (λ f. BreaksRefused K.wrote K.failures request.now sink.old sink.new f) }
 {
-    if !is_report(request) {
+    if !is_query(request) {
         return Err(Fault::Memory);
     }
     send(sink, b"memory\n")?;
@@ -131,16 +164,4 @@ fn send<K: Sink>(sink: &mut K, text: &[u8]) -> Result<(), Fault>
         Ok(()) => Ok(()),
         Err(_) => Err(Fault::Write),
     }
-}
-
-fn is_report(request: Request) -> bool
-    ensures { result ≡ is_report request }
-{
-    matches!(request, Request::Report { .. })
-}
-
-fn is_quit(request: Request) -> bool
-    ensures { result ≡ is_quit request }
-{
-    matches!(request, Request::Quit)
 }

@@ -4,7 +4,7 @@ use Rattle.gw_script.proofs.sessions.serve.Given as goal
 
 abbrev pub invariant-lines : goal.invariant-lines
 invariant-lines g l = record {
-  turned : Turned g.S.Source.took g.K.Sink.wrote l.version (l.n + 1) l.budget l.initial.source l.source l.initial.sink l.sink;
+  turned : Turned g.S.Source.took g.K.Sink.wrote l.initial.desk l.desk (l.n + 1) l.budget l.initial.source l.source l.initial.sink l.sink;
   reads : g.S.Source.failures l.source ≡ g.S.Source.failures l.initial.source;
   writes : g.K.Sink.failures l.sink ≡ g.K.Sink.failures l.initial.sink;
 }

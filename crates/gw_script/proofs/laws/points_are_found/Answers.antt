@@ -1,5 +1,0 @@
-use Rattle.gw_script.proofs.PointsFound.{points_found}
-use Rattle.gw_script.proofs.laws.points_are_found.Goals as goal
-
-pub returns : goal.returns
-returns c = points_found

@@ -1,0 +1,26 @@
+use Rattle.std.proofs.Common.{◌≡◌, length, sym, ap, ◌∙◌}
+use Rattle.std.specs.Prelude.{codes}
+use Rattle.gw_meaning.specs.Listing.{Listing}
+use Rattle.gw_script.specs.Answers.{ReportsAll, numbers_of}
+use Rattle.gw_script.proofs.Answering.{reports_all_none}
+use Rattle.gw_script.proofs.Reporting.{on_err, all_refused, all_whole}
+use Rattle.gw_script.proofs.queries.report_all.Goals as goal
+
+pub returns-in_err-numbers-clause-err : goal.returns-in_err-numbers-clause-err
+returns-in_err-numbers-clause-err c = on_err c.from_residual.result (ReportsAll c.args.desk.now c.args.k (codes "memory\n") c.args.desk.now) (reports_all_none c.args.desk.now c.args.k)
+
+pub returns-in_err-text-clause-err : goal.returns-in_err-text-clause-err
+returns-in_err-text-clause-err c = on_err c.from_residual-in_err-text.result (ReportsAll c.args.desk.now c.args.k (codes "memory\n") c.args.desk.now) (reports_all_none c.args.desk.now c.args.k)
+
+pub returns-in_err-put_reports-clause-err : goal.returns-in_err-put_reports-clause-err
+returns-in_err-put_reports-clause-err c =
+    let desk = c.args.desk.now in
+    let all : c.deref.result.now ≡ numbers_of desk.version.replications = c.deref.ensures.value ∙ (c.in_ok-numbers.ensures ∙ ap numbers_of (c.replications.ensures ∙ ap (λ (t : Listing). t.replications) c.version.ensures)) in
+    on_err c.from_residual-in_err-put_reports.result (ReportsAll desk c.args.k (codes "memory\n") c.put_reports.new.desk) (all_refused desk c.put_reports.new.desk c.args.k c.deref.result.now all c.in_err-put_reports.ensures.err)
+
+pub returns-clause-ok : goal.returns-clause-ok
+returns-clause-ok c =
+    let desk = c.args.desk.now in
+    let all : c.deref.result.now ≡ numbers_of desk.version.replications = c.deref.ensures.value ∙ (c.in_ok-numbers.ensures ∙ ap numbers_of (c.replications.ensures ∙ ap (λ (t : Listing). t.replications) c.version.ensures)) in
+    let counted : c.len.result ≡ length c.deref.result.now = c.len.ensures ∙ sym c.deref.ensures.len in
+    all_whole desk c.put_reports.new.desk c.args.k c.len.result c.deref.result.now c.in_ok-text.text.items c.put_reports.new.text.items all counted c.in_ok-text.ensures c.in_ok-put_reports.ensures.ok
