@@ -17,19 +17,19 @@ word_of reasons.Command = codes "command"
 word_of reasons.Arguments = codes "arguments"
 
 -- these bytes, and the desk is as it was
-abbrev pub Says : List ℕ → Book → List ℕ → Book → Type 0
-Says text b front b' = (front ≡ text) × (b' ≡ b)
+abbrev pub TellsOnly : List ℕ → Book → List ℕ → Book → Type 0
+TellsOnly text b front b' = (front ≡ text) × (b' ≡ b)
 
 -- what the n-th line is answered, by what it asks for
 abbrev pub Replies : Book → ℕ → Request → List ℕ → Book → Type 0
-Replies b n requests.Nothing front b' = Says [] b front b'
+Replies b n requests.Nothing front b' = TellsOnly [] b front b'
 Replies b n (requests.Edit e) front b' = Edits b e front b'
 Replies b n (requests.Report rep k) front b' = Reports b rep k front b'
 Replies b n (requests.Peek rep k) front b' = PeeksAs b rep k front × (b' ≡ b)
 Replies b n (requests.All k) front b' = ReportsAll b k front b'
 Replies b n requests.List front b' = ((front ≡ listing_of b.version) ⊎ (front ≡ codes "memory\n")) × (b' ≡ b)
-Replies b n requests.Quit front b' = Says (codes "bye\n") b front b'
-Replies b n (requests.Bad reason) front b' = Says (codes "? " ++ decimal n ++ codes " " ++ word_of reason ++ codes "\n") b front b'
+Replies b n requests.Quit front b' = TellsOnly (codes "bye\n") b front b'
+Replies b n (requests.Bad reason) front b' = TellsOnly (codes "? " ++ decimal n ++ codes " " ++ word_of reason ++ codes "\n") b front b'
 
 -- whether a line ends the session
 abbrev pub is_quit : Request → Bool
