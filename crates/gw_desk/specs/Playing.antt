@@ -1,5 +1,6 @@
 -- What lists of events come to. (Our own.)
-use Rattle.std.specs.Prelude.{◌≡◌, ◌≢◌, ℕ, List, [], ◌∷◌}
+use Rattle.std.specs.Prelude.{◌≡◌, ◌≢◌, ◌⊎◌, ℕ, ◌<◌, List, [], ◌∷◌}
+use Rattle.gw_meaning.specs.Listing.{starts}
 use Rattle.gw_desk.specs.declared.answer.Answer.TheVariants as answers
 use Rattle.gw_desk.specs.declared.play.Event.{Event}
 use Rattle.gw_desk.specs.declared.play.Event.TheVariants as events
@@ -12,13 +13,13 @@ use Rattle.gw_desk.specs.Finishing.{Finishes}
 use Rattle.gw_desk.specs.Editing.{Accepts, Refuses}
 
 -- one event: an edit is accepted, or refused, which changes nothing; a query is answered, from the recorded steps or with
--- those that are missing
+-- those that are missing, which are none where there is no such START
 abbrev pub Does : Book → Event → Reply → Book → Type 0
 Does b (events.Edit e) (replies.Edited n) c = Accepts b e c n
 Does b (events.Edit e) (replies.Refused fault) c = (c ≡ b) × Refuses b e fault
 Does b (events.Peek rep k) (replies.Answered answer) c = (c ≡ b) × Peeks b rep k answer
 Does b (events.Finish rep k) (replies.Answered answer) c =
-    IsAnswer (answer_of b.version b.edits rep k) answer × Finishes b rep k c × (answer ≢ answers.Memory → (n : ℕ) → IsUnfinished c rep k n → ⊥)
+    IsAnswer (answer_of b.version b.edits rep k) answer × Finishes b rep k c × (answer ≢ answers.Memory → (n : ℕ) → IsUnfinished c rep k n → ⊥) × ((k < 1) ⊎ (starts b.version < k) → c ≡ b)
 Does b event reply c = ⊥
 
 -- one after another

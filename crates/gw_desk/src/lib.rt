@@ -9,6 +9,7 @@ mod answer;
 mod desk;
 mod edits;
 mod finish;
+mod keeper;
 mod laws;
 mod look;
 mod play;
@@ -19,5 +20,6 @@ mod touched;
 
 pub use answer::{Answer, Report};
 pub use desk::Desk;
+pub use keeper::Keeper;
 pub use laws::{points_are_found, reports_are_right};
 pub use play::{Event, Reply};

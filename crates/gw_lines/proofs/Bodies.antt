@@ -2,7 +2,7 @@
 use Rattle.std.proofs.Common.{◌≡◌, ℕ, zero, suc, ◌+◌, ◌-◌, ◌≤◌, ◌<◌, ◌==◌, ◌||◌, Bool, true, false, cond, List, [], ◌∷◌, length, Option, Some, None, Result, Ok, Err, refl, sym, ap, subst, ◌∙◌, ◌⊎◌, inl, inr, arith}
 use Rattle.std.specs.Prelude.{is_some, IsSome, nat_lt, option_map, codes}
 use Rattle.std.specs.List.{count_by}
-use Rattle.std.proofs.lemmas.Bool.{eqb-true}
+use Rattle.std.proofs.lemmas.Bool.{cases_Bool, eqb-true}
 use Rattle.std.proofs.lemmas.Bool.Decides.{nat_tests}
 use Rattle.std.proofs.lemmas.List.{nil_from_length}
 use Rattle.std.proofs.lemmas.Slice.Eq.{bytes_eq-Decides}
@@ -23,7 +23,7 @@ use Rattle.gw_lines.specs.Numbers.{number_of, value_of, from_one}
 use Rattle.gw_lines.specs.Operands.{operand_of, or_bad, value_in, count_in, is_optional, value_at, count_at, absent_at, key_at, ends_before, needed}
 use Rattle.gw_lines.specs.Bodies.{generate_of, advance_of, terminate_of, start_with, start_of, block_body, command_body, body_of}
 use Rattle.gw_lines.specs.Spelling.{Number, Operand, absent, given, Listing, operand_in, Says, generate, advance, terminate, start}
-use Rattle.gw_lines.proofs.Fronts.{either, nonzero}
+use Rattle.gw_lines.proofs.Fronts.{nonzero}
 use Rattle.gw_lines.proofs.Digits.{number_found, number_again, value_found, value_again, mapped}
 use Rattle.gw_lines.proofs.Listings.{operand_is, listed_count}
 
@@ -183,7 +183,7 @@ generate_steps (Ok m) (Ok u1) (Ok o) (Err f) e x block h = absurd cc
 generate_steps (Ok m) (Ok u1) (Ok o) (Ok l) (Err f) x block h = absurd cc
 generate_steps (Ok m) (Ok u1) (Ok o) (Ok l) (Ok p) (Err f) block h = absurd cc
 generate_steps (Ok m) (Ok u1) (Ok o) (Ok l) (Ok p) (Ok u2) block h =
-    elim (either (is_some m || is_some l)) [
+    elim (cases_Bool (is_some m || is_some l)) [
       | inl holds ↦ record { mean = m; offset = o; limit = l; priority = p; a_is = refl; b_is = refl; c_is = refl; d_is = refl; e_is = refl; x_is = refl; given = holds; block_is = ok_is _ block (rw holds at h) }
       | inr fails ↦ absurd (let f = rw fails at h in cc)
     ]

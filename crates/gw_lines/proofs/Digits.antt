@@ -2,12 +2,11 @@
 use Rattle.std.proofs.Common.{◌≡◌, ℕ, ◌+◌, ◌-◌, ◌*◌, ◌≤◌, ◌==◌, true, false, List, [], ◌∷◌, ◌++◌, Option, Some, None, refl, sym, ap, subst, ◌∙◌, append_assoc, inl, inr, arith}
 use Rattle.std.specs.Prelude.{ℤ, pos, neg_ℤ, nat_le, option_map}
 use Rattle.std.specs.Char.{is_ascii_digit}
-use Rattle.std.proofs.lemmas.Bool.{eqb-true}
+use Rattle.std.proofs.lemmas.Bool.{cases_Bool, eqb-true}
 use Rattle.std.proofs.lemmas.Bool.Decides.{nat_tests}
 use Rattle.std.proofs.lemmas.List.{append-nil}
 use Rattle.gw_lines.specs.Numbers.{number_after, number_of, value_of}
 use Rattle.gw_lines.specs.Spelling.{Digits, first_digit, next_digit, Number, Value, without_sign, with_sign}
-use Rattle.gw_lines.proofs.Fronts.{either}
 
 fits : (n : ℕ) → n ≤ 1000000000 → nat_le n 1000000000 ≡ true
 fits n h = grind (arith, nat_tests)
@@ -50,9 +49,9 @@ number_taken n front [] m d small e =
     let is : n ≡ m = some_is n m e in
     subst (λ (t : List ℕ). Number t m) (sym (append-nil front)) (subst (λ (k : ℕ). Number front k) is (record { digits = d; small = small }))
 number_taken n front (b ∷ bs) m d small e =
-    elim (either (is_ascii_digit b)) [
+    elim (cases_Bool (is_ascii_digit b)) [
       | inr fails ↦ absurd (let f = rw fails at e in cc)
-      | inl holds ↦ elim (either (nat_le (n * 10 + (b - 48)) 1000000000)) [
+      | inl holds ↦ elim (cases_Bool (nat_le (n * 10 + (b - 48)) 1000000000)) [
         | inr large ↦ absurd (let f = rw (holds, large) at e in cc)
         | inl le ↦
             let rest = number_taken (n * 10 + (b - 48)) (front ++ b ∷ []) bs m (next_digit front n b d holds) (fits_back _ le) (rw (holds, le) at e) in
@@ -63,9 +62,9 @@ number_taken n front (b ∷ bs) m d small e =
 pub number_found : (text : List ℕ) (m : ℕ) → number_of text ≡ Some m → Number text m
 number_found [] m e = absurd cc
 number_found (b ∷ bs) m e =
-    elim (either (is_ascii_digit b)) [
+    elim (cases_Bool (is_ascii_digit b)) [
       | inr fails ↦ absurd (let f = rw fails at e in cc)
-      | inl holds ↦ elim (either (nat_le (b - 48) 1000000000)) [
+      | inl holds ↦ elim (cases_Bool (nat_le (b - 48) 1000000000)) [
         | inr large ↦ absurd (let f = rw (holds, none_before b, large) at e in cc)
         | inl le ↦ number_taken (b - 48) (b ∷ []) bs m (first_digit b holds) (fits_back _ le) (rw (holds, none_before b, le) at e)
       ]
@@ -78,7 +77,7 @@ mapped f (Some x) y e = (x, refl, cc)
 pub value_found : (text : List ℕ) (z : ℤ) → value_of text ≡ Some z → Value text z
 value_found [] z e = absurd cc
 value_found (b ∷ bs) z e =
-    elim (either (b == 45)) [
+    elim (cases_Bool (b == 45)) [
       | inl holds ↦
           let m = mapped (λ n. neg_ℤ (pos n)) (number_of bs) z (rw holds at e) in
           subst (λ (c : ℕ). Value (c ∷ bs) z) (sym (eqb-true b 45 holds)) (subst (λ (v : ℤ). Value (45 ∷ bs) v) m.2 (with_sign bs m.0 (number_found bs m.0 m.1)))

@@ -2,6 +2,7 @@
 use Rattle.std.proofs.Common.{◌≡◌, ◌≢◌, ℕ, suc, ◌<◌, ◌≤◌, ◌==◌, not, false, List, [], ◌∷◌, length, Option, None, Result, Ok, Err, refl, sym, ap, subst, ◌∙◌, ◌⊎◌, inl, inr, arith}
 use Rattle.std.specs.Prelude.{IfOk, IfErr, nat_lt, All, Any}
 use Rattle.std.proofs.lemmas.List.Elements.{All-nil, All-cons}
+use Rattle.std.proofs.lemmas.Bool.{cases_Bool}
 use Rattle.gw_meaning.specs.declared.statement.Statement.{Statement}
 use Rattle.gw_lines.specs.declared.class.Class.TheVariants as class
 use Rattle.gw_lines.specs.declared.fault.LineFault.{LineFault}
@@ -13,7 +14,7 @@ use Rattle.gw_lines.specs.Models.{with_byte}
 use Rattle.gw_lines.specs.Spelling.{Spells}
 use Rattle.gw_lines.specs.Faulty.{FirstFault}
 use Rattle.gw_lines.specs.Edits.{edit_lines, SpellsEdit, AreClean, MayGoOn, spelled, misses, is_missing, FaultOfLines, no_line, long_line, wrong_byte, in_first, goes_on, at_the_end, FirstFaultOfEdit, AnswersEdit, short_lines, byte_fault, plain_lines, followed, first_of, edit_in, edit_of}
-use Rattle.gw_lines.proofs.Fronts.{either, front_yes, rest_yes}
+use Rattle.gw_lines.proofs.Fronts.{front_yes, rest_yes}
 use Rattle.gw_lines.proofs.Operands.{failed, err_is}
 use Rattle.gw_lines.proofs.Lines.{short_is, spells_found, spells_again}
 use Rattle.gw_lines.proofs.Faults.{long_is, fault_found, fault_again}
@@ -33,12 +34,12 @@ put_before b bs e =
 
 first_is : (b : ℕ) (bs : List ℕ) → edit_lines (b ∷ bs) ≡ front_of class.Part (b ∷ bs) ∷ edit_lines (tail_of (rest_of class.Part (b ∷ bs)))
 first_is b [] =
-    elim (either (b == 124)) [
+    elim (cases_Bool (b == 124)) [
       | inl bar ↦ rw bar refl
       | inr part ↦ one_more b [] part ∙ sym (put_before b [] part)
     ]
 first_is b (c ∷ cs) =
-    elim (either (b == 124)) [
+    elim (cases_Bool (b == 124)) [
       | inl bar ↦ rw bar refl
       | inr part ↦ one_more b (c ∷ cs) part ∙ ap (with_byte b) (first_is c cs) ∙ sym (put_before b (c ∷ cs) part)
     ]
@@ -99,7 +100,7 @@ IsRight line = FirstFault line faults.BadByte → ⊥
 short_cases : (lines : List (List ℕ)) → ((short_lines lines ≡ Ok tt) × All IsShort lines) ⊎ ((short_lines lines ≡ Err faults.TooLong) × Any IsLong lines)
 short_cases [] = inl (refl, All-nil IsShort)
 short_cases (line ∷ lines) =
-    elim (either (nat_lt 250 (length line))) [
+    elim (cases_Bool (nat_lt 250 (length line))) [
       | inl long ↦ inr (rw long refl, any_here IsLong line lines (long_is (length line) long))
       | inr short ↦ elim (short_cases lines) [
         | inl p ↦ inl (rw short p.0, All-cons IsShort line lines (short_is (length line) short) p.1)

@@ -4,6 +4,7 @@ use Rattle.std.specs.Prelude.{IfErr, IsSome, is_some, nat_lt}
 use Rattle.std.specs.List.{list_all}
 use Rattle.std.proofs.lemmas.Bool.Decides.{nat_tests}
 use Rattle.std.proofs.lemmas.List.{append-nil}
+use Rattle.std.proofs.lemmas.Bool.{and_parts, cases_Bool}
 use Rattle.gw_names.specs.declared.verb.Verb.{Verb}
 use Rattle.gw_names.specs.Words.{upper_of}
 use Rattle.gw_names.specs.Names.{name_of}
@@ -18,7 +19,7 @@ use Rattle.gw_lines.specs.Bodies.{body_of}
 use Rattle.gw_lines.specs.Lines.{word_of, behind_word, verb_in, is_command, or_bad_label, label_of, plain_of, by_first, by_second, coded_of, fault_without_verb, behind_number, code_of, is_remark, line_in, line_of, statement_of}
 use Rattle.gw_lines.specs.Spelling.{AreIn, Stops, Head, Label, no_label, named, ArePlain}
 use Rattle.gw_lines.specs.Faulty.{is_read, Verbless, one_word, two_words, WordsFault, byte_with_verb, byte_without_verb, no_verb, bad_first_word, bad_label, verb_to_come, operand_fault, FirstFault, too_long, no_statement, in_words, Answers}
-use Rattle.gw_lines.proofs.Fronts.{either, both_true, front_again, rest_again, parts, front_all, rest_stops}
+use Rattle.gw_lines.proofs.Fronts.{front_again, rest_again, parts, front_all, rest_stops}
 use Rattle.gw_lines.proofs.Listings.{listing_of}
 use Rattle.gw_lines.proofs.Operands.{failed, err_is}
 use Rattle.gw_lines.proofs.Verbs.{body_fault, body_fault_again, body_to_come}
@@ -48,7 +49,7 @@ body_failed (Err g) label o f e = ap failed (err_is (failed {A = Statement} g) g
 
 plain_cases : (t : List ℕ) → ((are_plain t ≡ true) × (plain_of t ≡ Ok t)) ⊎ ((are_plain t ≡ false) × (plain_of t ≡ Err faults.BadByte))
 plain_cases t =
-    elim (either (are_plain t)) [
+    elim (cases_Bool (are_plain t)) [
       | inl plain ↦ inl (plain, rw plain refl)
       | inr other ↦ inr (other, rw other refl)
     ]
@@ -61,7 +62,7 @@ true_false h k = absurd (let e : true ≡ false = sym h ∙ k in cc)
 body_part : {words : List ℕ} {word : Option (List ℕ)} {verb : Verb} {kept : List ℕ} {label : Option (List ℕ)} (f : LineFault)
     → Head words word verb kept → ArePlain word kept → Label word verb label → body_of verb (upper_of kept) ≡ Err f → WordsFault words f
 body_part {words} {word} {verb} {kept} {label} f h p l e =
-    elim (either (is_read verb)) [
+    elim (cases_Bool (is_read verb)) [
       | inl r ↦ let os = listing_of (upper_of kept) in operand_fault words word verb kept label os.0 f h p l r os.1 (body_fault verb os.1 f r e)
       | inr r ↦ subst (λ (x : LineFault). WordsFault words x) (err_is (body_of verb (upper_of kept)) faults.UnknownVerb f (body_to_come verb (upper_of kept) r) e) (verb_to_come words word verb kept label h p l r)
     ]
@@ -74,14 +75,14 @@ unlabelled : (verb : Verb) (word : List ℕ) → (is_command verb ≡ true) ⊎ 
 unfolding label_of
 unlabelled verb word (inl c) = rw c refl
 unlabelled verb word (inr n) =
-    elim (either (is_command verb)) [
+    elim (cases_Bool (is_command verb)) [
       | inl c ↦ rw c refl
       | inr c ↦ rw (c, n) refl
     ]
 
 label_cases : (verb : Verb) (word : List ℕ) → ((name : List ℕ) × (is_command verb ≡ false) × (name_of word ≡ Some name)) ⊎ ((is_command verb ≡ true) ⊎ (name_of word ≡ None))
 label_cases verb word =
-    elim (either (is_command verb)) [
+    elim (cases_Bool (is_command verb)) [
       | inl c ↦ inr (inl c)
       | inr c ↦ elim (bad_name (name_of word)) [
         | inl n ↦ inl (n.0, c, n.1)
@@ -119,7 +120,7 @@ head_fault {words} (Some word) {verb} {kept} f h e =
 
 none_behind : (blanks : List ℕ) → AreIn class.Blank blanks → Stops class.Mark blanks
 none_behind [] h = tt
-none_behind (b ∷ bs) h = ap not (both_true (is_blank b) (list_all (is_in class.Blank) bs) h).0
+none_behind (b ∷ bs) h = ap not (and_parts (is_blank b) (list_all (is_in class.Blank) bs) h).0
 
 verbless_with : (words first second : List ℕ) → word_of words ≡ first → word_of (behind_word words) ≡ second → verb_in first ≡ None → verb_in second ≡ None → coded_of words ≡ Err (fault_without_verb words first second)
 unfolding coded_of
@@ -150,7 +151,7 @@ verbless_of words n m =
     let none_then = λ (e : word_of second ≡ []).
     (let stop : Stops class.Mark second = subst (λ (t : List ℕ). Stops class.Mark t) (sym (parts class.Mark second ∙ ap (λ (t : List ℕ). t ++ rest_of class.Mark second) e)) (rest_stops class.Mark second) in
     both_stop second stop (rest_stops class.Blank rest)) in
-    elim (either (is_nothing (word_of second))) [
+    elim (cases_Bool (is_nothing (word_of second))) [
       | inl none ↦
           let e : word_of second ≡ [] = none_is (word_of second) none in
           let whole : words ≡ word_of words ++ blanks = parts class.Mark words ∙ ap (λ (t : List ℕ). word_of words ++ t) (parts class.Blank rest ∙ ap (λ (t : List ℕ). blanks ++ t) (none_then e) ∙ append-nil blanks) in
@@ -178,9 +179,9 @@ name_cases first =
 which : (words first second : List ℕ) → Verbless words first second → WordsFault words (fault_without_verb words first second)
 unfolding fault_without_verb
 which words first second v =
-    elim (either (are_plain words)) [
+    elim (cases_Bool (are_plain words)) [
       | inr other ↦ rw other (byte_without_verb words first second v other)
-      | inl plain ↦ elim (either (is_nothing second)) [
+      | inl plain ↦ elim (cases_Bool (is_nothing second)) [
         | inl none ↦ rw (plain, none) (no_verb words first second v plain (inl (none_is second none)))
         | inr some ↦ elim (name_cases first) [
           | inl n ↦ let k : is_some (name_of first) ≡ true = n in rw (plain, some, k) (no_verb words first second v plain (inr n))
@@ -249,9 +250,9 @@ long_again n h = grind (arith, nat_tests)
 pub fault_found : (text : List ℕ) (f : LineFault) → statement_of text ≡ Err f → FirstFault text f
 unfolding statement_of line_of line_in
 fault_found text f e =
-    elim (either (nat_lt 250 (length text))) [
+    elim (cases_Bool (nat_lt 250 (length text))) [
       | inl long ↦ let h : failed {A = Statement} faults.TooLong ≡ Err f = rw long at e in subst (λ (x : LineFault). FirstFault text x) (err_is (failed {A = Statement} faults.TooLong) faults.TooLong f refl h) (too_long text (long_is (length text) long))
-      | inr short ↦ elim (either (is_remark (code_of text))) [
+      | inr short ↦ elim (cases_Bool (is_remark (code_of text))) [
         | inl remark ↦
             let h : failed {A = Statement} faults.UnknownVerb ≡ Err f = rw (short, remark) at e in
             subst (λ (x : LineFault). FirstFault text x) (err_is (failed {A = Statement} faults.UnknownVerb) faults.UnknownVerb f refl h) (no_statement text (code_of text) (cut_of text (short_is (length text) short)) remark)

@@ -1,19 +1,12 @@
 -- What stands at the front of a text, and what is left behind it.
-use Rattle.std.proofs.Common.{◌≡◌, ℕ, suc, ◌+◌, ◌==◌, Bool, true, false, not, ◌&&◌, List, [], ◌∷◌, ◌++◌, refl, sym, ap, ◌∙◌, ◌⊎◌, inl, inr, arith}
+use Rattle.std.proofs.Common.{◌≡◌, ℕ, suc, ◌+◌, ◌==◌, Bool, true, false, not, ◌&&◌, List, [], ◌∷◌, ◌++◌, refl, sym, ap, ◌∙◌, inl, inr, arith}
 use Rattle.std.specs.List.{prefix_len, list_all}
 use Rattle.std.proofs.lemmas.Bool.Decides.{nat_tests}
 use Rattle.std.proofs.lemmas.List.{take-append-drop}
+use Rattle.std.proofs.lemmas.Bool.{and_from, and_parts, cases_Bool}
 use Rattle.gw_lines.specs.declared.class.Class.{Class}
 use Rattle.gw_lines.specs.Classes.{is_in, front_of, rest_of}
 use Rattle.gw_lines.specs.Spelling.{AreIn, Stops}
-
-pub both_true : (a b : Bool) → (a && b) ≡ true → (a ≡ true) × (b ≡ true)
-both_true true b h = (refl, h)
-both_true false b h = absurd cc
-
-pub and_true : (a b : Bool) → a ≡ true → b ≡ true → (a && b) ≡ true
-and_true true b h k = k
-and_true false b h k = absurd cc
 
 pub and_false : (a : Bool) → (a && false) ≡ false
 and_false true = refl
@@ -26,10 +19,6 @@ not_true false h = refl
 pub not_false : (a : Bool) → not a ≡ false → a ≡ true
 not_false true h = refl
 not_false false h = absurd cc
-
-pub either : (a : Bool) → (a ≡ true) ⊎ (a ≡ false)
-either true = inl refl
-either false = inr refl
 
 pub nonzero : (n : ℕ) → (suc n == 0) ≡ false
 nonzero n = grind (arith, nat_tests)
@@ -54,14 +43,14 @@ pub front_again : (class : Class) (text rest : List ℕ) → AreIn class text �
 front_again class [] [] h s = refl
 front_again class [] (b ∷ bs) h s = front_no class b bs s
 front_again class (t ∷ ts) rest h s =
-    let a = both_true (is_in class t) (list_all (is_in class) ts) h in
+    let a = and_parts (is_in class t) (list_all (is_in class) ts) h in
     front_yes class t (ts ++ rest) a.0 ∙ ap (λ (x : List ℕ). t ∷ x) (front_again class ts rest a.1 s)
 
 pub rest_again : (class : Class) (text rest : List ℕ) → AreIn class text → Stops class rest → rest_of class (text ++ rest) ≡ rest
 rest_again class [] [] h s = refl
 rest_again class [] (b ∷ bs) h s = rest_no class b bs s
 rest_again class (t ∷ ts) rest h s =
-    let a = both_true (is_in class t) (list_all (is_in class) ts) h in
+    let a = and_parts (is_in class t) (list_all (is_in class) ts) h in
     rest_yes class t (ts ++ rest) a.0 ∙ rest_again class ts rest a.1 s
 
 -- the parts of a text
@@ -71,15 +60,15 @@ parts class bytes = sym (take-append-drop (prefix_len (is_in class) bytes) bytes
 pub front_all : (class : Class) (bytes : List ℕ) → AreIn class (front_of class bytes)
 front_all class [] = refl
 front_all class (b ∷ bs) =
-    elim (either (is_in class b)) [
-      | inl y ↦ rw (front_yes class b bs y) (and_true (is_in class b) (list_all (is_in class) (front_of class bs)) y (front_all class bs))
+    elim (cases_Bool (is_in class b)) [
+      | inl y ↦ rw (front_yes class b bs y) (and_from (is_in class b) (list_all (is_in class) (front_of class bs)) y (front_all class bs))
       | inr n ↦ rw (front_no class b bs n) refl
     ]
 
 pub rest_stops : (class : Class) (bytes : List ℕ) → Stops class (rest_of class bytes)
 rest_stops class [] = tt
 rest_stops class (b ∷ bs) =
-    elim (either (is_in class b)) [
+    elim (cases_Bool (is_in class b)) [
       | inl y ↦ rw (rest_yes class b bs y) (rest_stops class bs)
       | inr n ↦ rw (rest_no class b bs n) n
     ]

@@ -2,7 +2,7 @@
 use Rattle.std.proofs.Common.{◌≡◌, ◌≢◌, ℕ, ◌||◌, not, Bool, true, false, List, [], ◌∷◌, ◌++◌, length, Option, Some, None, Result, Ok, Err, refl, sym, ap, subst, ◌∙◌, inl, inr, arith}
 use Rattle.std.specs.List.{list_all}
 use Rattle.std.specs.Char.{to_ascii_uppercase}
-use Rattle.std.proofs.lemmas.Bool.{eqb-true}
+use Rattle.std.proofs.lemmas.Bool.{and_parts, cases_Bool, eqb-true}
 use Rattle.std.proofs.lemmas.Bool.Decides.{nat_tests}
 use Rattle.std.proofs.lemmas.List.{nil_from_length}
 use Rattle.gw_names.specs.declared.verb.Verb.{Verb}
@@ -18,7 +18,7 @@ use Rattle.gw_lines.specs.Operands.{listed_of}
 use Rattle.gw_lines.specs.Bodies.{body_of}
 use Rattle.gw_lines.specs.Lines.{word_of, behind_word, verb_in, is_command, or_bad_label, label_of, plain_of, operands_of, unlabelled_of, labelled_of, by_first, by_second, coded_of, behind_number}
 use Rattle.gw_lines.specs.Spelling.{AreIn, Stops, Behind, Head, first_word, second_word, Label, no_label, named, ArePlain, Numbering, unnumbered, numbered, Coded}
-use Rattle.gw_lines.proofs.Fronts.{either, nonzero, both_true, not_true, not_false, front_again, rest_again, parts, front_all, rest_stops}
+use Rattle.gw_lines.proofs.Fronts.{nonzero, not_true, not_false, front_again, rest_again, parts, front_all, rest_stops}
 use Rattle.gw_lines.proofs.Kept.{parted_of, behind_of}
 use Rattle.gw_lines.proofs.Listings.{listing_of}
 use Rattle.gw_lines.proofs.Bodies.{done, ok_is, body_found, body_again}
@@ -34,7 +34,7 @@ are_plain_upper (b ∷ bs) = rw (plain_upper b, are_plain_upper bs) refl
 
 plain_found : (text o : List ℕ) → plain_of text ≡ Ok o → (are_plain text ≡ true) × (text ≡ o)
 plain_found text o e =
-    elim (either (are_plain text)) [
+    elim (cases_Bool (are_plain text)) [
       | inl holds ↦ (holds, ok_is text o (rw holds at e))
       | inr fails ↦ absurd (let f = rw fails at e in cc)
     ]
@@ -82,9 +82,9 @@ pub numbering_of : (code : List ℕ) → Stops class.Blank code → Numbering co
 unfolding behind_number
 numbering_of code s =
     let rest = rest_of class.Digit code in
-    elim (either (is_nothing (front_of class.Digit code))) [
+    elim (cases_Bool (is_nothing (front_of class.Digit code))) [
       | inl none ↦ rw none (unnumbered_code code (subst (λ (t : List ℕ). Stops class.Blank t) (sym (first_none code (none_is _ none))) s))
-      | inr some ↦ elim (either (is_nothing (front_of class.Blank rest))) [
+      | inr some ↦ elim (cases_Bool (is_nothing (front_of class.Blank rest))) [
         | inl none ↦ rw (some, none) (unnumbered_code code (no_blanks rest (none_is _ none)))
         | inr blanks ↦ rw (some, blanks) (numbered_code code (not_none _ some) (not_none _ blanks))
       ]
@@ -95,7 +95,7 @@ a_blank b h = grind (arith, nat_tests)
 
 blank_no_digit : (blanks text : List ℕ) → AreIn class.Blank blanks → blanks ≢ [] → Stops class.Digit (blanks ++ text)
 blank_no_digit [] text h some = absurd (some refl)
-blank_no_digit (b ∷ bs) text h some = a_blank b (both_true (is_blank b) (list_all (is_in class.Blank) bs) h).0
+blank_no_digit (b ∷ bs) text h some = a_blank b (and_parts (is_blank b) (list_all (is_in class.Blank) bs) h).0
 
 pub numbering_is : {code words : List ℕ} → Numbering code words → behind_number code ≡ words
 unfolding behind_number
@@ -191,7 +191,7 @@ good_label (Some n) name e = ap (λ (x : List ℕ). Some x) (ok_is n name e)
 label_ok : (verb : Verb) (word name : List ℕ) → label_of verb word ≡ Ok name → (is_command verb ≡ false) × (name_of word ≡ Some name)
 unfolding label_of
 label_ok verb word name e =
-    elim (either (is_command verb)) [
+    elim (cases_Bool (is_command verb)) [
       | inl holds ↦ absurd (let f = rw holds at e in cc)
       | inr fails ↦ (fails, good_label (name_of word) name (rw fails at e))
     ]
@@ -272,11 +272,11 @@ behind_is b =
 
 pub blank_no_mark : (blanks text : List ℕ) → AreIn class.Blank blanks → blanks ≢ [] → Stops class.Mark (blanks ++ text)
 blank_no_mark [] text h some = absurd (some refl)
-blank_no_mark (b ∷ bs) text h some = ap not (both_true (is_blank b) (list_all (is_in class.Blank) bs) h).0
+blank_no_mark (b ∷ bs) text h some = ap not (and_parts (is_blank b) (list_all (is_in class.Blank) bs) h).0
 
 pub mark_no_blank : (word behind : List ℕ) → AreIn class.Mark word → word ≢ [] → Stops class.Blank (word ++ behind)
 mark_no_blank [] behind h some = absurd (some refl)
-mark_no_blank (b ∷ bs) behind h some = not_true (is_blank b) (both_true (not (is_blank b)) (list_all (is_in class.Mark) bs) h).0
+mark_no_blank (b ∷ bs) behind h some = not_true (is_blank b) (and_parts (not (is_blank b)) (list_all (is_in class.Mark) bs) h).0
 
 a_verb : (word : List ℕ) (verb : Verb) → verb_in word ≡ Some verb → word ≢ []
 a_verb word verb v e = let f : None ≡ Some verb = sym no_word ∙ ap verb_in (sym e) ∙ v in absurd cc

@@ -1,13 +1,13 @@
 -- The operand list as it is written and as it is kept.
 use Rattle.std.proofs.Common.{◌≡◌, ◌≢◌, ℕ, ◌==◌, not, Bool, true, false, List, [], ◌∷◌, ◌++◌, refl, sym, ap, subst, ◌∙◌, append_assoc, inl, inr}
 use Rattle.std.specs.List.{list_all}
-use Rattle.std.proofs.lemmas.Bool.{eqb-true}
+use Rattle.std.proofs.lemmas.Bool.{and_from, and_parts, cases_Bool, eqb-true}
 use Rattle.std.proofs.lemmas.List.{append-nil}
 use Rattle.gw_lines.specs.declared.class.Class.TheVariants as class
 use Rattle.gw_lines.specs.Classes.{is_in, is_blank}
 use Rattle.gw_lines.specs.Operands.{listed_of}
 use Rattle.gw_lines.specs.Spelling.{AreIn, Stops, is_part, Written, none_written, last_written, more_written, Behind, verb_alone, verb_operands}
-use Rattle.gw_lines.proofs.Fronts.{either, both_true, and_true, not_true, not_false}
+use Rattle.gw_lines.proofs.Fronts.{not_true, not_false}
 
 -- ---- one byte
 
@@ -22,7 +22,7 @@ comma_kept skips bs = refl
 
 part_kept : (skips : Bool) (b : ℕ) (bs : List ℕ) → is_part b ≡ true → listed_of skips (b ∷ bs) ≡ b ∷ listed_of false bs
 part_kept skips b bs h =
-    let a = both_true (not (is_blank b)) (not (b == 44)) h in
+    let a = and_parts (not (is_blank b)) (not (b == 44)) h in
     rw (not_true (is_blank b) a.0, not_true (b == 44) a.1) refl
 
 -- ---- what is written so is kept so
@@ -30,7 +30,7 @@ part_kept skips b bs h =
 blanks_skipped : (blanks text : List ℕ) → AreIn class.Blank blanks → listed_of true (blanks ++ text) ≡ listed_of true text
 blanks_skipped [] text h = refl
 blanks_skipped (b ∷ bs) text h =
-    let a = both_true (is_blank b) (list_all (is_in class.Blank) bs) h in
+    let a = and_parts (is_blank b) (list_all (is_in class.Blank) bs) h in
     blank_skipped b (bs ++ text) a.0 ∙ blanks_skipped bs text a.1
 
 ends : (comment : List ℕ) → Stops class.Mark comment → listed_of false comment ≡ []
@@ -40,19 +40,19 @@ ends (b ∷ bs) h = blank_ends b bs (not_false (is_blank b) h)
 parts_then_end : (text comment : List ℕ) → list_all is_part text ≡ true → Stops class.Mark comment → listed_of false (text ++ comment) ≡ text
 parts_then_end [] comment h s = ends comment s
 parts_then_end (b ∷ bs) comment h s =
-    let a = both_true (is_part b) (list_all is_part bs) h in
+    let a = and_parts (is_part b) (list_all is_part bs) h in
     part_kept false b (bs ++ comment) a.0 ∙ ap (λ (t : List ℕ). b ∷ t) (parts_then_end bs comment a.1 s)
 
 parts_then_comma : (skips : Bool) (text rest : List ℕ) → list_all is_part text ≡ true → listed_of skips (text ++ 44 ∷ rest) ≡ text ++ 44 ∷ listed_of true rest
 parts_then_comma skips [] rest h = comma_kept skips rest
 parts_then_comma skips (b ∷ bs) rest h =
-    let a = both_true (is_part b) (list_all is_part bs) h in
+    let a = and_parts (is_part b) (list_all is_part bs) h in
     part_kept skips b (bs ++ 44 ∷ rest) a.0 ∙ ap (λ (t : List ℕ). b ∷ t) (parts_then_comma false bs rest a.1)
 
 written_kept : {text kept : List ℕ} → Written text kept → listed_of true text ≡ kept
 written_kept none_written = refl
 written_kept (last_written b bs comment h s) =
-    let a = both_true (is_part b) (list_all is_part bs) h in
+    let a = and_parts (is_part b) (list_all is_part bs) h in
     part_kept true b (bs ++ comment) a.0 ∙ ap (λ (t : List ℕ). b ∷ t) (parts_then_end bs comment a.1 s)
 written_kept (more_written operand blanks text kept h k w) =
     parts_then_comma true operand (blanks ++ text) h ∙ ap (λ (t : List ℕ). operand ++ 44 ∷ t) (blanks_skipped blanks text k ∙ written_kept w)
@@ -60,9 +60,9 @@ written_kept (more_written operand blanks text kept h k w) =
 -- what Written text says of the text's beginning: no blank
 written_begins : {text kept : List ℕ} → Written text kept → Stops class.Blank text
 written_begins none_written = tt
-written_begins (last_written b bs comment h s) = not_true (is_blank b) (both_true (not (is_blank b)) (not (b == 44)) (both_true (is_part b) (list_all is_part bs) h).0).0
+written_begins (last_written b bs comment h s) = not_true (is_blank b) (and_parts (not (is_blank b)) (not (b == 44)) (and_parts (is_part b) (list_all is_part bs) h).0).0
 written_begins (more_written [] blanks text kept h k w) = refl
-written_begins (more_written (b ∷ bs) blanks text kept h k w) = not_true (is_blank b) (both_true (not (is_blank b)) (not (b == 44)) (both_true (is_part b) (list_all is_part bs) h).0).0
+written_begins (more_written (b ∷ bs) blanks text kept h k w) = not_true (is_blank b) (and_parts (not (is_blank b)) (not (b == 44)) (and_parts (is_part b) (list_all is_part bs) h).0).0
 
 -- what a verb's blanks and operands are, with the blanks apart
 pub record Parted (behind kept : List ℕ) : Type 0 where
@@ -76,7 +76,7 @@ pub record Parted (behind kept : List ℕ) : Type 0 where
 
 blank_stops : (blanks text : List ℕ) → AreIn class.Blank blanks → blanks ≢ [] → Stops class.Mark (blanks ++ text)
 blank_stops [] text h some = absurd (some refl)
-blank_stops (b ∷ bs) text h some = ap not (both_true (is_blank b) (list_all (is_in class.Blank) bs) h).0
+blank_stops (b ∷ bs) text h some = ap not (and_parts (is_blank b) (list_all (is_in class.Blank) bs) h).0
 
 pub parted_of : {behind kept : List ℕ} → Behind behind kept → Parted behind kept
 parted_of verb_alone = record { blanks = []; text = []; is = refl; are_blanks = refl; begins = tt; keeps = refl; parted = tt }
@@ -98,10 +98,10 @@ record Open (text kept : List ℕ) : Type 0 where
   pub written : Written rest kept
 
 longer_parts : (bs : List ℕ) (b : ℕ) → list_all is_part bs ≡ true → is_part b ≡ true → list_all is_part (bs ++ b ∷ []) ≡ true
-longer_parts [] b h k = and_true (is_part b) true k refl
+longer_parts [] b h k = and_from (is_part b) true k refl
 longer_parts (c ∷ cs) b h k =
-    let a = both_true (is_part c) (list_all is_part cs) h in
-    and_true (is_part c) (list_all is_part (cs ++ b ∷ [])) a.0 (longer_parts cs b a.1 k)
+    let a = and_parts (is_part c) (list_all is_part cs) h in
+    and_from (is_part c) (list_all is_part (cs ++ b ∷ [])) a.0 (longer_parts cs b a.1 k)
 
 is_part_of : (b : ℕ) → is_blank b ≡ false → (b == 44) ≡ false → is_part b ≡ true
 is_part_of b h k = rw (h, k) refl
@@ -114,8 +114,8 @@ comma_inside text kept o = record {
 part_inside : (c : ℕ) (text kept : List ℕ) → is_part c ≡ true → Inside text kept → Inside (c ∷ text) (c ∷ kept)
 part_inside c text kept k i = record {
   on = λ b bs h.
-      let a = both_true (is_part b) (list_all is_part bs) h in
-      let w = i.on b (bs ++ c ∷ []) (and_true (is_part b) (list_all is_part (bs ++ c ∷ [])) a.0 (longer_parts bs c a.1 k)) in
+      let a = and_parts (is_part b) (list_all is_part bs) h in
+      let w = i.on b (bs ++ c ∷ []) (and_from (is_part b) (list_all is_part (bs ++ c ∷ [])) a.0 (longer_parts bs c a.1 k)) in
       subst (λ (t : List ℕ). Written (b ∷ t) (b ∷ bs ++ c ∷ kept)) (append_assoc bs (c ∷ []) text) (subst (λ (t : List ℕ). Written (b ∷ ((bs ++ c ∷ []) ++ text)) (b ∷ t)) (append_assoc bs (c ∷ []) kept) w);
 }
 
@@ -125,7 +125,7 @@ end_inside text s = record {
 }
 
 part_open : (c : ℕ) (text kept : List ℕ) → is_part c ≡ true → Inside text kept → Open (c ∷ text) (c ∷ kept)
-part_open c text kept k i = record { blanks = []; rest = c ∷ text; is = refl; are_blanks = refl; written = i.on c [] (and_true (is_part c) true k refl) }
+part_open c text kept k i = record { blanks = []; rest = c ∷ text; is = refl; are_blanks = refl; written = i.on c [] (and_from (is_part c) true k refl) }
 
 comma_open : (text kept : List ℕ) → Open text kept → Open (44 ∷ text) (44 ∷ kept)
 comma_open text kept o = record {
@@ -141,7 +141,7 @@ blank_open b text kept k o = record {
   blanks = b ∷ o.blanks;
   rest = o.rest;
   is = ap (λ (t : List ℕ). b ∷ t) o.is;
-  are_blanks = and_true (is_blank b) (list_all (is_in class.Blank) o.blanks) k o.are_blanks;
+  are_blanks = and_from (is_blank b) (list_all (is_in class.Blank) o.blanks) k o.are_blanks;
   written = o.written;
 }
 
@@ -153,12 +153,12 @@ kept_so : (text : List ℕ) → Both text
 kept_so [] = record { inside = end_inside [] tt; open_ = record { blanks = []; rest = []; is = refl; are_blanks = refl; written = none_written } }
 kept_so (b ∷ bs) =
     let ih = kept_so bs in
-    elim (either (is_blank b)) [
+    elim (cases_Bool (is_blank b)) [
       | inl blank ↦ record {
         inside = subst (λ (t : List ℕ). Inside (b ∷ bs) t) (sym (blank_ends b bs blank)) (end_inside (b ∷ bs) (ap not blank));
         open_ = subst (λ (t : List ℕ). Open (b ∷ bs) t) (sym (blank_skipped b bs blank)) (blank_open b bs (listed_of true bs) blank ih.open_);
       }
-      | inr mark ↦ elim (either (b == 44)) [
+      | inr mark ↦ elim (cases_Bool (b == 44)) [
         | inl comma ↦ subst (λ (c : ℕ). Both (c ∷ bs)) (sym (eqb-true b 44 comma)) (record {
           inside = comma_inside bs (listed_of true bs) ih.open_;
           open_ = comma_open bs (listed_of true bs) ih.open_;
@@ -178,7 +178,7 @@ written_from text [] rest kept e h s w = subst (λ (t : List ℕ). Written t kep
 written_from [] (b ∷ bs) rest kept e h s w = absurd cc
 written_from (c ∷ cs) (b ∷ bs) rest kept e h s w =
     let same : c ≡ b = cc in
-    let holds : is_blank b ≡ true = (both_true (is_blank b) (list_all (is_in class.Blank) bs) h).0 in
+    let holds : is_blank b ≡ true = (and_parts (is_blank b) (list_all (is_in class.Blank) bs) h).0 in
     let fails : is_blank b ≡ false = subst (λ (x : ℕ). is_blank x ≡ false) same s in
     absurd (let f : true ≡ false = sym holds ∙ fails in cc)
 

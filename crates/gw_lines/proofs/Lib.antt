@@ -10,5 +10,4 @@ pub mod Operands
 pub mod Verbs
 pub mod Faults
 pub mod Whole
-pub mod Texts
 pub mod Edits

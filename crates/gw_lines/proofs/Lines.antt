@@ -2,6 +2,7 @@
 use Rattle.std.proofs.Common.{◌≡◌, ℕ, ◌≤◌, false, List, [], ◌∷◌, ◌++◌, length, Some, Result, Ok, Err, refl, ap, subst, ◌∙◌, inl, inr, arith}
 use Rattle.std.specs.Prelude.{IfOk, nat_lt}
 use Rattle.std.proofs.lemmas.Bool.Decides.{nat_tests}
+use Rattle.std.proofs.lemmas.Bool.{cases_Bool}
 use Rattle.gw_meaning.specs.declared.statement.Statement.{Statement}
 use Rattle.gw_lines.specs.declared.class.Class.TheVariants as class
 use Rattle.gw_lines.specs.declared.fault.LineFault.{LineFault}
@@ -9,7 +10,7 @@ use Rattle.gw_lines.specs.Reading.{◌>>=◌, Gives}
 use Rattle.gw_lines.specs.Classes.{front_of, rest_of}
 use Rattle.gw_lines.specs.Lines.{coded_of, behind_number, code_of, is_remark, line_in, line_of, wanted, statement_of}
 use Rattle.gw_lines.specs.Spelling.{Stops, Cut, HasWords, Spells}
-use Rattle.gw_lines.proofs.Fronts.{either, front_again, rest_again, parts, front_all, rest_stops}
+use Rattle.gw_lines.proofs.Fronts.{front_again, rest_again, parts, front_all, rest_stops}
 use Rattle.gw_lines.proofs.Bodies.{done}
 use Rattle.gw_lines.proofs.Heads.{numbering_of, numbering_is, coded_found, coded_again}
 
@@ -56,9 +57,9 @@ one_given (Err f) s e = absurd cc
 pub spells_found : (text : List ℕ) (s : Statement) → statement_of text ≡ Ok s → Spells text s
 unfolding statement_of line_of line_in
 spells_found text s e =
-    elim (either (nat_lt 250 (length text))) [
+    elim (cases_Bool (nat_lt 250 (length text))) [
       | inl long ↦ absurd (let f = rw long at e in cc)
-      | inr short ↦ elim (either (is_remark (code_of text))) [
+      | inr short ↦ elim (cases_Bool (is_remark (code_of text))) [
         | inl remark ↦ absurd (let f = rw (short, remark) at e in cc)
         | inr code ↦
             record {

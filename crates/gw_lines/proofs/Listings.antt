@@ -1,14 +1,14 @@
 -- Operand lists: the operand at each place, and how many there are.
 use Rattle.std.proofs.Common.{◌≡◌, ℕ, zero, suc, ◌+◌, ◌-◌, ◌==◌, not, false, cond, List, [], ◌∷◌, ◌++◌, length, refl, sym, ap, subst, ◌∙◌, inl, inr, arith}
 use Rattle.std.specs.List.{count_by, list_all}
-use Rattle.std.proofs.lemmas.Bool.{eqb-true}
+use Rattle.std.proofs.lemmas.Bool.{and_from, and_parts, cases_Bool, eqb-true}
 use Rattle.std.proofs.lemmas.List.{append-nil}
 use Rattle.std.proofs.lemmas.List.Sums.{sum_by-append}
 use Rattle.gw_lines.specs.declared.class.Class.TheVariants as class
 use Rattle.gw_lines.specs.Classes.{is_in, front_of, rest_of, tail_of}
 use Rattle.gw_lines.specs.Operands.{behind_comma, behind_commas, operand_of}
 use Rattle.gw_lines.specs.Spelling.{AreIn, Listing, last_listed, more_listed, operand_in}
-use Rattle.gw_lines.proofs.Fronts.{either, both_true, and_true, not_true, front_again, rest_again}
+use Rattle.gw_lines.proofs.Fronts.{not_true, front_again, rest_again}
 
 -- a whole text of one class
 front_whole : (text : List ℕ) → AreIn class.Operand text → front_of class.Operand text ≡ text
@@ -41,7 +41,7 @@ operand_is {text} l n k e = ap (λ (i : ℕ). front_of class.Operand (behind_com
 commas_none : (text : List ℕ) → AreIn class.Operand text → count_by (λ b. b == 44) text ≡ 0
 commas_none [] h = refl
 commas_none (b ∷ bs) h =
-    let a = both_true (not (b == 44)) (list_all (is_in class.Operand) bs) h in
+    let a = and_parts (not (b == 44)) (list_all (is_in class.Operand) bs) h in
     let fails : (b == 44) ≡ false = not_true (b == 44) a.0 in
     let ih = commas_none bs a.1 in
     let both : count_by (λ b. b == 44) (b ∷ bs) ≡ count_by (λ b. b == 44) (b ∷ []) + count_by (λ b. b == 44) bs = sum_by-append (λ b. cond (b == 44) 1 0) (b ∷ []) bs in
@@ -59,15 +59,15 @@ listed_count (more_listed operand text os h l) =
     omega arith
 
 longer : (b : ℕ) {text : List ℕ} {os : List (List ℕ)} → (b == 44) ≡ false → Listing text os → (os' : List (List ℕ)) × Listing (b ∷ text) os'
-longer b other (last_listed operand h) = ((b ∷ operand) ∷ [], last_listed (b ∷ operand) (and_true (not (b == 44)) (list_all (is_in class.Operand) operand) (ap not other) h))
-longer b other (more_listed operand text os h l) = ((b ∷ operand) ∷ os, more_listed (b ∷ operand) text os (and_true (not (b == 44)) (list_all (is_in class.Operand) operand) (ap not other) h) l)
+longer b other (last_listed operand h) = ((b ∷ operand) ∷ [], last_listed (b ∷ operand) (and_from (not (b == 44)) (list_all (is_in class.Operand) operand) (ap not other) h))
+longer b other (more_listed operand text os h l) = ((b ∷ operand) ∷ os, more_listed (b ∷ operand) text os (and_from (not (b == 44)) (list_all (is_in class.Operand) operand) (ap not other) h) l)
 
 -- each text is a list of operands
 pub listing_of : (text : List ℕ) → (os : List (List ℕ)) × Listing text os
 listing_of [] = ([] ∷ [], last_listed [] refl)
 listing_of (b ∷ bs) =
     let ih = listing_of bs in
-    elim (either (b == 44)) [
+    elim (cases_Bool (b == 44)) [
       | inl holds ↦ ([] ∷ ih.0, subst (λ (c : ℕ). Listing (c ∷ bs) ([] ∷ ih.0)) (sym (eqb-true b 44 holds)) (more_listed [] bs ih.0 refl ih.1))
       | inr fails ↦ longer b fails ih.1
     ]

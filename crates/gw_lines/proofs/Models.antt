@@ -3,14 +3,14 @@ use Rattle.std.proofs.Common.{◌≡◌, ◌≢◌, ℕ, suc, ◌-◌, Bool, tru
 use Rattle.std.specs.Prelude.{nat_eq}
 use Rattle.std.specs.List.{list_all}
 use Rattle.std.specs.Cmp.Lexicographic.{pointwise}
-use Rattle.std.proofs.lemmas.Bool.{eqb-true}
+use Rattle.std.proofs.lemmas.Bool.{and_parts, eqb-true}
 use Rattle.std.proofs.lemmas.List.{append-nil, nil_from_length}
 use Rattle.gw_meaning.specs.declared.statement.Statement.{Statement}
 use Rattle.gw_lines.specs.declared.class.Class.TheVariants as class
 use Rattle.gw_lines.specs.declared.fault.FaultyLine.{FaultyLine}
 use Rattle.gw_lines.specs.Classes.{is_in, front_of, rest_of, tail_of}
 use Rattle.gw_lines.specs.Spelling.{AreIn, Stops}
-use Rattle.gw_lines.proofs.Fronts.{both_true, and_false, not_true, not_false, parts, front_all, rest_stops}
+use Rattle.gw_lines.proofs.Fronts.{and_false, not_true, not_false, parts, front_all, rest_stops}
 use Rattle.gw_lines.specs.Reading.{◌>>=◌}
 use Rattle.gw_lines.specs.Models.{lines_of, with_byte, chomped, begins_line_feed}
 
@@ -26,7 +26,7 @@ one_more b bs e f = rw (e, f) refl
 -- the first byte is no line feed, and neither are the others
 none_first : (b : ℕ) (bs : List ℕ) → AreIn class.Line (b ∷ bs) → ((b == 10) ≡ false) × AreIn class.Line bs
 none_first b bs h =
-    let a = both_true (not (b == 10)) (list_all (is_in class.Line) bs) h in
+    let a = and_parts (not (b == 10)) (list_all (is_in class.Line) bs) h in
     (not_true (b == 10) a.0, a.1)
 
 lines_front : (front rest : List ℕ) → AreIn class.Line front → lines_of (front ++ 10 ∷ rest) ≡ chomped front ∷ lines_of rest
@@ -77,7 +77,7 @@ not_both false h = refl
 
 pub chomped_end : (line : List ℕ) → pointwise nat_eq (drop (length line - 1) line) (13 ∷ []) ≡ true → take (length line - 1) line ≡ chomped line
 chomped_end [] h = refl
-chomped_end (b ∷ []) h = rw (both_true (b == 13) true h).0 refl
+chomped_end (b ∷ []) h = rw (and_parts (b == 13) true h).0 refl
 chomped_end (b ∷ c ∷ bs) h =
     let k : length (b ∷ c ∷ bs) - 1 ≡ suc (length (c ∷ bs) - 1) = omega arith in
     rw k (ap (λ (x : List ℕ). b ∷ x) (chomped_end (c ∷ bs) (rw k at h)))

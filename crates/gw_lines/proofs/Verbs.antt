@@ -1,6 +1,7 @@
 -- The first fault of each verb's operands.
 use Rattle.std.proofs.Common.{◌≡◌, ℕ, suc, ◌≤◌, ◌<◌, ◌||◌, true, false, List, length, Option, Some, None, Result, Ok, Err, refl, sym, ap, subst, ◌∙◌, ◌⊎◌, inl, inr, arith}
 use Rattle.std.specs.Prelude.{is_some, codes}
+use Rattle.std.proofs.lemmas.Bool.{cases_Bool}
 use Rattle.gw_names.specs.declared.verb.Verb.{Verb}
 use Rattle.gw_names.specs.declared.verb.Verb.TheVariants as verbs
 use Rattle.gw_expr.specs.Term.{Term}
@@ -14,7 +15,6 @@ use Rattle.gw_lines.specs.Operands.{value_at, count_at, absent_at, key_at, ends_
 use Rattle.gw_lines.specs.Bodies.{generate_of, advance_of, terminate_of, start_with, start_of, block_body, command_body, body_of}
 use Rattle.gw_lines.specs.Spelling.{Listing}
 use Rattle.gw_lines.specs.Faulty.{forms_of, is_read, Misses, AllLawful, OperandFault, bad_operand, extra_operand, missing_operand}
-use Rattle.gw_lines.proofs.Fronts.{either}
 use Rattle.gw_lines.proofs.Bodies.{done, ok_is}
 use Rattle.gw_lines.proofs.Operands.{failed, err_is, not_both, passes, value_cases, count_cases, absent_cases, key_cases, ends_cases, Bad, Later, found_step, bad_step, none_bad, value_none_at, no_value_at, count_none_at, no_count_at}
 
@@ -50,7 +50,7 @@ neither None None e = (refl, refl)
 generate_end : {text : List ℕ} {os : List (List ℕ)} (l : Listing text os) (m o t p : Option Term) (f : LineFault) → value_at 1 text ≡ Ok m → value_at 4 text ≡ Ok t → length os < 6
     → (needed 1 (is_some m || is_some t) >>= λ given. done (blocks.Generate m o t p)) ≡ Err f → Tail verbs.Generate os f
 generate_end {text} {os} l m o t p f a d lt e =
-    elim (either (is_some m || is_some t)) [
+    elim (cases_Bool (is_some m || is_some t)) [
       | inl some ↦ absurd (let g = rw some at e in cc)
       | inr none ↦
           let n = neither m t none in

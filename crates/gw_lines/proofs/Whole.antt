@@ -2,6 +2,7 @@
 use Rattle.std.proofs.Common.{◌≡◌, ℕ, ◌+◌, List, [], ◌∷◌, ◌++◌, length, Option, Some, None, Result, Ok, Err, refl, sym, ap, subst, ◌∙◌, ◌⊎◌, inl, inr}
 use Rattle.std.specs.Prelude.{IfOk, IfErr, option_to_list, nat_lt}
 use Rattle.std.specs.Global.{Vec}
+use Rattle.std.proofs.lemmas.Bool.{cases_Bool}
 use Rattle.gw_meaning.specs.declared.statement.Statement.{Statement}
 use Rattle.gw_lines.specs.declared.fault.LineFault.{LineFault}
 use Rattle.gw_lines.specs.declared.fault.LineFault.TheVariants as faults
@@ -12,7 +13,6 @@ use Rattle.gw_lines.specs.Models.{lines_of, numbered, statements_of, model_of}
 use Rattle.gw_lines.specs.Spelling.{Spells}
 use Rattle.gw_lines.specs.Faulty.{FirstFault}
 use Rattle.gw_lines.specs.Whole.{IsRemark, OfLines, no_lines, remark_line, statement_line, FirstFaulty, faulty_line, behind_remark, behind_statement, SpellsModel, FirstFaultOf, AnswersAt}
-use Rattle.gw_lines.proofs.Fronts.{either}
 use Rattle.gw_lines.proofs.Bodies.{done, ok_is}
 use Rattle.gw_lines.proofs.Operands.{failed, err_is}
 use Rattle.gw_lines.proofs.Lines.{short_is, short_again, cut_of, cut_is, spells_found, spells_again}
@@ -31,9 +31,9 @@ not_none (Err f) e = cc
 remark_found : (line : List ℕ) → line_of line ≡ Ok None → IsRemark line
 unfolding line_of line_in
 remark_found line e =
-    elim (either (nat_lt 250 (length line))) [
+    elim (cases_Bool (nat_lt 250 (length line))) [
       | inl long ↦ absurd (let f = rw long at e in cc)
-      | inr short ↦ elim (either (is_remark (code_of line))) [
+      | inr short ↦ elim (cases_Bool (is_remark (code_of line))) [
         | inl remark ↦ record { code = code_of line; cut = cut_of line (short_is (length line) short); remark = remark }
         | inr code ↦ absurd (not_none (coded_of (behind_number (code_of line))) (rw (short, code) at e))
       ]

@@ -1,5 +1,5 @@
--- The numbers of the faults of lines. (Our own.)
-use Rattle.std.specs.Prelude.{ℕ, Option, Some, None}
+-- The numbers of the faults of lines, and how they are written. (Our own.)
+use Rattle.std.specs.Prelude.{ℕ, List, [], ◌++◌, Option, Some, None, codes, decimal}
 use Rattle.gw_lines.specs.declared.fault.LineFault.{LineFault}
 use Rattle.gw_lines.specs.declared.fault.LineFault.TheVariants.{TooLong, BadByte, UnknownVerb, BadLabel, BadOperand, MissingOperand, ExtraOperand, BadPairs, Memory}
 
@@ -26,3 +26,12 @@ operand_of (MissingOperand n) = Some n
 operand_of (ExtraOperand n) = Some n
 operand_of BadPairs = None
 operand_of Memory = None
+
+-- the operand at fault, where there is one
+abbrev pub operand_part : Option ℕ → List ℕ
+operand_part None = []
+operand_part (Some n) = codes " " ++ decimal n
+
+-- the fault as a refusal names it
+abbrev pub code_of : LineFault → List ℕ
+code_of fault = codes "L" ++ decimal (number_of fault) ++ operand_part (operand_of fault)

@@ -9,7 +9,6 @@ pub mod Models
 pub mod Whole
 pub mod Spelling
 pub mod Faulty
-pub mod Texts
 pub mod Edits
 pub use Rattle.gw_meaning.specs.Statements
 pub use Rattle.gw_nums.specs.Range

@@ -1,6 +1,7 @@
-ghost use Rattle.std.specs.Prelude.{◌≡◌};
-ghost use Rattle.gw_lines.specs.Faults.{number_of, operand_of};
+ghost use Rattle.std.specs.Prelude.{◌≡◌, ◌++◌, OnOk};
+ghost use Rattle.gw_lines.specs.Faults.{number_of, operand_of, operand_part, code_of};
 
+use gw_nums::put_decimal;
 use std::alloc::{AllocError, AllocFailed};
 use thiserror::Error;
 
@@ -79,6 +80,25 @@ impl LineFault {
             | LineFault::Memory => None,
         }
     }
+
+    /// Appends the fault as a refusal names it: `L1`, or with the number of its operand `L5 2`.
+    pub fn put_code(self, text: &mut Vec<u8>) -> Result<(), AllocError>
+        ensures { OnOk result (text.new.items ≡ text.old.items ++ code_of self) }
+    {
+        text.push(b'L')?;
+        put_decimal(text, u64::from(self.number()))?;
+        put_operand(text, self.operand())
+    }
+}
+
+fn put_operand(text: &mut Vec<u8>, operand: Option<u8>) -> Result<(), AllocError>
+    ensures { OnOk result (text.new.items ≡ text.old.items ++ operand_part operand) }
+{
+    if let Some(operand) = operand {
+        text.push(b' ')?;
+        put_decimal(text, u64::from(operand))?;
+    }
+    Ok(())
 }
 
 impl From<AllocError> for LineFault {

@@ -9,16 +9,17 @@ use Rattle.gw_script.specs.declared.fault.Fault.TheVariants as faults
 use Rattle.gw_script.specs.declared.fault.Over.{Over}
 use Rattle.gw_script.specs.declared.opening.Options.{Options}
 use Rattle.gw_script.specs.Opening.{Opens, Refuses}
+use Rattle.gw_script.specs.Replying.{DeskAnswers}
 use Rattle.gw_script.specs.Sessions.{Stops}
 use Rattle.gw_main.specs.Complaints.{IsToldAs, Tells, complaint_of, status_of}
 use Rattle.gw_main.specs.Conversations.{Ends, Takes, Fails, in_model, refused, in_session, served, stopped}
 
 -- a session behind the model that was taken stopped
-pub fails_behind : {S K : Type 0} (took : S → List ℕ → S → Type 0) (ended : S → Type 0) (reads : S → ℕ) (wrote : K → List ℕ → K → Type 0) (writes : K → ℕ) (o : Options) (reader between reader' : S) (writer writer' : K) (model : List ℕ) (fault : Fault) → Takes took ended reads reader between model → (Refuses model o fault × (reader' ≡ between) × (writer' ≡ writer)) ⊎ ((b : Book) × Opens model o b × Stops took reads wrote writes b between reader' writer writer' fault) → Fails took ended reads wrote writes o reader reader' writer writer' fault
+pub fails_behind : {S K : Type 0} (took : S → List ℕ → S → Type 0) (ended : S → Type 0) (reads : S → ℕ) (wrote : K → List ℕ → K → Type 0) (writes : K → ℕ) (o : Options) (reader between reader' : S) (writer writer' : K) (model : List ℕ) (fault : Fault) → Takes took ended reads reader between model → (Refuses model o fault × (reader' ≡ between) × (writer' ≡ writer)) ⊎ ((b : Book) × (b' : Book) × Opens model o b × Stops DeskAnswers took reads wrote writes b between reader' writer writer' b' fault) → Fails took ended reads wrote writes o reader reader' writer writer' fault
 fails_behind {S} {K} took ended reads wrote writes o reader between reader' writer writer' model fault taken (inl h) =
     let P : S → Type 0 = λ s. Takes took ended reads reader s model in
     refused model (subst P (sym h.1) taken) h.0 h.2
-fails_behind {S} {K} took ended reads wrote writes o reader between reader' writer writer' model fault taken (inr h) = in_session between model h.0 taken h.1 h.2
+fails_behind {S} {K} took ended reads wrote writes o reader between reader' writer writer' model fault taken (inr h) = in_session between model h.0 h.1 taken h.2 h.3
 
 -- a conversation that stopped for a faulty line stopped, as far as can be said, for want of memory
 pub fails_of_memory : {S K : Type 0} (took : S → List ℕ → S → Type 0) (ended : S → Type 0) (reads : S → ℕ) (wrote : K → List ℕ → K → Type 0) (writes : K → ℕ) (o : Options) (reader reader' : S) (writer writer' : K) (faulty : FaultyLine) → Fails took ended reads wrote writes o reader reader' writer writer' (faults.Line faulty) → Fails took ended reads wrote writes o reader reader' writer writer' faults.Memory
@@ -26,7 +27,7 @@ fails_of_memory took ended reads wrote writes o reader reader' writer writer' fa
 fails_of_memory took ended reads wrote writes o reader reader' writer writer' faulty (in_model left causes.Limit breaks is unwritten) = absurd (cc)
 fails_of_memory took ended reads wrote writes o reader reader' writer writer' faulty (in_model left causes.Memory breaks is unwritten) = absurd (cc)
 fails_of_memory took ended reads wrote writes o reader reader' writer writer' faulty (refused model taken refusal unwritten) = refused model taken tt unwritten
-fails_of_memory took ended reads wrote writes o reader reader' writer writer' faulty (in_session between model book taken opens stops) = absurd stops.cause
+fails_of_memory took ended reads wrote writes o reader reader' writer writer' faulty (in_session between model book after taken opens stops) = absurd stops.cause
 
 -- what stopped for a fault stopped for the one that is told, where a faulty line may be told as want of memory
 pub is_told : (F : Fault → Type 0) → ((faulty : FaultyLine) → F (faults.Line faulty) → F faults.Memory) → (came told : Fault) → IsToldAs came told → F came → F told

@@ -1,6 +1,5 @@
 pub mod Conversing
 pub mod FileConversing
-pub mod Numbers
 pub mod Reading
 pub mod Spacing
 pub mod Usual

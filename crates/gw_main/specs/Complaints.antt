@@ -1,21 +1,16 @@
 -- What standard error is told of a fault, and the status of the program. (Our own.)
-use Rattle.std.specs.Prelude.{◌≡◌, ◌⊎◌, ℕ, List, [], ◌++◌, Option, Some, None, codes, decimal}
+use Rattle.std.specs.Prelude.{◌≡◌, ◌⊎◌, ℕ, List, ◌++◌, codes, decimal}
 use Rattle.gw_io.specs.Failures.{one_more, WritesPart}
 use Rattle.gw_lines.specs.declared.fault.FaultyLine.{FaultyLine}
-use Rattle.gw_lines.specs.Faults as lines
+use Rattle.gw_lines.specs.Faults.{code_of}
 use Rattle.gw_model.specs.declared.fault.ModelFault.{ModelFault}
 use Rattle.gw_model.specs.Faults as models
 use Rattle.gw_script.specs.declared.fault.Fault.{Fault}
 use Rattle.gw_script.specs.declared.fault.Fault.TheVariants.{Line, Model, Read, Write, ReadLimit, Memory}
 
--- the operand that a line's fault names
-abbrev pub operand_part : Option ℕ → List ℕ
-operand_part None = []
-operand_part (Some n) = codes " " ++ decimal n
-
 -- the line for a faulty line of the model
 abbrev pub line_part : FaultyLine → List ℕ
-line_part faulty = codes "model refused: line " ++ decimal faulty.line ++ codes " L" ++ decimal (lines.number_of faulty.fault) ++ operand_part (lines.operand_of faulty.fault) ++ codes "\n"
+line_part faulty = codes "model refused: line " ++ decimal faulty.line ++ codes " " ++ code_of faulty.fault ++ codes "\n"
 
 -- the line for a model fault
 abbrev pub model_part : ModelFault → List ℕ

@@ -8,6 +8,7 @@ use Rattle.gw_script.specs.declared.fault.Fault.{Fault}
 use Rattle.gw_script.specs.declared.fault.Over.{Over}
 use Rattle.gw_script.specs.declared.opening.Options.{Options}
 use Rattle.gw_script.specs.Opening.{Opens, Refuses}
+use Rattle.gw_script.specs.Replying.{DeskAnswers}
 use Rattle.gw_script.specs.Sessions.{Serves, Stops}
 use Rattle.gw_script.specs.Turns.{stopped_by}
 use Rattle.gw_main.specs.Complaints.{Tells, complaint_of, status_of}
@@ -23,16 +24,17 @@ pub record Converses {S K : Type 0} (took : S → List ℕ → S → Type 0) (en
   pub between : S
   pub model : List ℕ
   pub book : Book
+  pub after : Book
   pub taken : Takes took ended reads reader between model
   pub opens : Opens model o book
-  pub serves : Serves took ended wrote book between reader' writer writer' over
+  pub serves : Serves DeskAnswers took ended wrote book between reader' writer writer' after over
 
 -- a conversation stopped: within the model, with nothing written; behind a model that is refused, with nothing more read
 -- and nothing written; or in the session over the model
 pub data Fails {S K : Type 0} (took : S → List ℕ → S → Type 0) (ended : S → Type 0) (reads : S → ℕ) (wrote : K → List ℕ → K → Type 0) (writes : K → ℕ) (o : Options) (reader reader' : S) (writer writer' : K) (fault : Fault) : Type 0 where
   in_model : (left : ℕ) (cause : ReadFault) → Breaks took reads IsModelPart reader reader' 16777216 left cause → fault ≡ stopped_by cause → writer' ≡ writer → Fails took ended reads wrote writes o reader reader' writer writer' fault
   refused : (model : List ℕ) → Takes took ended reads reader reader' model → Refuses model o fault → writer' ≡ writer → Fails took ended reads wrote writes o reader reader' writer writer' fault
-  in_session : (between : S) (model : List ℕ) (book : Book) → Takes took ended reads reader between model → Opens model o book → Stops took reads wrote writes book between reader' writer writer' fault → Fails took ended reads wrote writes o reader reader' writer writer' fault
+  in_session : (between : S) (model : List ℕ) (book after : Book) → Takes took ended reads reader between model → Opens model o book → Stops DeskAnswers took reads wrote writes book between reader' writer writer' after fault → Fails took ended reads wrote writes o reader reader' writer writer' fault
 
 -- how a run ends whose conversation came to its end, or stopped for a fault: it served the script to its end, and standard
 -- error was told nothing; or standard error was told of the fault, and the status is the fault's

@@ -1,9 +1,8 @@
 // What standard error is told, and the status that goes with it.
-ghost use Rattle.std.specs.Prelude.{◌≡◌, ◌++◌, IfOk, OnOk};
-ghost use Rattle.gw_lines.specs.Faults.{operand_of};
-ghost use Rattle.gw_main.specs.Complaints.{complaint_of, status_of, line_part, model_part, operand_part, IsToldAs, Tells};
+ghost use Rattle.std.specs.Prelude.{◌≡◌, IfOk};
+ghost use Rattle.gw_main.specs.Complaints.{complaint_of, status_of, line_part, model_part, IsToldAs, Tells};
 
-use gw_lines::{FaultyLine, LineFault};
+use gw_lines::FaultyLine;
 use gw_model::ModelFault;
 use gw_nums::put_decimal;
 use gw_script::{Fault, Sink};
@@ -46,21 +45,10 @@ fn line_text(alloc: Global, faulty: FaultyLine) -> Result<Vec<u8>, AllocError>
 {
     let mut text = Vec::from_slice(alloc, b"model refused: line ")?;
     put_decimal(&mut text, faulty.line)?;
-    text.extend_from_slice(b" L")?;
-    put_decimal(&mut text, u64::from(faulty.fault.number()))?;
-    put_operand(&mut text, faulty.fault)?;
+    text.extend_from_slice(b" ")?;
+    faulty.fault.put_code(&mut text)?;
     text.extend_from_slice(b"\n")?;
     Ok(text)
-}
-
-fn put_operand(text: &mut Vec<u8>, fault: LineFault) -> Result<(), AllocError>
-    ensures { OnOk result (text.new.items ≡ text.old.items ++ operand_part (operand_of fault)) }
-{
-    if let Some(operand) = fault.operand() {
-        text.extend_from_slice(b" ")?;
-        put_decimal(text, u64::from(operand))?;
-    }
-    Ok(())
 }
 
 fn model_text(fault: ModelFault) -> &'static [u8]

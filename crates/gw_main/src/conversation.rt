@@ -1,6 +1,5 @@
 // A conversation over a model and a script: the model on standard input or in a file, the script on standard input.
-ghost use Rattle.std.specs.Prelude.{IfOk, IfErr, ◌≡◌, ◌≤◌};
-ghost use Rattle.gw_script.specs.Turns.{stopped_by};
+ghost use Rattle.std.specs.Prelude.{IfOk, IfErr, ◌≤◌};
 ghost use Rattle.gw_main.specs.Conversations.{Converses, Fails};
 ghost use Rattle.gw_main.specs.Files.{FileConverses, FileFails};
 
@@ -20,10 +19,7 @@ pub fn converse<S: Source, K: Sink>(
     ensures fails { IfErr result (Fails S.took S.ended S.failures K.wrote K.failures options reader.old reader.new writer.old writer.new) }
 {
     let mut budget = Budget::new();
-    let model = match split_model(alloc, reader, &mut budget) {
-        Ok(model) => model,
-        Err(fault) => return Err(fault_of(fault)),
-    };
+    let model = split_model(alloc, reader, &mut budget)?;
     session(alloc, &model, options, reader, writer)
 }
 
@@ -39,24 +35,8 @@ pub fn converse_over_file<F: Source + Drop, S: Source, K: Sink>(
     ensures converses { IfOk result (FileConverses F.took F.ended F.failures S.took S.ended K.wrote options opened reader.old reader.new writer.old writer.new) }
     ensures fails { IfErr result (FileFails F.took F.ended F.failures S.took S.failures K.wrote K.failures options opened reader.old reader.new writer.old writer.new) }
 {
-    let mut file = match opened {
-        Ok(file) => file,
-        Err(fault) => return Err(fault_of(fault)),
-    };
+    let mut file = opened?;
     let mut budget = Budget::new();
-    let bytes = match read_all(alloc, &mut file, &mut budget) {
-        Ok(bytes) => bytes,
-        Err(fault) => return Err(fault_of(fault)),
-    };
+    let bytes = read_all(alloc, &mut file, &mut budget)?;
     session(alloc, &bytes, options, reader, writer)
-}
-
-fn fault_of(fault: ReadFault) -> Fault
-    ensures { result ≡ stopped_by fault }
-{
-    match fault {
-        ReadFault::Read => Fault::Read,
-        ReadFault::Limit => Fault::ReadLimit,
-        ReadFault::Memory => Fault::Memory,
-    }
 }

@@ -1,4 +1,5 @@
 pub mod Statements
+pub mod Texts
 pub mod Listing
 pub mod Machine
 pub mod Questions

@@ -3,13 +3,14 @@
 //! The definitions stand in `specs/`, in this order: Listing (what a version says), Machine (the state),
 //! Questions (what a step may ask, and programs of questions), Changes (what a move does to a state),
 //! Step (which move it is, and the run), Point (where a report is taken). The types here are the plain data
-//! that they speak of.
+//! that they speak of, and Texts says how a statement is listed.
 #![tactic(auto)]
 
 mod item;
 mod moves;
 mod row;
 mod statement;
+mod text;
 mod transaction;
 
 pub use item::{End, Item, Outcome};

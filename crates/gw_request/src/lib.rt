@@ -13,4 +13,5 @@ mod request;
 mod tests;
 mod words;
 
+pub use number::number_of;
 pub use request::{LINE_LIMIT, Reason, Request, request_of};

@@ -8,7 +8,7 @@ use crate::words::cut;
 
 const MOST_DIGITS: usize = 18;
 
-// The number that a word is: 1 to 18 digits.
+/// The number that a word is: 1 to 18 digits, with no sign and no blank.
 pub fn number_of(word: &[u8]) -> Option<u64>
     ensures { result ≡ number_of word.now }
 {

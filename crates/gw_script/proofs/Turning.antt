@@ -5,74 +5,72 @@ use Rattle.gw_io.specs.declared.budget.ReadFault.TheVariants as reads
 use Rattle.gw_io.specs.Failures.{one_more}
 use Rattle.gw_io.specs.Reading.{Breaks}
 use Rattle.gw_io.specs.Line.{IsUnended, without_cr_of}
-use Rattle.gw_desk.specs.Book.{Book}
 use Rattle.gw_request.specs.Requests.{request_of}
 use Rattle.gw_script.specs.declared.fault.Over.{Over}
 use Rattle.gw_script.specs.declared.fault.Over.TheVariants as overs
 use Rattle.gw_script.specs.declared.fault.Fault.{Fault}
 use Rattle.gw_script.specs.declared.fault.Fault.TheVariants as faults
-use Rattle.gw_script.specs.Replying.{Answers, is_quit}
+use Rattle.gw_script.specs.Replying.{is_quit}
 use Rattle.gw_script.specs.Sessions.{Says, nothing, line, last, quit, last_quit, IsAllRead, Serves, Stops, StopsBy}
 use Rattle.gw_script.specs.Turns.{Writes, BreaksOff, BreaksBy, stopped_by, over_if}
-use Rattle.gw_script.proofs.Answering.{answers_some}
 
--- after some lines over the desk b, before line n over the desk d
-pub record Turned {S K : Type 0} (took : S → List ℕ → S → Type 0) (wrote : K → List ℕ → K → Type 0) (b d : Book) (n left : ℕ) (source source' : S) (sink sink' : K) : Type 0 where
+-- after some lines over the keeper b, before line n over the keeper d
+pub record Turned {D S K : Type 0} (answers : D → ℕ → List ℕ → List ℕ → D → Type 0) (took : S → List ℕ → S → Type 0) (wrote : K → List ℕ → K → Type 0) (b d : D) (n left : ℕ) (source source' : S) (sink sink' : K) : Type 0 where
   pub input : List ℕ
   pub output : List ℕ
   pub taken : took source input source'
   pub written : wrote sink output sink'
-  pub onward : (rest out : List ℕ) (over : Over) → Says d n rest out over → Says b 1 (input ++ rest) (output ++ out) over
+  pub onward : (rest out : List ℕ) (over : Over) (final : D) → Says answers d n rest out over final → Says answers b 1 (input ++ rest) (output ++ out) over final
   pub spent : left + length input ≡ 16777216
   pub few : n + left ≤ 16777217
 
-pub turned_none : {S K : Type 0} (took : S → List ℕ → S → Type 0) (wrote : K → List ℕ → K → Type 0) (b : Book) (source : S) (sink : K) → took source [] source → wrote sink [] sink → Turned took wrote b b 1 16777216 source source sink sink
-turned_none took wrote b source sink x y = record { input = []; output = []; taken = x; written = y; onward = λ rest out over says. says; spent = refl; few = omega arith }
+pub turned_none : {D S K : Type 0} (answers : D → ℕ → List ℕ → List ℕ → D → Type 0) (took : S → List ℕ → S → Type 0) (wrote : K → List ℕ → K → Type 0) (b : D) (source : S) (sink : K) → took source [] source → wrote sink [] sink → Turned answers took wrote b b 1 16777216 source source sink sink
+turned_none answers took wrote b source sink x y = record { input = []; output = []; taken = x; written = y; onward = λ rest out over final says. says; spent = refl; few = omega arith }
 
--- something is said to any unended line
-pub says_some : (d : Book) (n : ℕ) (text : List ℕ) → IsUnended text → (out : List ℕ) × (over : Over) × Says d n text out over
-says_some d n text unended = go (is_quit (request_of text)) refl where
-  some : (front : List ℕ) × (after : Book) × Answers d n text front after
-  some = answers_some d n text
+-- something is said to any unended line, and may leave the keeper as it is
+pub says_some : {D : Type 0} (answers : D → ℕ → List ℕ → List ℕ → D → Type 0) → ((d : D) (n : ℕ) (line : List ℕ) → (front : List ℕ) × answers d n line front d) → (d : D) (n : ℕ) (text : List ℕ) → IsUnended text → (out : List ℕ) × (over : Over) × Says answers d n text out over d
+says_some {D} answers some_to d n text unended = go (is_quit (request_of text)) refl where
+  some : (front : List ℕ) × answers d n text front d
+  some = some_to d n text
 
-  go : (q : Bool) → is_quit (request_of text) ≡ q → (out : List ℕ) × (over : Over) × Says d n text out over
-  go true is = (some.0, overs.Quit, last_quit d some.1 n text some.0 unended is some.2)
-  go false is = (some.0, overs.InputEnd, last d some.1 n text some.0 unended is some.2)
+  go : (q : Bool) → is_quit (request_of text) ≡ q → (out : List ℕ) × (over : Over) × Says answers d n text out over d
+  go true is = (some.0, overs.Quit, last_quit d d n text some.0 unended is some.1)
+  go false is = (some.0, overs.InputEnd, last d d n text some.0 unended is some.1)
 
 -- regrouped input and output
-says_regrouped : (b : Book) (over : Over) (i j k x y z : List ℕ) → Says b 1 (i ++ (j ++ k)) (x ++ (y ++ z)) over → Says b 1 ((i ++ j) ++ k) ((x ++ y) ++ z) over
-says_regrouped b over i j k x y z says =
-    let P : List ℕ → Type 0 = λ l. Says b 1 l ((x ++ y) ++ z) over in
-    let Q : List ℕ → Type 0 = λ o. Says b 1 (i ++ (j ++ k)) o over in
+says_regrouped : {D : Type 0} (answers : D → ℕ → List ℕ → List ℕ → D → Type 0) (b d : D) (over : Over) (i j k x y z : List ℕ) → Says answers b 1 (i ++ (j ++ k)) (x ++ (y ++ z)) over d → Says answers b 1 ((i ++ j) ++ k) ((x ++ y) ++ z) over d
+says_regrouped answers b d over i j k x y z says =
+    let P : List ℕ → Type 0 = λ l. Says answers b 1 l ((x ++ y) ++ z) over d in
+    let Q : List ℕ → Type 0 = λ o. Says answers b 1 (i ++ (j ++ k)) o over d in
     subst P (sym (append_assoc i j k)) (subst Q (sym (append_assoc x y z)) says)
 
 -- a whole line, answered
-pub turned_line : {S K : Type 0} (took : S → List ℕ → S → Type 0) (wrote : K → List ℕ → K → Type 0) (took_on : (a b c : S) (x y : List ℕ) → took a x b → took b y c → took a (x ++ y) c) (wrote_on : (a b c : K) (x y : List ℕ) → wrote a x b → wrote b y c → wrote a (x ++ y) c) (b d d' : Book) (n left left' : ℕ) (source s s' : S) (sink k k' : K) (text : List ℕ) → Turned took wrote b d n left source s sink k → IsUnended text → took s (text ++ 10 ∷ []) s' → left ≡ left' + (length text + 1) → is_quit (request_of (without_cr_of text)) ≡ false → Writes wrote (Answers d n (without_cr_of text)) k k' d' → Turned took wrote b d' (n + 1) left' source s' sink k'
-turned_line took wrote took_on wrote_on b d d' n left left' source s s' sink k k' text before unended taken spent goes r = record {
+pub turned_line : {D S K : Type 0} (answers : D → ℕ → List ℕ → List ℕ → D → Type 0) (took : S → List ℕ → S → Type 0) (wrote : K → List ℕ → K → Type 0) (took_on : (a b c : S) (x y : List ℕ) → took a x b → took b y c → took a (x ++ y) c) (wrote_on : (a b c : K) (x y : List ℕ) → wrote a x b → wrote b y c → wrote a (x ++ y) c) (b d d' : D) (n left left' : ℕ) (source s s' : S) (sink k k' : K) (text : List ℕ) → Turned answers took wrote b d n left source s sink k → IsUnended text → took s (text ++ 10 ∷ []) s' → left ≡ left' + (length text + 1) → is_quit (request_of (without_cr_of text)) ≡ false → Writes wrote (answers d n (without_cr_of text)) k k' d' → Turned answers took wrote b d' (n + 1) left' source s' sink k'
+turned_line answers took wrote took_on wrote_on b d d' n left left' source s s' sink k k' text before unended taken spent goes r = record {
   input = before.input ++ (text ++ 10 ∷ []);
   output = before.output ++ r.front;
   taken = took_on source s s' before.input (text ++ 10 ∷ []) before.taken taken;
   written = wrote_on sink k k' before.output r.front before.written r.written;
-  onward = λ rest out over says. says_regrouped b over before.input (text ++ 10 ∷ []) rest before.output r.front out (before.onward ((text ++ 10 ∷ []) ++ rest) (r.front ++ out) over (line d d' n text rest r.front out over unended goes r.answers says));
+  onward = λ rest out over final says. says_regrouped answers b final over before.input (text ++ 10 ∷ []) rest before.output r.front out (before.onward ((text ++ 10 ∷ []) ++ rest) (r.front ++ out) over final (line d d' final n text rest r.front out over unended goes r.answers says));
   spent = omega (arith, before.spent, spent, length-append before.input (text ++ 10 ∷ []), length-append text (10 ∷ []));
   few = omega (arith, before.few, spent);
 }
 
 -- the last turn: something is said to what it reads, and it is written
-pub serves_last : {S K : Type 0} (took : S → List ℕ → S → Type 0) (ended : S → Type 0) (wrote : K → List ℕ → K → Type 0) (took_on : (a b c : S) (x y : List ℕ) → took a x b → took b y c → took a (x ++ y) c) (wrote_on : (a b c : K) (x y : List ℕ) → wrote a x b → wrote b y c → wrote a (x ++ y) c) (b d : Book) (n left : ℕ) (source s s' : S) (sink k k' : K) (bytes front : List ℕ) (over : Over) → Turned took wrote b d n left source s sink k → took s bytes s' → wrote k front k' → Says d n bytes front over → IsAllRead (ended s') over → Serves took ended wrote b source s' sink k' over
-serves_last took ended wrote took_on wrote_on b d n left source s s' sink k k' bytes front over before taken written says all = record {
+pub serves_last : {D S K : Type 0} (answers : D → ℕ → List ℕ → List ℕ → D → Type 0) (took : S → List ℕ → S → Type 0) (ended : S → Type 0) (wrote : K → List ℕ → K → Type 0) (took_on : (a b c : S) (x y : List ℕ) → took a x b → took b y c → took a (x ++ y) c) (wrote_on : (a b c : K) (x y : List ℕ) → wrote a x b → wrote b y c → wrote a (x ++ y) c) (b d : D) (n left : ℕ) (source s s' : S) (sink k k' : K) (final : D) (bytes front : List ℕ) (over : Over) → Turned answers took wrote b d n left source s sink k → took s bytes s' → wrote k front k' → Says answers d n bytes front over final → IsAllRead (ended s') over → Serves answers took ended wrote b source s' sink k' final over
+serves_last answers took ended wrote took_on wrote_on b d n left source s s' sink k k' final bytes front over before taken written says all = record {
   input = before.input ++ bytes;
   output = before.output ++ front;
   taken = took_on source s s' before.input bytes before.taken taken;
   written = wrote_on sink k k' before.output front before.written written;
-  says = before.onward bytes front over says;
+  says = before.onward bytes front over final says;
   all_read = all;
 }
 
 -- the session stops in a turn: a front of what is said to what it reads is written
-pub stops_within : {S K : Type 0} (took : S → List ℕ → S → Type 0) (reads_of : S → ℕ) (wrote : K → List ℕ → K → Type 0) (writes_of : K → ℕ) (took_on : (a b c : S) (x y : List ℕ) → took a x b → took b y c → took a (x ++ y) c) (wrote_on : (a b c : K) (x y : List ℕ) → wrote a x b → wrote b y c → wrote a (x ++ y) c) (b d : Book) (n left : ℕ) (source s s' : S) (sink k k' : K) (bytes front rest : List ℕ) (over : Over) (fault : Fault) (before : Turned took wrote b d n left source s sink k) → took s bytes s' → wrote k front k' → Says d n bytes (front ++ rest) over → StopsBy fault (reads_of source) (reads_of s') (writes_of sink) (writes_of k') (length (before.input ++ bytes)) → Stops took reads_of wrote writes_of b source s' sink k' fault
-stops_within took reads_of wrote writes_of took_on wrote_on b d n left source s s' sink k k' bytes front rest over fault before taken written says cause =
-    let P : List ℕ → Type 0 = λ o. Says b 1 (before.input ++ bytes) o over in
+pub stops_within : {D S K : Type 0} (answers : D → ℕ → List ℕ → List ℕ → D → Type 0) (took : S → List ℕ → S → Type 0) (reads_of : S → ℕ) (wrote : K → List ℕ → K → Type 0) (writes_of : K → ℕ) (took_on : (a b c : S) (x y : List ℕ) → took a x b → took b y c → took a (x ++ y) c) (wrote_on : (a b c : K) (x y : List ℕ) → wrote a x b → wrote b y c → wrote a (x ++ y) c) (b d : D) (n left : ℕ) (source s s' : S) (sink k k' : K) (final : D) (bytes front rest : List ℕ) (over : Over) (fault : Fault) (before : Turned answers took wrote b d n left source s sink k) → took s bytes s' → wrote k front k' → Says answers d n bytes (front ++ rest) over final → StopsBy fault (reads_of source) (reads_of s') (writes_of sink) (writes_of k') (length (before.input ++ bytes)) → Stops answers took reads_of wrote writes_of b source s' sink k' final fault
+stops_within answers took reads_of wrote writes_of took_on wrote_on b d n left source s s' sink k k' final bytes front rest over fault before taken written says cause =
+    let P : List ℕ → Type 0 = λ o. Says answers b 1 (before.input ++ bytes) o over final in
     record {
       input = before.input ++ bytes;
       output = before.output ++ front;
@@ -80,22 +78,22 @@ stops_within took reads_of wrote writes_of took_on wrote_on b d n left source s 
       over = over;
       taken = took_on source s s' before.input bytes before.taken taken;
       written = wrote_on sink k k' before.output front before.written written;
-      says = subst P (sym (append_assoc before.output front rest)) (before.onward bytes (front ++ rest) over says);
+      says = subst P (sym (append_assoc before.output front rest)) (before.onward bytes (front ++ rest) over final says);
       cause = cause;
     }
 
 -- reading a line broke off
-pub stops_reading : {S K : Type 0} (took : S → List ℕ → S → Type 0) (reads_of : S → ℕ) (wrote : K → List ℕ → K → Type 0) (writes_of : K → ℕ) (took_on : (a b c : S) (x y : List ℕ) → took a x b → took b y c → took a (x ++ y) c) (wrote_on : (a b c : K) (x y : List ℕ) → wrote a x b → wrote b y c → wrote a (x ++ y) c) (wrote_none : (a : K) → wrote a [] a) (b d : Book) (n left left' : ℕ) (source s s' : S) (sink k : K) (fault : ReadFault) (before : Turned took wrote b d n left source s sink k) → reads_of s ≡ reads_of source → Breaks took reads_of IsUnended s s' left left' fault → Stops took reads_of wrote writes_of b source s' sink k (stopped_by fault)
-stops_reading took reads_of wrote writes_of took_on wrote_on wrote_none b d n left left' source s s' sink k reads.Read before same broken =
-    let said = says_some d n broken.bytes broken.part in
-    stops_within took reads_of wrote writes_of took_on wrote_on b d n left source s s' sink k k broken.bytes [] said.0 said.1 faults.Read before broken.taken (wrote_none k) said.2 (broken.counted ∙ ap one_more same)
-stops_reading took reads_of wrote writes_of took_on wrote_on wrote_none b d n left left' source s s' sink k reads.Limit before same broken =
-    let said = says_some d n broken.bytes broken.part in
+pub stops_reading : {D S K : Type 0} (answers : D → ℕ → List ℕ → List ℕ → D → Type 0) (took : S → List ℕ → S → Type 0) (reads_of : S → ℕ) (wrote : K → List ℕ → K → Type 0) (writes_of : K → ℕ) (took_on : (a b c : S) (x y : List ℕ) → took a x b → took b y c → took a (x ++ y) c) (wrote_on : (a b c : K) (x y : List ℕ) → wrote a x b → wrote b y c → wrote a (x ++ y) c) (wrote_none : (a : K) → wrote a [] a) (some_to : (d : D) (n : ℕ) (line : List ℕ) → (front : List ℕ) × answers d n line front d) (b d : D) (n left left' : ℕ) (source s s' : S) (sink k : K) (fault : ReadFault) (before : Turned answers took wrote b d n left source s sink k) → reads_of s ≡ reads_of source → Breaks took reads_of IsUnended s s' left left' fault → Stops answers took reads_of wrote writes_of b source s' sink k d (stopped_by fault)
+stops_reading answers took reads_of wrote writes_of took_on wrote_on wrote_none some_to b d n left left' source s s' sink k reads.Read before same broken =
+    let said = says_some answers some_to d n broken.bytes broken.part in
+    stops_within answers took reads_of wrote writes_of took_on wrote_on b d n left source s s' sink k k d broken.bytes [] said.0 said.1 faults.Read before broken.taken (wrote_none k) said.2 (broken.counted ∙ ap one_more same)
+stops_reading answers took reads_of wrote writes_of took_on wrote_on wrote_none some_to b d n left left' source s s' sink k reads.Limit before same broken =
+    let said = says_some answers some_to d n broken.bytes broken.part in
     let all : length (before.input ++ broken.bytes) ≡ 16777216 = omega (arith, before.spent, broken.spent, broken.idle_calls, broken.limit, length-append before.input broken.bytes) in
-    stops_within took reads_of wrote writes_of took_on wrote_on b d n left source s s' sink k k broken.bytes [] said.0 said.1 faults.ReadLimit before broken.taken (wrote_none k) said.2 all
-stops_reading took reads_of wrote writes_of took_on wrote_on wrote_none b d n left left' source s s' sink k reads.Memory before same broken =
-    let said = says_some d n broken.bytes broken.part in
-    stops_within took reads_of wrote writes_of took_on wrote_on b d n left source s s' sink k k broken.bytes [] said.0 said.1 faults.Memory before broken.taken (wrote_none k) said.2 tt
+    stops_within answers took reads_of wrote writes_of took_on wrote_on b d n left source s s' sink k k d broken.bytes [] said.0 said.1 faults.ReadLimit before broken.taken (wrote_none k) said.2 all
+stops_reading answers took reads_of wrote writes_of took_on wrote_on wrote_none some_to b d n left left' source s s' sink k reads.Memory before same broken =
+    let said = says_some answers some_to d n broken.bytes broken.part in
+    stops_within answers took reads_of wrote writes_of took_on wrote_on b d n left source s s' sink k k d broken.bytes [] said.0 said.1 faults.Memory before broken.taken (wrote_none k) said.2 tt
 
 -- answering broke off for a cause that stops the session
 pub stop_cause : (fault : Fault) (reads reads' writes writes' taken : ℕ) → BreaksBy fault writes writes' → StopsBy fault reads reads' writes writes' taken
@@ -107,27 +105,27 @@ stop_cause faults.ReadLimit reads reads' writes writes' taken h = absurd h
 stop_cause faults.Memory reads reads' writes writes' taken h = h
 
 -- what is said to a whole line with nothing behind it
-pub says_whole : (d d' : Book) (n : ℕ) (text front : List ℕ) → IsUnended text → Answers d n (without_cr_of text) front d' → (over : Over) × Says d n (text ++ 10 ∷ []) front over
-says_whole d d' n text front unended answers = go (is_quit (request_of (without_cr_of text))) refl where
-  go : (q : Bool) → is_quit (request_of (without_cr_of text)) ≡ q → (over : Over) × Says d n (text ++ 10 ∷ []) front over
-  go true is = (overs.Quit, quit d d' n text front unended is answers)
+pub says_whole : {D : Type 0} (answers : D → ℕ → List ℕ → List ℕ → D → Type 0) (d d' : D) (n : ℕ) (text front : List ℕ) → IsUnended text → answers d n (without_cr_of text) front d' → (over : Over) × Says answers d n (text ++ 10 ∷ []) front over d'
+says_whole answers d d' n text front unended told = go (is_quit (request_of (without_cr_of text))) refl where
+  go : (q : Bool) → is_quit (request_of (without_cr_of text)) ≡ q → (over : Over) × Says answers d n (text ++ 10 ∷ []) front over d'
+  go true is = (overs.Quit, quit d d' n text front unended is told)
   go false is =
-      let P : List ℕ → Type 0 = λ i. Says d n i front overs.InputEnd in
-      let Q : List ℕ → Type 0 = λ o. Says d n ((text ++ 10 ∷ []) ++ []) o overs.InputEnd in
-      (overs.InputEnd, subst P (append-nil (text ++ 10 ∷ [])) (subst Q (append-nil front) (line d d' n text [] front [] overs.InputEnd unended is answers (nothing d' (n + 1)))))
+      let P : List ℕ → Type 0 = λ i. Says answers d n i front overs.InputEnd d' in
+      let Q : List ℕ → Type 0 = λ o. Says answers d n ((text ++ 10 ∷ []) ++ []) o overs.InputEnd d' in
+      (overs.InputEnd, subst P (append-nil (text ++ 10 ∷ [])) (subst Q (append-nil front) (line d d' d' n text [] front [] overs.InputEnd unended is told (nothing d' (n + 1)))))
 
 -- what is said to a last line
-pub says_last : (d d' : Book) (n : ℕ) (text front : List ℕ) → IsUnended text → Answers d n text front d' → Says d n text front (over_if (is_quit (request_of text)))
-says_last d d' n text front unended answers = go (is_quit (request_of text)) refl where
-  go : (q : Bool) → is_quit (request_of text) ≡ q → Says d n text front (over_if q)
-  go true is = last_quit d d' n text front unended is answers
-  go false is = last d d' n text front unended is answers
+pub says_last : {D : Type 0} (answers : D → ℕ → List ℕ → List ℕ → D → Type 0) (d d' : D) (n : ℕ) (text front : List ℕ) → IsUnended text → answers d n text front d' → Says answers d n text front (over_if (is_quit (request_of text))) d'
+says_last answers d d' n text front unended told = go (is_quit (request_of text)) refl where
+  go : (q : Bool) → is_quit (request_of text) ≡ q → Says answers d n text front (over_if q) d'
+  go true is = last_quit d d' n text front unended is told
+  go false is = last d d' n text front unended is told
 
 -- answering a line broke off
-pub stops_answering : {S K : Type 0} (took : S → List ℕ → S → Type 0) (reads_of : S → ℕ) (wrote : K → List ℕ → K → Type 0) (writes_of : K → ℕ) (took_on : (a b c : S) (x y : List ℕ) → took a x b → took b y c → took a (x ++ y) c) (wrote_on : (a b c : K) (x y : List ℕ) → wrote a x b → wrote b y c → wrote a (x ++ y) c) (b d : Book) (n left : ℕ) (source s s' : S) (sink k k' : K) (bytes text : List ℕ) (over : Over) (fault : Fault) (before : Turned took wrote b d n left source s sink k) → writes_of k ≡ writes_of sink → took s bytes s' → (broken : BreaksOff wrote writes_of (Answers d n text) k k' fault) → Says d n bytes (broken.front ++ broken.left) over → Stops took reads_of wrote writes_of b source s' sink k' fault
-stops_answering took reads_of wrote writes_of took_on wrote_on b d n left source s s' sink k k' bytes text over fault before same taken broken says =
+pub stops_answering : {D S K : Type 0} (answers : D → ℕ → List ℕ → List ℕ → D → Type 0) (took : S → List ℕ → S → Type 0) (reads_of : S → ℕ) (wrote : K → List ℕ → K → Type 0) (writes_of : K → ℕ) (took_on : (a b c : S) (x y : List ℕ) → took a x b → took b y c → took a (x ++ y) c) (wrote_on : (a b c : K) (x y : List ℕ) → wrote a x b → wrote b y c → wrote a (x ++ y) c) (b d : D) (n left : ℕ) (source s s' : S) (sink k k' : K) (after : D) (bytes text : List ℕ) (over : Over) (fault : Fault) (before : Turned answers took wrote b d n left source s sink k) → writes_of k ≡ writes_of sink → took s bytes s' → (broken : BreaksOff wrote writes_of (answers d n text) k k' after fault) → Says answers d n bytes (broken.front ++ broken.left) over after → Stops answers took reads_of wrote writes_of b source s' sink k' after fault
+stops_answering answers took reads_of wrote writes_of took_on wrote_on b d n left source s s' sink k k' after bytes text over fault before same taken broken says =
     let C : ℕ → Type 0 = λ w. BreaksBy fault w (writes_of k') in
-    stops_within took reads_of wrote writes_of took_on wrote_on b d n left source s s' sink k k' bytes broken.front broken.left over fault before taken broken.written says (stop_cause fault (reads_of source) (reads_of s') (writes_of sink) (writes_of k') (length (before.input ++ bytes)) (subst C same broken.cause))
+    stops_within answers took reads_of wrote writes_of took_on wrote_on b d n left source s s' sink k k' after bytes broken.front broken.left over fault before taken broken.written says (stop_cause fault (reads_of source) (reads_of s') (writes_of sink) (writes_of k') (length (before.input ++ bytes)) (subst C same broken.cause))
 
 -- the end of the input was found, however the session ends behind it
 pub all_read_if : (q : Bool) (E : Type 0) → E → IsAllRead E (over_if q)

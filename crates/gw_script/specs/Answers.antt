@@ -1,14 +1,14 @@
--- What a query is answered: its bytes, and what it leaves of the desk. (The table of script lines.)
-use Rattle.std.specs.Prelude.{◌≡◌, ◌≢◌, ◌⊎◌, ℕ, ◌<◌, List, [], ◌∷◌, ◌++◌, length, codes, decimal}
+-- What a query is answered: its bytes, and what it leaves of the keeper. (The table of script lines.)
+use Rattle.std.specs.Prelude.{◌≡◌, ℕ, List, [], ◌∷◌, ◌++◌, length, codes, decimal}
 use Rattle.gw_meaning.specs.declared.statement.Replication.{Replication}
-use Rattle.gw_meaning.specs.Listing.{starts}
+use Rattle.gw_meaning.specs.Listing.{Listing}
 use Rattle.gw_desk.specs.declared.answer.Answer.{Answer}
 use Rattle.gw_desk.specs.declared.answer.Answer.TheVariants as answers
 use Rattle.gw_desk.specs.declared.answer.Report.{Report}
-use Rattle.gw_desk.specs.Book.{Book}
-use Rattle.gw_desk.specs.Replies.{answer_of}
-use Rattle.gw_desk.specs.Peeking.{IsAnswer, IsUnfinished, Peeks}
-use Rattle.gw_desk.specs.Finishing.{Finishes}
+use Rattle.gw_desk.specs.declared.play.Event.{Event}
+use Rattle.gw_desk.specs.declared.play.Event.TheVariants as events
+use Rattle.gw_desk.specs.declared.play.Reply.{Reply}
+use Rattle.gw_desk.specs.declared.play.Reply.TheVariants as replies
 
 -- a report behind its heading line: the accepted edits, the replication, the START and the length
 unfoldable pub place_of : Report → List ℕ
@@ -25,19 +25,10 @@ bytes_of answers.TooLong = codes "toolong\n"
 bytes_of answers.NoReplication = codes "noreplication\n"
 bytes_of answers.Memory = codes "memory\n"
 
--- `report rep k`: the answer of the run from zero, or want of memory, with just the steps made that were missing
-pub record Reports (b : Book) (rep k : ℕ) (front : List ℕ) (b' : Book) : Type 0 where
+-- the bytes of what a keeper answers a query, and what that leaves
+pub record Queries {D : Type 0} (does : D → Event → Reply → D → Type 0) (d : D) (event : Event) (front : List ℕ) (d' : D) : Type 0 where
   pub answer : Answer
-  pub is_answer : IsAnswer (answer_of b.version b.edits rep k) answer
-  pub told : front ≡ bytes_of answer
-  pub steps : Finishes b rep k b'
-  pub decided : answer ≢ answers.Memory → (n : ℕ) → IsUnfinished b' rep k n → ⊥
-  pub idle : (k < 1) ⊎ (starts b.version < k) → b' ≡ b
-
--- `peek rep k`: what the recorded steps tell, or want of memory
-pub record PeeksAs (b : Book) (rep k : ℕ) (front : List ℕ) : Type 0 where
-  pub answer : Answer
-  pub peeks : Peeks b rep k answer
+  pub answers_so : does d event (replies.Answered answer) d'
   pub told : front ≡ bytes_of answer
 
 -- the numbers of these replications
@@ -46,31 +37,31 @@ numbers_of [] = []
 numbers_of (r ∷ rs) = r.number ∷ numbers_of rs
 
 -- the reports of START k of these replications, one behind the other
-abbrev pub ReportEach : ℕ → Book → List ℕ → List ℕ → Book → Type 0
-ReportEach k b [] out b' = (out ≡ []) × (b' ≡ b)
-ReportEach k b (rep ∷ reps) out b' = (front : List ℕ) × (rest : List ℕ) × (next : Book) × Reports b rep k front next × ReportEach k next reps rest b' × (out ≡ front ++ rest)
+abbrev pub ReportEach : {D : Type 0} → (D → Event → Reply → D → Type 0) → ℕ → D → List ℕ → List ℕ → D → Type 0
+ReportEach does k d [] out d' = (out ≡ []) × (d' ≡ d)
+ReportEach {D} does k d (rep ∷ reps) out d' = (front : List ℕ) × (rest : List ℕ) × (next : D) × Queries does d (events.Finish rep k) front next × ReportEach does k next reps rest d' × (out ≡ front ++ rest)
 
 -- `all k`: how many replications there are, and the reports of all of them; or a growth was refused behind some of them
-pub data ReportsAll (b : Book) (k : ℕ) (front : List ℕ) (b' : Book) : Type 0 where
-  whole : (out : List ℕ) → ReportEach k b (numbers_of b.version.replications) out b' → front ≡ codes "all " ++ decimal (length b.version.replications) ++ codes "\n" ++ out → ReportsAll b k front b'
-  refused : (done left out : List ℕ) → numbers_of b.version.replications ≡ done ++ left → ReportEach k b done out b' → front ≡ codes "memory\n" → ReportsAll b k front b'
+pub data ReportsAll {D : Type 0} (version : D → Listing) (does : D → Event → Reply → D → Type 0) (d : D) (k : ℕ) (front : List ℕ) (d' : D) : Type 0 where
+  whole : (out : List ℕ) → ReportEach does k d (numbers_of (version d).replications) out d' → front ≡ codes "all " ++ decimal (length (version d).replications) ++ codes "\n" ++ out → ReportsAll version does d k front d'
+  refused : (done left out : List ℕ) → numbers_of (version d).replications ≡ done ++ left → ReportEach does k d done out d' → front ≡ codes "memory\n" → ReportsAll version does d k front d'
 
 -- a report of this replication was put behind a text
-pub record PutsOne (b : Book) (rep k : ℕ) (old new : List ℕ) (b' : Book) : Type 0 where
+pub record PutsOne {D : Type 0} (does : D → Event → Reply → D → Type 0) (d : D) (rep k : ℕ) (old new : List ℕ) (d' : D) : Type 0 where
   pub front : List ℕ
-  pub reports : Reports b rep k front b'
+  pub reports : Queries does d (events.Finish rep k) front d'
   pub put : new ≡ old ++ front
 
 -- reports of these replications were put behind a text
-pub record Puts (b : Book) (k : ℕ) (reps old new : List ℕ) (b' : Book) : Type 0 where
+pub record Puts {D : Type 0} (does : D → Event → Reply → D → Type 0) (d : D) (k : ℕ) (reps old new : List ℕ) (d' : D) : Type 0 where
   pub out : List ℕ
-  pub reports : ReportEach k b reps out b'
+  pub reports : ReportEach does k d reps out d'
   pub put : new ≡ old ++ out
 
 -- reports of the first of these replications were made
-pub record MakesSome (b : Book) (k : ℕ) (reps : List ℕ) (b' : Book) : Type 0 where
+pub record MakesSome {D : Type 0} (does : D → Event → Reply → D → Type 0) (d : D) (k : ℕ) (reps : List ℕ) (d' : D) : Type 0 where
   pub done : List ℕ
   pub left : List ℕ
   pub out : List ℕ
   pub parts : reps ≡ done ++ left
-  pub reports : ReportEach k b done out b'
+  pub reports : ReportEach does k d done out d'

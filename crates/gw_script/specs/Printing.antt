@@ -2,8 +2,7 @@
 use Rattle.std.specs.Prelude.{ℕ, ◌+◌, List, [], ◌∷◌, ◌++◌, length, codes, decimal}
 use Rattle.gw_meaning.specs.declared.statement.Statement.{Statement}
 use Rattle.gw_meaning.specs.declared.statement.Numbered.{Numbered}
-use Rattle.gw_meaning.specs.Listing.{Listing}
-use Rattle.gw_lines.specs.Texts.{text_of}
+use Rattle.gw_meaning.specs.Texts.{text_of}
 
 -- a statement behind its place
 abbrev pub line_of : ℕ → Statement → List ℕ
@@ -15,5 +14,5 @@ lines_from place [] = []
 lines_from place (line ∷ lines) = line_of place line.statement ++ lines_from (place + 1) lines
 
 -- how many statements there are, and all of them
-abbrev pub listing_of : Listing → List ℕ
-listing_of t = codes "list " ++ decimal (length t.lines) ++ codes "\n" ++ lines_from 1 t.lines
+abbrev pub listing_of : List Numbered → List ℕ
+listing_of lines = codes "list " ++ decimal (length lines) ++ codes "\n" ++ lines_from 1 lines

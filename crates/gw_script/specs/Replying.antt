@@ -1,12 +1,17 @@
--- What a script line is answered, and what it leaves of the desk. (The table of script lines.)
+-- What a script line is answered, and what it leaves of the keeper of the version. (The table of script lines.)
 use Rattle.std.specs.Prelude.{◌≡◌, ◌⊎◌, ℕ, Bool, true, false, IsTrue, List, [], ◌++◌, codes, decimal}
 use Rattle.gw_request.specs.declared.request.Request.{Request}
 use Rattle.gw_request.specs.declared.request.Request.TheVariants as requests
 use Rattle.gw_request.specs.declared.request.Reason.{Reason}
 use Rattle.gw_request.specs.declared.request.Reason.TheVariants as reasons
 use Rattle.gw_request.specs.Requests.{request_of, may_want_memory}
+use Rattle.gw_meaning.specs.Listing.{Listing}
+use Rattle.gw_desk.specs.declared.play.Event.{Event}
+use Rattle.gw_desk.specs.declared.play.Event.TheVariants as events
+use Rattle.gw_desk.specs.declared.play.Reply.{Reply}
 use Rattle.gw_desk.specs.Book.{Book}
-use Rattle.gw_script.specs.Answers.{Reports, PeeksAs, ReportsAll}
+use Rattle.gw_desk.specs.Playing.{Does}
+use Rattle.gw_script.specs.Answers.{Queries, ReportsAll}
 use Rattle.gw_script.specs.Changes.{Edits}
 use Rattle.gw_script.specs.Printing.{listing_of}
 
@@ -16,20 +21,20 @@ word_of reasons.Long = codes "long"
 word_of reasons.Command = codes "command"
 word_of reasons.Arguments = codes "arguments"
 
--- these bytes, and the desk is as it was
-abbrev pub TellsOnly : List ℕ → Book → List ℕ → Book → Type 0
-TellsOnly text b front b' = (front ≡ text) × (b' ≡ b)
+-- these bytes, and the keeper is as it was
+abbrev pub TellsOnly : {D : Type 0} → List ℕ → D → List ℕ → D → Type 0
+TellsOnly text d front d' = (front ≡ text) × (d' ≡ d)
 
 -- what the n-th line is answered, by what it asks for
-abbrev pub Replies : Book → ℕ → Request → List ℕ → Book → Type 0
-Replies b n requests.Nothing front b' = TellsOnly [] b front b'
-Replies b n (requests.Edit e) front b' = Edits b e front b'
-Replies b n (requests.Report rep k) front b' = Reports b rep k front b'
-Replies b n (requests.Peek rep k) front b' = PeeksAs b rep k front × (b' ≡ b)
-Replies b n (requests.All k) front b' = ReportsAll b k front b'
-Replies b n requests.List front b' = ((front ≡ listing_of b.version) ⊎ (front ≡ codes "memory\n")) × (b' ≡ b)
-Replies b n requests.Quit front b' = TellsOnly (codes "bye\n") b front b'
-Replies b n (requests.Bad reason) front b' = TellsOnly (codes "? " ++ decimal n ++ codes " " ++ word_of reason ++ codes "\n") b front b'
+abbrev pub Replies : {D : Type 0} → (D → Listing) → (D → Event → Reply → D → Type 0) → D → ℕ → Request → List ℕ → D → Type 0
+Replies version does d n requests.Nothing front d' = TellsOnly [] d front d'
+Replies version does d n (requests.Edit e) front d' = Edits does d e front d'
+Replies version does d n (requests.Report rep k) front d' = Queries does d (events.Finish rep k) front d'
+Replies version does d n (requests.Peek rep k) front d' = Queries does d (events.Peek rep k) front d'
+Replies version does d n (requests.All k) front d' = ReportsAll version does d k front d'
+Replies version does d n requests.List front d' = ((front ≡ listing_of (version d).lines) ⊎ (front ≡ codes "memory\n")) × (d' ≡ d)
+Replies version does d n requests.Quit front d' = TellsOnly (codes "bye\n") d front d'
+Replies version does d n (requests.Bad reason) front d' = TellsOnly (codes "? " ++ decimal n ++ codes " " ++ word_of reason ++ codes "\n") d front d'
 
 -- whether a line ends the session
 abbrev pub is_quit : Request → Bool
@@ -54,6 +59,10 @@ is_query requests.Quit = false
 is_query (requests.Bad reason) = false
 
 -- what may be answered to the n-th line, and what it leaves: an edit for whose reading a growth was refused is refused
-pub data Answers (b : Book) (n : ℕ) (line front : List ℕ) (b' : Book) : Type 0 where
-  read : Replies b n (request_of line) front b' → Answers b n line front b'
-  unread : IsTrue (may_want_memory line) → front ≡ codes "refused E7\n" → b' ≡ b → Answers b n line front b'
+pub data Answers {D : Type 0} (version : D → Listing) (does : D → Event → Reply → D → Type 0) (d : D) (n : ℕ) (line front : List ℕ) (d' : D) : Type 0 where
+  read : Replies version does d n (request_of line) front d' → Answers version does d n line front d'
+  unread : IsTrue (may_want_memory line) → front ≡ codes "refused E7\n" → d' ≡ d → Answers version does d n line front d'
+
+-- what may be answered over a desk
+abbrev pub DeskAnswers : Book → ℕ → List ℕ → List ℕ → Book → Type 0
+DeskAnswers = Answers (λ (b : Book). b.version) Does

@@ -3,7 +3,6 @@ use Rattle.std.specs.Prelude.{◌≡◌, ℕ, Bool, true, false, List, ◌++◌,
 use Rattle.gw_io.specs.declared.budget.ReadFault.{ReadFault}
 use Rattle.gw_io.specs.declared.budget.ReadFault.TheVariants as reads
 use Rattle.gw_io.specs.Failures.{one_more}
-use Rattle.gw_desk.specs.Book.{Book}
 use Rattle.gw_request.specs.declared.request.Request.{Request}
 use Rattle.gw_script.specs.declared.fault.Fault.{Fault}
 use Rattle.gw_script.specs.declared.fault.Fault.TheVariants as faults
@@ -17,8 +16,8 @@ stopped_by reads.Read = faults.Read
 stopped_by reads.Limit = faults.ReadLimit
 stopped_by reads.Memory = faults.Memory
 
--- an answer was written: bytes that may be answered, which leave the desk so
-pub record Writes {K : Type 0} (wrote : K → List ℕ → K → Type 0) (A : List ℕ → Book → Type 0) (old new : K) (after : Book) : Type 0 where
+-- an answer was written: bytes that may be answered, which leave the keeper so
+pub record Writes {D K : Type 0} (wrote : K → List ℕ → K → Type 0) (A : List ℕ → D → Type 0) (old new : K) (after : D) : Type 0 where
   pub front : List ℕ
   pub answers : A front after
   pub written : wrote old front new
@@ -32,11 +31,10 @@ BreaksBy faults.Write writes writes' = writes' ≡ one_more writes
 BreaksBy faults.ReadLimit writes writes' = ⊥
 BreaksBy faults.Memory writes writes' = Unit {0}
 
--- a front part of an answer was written: bytes that may be answered begin with it
-pub record BreaksOff {K : Type 0} (wrote : K → List ℕ → K → Type 0) (writes : K → ℕ) (A : List ℕ → Book → Type 0) (old new : K) (fault : Fault) : Type 0 where
+-- a front part of an answer was written: bytes that may be answered, which leave the keeper so, begin with it
+pub record BreaksOff {D K : Type 0} (wrote : K → List ℕ → K → Type 0) (writes : K → ℕ) (A : List ℕ → D → Type 0) (old new : K) (after : D) (fault : Fault) : Type 0 where
   pub front : List ℕ
   pub left : List ℕ
-  pub after : Book
   pub answers : A (front ++ left) after
   pub written : wrote old front new
   pub cause : BreaksBy fault (writes old) (writes new)

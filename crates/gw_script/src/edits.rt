@@ -1,20 +1,19 @@
 // What an edit is answered.
-ghost use Rattle.std.specs.Prelude.{◌≡◌, ◌++◌, codes, decimal, IfOk, OnOk};
-ghost use Rattle.gw_lines.specs.Faults.{operand_of};
-ghost use Rattle.gw_script.specs.Changes.{Edits, accepted, refusal_of, detail_of, operand_part};
+ghost use Rattle.std.specs.Prelude.{◌≡◌, ◌++◌, ℕ, List, IfOk, OnOk, OnErr};
+ghost use Rattle.gw_script.specs.Changes.{Edits, accepted, refusal_of, detail_of};
 
-use gw_desk::Desk;
+use gw_desk::Keeper;
 use gw_edit::{Edit, EditFault};
-use gw_lines::LineFault;
 use gw_nums::put_decimal;
 use std::alloc::{AllocError, Global};
 
-/// Edits the desk, and gives what that is answered. Where a growth was refused for the answer, the edit was accepted or
+/// Edits the version, and gives what that is answered. Where a growth was refused for the answer, the edit was accepted or
 /// refused already.
-pub fn edit(alloc: Global, desk: &mut Desk, edit: &Edit) -> Result<Vec<u8>, AllocError>
-    ensures { IfOk result (λ v. Edits desk.old edit.now v.items desk.new) }
+pub fn edit<D: Keeper>(alloc: Global, keeper: &mut D, edit: &Edit) -> Result<Vec<u8>, AllocError>
+    ensures ok { IfOk result (λ v. Edits D.does keeper.old edit.now v.items keeper.new) }
+    ensures err { OnErr result ((text : List ℕ) × Edits D.does keeper.old edit.now text keeper.new) }
 {
-    match desk.edit(alloc, edit) {
+    match keeper.edit(alloc, edit) {
         Ok(edits) => accepted(alloc, edits),
         Err(fault) => refused(alloc, fault),
     }
@@ -44,9 +43,8 @@ fn put_detail(text: &mut Vec<u8>, fault: EditFault) -> Result<(), AllocError>
 {
     match fault {
         EditFault::BadStatement(fault) => {
-            text.extend_from_slice(b" L")?;
-            put_decimal(text, u64::from(fault.number()))?;
-            put_operand(text, fault)
+            text.extend_from_slice(b" ")?;
+            fault.put_code(text)
         }
         EditFault::BadModel(fault) => {
             text.extend_from_slice(b" M")?;
@@ -59,14 +57,4 @@ fn put_detail(text: &mut Vec<u8>, fault: EditFault) -> Result<(), AllocError>
         | EditFault::Memory
         | EditFault::HistoryFull => Ok(()),
     }
-}
-
-fn put_operand(text: &mut Vec<u8>, fault: LineFault) -> Result<(), AllocError>
-    ensures { OnOk result (text.new.items ≡ text.old.items ++ operand_part (operand_of fault)) }
-{
-    if let Some(operand) = fault.operand() {
-        text.extend_from_slice(b" ")?;
-        put_decimal(text, u64::from(operand))?;
-    }
-    Ok(())
 }

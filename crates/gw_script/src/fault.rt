@@ -1,3 +1,4 @@
+use gw_io::ReadFault;
 use gw_lines::FaultyLine;
 use gw_model::ModelFault;
 use thiserror::Error;
@@ -32,4 +33,19 @@ pub enum Fault {
     /// F6: a growth was refused.
     #[error("out of memory")]
     Memory,
+}
+
+impl From<ReadFault> for Fault {
+    ghost use Rattle.std.specs.Prelude.{◌≡◌};
+    ghost use Rattle.gw_script.specs.Turns.{stopped_by};
+
+    ghost from_gives = { λ fault e. e ≡ stopped_by fault };
+
+    fn from(fault: ReadFault) -> Fault {
+        match fault {
+            ReadFault::Read => Fault::Read,
+            ReadFault::Limit => Fault::ReadLimit,
+            ReadFault::Memory => Fault::Memory,
+        }
+    }
 }

@@ -1,8 +1,8 @@
-//! Lines in, bytes out: a session over one desk.
+//! Lines in, bytes out: a session over one keeper of a version.
 //!
-//! [`session`] opens the model, reads the script line by line and answers each line; what it wrote is what the
-//! model and the script mean. The version stays open on a desk from line to line, so that a report makes only the
-//! steps that no earlier line made.
+//! [`session`] opens the model on a desk, reads the script line by line and answers each line; what it wrote is what the
+//! model and the script mean. The version stays open from line to line, so that a report makes only the steps that no
+//! earlier line made. [`session_on`] does the same over any [`Keeper`].
 #![tactic(auto)]
 
 mod answers;
@@ -17,10 +17,10 @@ mod sessions;
 mod tests;
 
 pub use fault::{Fault, Over};
-pub use gw_desk::{Desk, points_are_found};
+pub use gw_desk::{Desk, Keeper, points_are_found};
 pub use gw_io::{
     Budget, Bytes, Failed, FromRead, Page, READ_LIMIT, ReadFault, Sink, Source, ToWrite,
     split_model,
 };
 pub use opening::{Options, open};
-pub use sessions::{serve, session};
+pub use sessions::{session, session_on};

@@ -1,19 +1,16 @@
-// The lines of a version.
+// The statements of a version.
 ghost use Rattle.std.specs.Prelude.{◌≡◌, ◌++◌, IfOk, OnOk};
 ghost use Rattle.gw_script.specs.Printing.{listing_of, lines_from, line_of};
 
 use crate::answers::heading;
-use gw_lines::put_text;
 use gw_meaning::{Numbered, Statement};
-use gw_model::Version;
 use gw_nums::put_decimal;
 use std::alloc::{AllocError, Global};
 
 /// How many statements there are, and each of them behind its place.
-pub fn list(alloc: Global, version: &Version) -> Result<Vec<u8>, AllocError>
-    ensures { IfOk result (λ v. v.items ≡ listing_of version.now) }
+pub fn list(alloc: Global, lines: &[Numbered]) -> Result<Vec<u8>, AllocError>
+    ensures { IfOk result (λ v. v.items ≡ listing_of lines.now) }
 {
-    let lines = version.lines();
     let mut text = heading(alloc, b"list ", lines.len())?;
     put_lines(&mut text, lines)?;
     Ok(text)
@@ -35,6 +32,6 @@ fn put_line(text: &mut Vec<u8>, place: u64, statement: &Statement) -> Result<(),
 {
     put_decimal(text, place)?;
     text.extend_from_slice(b" ")?;
-    put_text(statement, text)?;
+    statement.put_text(text)?;
     text.extend_from_slice(b"\n")
 }

@@ -1,32 +1,34 @@
 // What a script line is answered.
-ghost use Rattle.std.specs.Prelude.{◌≡◌, ◌++◌, codes, decimal, IfOk, OnErr, true};
+ghost use Rattle.std.specs.Prelude.{◌≡◌, ◌++◌, ℕ, List, codes, decimal, IfOk, OnErr, true};
 ghost use Rattle.gw_script.specs.Replying.{Replies, word_of, is_quit, is_query};
 
 use crate::edits::edit;
 use crate::listing::list;
 use crate::queries::{peek, report, report_all};
-use gw_desk::Desk;
+use gw_desk::Keeper;
 use gw_nums::put_decimal;
 use gw_request::{Reason, Request};
 use std::alloc::{AllocError, Global};
 
-/// The answer to the n-th line. Where a growth was refused for it, a query may be answered so.
-pub fn answer(
+/// The answer to the n-th line. Where a growth was refused for telling it, it was given all the same, and a query may be
+/// answered that memory was refused.
+pub fn answer<D: Keeper>(
     alloc: Global,
-    desk: &mut Desk,
+    keeper: &mut D,
     n: u64,
     request: &Request,
 ) -> Result<Vec<u8>, AllocError>
-    ensures ok { IfOk result (λ v. Replies desk.old n request.now v.items desk.new) }
-    ensures err { OnErr result (is_query request.now ≡ true → Replies desk.old n request.now (codes "memory\n") desk.new) }
+    ensures ok { IfOk result (λ v. Replies D.version D.does keeper.old n request.now v.items keeper.new) }
+    ensures untold { OnErr result ((text : List ℕ) × Replies D.version D.does keeper.old n request.now text keeper.new) }
+    ensures query { OnErr result (is_query request.now ≡ true → Replies D.version D.does keeper.old n request.now (codes "memory\n") keeper.new) }
 {
     match request {
         Request::Nothing => Ok(Vec::new(alloc)),
-        Request::Edit(change) => edit(alloc, desk, change),
-        Request::Report { rep, k } => report(alloc, desk, *rep, *k),
-        Request::Peek { rep, k } => peek(alloc, desk, *rep, *k),
-        Request::All { k } => report_all(alloc, desk, *k),
-        Request::List => list(alloc, desk.version()),
+        Request::Edit(change) => edit(alloc, keeper, change),
+        Request::Report { rep, k } => report(alloc, keeper, *rep, *k),
+        Request::Peek { rep, k } => peek(alloc, keeper, *rep, *k),
+        Request::All { k } => report_all(alloc, keeper, *k),
+        Request::List => list(alloc, keeper.list()),
         Request::Quit => Vec::from_slice(alloc, b"bye\n"),
         Request::Bad(reason) => refusal(alloc, n, *reason),
     }

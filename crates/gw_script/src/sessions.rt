@@ -4,45 +4,47 @@ ghost use Rattle.gw_io.specs.Failures.{one_more, WritesPart};
 ghost use Rattle.gw_desk.specs.Book.{Book};
 ghost use Rattle.gw_request.specs.Requests.{request_of};
 ghost use Rattle.gw_script.specs.Opening.{Opens, Refuses};
-ghost use Rattle.gw_script.specs.Replying.{Answers, Replies, is_quit, is_query};
+ghost use Rattle.gw_script.specs.Replying.{Answers, DeskAnswers, Replies, is_quit, is_query};
 ghost use Rattle.gw_script.specs.Sessions.{Serves, Stops};
-ghost use Rattle.gw_script.specs.Turns.{Writes, BreaksOff, BreaksRefused, stopped_by, over_if};
+ghost use Rattle.gw_script.specs.Turns.{Writes, BreaksOff, BreaksRefused, over_if};
 
 use crate::fault::{Fault, Over};
 use crate::opening::{Options, open};
 use crate::reply::{answer, is_query, is_quit};
-use gw_desk::Desk;
-use gw_io::{Budget, Line, ReadFault, Sink, Source, read_line, without_cr, write_all};
+use gw_desk::Keeper;
+use gw_io::{Budget, Line, Sink, Source, read_line, without_cr, write_all};
 use gw_request::{Request, request_of};
 use std::alloc::Global;
 
-/// Answers the lines of a script over a desk, up to `quit` or the end of the input. At most 16,777,216
-/// calls of read are made. Behind a fault what was written stays, and the session is over.
-pub fn serve<S: Source, K: Sink>(
+/// Answers the lines of a script over a keeper of a version, up to `quit` or the end of the input. At most 16,777,216
+/// calls of read are made. Behind a fault what was written stays, the keeper is as the lines read so far left it, and the
+/// session is over.
+///
+/// # Errors
+///
+/// [`Fault::Read`] and [`Fault::Write`], where the source or the sink failed in this call; [`Fault::ReadLimit`];
+/// [`Fault::Memory`], where a growth was refused for what is no query.
+pub fn session_on<D: Keeper, S: Source, K: Sink>(
     alloc: Global,
-    desk: &mut Desk,
+    keeper: &mut D,
     source: &mut S,
     sink: &mut K,
 ) -> Result<Over, Fault>
-    ensures serves { IfOk result (Serves S.took S.ended K.wrote desk.old source.old source.new sink.old sink.new) }
-    ensures stops { IfErr result (Stops S.took S.failures K.wrote K.failures desk.old source.old source.new sink.old sink.new) }
+    ensures serves { IfOk result (Serves (Answers D.version D.does) S.took S.ended K.wrote keeper.old source.old source.new sink.old sink.new keeper.new) }
+    ensures stops { IfErr result (Stops (Answers D.version D.does) S.took S.failures K.wrote K.failures keeper.old source.old source.new sink.old sink.new keeper.new) }
 {
     let mut budget = Budget::new();
     let mut n = 0u64;
     'lines: loop {
         n += 1;
-        let line = match read_line(alloc, source, &mut budget) {
-            Ok(line) => line,
-            Err(fault) => return Err(fault_of(fault)),
-        };
-        match line {
+        match read_line(alloc, source, &mut budget)? {
             Line::Whole(line) => {
-                if reply(alloc, desk, n, without_cr(&line), sink)? {
+                if reply(alloc, keeper, n, without_cr(&line), sink)? {
                     return Ok(Over::Quit);
                 }
             }
             Line::Last(line) => {
-                let quit = reply(alloc, desk, n, &line, sink)?;
+                let quit = reply(alloc, keeper, n, &line, sink)?;
                 return Ok(over_if(quit));
             }
             Line::End => return Ok(Over::InputEnd),
@@ -59,12 +61,12 @@ pub fn session<S: Source, K: Sink>(
     sink: &mut K,
 ) -> Result<Over, Fault>
     requires { 1 ≤ options.every }
-    ensures serves { IfOk result (λ over. (b : Book) × Opens model.now options b × Serves S.took S.ended K.wrote b source.old source.new sink.old sink.new over) }
+    ensures serves { IfOk result (λ over. (b : Book) × (b' : Book) × Opens model.now options b × Serves DeskAnswers S.took S.ended K.wrote b source.old source.new sink.old sink.new b' over) }
     ensures stops { IfErr result (λ fault. (Refuses model.now options fault × (source.new ≡ source.old) × (sink.new ≡ sink.old))
-        ⊎ ((b : Book) × Opens model.now options b × Stops S.took S.failures K.wrote K.failures b source.old source.new sink.old sink.new fault)) }
+        ⊎ ((b : Book) × (b' : Book) × Opens model.now options b × Stops DeskAnswers S.took S.failures K.wrote K.failures b source.old source.new sink.old sink.new b' fault)) }
 {
     let mut desk = open(alloc, model, options)?;
-    serve(alloc, &mut desk, source, sink)
+    session_on(alloc, &mut desk, source, sink)
 }
 
 fn over_if(quit: bool) -> Over
@@ -73,31 +75,21 @@ fn over_if(quit: bool) -> Over
     if quit { Over::Quit } else { Over::InputEnd }
 }
 
-fn fault_of(fault: ReadFault) -> Fault
-    ensures { result ≡ stopped_by fault }
-{
-    match fault {
-        ReadFault::Read => Fault::Read,
-        ReadFault::Limit => Fault::ReadLimit,
-        ReadFault::Memory => Fault::Memory,
-    }
-}
-
 // Answers one line, and says whether it ends the session. An edit for whose reading a growth was refused is refused.
-fn reply<K: Sink>(
+fn reply<D: Keeper, K: Sink>(
     alloc: Global,
-    desk: &mut Desk,
+    keeper: &mut D,
     n: u64,
     line: &[u8],
     sink: &mut K,
 ) -> Result<bool, Fault>
     ensures quit { IfOk result (λ quit. quit ≡ is_quit (request_of line.now)) }
-    ensures ok { OnOk result (Writes K.wrote (Answers desk.old n line.now) sink.old sink.new desk.new) }
+    ensures ok { OnOk result (Writes K.wrote (Answers D.version D.does keeper.old n line.now) sink.old sink.new keeper.new) }
     ensures same { OnOk result (K.failures sink.new ≡ K.failures sink.old) }
-    ensures err { IfErr result (λ f. BreaksOff K.wrote K.failures (Answers desk.old n line.now) sink.old sink.new f) }
+    ensures err { IfErr result (λ f. BreaksOff K.wrote K.failures (Answers D.version D.does keeper.old n line.now) sink.old sink.new keeper.new f) }
 {
     match request_of(alloc, line) {
-        Ok(request) => fulfil(alloc, desk, n, &request, sink),
+        Ok(request) => fulfil(alloc, keeper, n, &request, sink),
         Err(_) => refuse_unread(sink),
     }
 }
@@ -117,19 +109,19 @@ fn refuse_unread<K: Sink>(sink: &mut K) -> Result<bool, Fault>
 }
 
 // Does what a line asks for, and answers it. A query that a growth was refused for is answered so.
-fn fulfil<K: Sink>(
+fn fulfil<D: Keeper, K: Sink>(
     alloc: Global,
-    desk: &mut Desk,
+    keeper: &mut D,
     n: u64,
     request: &Request,
     sink: &mut K,
 ) -> Result<bool, Fault>
     ensures quit { IfOk result (λ quit. quit ≡ is_quit request.now) }
-    ensures ok { OnOk result (Writes K.wrote (Replies desk.old n request.now) sink.old sink.new desk.new) }
+    ensures ok { OnOk result (Writes K.wrote (Replies D.version D.does keeper.old n request.now) sink.old sink.new keeper.new) }
     ensures same { OnOk result (K.failures sink.new ≡ K.failures sink.old) }
-    ensures err { IfErr result (λ f. BreaksOff K.wrote K.failures (Replies desk.old n request.now) sink.old sink.new f) }
+    ensures err { IfErr result (λ f. BreaksOff K.wrote K.failures (Replies D.version D.does keeper.old n request.now) sink.old sink.new keeper.new f) }
 {
-    match answer(alloc, desk, n, request) {
+    match answer(alloc, keeper, n, request) {
         Ok(text) => {
             send(sink, &text)?;
             Ok(is_quit(request))

@@ -11,4 +11,4 @@ pub returns-in-Peek : goal.returns-in-Peek
 returns-in-Peek c = rw c.in-Peek.is (refl, c.peek.ensures)
 
 pub returns-in-Finish : goal.returns-in-Finish
-returns-in-Finish c = rw c.in-Finish.is (c.finish.ensures.answer, c.finish.ensures.steps, c.finish.ensures.decided)
+returns-in-Finish c = rw c.in-Finish.is (c.finish.ensures.answer, c.finish.ensures.steps, c.finish.ensures.decided, c.finish.ensures.idle)

@@ -1,6 +1,6 @@
 use Rattle.std.proofs.Common.{◌≡◌, ◌≤◌, length, ap, arith}
-use Rattle.gw_lines.proofs.Texts.{name_is_short}
-use Rattle.gw_lines.proofs.text.label_len.Goals as goal
+use Rattle.gw_meaning.proofs.Texts.{name_is_short}
+use Rattle.gw_meaning.proofs.statement.Statement.label_len.Goals as goal
 
 pub returns-in-Some-clause-bound : goal.returns-in-Some-clause-bound
 returns-in-Some-clause-bound c =

@@ -1,0 +1,89 @@
+// What keeps a version open for a session.
+ghost use Rattle.std.specs.Prelude.{◌≡◌, IfOk, IfErr};
+ghost use Rattle.gw_meaning.specs.Listing.{Listing};
+ghost use Rattle.gw_desk.specs.declared.answer.Answer.TheVariants as answers;
+ghost use Rattle.gw_desk.specs.declared.play.Event.TheVariants as events;
+ghost use Rattle.gw_desk.specs.declared.play.Reply.TheVariants as replies;
+ghost use Rattle.gw_desk.specs.Keeping.{wants_memory, does_nothing, loses};
+ghost use Rattle.gw_desk.specs.Playing.{Does};
+
+use crate::answer::Answer;
+use crate::desk::Desk;
+use gw_edit::{Edit, EditFault};
+use gw_meaning::{Numbered, Replication};
+use std::alloc::Global;
+
+/// Keeps a version of a model open, edits it and answers queries of it.
+///
+/// `version a` is the version that is seen at the moment `a`, and `does a event reply b` says that an event may be answered
+/// so, and what that leaves. A [`Desk`] does what its own calls do, and no one else edits it.
+pub trait Keeper {
+    ghost use Rattle.gw_desk.specs.declared.answer.Answer.{Answer};
+    ghost use Rattle.gw_desk.specs.declared.play.Event.{Event};
+    ghost use Rattle.gw_desk.specs.declared.play.Reply.{Reply};
+
+    ghost version: { Self → Listing };
+
+    ghost does: { Self → Event → Reply → Self → Type 0 };
+
+    /// The statements of the version, in order.
+    fn list(&self) -> &[Numbered]
+        ensures { result.now ≡ (version self.now).lines };
+
+    /// The replications of the version, in order.
+    fn replications(&self) -> &[Replication]
+        ensures { result.now ≡ (version self.now).replications };
+
+    /// Edits the version, and gives the number of accepted edits.
+    ///
+    /// # Errors
+    ///
+    /// Why the edit is refused: as of a [`Desk::edit`].
+    fn edit(&mut self, alloc: Global, edit: &Edit) -> Result<u64, EditFault>
+        ensures accepted { IfOk result (λ n. does self.old (events.Edit edit.now) (replies.Edited n) self.new) }
+        ensures refused { IfErr result (λ fault. does self.old (events.Edit edit.now) (replies.Refused fault) self.new) };
+
+    /// The report of START `k` of a replication, from the recorded steps alone: as of a [`Desk::peek`].
+    fn peek(&mut self, alloc: Global, rep: u64, k: u64) -> Answer
+        ensures { does self.old (events.Peek rep k) (replies.Answered result) self.new };
+
+    /// The report of START `k` of a replication, with the steps that are missing: as of a [`Desk::finish`].
+    fn finish(&mut self, alloc: Global, rep: u64, k: u64) -> Answer
+        ensures { does self.old (events.Finish rep k) (replies.Answered result) self.new };
+
+    // Any call may be answered that memory was refused, with nothing changed.
+    ghost in_vain: { (a : Self) (event : Event) → does a event (wants_memory event) a };
+
+    // An answer may be lost where memory is refused for telling it.
+    ghost lost: { (a b : Self) (event : Event) (answer : Answer) → does a event (replies.Answered answer) b → does a event (replies.Answered answers.Memory) b };
+}
+
+impl Keeper for Desk {
+    ghost version = { λ b. b.version };
+
+    ghost does = { Does };
+
+    ghost in_vain = { does_nothing };
+
+    ghost lost = { loses };
+
+    fn list(&self) -> &[Numbered] {
+        self.version.lines()
+    }
+
+    fn replications(&self) -> &[Replication] {
+        self.version.replications()
+    }
+
+    fn edit(&mut self, alloc: Global, edit: &Edit) -> Result<u64, EditFault> {
+        Desk::edit(self, alloc, edit)
+    }
+
+    fn peek(&mut self, alloc: Global, rep: u64, k: u64) -> Answer {
+        Desk::peek(self, alloc, rep, k)
+    }
+
+    fn finish(&mut self, alloc: Global, rep: u64, k: u64) -> Answer {
+        Desk::finish(self, alloc, rep, k)
+    }
+}
