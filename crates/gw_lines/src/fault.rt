@@ -1,4 +1,4 @@
-ghost use Rattle.std.specs.Prelude.{◌≡◌, ◌++◌, OnOk};
+ghost use Rattle.std.specs.Prelude.{◌≡◌, ◌++◌, ◌+◌, ◌<◌, ◌≤◌, OnOk, OnErr, vec_len, vec_capacity};
 ghost use Rattle.gw_lines.specs.Faults.{number_of, operand_of, operand_part, code_of};
 
 use gw_nums::put_decimal;
@@ -81,9 +81,13 @@ impl LineFault {
         }
     }
 
-    /// Appends the fault as a refusal names it: `L1`, or with the number of its operand `L5 2`.
+    /// Appends the fault as a refusal names it: `L1`, or with the number of its operand `L5 2`. Memory is wanted only
+    /// where there is no room for 42 bytes.
     pub fn put_code(self, text: &mut Vec<u8>) -> Result<(), AllocError>
-        ensures { OnOk result (text.new.items ≡ text.old.items ++ code_of self) }
+        ensures ok { OnOk result (text.new.items ≡ text.old.items ++ code_of self) }
+        ensures full { OnErr result (vec_capacity text.old < vec_len text.old + 42) }
+        ensures len { OnOk result (vec_len text.new ≤ vec_len text.old + 42) }
+        ensures capacity { vec_capacity text.old ≤ vec_capacity text.new }
     {
         text.push(b'L')?;
         put_decimal(text, u64::from(self.number()))?;
@@ -92,7 +96,10 @@ impl LineFault {
 }
 
 fn put_operand(text: &mut Vec<u8>, operand: Option<u8>) -> Result<(), AllocError>
-    ensures { OnOk result (text.new.items ≡ text.old.items ++ operand_part operand) }
+    ensures ok { OnOk result (text.new.items ≡ text.old.items ++ operand_part operand) }
+    ensures full { OnErr result (vec_capacity text.old < vec_len text.old + 21) }
+    ensures len { OnOk result (vec_len text.new ≤ vec_len text.old + 21) }
+    ensures capacity { vec_capacity text.old ≤ vec_capacity text.new }
 {
     if let Some(operand) = operand {
         text.push(b' ')?;

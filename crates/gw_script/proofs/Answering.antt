@@ -1,6 +1,7 @@
 -- One line, answered: something may be answered to any line, and an answer that broke off is the front of one.
-use Rattle.std.proofs.Common.{◌≡◌, inr, ℕ, true, List, [], refl, sym, subst, ◌∙◌, ap, Result, Ok, Err, IfErr, OnErr}
+use Rattle.std.proofs.Common.{◌≡◌, inr, ℕ, ◌<◌, List, [], ◌++◌, Some, refl, sym, subst, ◌∙◌, ap, Result, Ok, Err, IfErr, OnErr, arith}
 use Rattle.std.specs.Prelude.{codes}
+use Rattle.std.proofs.lemmas.Fmt.{decimal_digit}
 use Rattle.gw_meaning.specs.Listing.{Listing}
 use Rattle.gw_io.specs.Failures.{one_more, WritesPart}
 use Rattle.gw_edit.specs.declared.fault.EditFault.TheVariants as refusals
@@ -15,9 +16,13 @@ use Rattle.gw_request.specs.Requests.{request_of}
 use Rattle.gw_script.specs.declared.fault.Fault.{Fault}
 use Rattle.gw_script.specs.declared.fault.Fault.TheVariants as faults
 use Rattle.gw_script.specs.Answers.{ReportsAll, refused, numbers_of}
-use Rattle.gw_script.specs.Changes.{refuses}
-use Rattle.gw_script.specs.Replying.{Answers, read, Replies, is_query}
+use Rattle.gw_script.specs.Changes.{refuses, refusal_of}
+use Rattle.gw_script.specs.Replying.{Answers, read, Replies, Untold, untold_of}
 use Rattle.gw_script.specs.Turns.{BreaksOff, BreaksBy, BreaksRefused, not_begun, begun, Writes}
+
+-- how it is told that memory was refused for an edit
+pub memory_told : codes "refused E7\n" ≡ refusal_of refusals.Memory
+memory_told = let seven : 7 < 10 = omega arith in rw (decimal_digit 7 seven) refl
 
 -- a growth was refused for all reports before any was made
 pub reports_all_none : {D : Type 0} (version : D → Listing) (does : D → Event → Reply → D → Type 0) (d : D) (k : ℕ) → ReportsAll version does d k (codes "memory\n") d
@@ -53,16 +58,22 @@ broken_sending wrote writes_of A old new text after fault is part failed counted
     let C : Fault → Type 0 = λ f. BreaksBy f (writes_of old) (writes_of new) in
     record { front = part.front; left = part.left; answers = subst T part.parts is; written = part.written; cause = subst C (sym failed) counted }
 
+-- what was answered where a growth was refused is an answer
+pub untold_replies : {D : Type 0} (version : D → Listing) (does : D → Event → Reply → D → Type 0) (d after : D) (n : ℕ) (request : Request) (text : List ℕ) → untold_of request ≡ Some text → Untold version does d n request after → Replies version does d n request text after
+untold_replies version does d after n request text is untold = rw is at untold
+
 -- an answer broke off where a growth was refused for telling it
-pub broken_refused : {D K : Type 0} (wrote : K → List ℕ → K → Type 0) (writes_of : K → ℕ) (wrote_none : (a : K) → wrote a [] a) (version : D → Listing) (does : D → Event → Reply → D → Type 0) (d after : D) (n : ℕ) (request : Request) (old new : K) (fault : Fault) → (text : List ℕ) × Replies version does d n request text after → (is_query request ≡ true → Replies version does d n request (codes "memory\n") after) → BreaksRefused wrote writes_of request old new fault → BreaksOff wrote writes_of (Replies version does d n request) old new after fault
-broken_refused {D} {K} wrote writes_of wrote_none version does d after n request old new fault some query (not_begun other memory same) =
+pub broken_refused : {D K : Type 0} (wrote : K → List ℕ → K → Type 0) (writes_of : K → ℕ) (wrote_none : (a : K) → wrote a [] a) (version : D → Listing) (does : D → Event → Reply → D → Type 0) (in_vain : (d : D) (event : Event) → does d event (wants_memory event) d) (d after : D) (n : ℕ) (request : Request) (old new : K) (fault : Fault) → Untold version does d n request after → BreaksRefused wrote writes_of request old new fault → BreaksOff wrote writes_of (Replies version does d n request) old new after fault
+broken_refused {D} {K} wrote writes_of wrote_none version does in_vain d after n request old new fault untold (not_begun other memory same) =
     let W : K → Type 0 = λ k. wrote old [] k in
     let C : Fault → Type 0 = λ f. BreaksBy f (writes_of old) (writes_of new) in
-    record { front = []; left = some.0; answers = some.1; written = subst W (sym same) (wrote_none old); cause = subst C (sym memory) tt }
-broken_refused {D} {K} wrote writes_of wrote_none version does d after n request old new fault some query (begun front left asks parts written failed counted) =
-    let T : List ℕ → Type 0 = λ x. Replies version does d n request x after in
+    let still : after ≡ d = rw other at untold in
+    let some = replies_some version does in_vain d n request in
+    let R : D → Type 0 = λ x. Replies version does d n request some.0 x in
+    record { front = []; left = some.0; answers = subst R (sym still) some.1; written = subst W (sym same) (wrote_none old); cause = subst C (sym memory) tt }
+broken_refused {D} {K} wrote writes_of wrote_none version does in_vain d after n request old new fault untold (begun front left asks written failed counted) =
     let C : Fault → Type 0 = λ f. BreaksBy f (writes_of old) (writes_of new) in
-    record { front = front; left = left; answers = subst T parts (query asks); written = written; cause = subst C (sym failed) counted }
+    record { front = front; left = left; answers = untold_replies version does d after n request (front ++ left) asks untold; written = written; cause = subst C (sym failed) counted }
 
 -- likewise, where the text was the whole answer
 pub broken_if : {A D K : Type 0} (r : Result A Fault) (wrote : K → List ℕ → K → Type 0) (writes_of : K → ℕ) (Says : List ℕ → D → Type 0) (old new : K) (text : List ℕ) (after : D) → Says text after → IfErr r (λ f. f ≡ faults.Write) → OnErr r (WritesPart wrote old text new) → OnErr r (writes_of new ≡ one_more (writes_of old)) → IfErr r (λ f. BreaksOff wrote writes_of Says old new after f)

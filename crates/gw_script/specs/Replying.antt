@@ -1,5 +1,5 @@
 -- What a script line is answered, and what it leaves of the keeper of the version. (The table of script lines.)
-use Rattle.std.specs.Prelude.{◌≡◌, ◌⊎◌, ℕ, Bool, true, false, IsTrue, List, [], ◌++◌, codes, decimal}
+use Rattle.std.specs.Prelude.{◌≡◌, ◌⊎◌, ℕ, Bool, true, false, IsTrue, List, [], ◌++◌, Option, Some, None, MatchOption, codes, decimal}
 use Rattle.gw_request.specs.declared.request.Request.{Request}
 use Rattle.gw_request.specs.declared.request.Request.TheVariants as requests
 use Rattle.gw_request.specs.declared.request.Reason.{Reason}
@@ -47,16 +47,20 @@ is_quit requests.List = false
 is_quit requests.Quit = true
 is_quit (requests.Bad reason) = false
 
--- whether a line asks a query, which may be answered with want of memory
-abbrev pub is_query : Request → Bool
-is_query requests.Nothing = false
-is_query (requests.Edit e) = false
-is_query (requests.Report rep k) = true
-is_query (requests.Peek rep k) = true
-is_query (requests.All k) = true
-is_query requests.List = true
-is_query requests.Quit = false
-is_query (requests.Bad reason) = false
+-- what a line may be answered where a growth is refused for telling its answer: a query and an edit may, the rest may not
+abbrev pub untold_of : Request → Option (List ℕ)
+untold_of requests.Nothing = None
+untold_of (requests.Edit e) = Some (codes "refused E7\n")
+untold_of (requests.Report rep k) = Some (codes "memory\n")
+untold_of (requests.Peek rep k) = Some (codes "memory\n")
+untold_of (requests.All k) = Some (codes "memory\n")
+untold_of requests.List = Some (codes "memory\n")
+untold_of requests.Quit = None
+untold_of (requests.Bad reason) = None
+
+-- a growth was refused for telling an answer: that may be answered, or the keeper is as it was
+abbrev pub Untold : {D : Type 0} → (D → Listing) → (D → Event → Reply → D → Type 0) → D → ℕ → Request → D → Type 0
+Untold version does d n request d' = MatchOption (untold_of request) (d' ≡ d) (λ text. Replies version does d n request text d')
 
 -- what may be answered to the n-th line, and what it leaves: an edit for whose reading a growth was refused is refused
 pub data Answers {D : Type 0} (version : D → Listing) (does : D → Event → Reply → D → Type 0) (d : D) (n : ℕ) (line front : List ℕ) (d' : D) : Type 0 where

@@ -1,6 +1,6 @@
 // What a script line is answered.
-ghost use Rattle.std.specs.Prelude.{◌≡◌, ◌++◌, ℕ, List, codes, decimal, IfOk, OnErr, true};
-ghost use Rattle.gw_script.specs.Replying.{Replies, word_of, is_quit, is_query};
+ghost use Rattle.std.specs.Prelude.{◌≡◌, ◌++◌, codes, decimal, option_map, IfOk, OnErr};
+ghost use Rattle.gw_script.specs.Replying.{Replies, Untold, word_of, is_quit, untold_of};
 
 use crate::edits::edit;
 use crate::listing::list;
@@ -10,8 +10,7 @@ use gw_nums::put_decimal;
 use gw_request::{Reason, Request};
 use std::alloc::{AllocError, Global};
 
-/// The answer to the n-th line. Where a growth was refused for telling it, it was given all the same, and a query may be
-/// answered that memory was refused.
+/// The answer to the n-th line. Where a growth was refused for telling it, [`untold`] may be answered.
 pub fn answer<D: Keeper>(
     alloc: Global,
     keeper: &mut D,
@@ -19,8 +18,7 @@ pub fn answer<D: Keeper>(
     request: &Request,
 ) -> Result<Vec<u8>, AllocError>
     ensures ok { IfOk result (λ v. Replies D.version D.does keeper.old n request.now v.items keeper.new) }
-    ensures untold { OnErr result ((text : List ℕ) × Replies D.version D.does keeper.old n request.now text keeper.new) }
-    ensures query { OnErr result (is_query request.now ≡ true → Replies D.version D.does keeper.old n request.now (codes "memory\n") keeper.new) }
+    ensures err { OnErr result (Untold D.version D.does keeper.old n request.now keeper.new) }
 {
     match request {
         Request::Nothing => Ok(Vec::new(alloc)),
@@ -62,12 +60,15 @@ pub fn is_quit(request: &Request) -> bool
     matches!(request, Request::Quit)
 }
 
-/// Whether the request is a query, which may be answered with want of memory.
-pub fn is_query(request: &Request) -> bool
-    ensures { result ≡ is_query request.now }
+/// What a line may be answered where a growth is refused for telling its answer, if it may.
+pub fn untold(request: &Request) -> Option<&'static [u8]>
+    ensures { option_map (λ text. text.now) result ≡ untold_of request.now }
 {
-    matches!(
-        request,
-        Request::Report { .. } | Request::Peek { .. } | Request::All { .. } | Request::List
-    )
+    match request {
+        Request::Edit(_) => Some(b"refused E7\n"),
+        Request::Report { .. } | Request::Peek { .. } | Request::All { .. } | Request::List => {
+            Some(b"memory\n")
+        }
+        Request::Nothing | Request::Quit | Request::Bad(_) => None,
+    }
 }

@@ -1,16 +1,16 @@
 // A session: the script's lines, answered one after another.
-ghost use Rattle.std.specs.Prelude.{◌≡◌, ◌≤◌, ◌⊎◌, true, false, codes, IfOk, IfErr, OnOk, OnErr};
+ghost use Rattle.std.specs.Prelude.{◌≡◌, ◌≤◌, ◌⊎◌, ℕ, List, Some, true, false, codes, IfOk, IfErr, OnOk, OnErr};
 ghost use Rattle.gw_io.specs.Failures.{one_more, WritesPart};
 ghost use Rattle.gw_desk.specs.Book.{Book};
 ghost use Rattle.gw_request.specs.Requests.{request_of};
 ghost use Rattle.gw_script.specs.Opening.{Opens, Refuses};
-ghost use Rattle.gw_script.specs.Replying.{Answers, DeskAnswers, Replies, is_quit, is_query};
+ghost use Rattle.gw_script.specs.Replying.{Answers, DeskAnswers, Replies, is_quit, untold_of};
 ghost use Rattle.gw_script.specs.Sessions.{Serves, Stops};
 ghost use Rattle.gw_script.specs.Turns.{Writes, BreaksOff, BreaksRefused, over_if};
 
 use crate::fault::{Fault, Over};
 use crate::opening::{Options, open};
-use crate::reply::{answer, is_query, is_quit};
+use crate::reply::{answer, is_quit, untold};
 use gw_desk::Keeper;
 use gw_io::{Budget, Line, Sink, Source, read_line, without_cr, write_all};
 use gw_request::{Request, request_of};
@@ -23,7 +23,7 @@ use std::alloc::Global;
 /// # Errors
 ///
 /// [`Fault::Read`] and [`Fault::Write`], where the source or the sink failed in this call; [`Fault::ReadLimit`];
-/// [`Fault::Memory`], where a growth was refused for what is no query.
+/// [`Fault::Memory`], where a growth was refused for reading a line or for what is neither a query nor an edit.
 pub fn session_on<D: Keeper, S: Source, K: Sink>(
     alloc: Global,
     keeper: &mut D,
@@ -108,7 +108,7 @@ fn refuse_unread<K: Sink>(sink: &mut K) -> Result<bool, Fault>
     }
 }
 
-// Does what a line asks for, and answers it. A query that a growth was refused for is answered so.
+// Does what a line asks for, and answers it. A query or an edit that a growth was refused for is answered so.
 fn fulfil<D: Keeper, K: Sink>(
     alloc: Global,
     keeper: &mut D,
@@ -130,18 +130,17 @@ fn fulfil<D: Keeper, K: Sink>(
     }
 }
 
-// Says that a growth was refused for a query; at any other line the session ends.
+// Says that a growth was refused, where a line may be answered so; at any other the session ends.
 fn fulfil_refused<K: Sink>(request: &Request, sink: &mut K) -> Result<bool, Fault>
-    ensures query { OnOk result (is_query request.now ≡ true) }
     ensures quit { IfOk result (λ quit. quit ≡ is_quit request.now) }
-    ensures ok { OnOk result (K.wrote sink.old (codes "memory\n") sink.new) }
+    ensures ok { OnOk result ((text : List ℕ) × (untold_of request.now ≡ Some text) × K.wrote sink.old text sink.new) }
     ensures same { OnOk result (K.failures sink.new ≡ K.failures sink.old) }
     ensures err { IfErr result (λ f. BreaksRefused K.wrote K.failures request.now sink.old sink.new f) }
 {
-    if !is_query(request) {
+    let Some(text) = untold(request) else {
         return Err(Fault::Memory);
-    }
-    send(sink, b"memory\n")?;
+    };
+    send(sink, text)?;
     Ok(false)
 }
 

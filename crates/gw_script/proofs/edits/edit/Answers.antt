@@ -1,19 +1,18 @@
-use Rattle.std.proofs.Common.{◌≡◌, refl}
-use Rattle.std.proofs.lemmas.Result.{IfOk-weaker}
-use Rattle.gw_script.specs.Changes.{Edits, accepts, refuses, accepted, refusal_of}
-use Rattle.gw_script.proofs.Reporting.{on_err}
+use Rattle.std.proofs.Common.{ℕ, List, ◌++◌, ap, sym, ◌∙◌, Vec, Global}
+use Rattle.gw_script.specs.Changes.{accepts, refuses, accepted, refusal_of}
+use Rattle.gw_script.proofs.edits.edit.Goals.{in-Ok, in-Err}
 use Rattle.gw_script.proofs.edits.edit.Goals as goal
 
-pub returns-in-Ok-clause-ok : goal.returns-in-Ok-clause-ok
-returns-in-Ok-clause-ok g c =
-    IfOk-weaker c.accepted.result (λ v. v.items ≡ accepted c.in-Ok.edits) (λ v. Edits g.D.Keeper.does c.args.keeper.now c.args.edit.now v.items c.edit.new.self) (λ v told. accepts c.in-Ok.edits c.in-Ok.ensures.accepted told) c.accepted.ensures
-
-pub returns-in-Ok-clause-err : goal.returns-in-Ok-clause-err
-returns-in-Ok-clause-err g c = on_err c.accepted.result _ (accepted c.in-Ok.edits, accepts c.in-Ok.edits c.in-Ok.ensures.accepted refl)
-
-pub returns-in-Err-clause-ok : goal.returns-in-Err-clause-ok
-returns-in-Err-clause-ok g c =
-    IfOk-weaker c.refused.result (λ v. v.items ≡ refusal_of c.in-Err.fault) (λ v. Edits g.D.Keeper.does c.args.keeper.now c.args.edit.now v.items c.edit.new.self) (λ v told. refuses c.in-Err.fault c.in-Err.ensures.refused told) c.refused.ensures
-
-pub returns-in-Err-clause-err : goal.returns-in-Err-clause-err
-returns-in-Err-clause-err g c = on_err c.refused.result _ (refusal_of c.in-Err.fault, refuses c.in-Err.fault c.in-Err.ensures.refused refl)
+pub returns-clause-ok : goal.returns-clause-ok
+returns-clause-ok g c =
+    let items : Vec ℕ Global → List ℕ = λ v. v.items in
+    elim c.match-edit.branch [
+      | in-Ok w ↦
+          let n = w.in-Ok.edits in
+          let put = rw (sym w.told-is ∙ c.in-Ok-told.is) at w.put_accepted-told.ensures.ok in
+          accepts n w.in-Ok.ensures.accepted (ap items w.text-is ∙ (put ∙ ap (λ x. x ++ accepted n) c.in_ok-text.ensures.items))
+      | in-Err w ↦
+          let fault = w.in-Err.fault in
+          let put = rw (sym w.told-is ∙ c.in-Ok-told.is) at w.put_refused-told.ensures.ok in
+          refuses fault w.in-Err.ensures.refused (ap items w.text-is ∙ (put ∙ ap (λ x. x ++ refusal_of fault) c.in_ok-text.ensures.items))
+    ]

@@ -1,25 +1,14 @@
-use Rattle.std.proofs.Common.{inr, refl, codes}
+use Rattle.std.proofs.Common.{subst, sym}
 use Rattle.std.proofs.lemmas.Result.{on_err_weaker}
-use Rattle.gw_script.proofs.Reporting.{on_err}
+use Rattle.gw_edit.specs.declared.fault.EditFault.TheVariants as faults
+use Rattle.gw_desk.specs.declared.play.Event.TheVariants as events
+use Rattle.gw_desk.specs.declared.play.Reply.TheVariants as replies
+use Rattle.gw_script.specs.Changes.{refuses}
+use Rattle.gw_script.proofs.Answering.{memory_told}
 use Rattle.gw_script.proofs.reply.answer.Goals as goal
 
-pub returns-in-Edit-clause-untold : goal.returns-in-Edit-clause-untold
-returns-in-Edit-clause-untold g c = rw c.in-Edit.is c.edit.ensures.err
-
-pub returns-in-Report-clause-untold : goal.returns-in-Report-clause-untold
-returns-in-Report-clause-untold g c = rw c.in-Report.is (on_err_weaker c.report.result (λ told. (_, told)) c.report.ensures.err)
-
-pub returns-in-Peek-clause-untold : goal.returns-in-Peek-clause-untold
-returns-in-Peek-clause-untold g c = rw c.in-Peek.is (on_err_weaker c.peek.result (λ told. (_, told)) c.peek.ensures.err)
-
-pub returns-in-All-clause-untold : goal.returns-in-All-clause-untold
-returns-in-All-clause-untold g c = rw c.in-All.is (on_err_weaker c.report_all.result (λ told. (_, told)) c.report_all.ensures.err)
-
-pub returns-in-List-clause-untold : goal.returns-in-List-clause-untold
-returns-in-List-clause-untold g c = rw c.in-List.is (on_err c.list-in-List.result _ (codes "memory\n", (inr refl, refl)))
-
-pub returns-in-Quit-clause-untold : goal.returns-in-Quit-clause-untold
-returns-in-Quit-clause-untold g c = rw c.in-Quit.is (on_err c.from_slice.result _ (codes "bye\n", (refl, refl)))
-
-pub returns-in-Bad-clause-untold : goal.returns-in-Bad-clause-untold
-returns-in-Bad-clause-untold g c = rw c.in-Bad.is (on_err c.refusal.result _ (_, (refl, refl)))
+pub returns-in-Edit-clause-err : goal.returns-in-Edit-clause-err
+returns-in-Edit-clause-err g c =
+    let old = c.args.keeper.now in
+    let e = c.in-Edit.change in
+    rw c.in-Edit.is (on_err_weaker c.edit.result (λ same. refuses faults.Memory (subst (λ d. g.D.Keeper.does old (events.Edit e) (replies.Refused faults.Memory) d) (sym same) (g.met.D.Keeper.in_vain old (events.Edit e))) memory_told) c.edit.ensures.err)
