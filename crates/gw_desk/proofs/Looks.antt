@@ -9,7 +9,8 @@ use Rattle.gw_meaning.specs.Machine.{Machine, zero_state}
 use Rattle.gw_meaning.specs.Step.{step, run}
 use Rattle.gw_meaning.specs.Point.{outcome_of}
 use Rattle.gw_scan.specs.Stepping.{EndsAs}
-use Rattle.gw_frame.proofs.ReadLaws.{run_before, run_on}
+use Rattle.gw_meaning.proofs.Programs.{run_on}
+use Rattle.gw_frame.proofs.ReadLaws.{run_before}
 use Rattle.gw_record.specs.Tape.{Tape, Records, IsStartEnd}
 use Rattle.gw_record.specs.Lookups.{IsEndOf}
 use Rattle.gw_desk.specs.declared.look.Look.TheVariants as looks

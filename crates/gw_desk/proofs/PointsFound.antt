@@ -6,15 +6,11 @@ use Rattle.gw_meaning.specs.declared.item.Outcome.{Outcome}
 use Rattle.gw_meaning.specs.declared.item.Outcome.TheVariants as outcomes
 use Rattle.gw_meaning.specs.Listing.{Listing}
 use Rattle.gw_meaning.specs.Machine.{Machine, zero_state}
-use Rattle.gw_meaning.specs.Step.{step, run, run_prog, step_prog}
+use Rattle.gw_meaning.specs.Step.{step, run}
 use Rattle.gw_meaning.specs.Point.{complete, ended, IsFirst, outcome_of}
-use Rattle.gw_scan.proofs.Binding.{bind_gives}
+use Rattle.gw_meaning.proofs.Programs.{run_on}
 use Rattle.gw_desk.specs.Finding.{Point, NoStart, TooLong, search, behind, at_end, with_outcome, verdict}
 use Rattle.gw_desk.specs.Points.{Means}
-
--- the run is one step longer
-run_on : (t : Listing) (seed n : ℕ) (s : Machine) → run t seed n ≡ Ok s → run t seed (suc n) ≡ step t seed s
-run_on t seed n s is = (bind_gives t seed (run_prog n) step_prog s is).0
 
 -- nor are they complete at n
 not_first : (t : Listing) (seed k n : ℕ) (s : Machine) → run t seed n ≡ Ok s → (s.complete ≡ k → ⊥) → IsFirst t seed k n → IsFirst t seed k (suc n)

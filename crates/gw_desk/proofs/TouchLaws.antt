@@ -1,5 +1,7 @@
 -- The first step that read something touched, part by part.
 use Rattle.std.proofs.Common.{◌≡◌, ℕ, zero, suc, ◌<◌, ◌≤◌, min, ◌==◌, ◌||◌, nat_le, Bool, true, false, cond, List, [], ◌∷◌, Option, Some, None, refl, ap, ◌∙◌, arith}
+use Rattle.std.specs.Prelude.{option_map, MatchOption, IsSomeAnd}
+use Rattle.std.specs.Bool.{then_some}
 use Rattle.std.specs.List.{list_any}
 use Rattle.std.proofs.lemmas.Bool.Decides.{nat_tests}
 use Rattle.gw_meaning.specs.declared.item.Item.{Item}
@@ -8,8 +10,8 @@ use Rattle.gw_meaning.specs.Listing.{Listing}
 use Rattle.gw_meaning.specs.Reads.{or_later, first_reading, reads, is_use, is_command_use}
 use Rattle.gw_record.proofs.FirstLaws.{IsFirstReading, first_is, first_same}
 use Rattle.gw_edit.specs.declared.touch.Touch.{Touch}
-use Rattle.gw_edit.specs.Touching.{is_touched, is_at, is_from}
-use Rattle.gw_desk.specs.Touched.{earlier, uses_block, uses_after, uses_generates, uses_commands, uses_seed, uses_beyond}
+use Rattle.gw_edit.specs.Touching.{is_touched, is_at, is_from, is_beyond}
+use Rattle.gw_desk.specs.Touched.{earlier, uses, uses_commands}
 
 -- properties that agree have the same first reading
 any_same : (p q : Item → Bool) → ((i : Item) → p i ≡ q i) → (is : List Item) → list_any p is ≡ list_any q is
@@ -66,15 +68,6 @@ or_false : (b : Bool) → (b || false) ≡ b
 or_false true = refl
 or_false false = refl
 
--- the parts make the whole
-pub touched_parts : (touch : Touch) (i : Item) → ((uses_block touch.block i || (uses_after touch.front i || uses_after touch.own i)) || (uses_generates touch.generates i || (uses_commands touch.commands i || (uses_seed touch.seed i || uses_beyond touch.beyond i)))) ≡ is_touched touch i
-touched_parts touch (items.Block place) = or_false (is_at touch.block place || false) ∙ or_false (is_at touch.block place)
-touched_parts touch (items.After place) = or_false (is_at touch.front place || is_at touch.own place)
-touched_parts touch items.Generates = or_false touch.generates
-touched_parts touch (items.Cmd j) = or_false (is_from touch.commands j)
-touched_parts touch items.Seed = or_false touch.seed
-touched_parts touch (items.Within time) = refl
-
 eq_comm : (a b : ℕ) → (a == b) ≡ (b == a)
 eq_comm a b = go (a == b) refl (b == a) refl where
   go : (x : Bool) → (a == b) ≡ x → (y : Bool) → (b == a) ≡ y → x ≡ y
@@ -83,104 +76,71 @@ eq_comm a b = go (a == b) refl (b == a) refl where
   go true e false f = absurd (grind (arith, nat_tests))
   go false e true f = absurd (grind (arith, nat_tests))
 
--- each part, where there is something, is a use
-pub block_use : (n : ℕ) (i : Item) → is_use (items.Block n) i ≡ uses_block (Some n) i
-block_use n (items.Block place) = eq_comm place n
-block_use n (items.After place) = refl
-block_use n items.Generates = refl
-block_use n (items.Cmd j) = refl
-block_use n items.Seed = refl
-block_use n (items.Within time) = refl
+-- the item of a number, where there is one
+pub mapped : (item : ℕ → Item) (o : Option ℕ) (r : Option Item) → MatchOption o (r ≡ None) (λ n. IsSomeAnd r (λ i. i ≡ item n)) → r ≡ option_map item o
+mapped item None r h = h
+mapped item (Some n) (Some i) h = ap (λ j. Some j) h
+mapped item (Some n) None h = absurd h
 
-pub after_use : (n : ℕ) (i : Item) → is_use (items.After n) i ≡ uses_after (Some n) i
-after_use n (items.Block place) = refl
-after_use n (items.After place) = eq_comm place n
-after_use n items.Generates = refl
-after_use n (items.Cmd j) = refl
-after_use n items.Seed = refl
-after_use n (items.Within time) = refl
+-- an item of another kind is not used
+unused : (item : ℕ → Item) (i : Item) → ((n : ℕ) → is_use (item n) i ≡ false) → (o : Option ℕ) → uses (option_map item o) i ≡ false
+unused item i none None = refl
+unused item i none (Some n) = none n
 
-pub generates_use : (i : Item) → is_use items.Generates i ≡ uses_generates true i
-generates_use (items.Block place) = refl
-generates_use (items.After place) = refl
-generates_use items.Generates = refl
-generates_use (items.Cmd j) = refl
-generates_use items.Seed = refl
-generates_use (items.Within time) = refl
+unused_if : (item i : Item) → is_use item i ≡ false → (b : Bool) → uses (then_some b item) i ≡ false
+unused_if item i none false = refl
+unused_if item i none true = none
 
-pub command_use : (n : ℕ) (i : Item) → is_command_use n i ≡ uses_commands (Some n) i
-command_use n (items.Block place) = refl
-command_use n (items.After place) = refl
-command_use n items.Generates = refl
-command_use n (items.Cmd j) = refl
-command_use n items.Seed = refl
-command_use n (items.Within time) = refl
+-- one of the same kind is, where it is the item that is touched
+block_used : (o : Option ℕ) (place : ℕ) → uses (option_map items.Block o) (items.Block place) ≡ is_at o place
+block_used None place = refl
+block_used (Some n) place = eq_comm place n
 
-pub seed_use : (i : Item) → is_use items.Seed i ≡ uses_seed true i
-seed_use (items.Block place) = refl
-seed_use (items.After place) = refl
-seed_use items.Generates = refl
-seed_use (items.Cmd j) = refl
-seed_use items.Seed = refl
-seed_use (items.Within time) = refl
+after_used : (o : Option ℕ) (place : ℕ) → uses (option_map items.After o) (items.After place) ≡ is_at o place
+after_used None place = refl
+after_used (Some n) place = eq_comm place n
 
-pub beyond_use : (n : ℕ) (i : Item) → is_use (items.Within n) i ≡ uses_beyond (Some n) i
-beyond_use n (items.Block place) = refl
-beyond_use n (items.After place) = refl
-beyond_use n items.Generates = refl
-beyond_use n (items.Cmd j) = refl
-beyond_use n items.Seed = refl
-beyond_use n (items.Within time) = refl
+command_used : (o : Option ℕ) (i : ℕ) → uses_commands o (items.Cmd i) ≡ is_from o i
+command_used None i = refl
+command_used (Some n) i = refl
 
--- where there is nothing, none is
-module _ where
-  pub no_block : (i : Item) → uses_block None i ≡ false
-  no_block (items.Block place) = refl
-  no_block (items.After place) = refl
-  no_block items.Generates = refl
-  no_block (items.Cmd j) = refl
-  no_block items.Seed = refl
-  no_block (items.Within time) = refl
+within_used : (o : Option ℕ) (time : ℕ) → uses (option_map items.Within o) (items.Within time) ≡ is_beyond o time
+within_used None time = refl
+within_used (Some n) time = refl
 
-  pub no_after : (i : Item) → uses_after None i ≡ false
-  no_after (items.Block place) = refl
-  no_after (items.After place) = refl
-  no_after items.Generates = refl
-  no_after (items.Cmd j) = refl
-  no_after items.Seed = refl
-  no_after (items.Within time) = refl
+used_if : (item : Item) → is_use item item ≡ true → (b : Bool) → uses (then_some b item) item ≡ b
+used_if item is false = refl
+used_if item is true = is
 
-  pub no_generates : (i : Item) → uses_generates false i ≡ false
-  no_generates (items.Block place) = refl
-  no_generates (items.After place) = refl
-  no_generates items.Generates = refl
-  no_generates (items.Cmd j) = refl
-  no_generates items.Seed = refl
-  no_generates (items.Within time) = refl
+no_command : (o : Option ℕ) (i : Item) → ((n : ℕ) → is_command_use n i ≡ false) → uses_commands o i ≡ false
+no_command None i none = refl
+no_command (Some n) i none = none n
 
-  pub no_command : (i : Item) → uses_commands None i ≡ false
-  no_command (items.Block place) = refl
-  no_command (items.After place) = refl
-  no_command items.Generates = refl
-  no_command (items.Cmd j) = refl
-  no_command items.Seed = refl
-  no_command (items.Within time) = refl
+-- the parts make the whole
+abbrev pub parts : Touch → Item → Bool
+parts touch i =
+    (uses (option_map items.Block touch.block) i || (uses (option_map items.After touch.front) i || uses (option_map items.After touch.own) i))
+    || (uses (then_some touch.generates items.Generates) i || (uses_commands touch.commands i || (uses (then_some touch.seed items.Seed) i || uses (option_map items.Within touch.beyond) i)))
 
-  pub no_seed : (i : Item) → uses_seed false i ≡ false
-  no_seed (items.Block place) = refl
-  no_seed (items.After place) = refl
-  no_seed items.Generates = refl
-  no_seed (items.Cmd j) = refl
-  no_seed items.Seed = refl
-  no_seed (items.Within time) = refl
-
-  pub no_beyond : (i : Item) → uses_beyond None i ≡ false
-  no_beyond (items.Block place) = refl
-  no_beyond (items.After place) = refl
-  no_beyond items.Generates = refl
-  no_beyond (items.Cmd j) = refl
-  no_beyond items.Seed = refl
-  no_beyond (items.Within time) = refl
+pub touched_parts : (touch : Touch) (i : Item) → parts touch i ≡ is_touched touch i
+touched_parts touch (items.Block place) =
+    rw (block_used touch.block place, unused items.After (items.Block place) (λ n. refl) touch.front, unused items.After (items.Block place) (λ n. refl) touch.own, unused_if items.Generates (items.Block place) refl touch.generates, no_command touch.commands (items.Block place) (λ n. refl), unused_if items.Seed (items.Block place) refl touch.seed, unused items.Within (items.Block place) (λ n. refl) touch.beyond)
+    (or_false (is_at touch.block place || false) ∙ or_false (is_at touch.block place))
+touched_parts touch (items.After place) =
+    rw (unused items.Block (items.After place) (λ n. refl) touch.block, after_used touch.front place, after_used touch.own place, unused_if items.Generates (items.After place) refl touch.generates, no_command touch.commands (items.After place) (λ n. refl), unused_if items.Seed (items.After place) refl touch.seed, unused items.Within (items.After place) (λ n. refl) touch.beyond)
+    (or_false (is_at touch.front place || is_at touch.own place))
+touched_parts touch items.Generates =
+    rw (unused items.Block items.Generates (λ n. refl) touch.block, unused items.After items.Generates (λ n. refl) touch.front, unused items.After items.Generates (λ n. refl) touch.own, used_if items.Generates refl touch.generates, no_command touch.commands items.Generates (λ n. refl), unused_if items.Seed items.Generates refl touch.seed, unused items.Within items.Generates (λ n. refl) touch.beyond)
+    (or_false touch.generates)
+touched_parts touch (items.Cmd j) =
+    rw (unused items.Block (items.Cmd j) (λ n. refl) touch.block, unused items.After (items.Cmd j) (λ n. refl) touch.front, unused items.After (items.Cmd j) (λ n. refl) touch.own, unused_if items.Generates (items.Cmd j) refl touch.generates, command_used touch.commands j, unused_if items.Seed (items.Cmd j) refl touch.seed, unused items.Within (items.Cmd j) (λ n. refl) touch.beyond)
+    (or_false (is_from touch.commands j))
+touched_parts touch items.Seed =
+    rw (unused items.Block items.Seed (λ n. refl) touch.block, unused items.After items.Seed (λ n. refl) touch.front, unused items.After items.Seed (λ n. refl) touch.own, unused_if items.Generates items.Seed refl touch.generates, no_command touch.commands items.Seed (λ n. refl), used_if items.Seed refl touch.seed, unused items.Within items.Seed (λ n. refl) touch.beyond)
+    (or_false touch.seed)
+touched_parts touch (items.Within time) =
+    rw (unused items.Block (items.Within time) (λ n. refl) touch.block, unused items.After (items.Within time) (λ n. refl) touch.front, unused items.After (items.Within time) (λ n. refl) touch.own, unused_if items.Generates (items.Within time) refl touch.generates, no_command touch.commands (items.Within time) (λ n. refl), unused_if items.Seed (items.Within time) refl touch.seed, within_used touch.beyond time)
+    refl
 
 pub both_are : (p q : Item → Bool) (t : Listing) (seed n : ℕ) (a b r : Option ℕ) → r ≡ earlier a b → a ≡ first_reading p t seed n → b ≡ first_reading q t seed n → r ≡ first_reading (λ i. p i || q i) t seed n
 both_are p q t seed n a b r is one two = is ∙ (ap (λ o. earlier o b) one ∙ (ap (λ o. earlier (first_reading p t seed n) o) two ∙ either_reading p q t seed n))

@@ -11,7 +11,7 @@ use Rattle.gw_meaning.specs.Listing.{Listing}
 use Rattle.gw_meaning.specs.Questions.{Answer, ask, Prog, Gives, Ends, Asks, result_of, items_of, ◌>>=◌}
 use Rattle.gw_meaning.specs.Step.{stops_if}
 use Rattle.gw_frame.specs.Moved.{moved_item, moved_answer, MovedAnswer}
-use Rattle.gw_frame.proofs.Asking.{bind_gives, bind_ends}
+use Rattle.gw_meaning.proofs.Programs.{bind_gives, bind_ends}
 
 -- what f makes of a result
 abbrev pub result_with : {A B : Type 0} → (A → B) → Result A End → Result B End

@@ -11,7 +11,8 @@ use Rattle.gw_meaning.specs.Reads.{reads}
 use Rattle.gw_frame.specs.Moved.{moved_item, moved_machine, moved_result, MovedAnswer, AnswersMoved, StartStays, UnseenMove, UnseenMoveStep, UnseenMoveReads}
 use Rattle.gw_frame.proofs.Follows.{Follows, result_with}
 use Rattle.gw_frame.proofs.MovedSteps.{step_follows, run_follows}
-use Rattle.gw_frame.proofs.ReadLaws.{run_before, run_on, step_reads, reads_there}
+use Rattle.gw_meaning.proofs.Programs.{run_on}
+use Rattle.gw_frame.proofs.ReadLaws.{run_before, step_reads, reads_there}
 
 -- a result with its state moved
 moved_result_with : (move : ℕ → ℕ) (r : Result Machine End) → result_with (moved_machine move) r ≡ moved_result move r

@@ -9,7 +9,8 @@ use Rattle.gw_meaning.specs.Step.{step, step_prog, step_items, items_if_moved, r
 use Rattle.gw_frame.specs.Alike.{AnswersAlike}
 use Rattle.gw_meaning.specs.Reads.{read_from, reads}
 use Rattle.gw_frame.specs.Reads.{reads_below, RunAsksItsReads, UnseenStepReads, UnseenReads}
-use Rattle.gw_frame.proofs.Asking.{same_answers, bind_gives, bind_ends}
+use Rattle.gw_meaning.proofs.Programs.{bind_gives, bind_ends, run_on}
+use Rattle.gw_frame.proofs.Asking.{same_answers}
 
 -- a run of one step more came to a state before
 pub run_before : (t : Listing) (seed n : ℕ) (v : Machine) → run t seed (suc n) ≡ Ok v → (s : Machine) × (run t seed n ≡ Ok s)
@@ -17,10 +18,6 @@ run_before t seed n v is = go (run t seed n) refl where
   go : (r : Result Machine End) → run t seed n ≡ r → (s : Machine) × (run t seed n ≡ Ok s)
   go (Ok s) there = (s, there)
   go (Err end) there = absurd (let whole : Err end ≡ Ok v = sym (bind_ends t seed (run_prog n) step_prog end there).0 ∙ is in cc)
-
--- and its last step is from there
-pub run_on : (t : Listing) (seed n : ℕ) (s : Machine) → run t seed n ≡ Ok s → run t seed (suc n) ≡ step t seed s
-run_on t seed n s there = (bind_gives t seed (run_prog n) step_prog s there).0
 
 -- a step that comes to a state reads what it asks
 pub step_reads : (t : Listing) (seed : ℕ) (s v : Machine) → step t seed s ≡ Ok v → step_items t seed s ≡ items_of t seed (step_prog s)

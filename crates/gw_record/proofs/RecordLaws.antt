@@ -12,9 +12,9 @@ use Rattle.gw_meaning.specs.declared.transaction.Transaction.{Transaction}
 use Rattle.gw_meaning.specs.Listing.{Listing}
 use Rattle.gw_meaning.specs.Machine.{Machine, raised}
 use Rattle.gw_meaning.specs.Changes.{moved, with_active, picked}
-use Rattle.gw_meaning.specs.Step.{step, step_items, step_prog, run, run_prog}
+use Rattle.gw_meaning.specs.Step.{step, step_items, run}
 use Rattle.gw_meaning.specs.Reads.{or_later, is_use, read_from, first_use}
-use Rattle.gw_scan.proofs.Binding.{bind_gives}
+use Rattle.gw_meaning.proofs.Programs.{run_on}
 use Rattle.gw_record.specs.declared.kept.Kept.{Kept}
 use Rattle.gw_record.specs.declared.first_uses.FirstUses.{FirstUses}
 use Rattle.gw_record.specs.Steps.{below, AreBelow}
@@ -163,10 +163,6 @@ complete_moved s (moves.Delay place until) = complete_active s s.active _ (λ x.
 complete_moved s (moves.Terminate place count) = complete_active s s.active _ (λ x. complete_done _ s.complete)
 complete_moved s moves.Pick = complete_picked s s.current
 complete_moved s (moves.Clock time) = omega arith
-
--- the run is one step longer
-run_on : (t : Listing) (seed n : ℕ) (s : Machine) → run t seed n ≡ Ok s → run t seed (suc n) ≡ step t seed s
-run_on t seed n s is = (bind_gives t seed (run_prog n) step_prog s is).0
 
 -- a step is made, and the items that it read are noted
 pub made :

@@ -3,24 +3,12 @@ use Rattle.std.proofs.Common.{◌≡◌, ℕ, List, [], ◌∷◌, ◌++◌, len
 use Rattle.std.proofs.lemmas.List.{take-append-drop, take_at}
 use Rattle.std.proofs.Math.Seq.{take-length}
 use Rattle.gw_meaning.specs.declared.item.Item.{Item}
-use Rattle.gw_meaning.specs.declared.item.End.{End}
 use Rattle.gw_meaning.specs.Listing.{Listing}
-use Rattle.gw_meaning.specs.Questions.{Answer, ask, Prog, Gives, Ends, Asks, result_of, items_of, ◌>>=◌}
+use Rattle.gw_meaning.specs.Questions.{Answer, ask, Prog, Gives, Asks, items_of, ◌>>=◌}
+use Rattle.gw_meaning.proofs.Programs.{bind_gives, bind_ends}
 use Rattle.gw_scan.specs.declared.case.Halt.{Halt}
 use Rattle.gw_scan.specs.declared.case.Halt.TheVariants as halts
 use Rattle.gw_scan.specs.Deciding.{Decides}
-
--- the first program gives a: the result and the questions are those of the second on a, behind its own
-pub bind_gives : {A B : Type 0} (t : Listing) (seed : ℕ) (p : Prog A) (k : A → Prog B) (a : A) → result_of t seed p ≡ Ok a → (result_of t seed (p >>= k) ≡ result_of t seed (k a)) × (items_of t seed (p >>= k) ≡ items_of t seed p ++ items_of t seed (k a))
-bind_gives t seed (Gives b) k a is = let same : b ≡ a = cc in rw same (refl, refl)
-bind_gives t seed (Ends end) k a is = absurd cc
-bind_gives t seed (Asks i f) k a is = let h = bind_gives t seed (f (ask t seed i)) k a is in (h.0, ap (λ is. i ∷ is) h.1)
-
--- the first program ends the run: so does the whole
-pub bind_ends : {A B : Type 0} (t : Listing) (seed : ℕ) (p : Prog A) (k : A → Prog B) (end : End) → result_of t seed p ≡ Err end → (result_of t seed (p >>= k) ≡ Err end) × (items_of t seed (p >>= k) ≡ items_of t seed p)
-bind_ends t seed (Gives b) k end is = absurd cc
-bind_ends t seed (Ends e) k end is = let same : e ≡ end = cc in rw same (refl, refl)
-bind_ends t seed (Asks i f) k end is = let h = bind_ends t seed (f (ask t seed i)) k end is in (h.0, ap (λ is. i ∷ is) h.1)
 
 -- what begins with a longer list begins with its front
 front_of_front : (xs more ys zs : List Item) → ys ≡ xs ++ more → take (length ys) zs ≡ ys → take (length xs) zs ≡ xs

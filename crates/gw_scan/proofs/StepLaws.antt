@@ -8,7 +8,7 @@ use Rattle.gw_meaning.specs.Questions.{Gives, result_of, items_of}
 use Rattle.gw_meaning.specs.Changes.{moved}
 use Rattle.gw_meaning.specs.Step.{decide, step, step_prog, step_items, items_if_moved}
 use Rattle.gw_scan.specs.Stepping.{EndsAs}
-use Rattle.gw_scan.proofs.Binding.{bind_gives, bind_ends}
+use Rattle.gw_meaning.proofs.Programs.{bind_gives, bind_ends}
 
 pub step_goes : (t : Listing) (seed : ℕ) (s : Machine) (m : Move) → result_of t seed (decide s) ≡ Ok m → step t seed s ≡ Ok (moved s m)
 step_goes t seed s m is = (bind_gives t seed (decide s) (λ (m : Move). Gives (moved s m)) m is).0

@@ -1,9 +1,0 @@
-use Rattle.std.proofs.Common.{◌∙◌}
-use Rattle.gw_desk.proofs.TouchLaws.{same_reading, no_reading, block_use, no_block}
-use Rattle.gw_desk.proofs.touched.first_block.Goals as goal
-
-pub returns-in-Some : goal.returns-in-Some
-returns-in-Some c = rw c.in-Some.is (λ t seed h. c.first_use.ensures t seed h ∙ same_reading _ _ (block_use c.in-Some.number) t seed c.args.run.now.moment)
-
-pub returns-in-None : goal.returns-in-None
-returns-in-None c = rw c.in-None.is (λ t seed h. no_reading _ no_block t seed c.args.run.now.moment)
