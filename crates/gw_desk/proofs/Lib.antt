@@ -4,7 +4,6 @@ pub mod BookLaws
 pub mod PeekLaws
 pub mod RunLaws
 pub mod FinishLaws
-pub mod TouchLaws
 pub mod RebaseLaws
 pub mod EditLaws
 pub mod PlayLaws

@@ -6,15 +6,15 @@ use Rattle.gw_meaning.specs.declared.statement.Replication.{Replication}
 use Rattle.gw_meaning.specs.Listing.{Listing, seed_at, seed_in}
 use Rattle.gw_record.specs.Tape.{Tape, blank}
 use Rattle.gw_edit.specs.declared.edit.Edit.{Edit}
-use Rattle.gw_edit.specs.Touching.{touch_of}
+use Rattle.gw_edit.specs.Rebasing.{IsRebased}
 use Rattle.gw_desk.specs.declared.recording.Recording.{Recording}
 use Rattle.gw_desk.specs.Book.{run_in}
-use Rattle.gw_desk.specs.Rebasing.{IsCutBy, IsRebased, AreRebased, with_run, with_missing}
+use Rattle.gw_desk.specs.Rebasing.{IsRebasedRecording, AreRebased, with_run, with_missing}
 
-module _ (t : Listing) (e : Edit) (u : Listing) (old cur : List Recording) (i : ℕ) (x : Recording) (count : length cur ≡ length old) (within : i < length cur) (done : (k : ℕ) (d : Recording) → k < i → IsRebased t e u (get_or old k d) (get_or cur k d)) (rest : (k : ℕ) (d : Recording) → i ≤ k → get_or cur k d ≡ get_or old k d) (here : (d : Recording) → IsRebased t e u (get_or cur i d) x) where
-  pub one_more : (k : ℕ) (d : Recording) → k < i + 1 → IsRebased t e u (get_or old k d) (get_or (set cur i x) k d)
+module _ (t : Listing) (e : Edit) (u : Listing) (old cur : List Recording) (i : ℕ) (x : Recording) (count : length cur ≡ length old) (within : i < length cur) (done : (k : ℕ) (d : Recording) → k < i → IsRebasedRecording t e u (get_or old k d) (get_or cur k d)) (rest : (k : ℕ) (d : Recording) → i ≤ k → get_or cur k d ≡ get_or old k d) (here : (d : Recording) → IsRebasedRecording t e u (get_or cur i d) x) where
+  pub one_more : (k : ℕ) (d : Recording) → k < i + 1 → IsRebasedRecording t e u (get_or old k d) (get_or (set cur i x) k d)
   one_more k d less = go (nat_eq k i) refl where
-    go : (b : Bool) → nat_eq k i ≡ b → IsRebased t e u (get_or old k d) (get_or (set cur i x) k d)
+    go : (b : Bool) → nat_eq k i ≡ b → IsRebasedRecording t e u (get_or old k d) (get_or (set cur i x) k d)
     go true same =
         let at : k ≡ i = grind (arith, nat_tests) in
         let new : get_or (set cur i x) k d ≡ x = ap (λ n. get_or (set cur i x) n d) at ∙ get_or-set_same cur i x d within in
@@ -28,25 +28,25 @@ module _ (t : Listing) (e : Edit) (u : Listing) (old cur : List Recording) (i : 
   rest_stays k d more = get_or-set_other cur i k x d (λ e. omega (arith, e, more)) ∙ rest k d (omega (arith, more))
 
 -- what a run list with these runs gives for a number
-abbrev pub IsCutOf : Listing → Edit → Listing → ℕ → Option Tape → Option Tape → Type 0
-IsCutOf t e u number None None = Unit {0}
-IsCutOf t e u number None (Some s) = ⊥
-IsCutOf t e u number (Some r) None = ⊥
-IsCutOf t e u number (Some r) (Some s) = IsCutBy (touch_of t e u number) r s
+abbrev pub IsRebasedOf : Listing → Edit → Listing → ℕ → Option Tape → Option Tape → Type 0
+IsRebasedOf t e u number None None = Unit {0}
+IsRebasedOf t e u number None (Some s) = ⊥
+IsRebasedOf t e u number (Some r) None = ⊥
+IsRebasedOf t e u number (Some r) (Some s) = IsRebased t e u number r s
 
-pub cut_in : (t : Listing) (e : Edit) (u : Listing) (old new : List Recording) → AreRebased t e u old new → (n : ℕ) → IsCutOf t e u n (run_in old n) (run_in new n)
-cut_in t e u [] [] h n = tt
-cut_in t e u [] (x ∷ new) h n = absurd (let c = h.count in omega (arith, c))
-cut_in t e u (r ∷ old) [] h n = absurd (let c = h.count in omega (arith, c))
-cut_in t e u (r ∷ old) (x ∷ new) h n =
+pub rebased_in : (t : Listing) (e : Edit) (u : Listing) (old new : List Recording) → AreRebased t e u old new → (n : ℕ) → IsRebasedOf t e u n (run_in old n) (run_in new n)
+rebased_in t e u [] [] h n = tt
+rebased_in t e u [] (x ∷ new) h n = absurd (let c = h.count in omega (arith, c))
+rebased_in t e u (r ∷ old) [] h n = absurd (let c = h.count in omega (arith, c))
+rebased_in t e u (r ∷ old) (x ∷ new) h n =
     let c = h.count in
-    let first : IsRebased t e u r x = h.each 0 r (omega arith) in
-    let rest = cut_in t e u old new (record { count = omega (arith, c); each = λ k d within. h.each (suc k) d (omega (arith, within)) }) n in
+    let first : IsRebasedRecording t e u r x = h.each 0 r (omega arith) in
+    let rest = rebased_in t e u old new (record { count = omega (arith, c); each = λ k d within. h.each (suc k) d (omega (arith, within)) }) n in
     go (r.number == n) refl (x.number == n) refl first rest where
-      go : (a : Bool) → (r.number == n) ≡ a → (b : Bool) → (x.number == n) ≡ b → IsRebased t e u r x → IsCutOf t e u n (run_in old n) (run_in new n) → IsCutOf t e u n (cond a (Some r.run) (run_in old n)) (cond b (Some x.run) (run_in new n))
+      go : (a : Bool) → (r.number == n) ≡ a → (b : Bool) → (x.number == n) ≡ b → IsRebasedRecording t e u r x → IsRebasedOf t e u n (run_in old n) (run_in new n) → IsRebasedOf t e u n (cond a (Some r.run) (run_in old n)) (cond b (Some x.run) (run_in new n))
       go true is true was first rest =
           let at : r.number ≡ n = grind (arith, nat_tests) in
-          subst (λ m. IsCutBy (touch_of t e u m) r.run x.run) at first.run
+          subst (λ m. IsRebased t e u m r.run x.run) at first.run
       go false is false was first rest = rest
       go true is false was first rest = let same = first.number in absurd (grind (arith, nat_tests))
       go false is true was first rest = let same = first.number in absurd (grind (arith, nat_tests))

@@ -1,25 +1,16 @@
 -- What an edit of the desk leaves: the edited version, and of each recorded run what lies at or before the last kept moment
 -- at or before the first step that read something touched. (Our own.)
-use Rattle.std.specs.Prelude.{◌≡◌, ℕ, ◌+◌, ◌<◌, ◌≤◌, Option, Some, None, Ok, Err}
-use Rattle.gw_meaning.specs.Listing.{Listing, seed_at}
-use Rattle.gw_meaning.specs.Reads.{first_reading}
-use Rattle.gw_record.specs.Tape.{Tape, IsLastKept}
+use Rattle.std.specs.Prelude.{◌≡◌, ℕ, ◌+◌, ◌<◌, ◌≤◌, Some, None, Ok, Err}
+use Rattle.gw_meaning.specs.Listing.{seed_at}
+use Rattle.gw_record.specs.Tape.{Tape}
 use Rattle.gw_edit.specs.declared.edit.Edit.{Edit}
-use Rattle.gw_edit.specs.declared.touch.Touch.{Touch}
 use Rattle.gw_edit.specs.declared.fault.EditFault.{EditFault}
 use Rattle.gw_edit.specs.declared.fault.EditFault.TheVariants as faults
 use Rattle.gw_edit.specs.Applied.{applied}
-use Rattle.gw_edit.specs.Touching.{touch_of, is_touched}
+use Rattle.gw_edit.specs.Touching.{touch_of}
+use Rattle.gw_edit.specs.Touched.{touched_step}
+use Rattle.gw_edit.specs.Rebasing.{IsKeptOf}
 use Rattle.gw_desk.specs.Book.{Book, run_in}
-
--- the first recorded step that read something touched
-abbrev pub touched_step : Touch → Listing → ℕ → Tape → Option ℕ
-touched_step touch t seed r = first_reading (is_touched touch) t seed r.moment
-
--- what is kept of a recorded run: all of it where nothing was touched
-abbrev pub IsKeptOf : Listing → ℕ → Tape → Option ℕ → ℕ → Type 0
-IsKeptOf t seed r None n = n ≡ r.moment
-IsKeptOf t seed r (Some step) n = IsLastKept t seed r step n
 
 -- the run of a replication after an edit
 pub record IsCut (old : Book) (e : Edit) (new : Book) (rep seed : ℕ) (r : Tape) : Type 0 where

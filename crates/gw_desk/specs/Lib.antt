@@ -7,7 +7,6 @@ pub mod Replies
 pub mod Peeking
 pub mod Finishing
 pub mod Editing
-pub mod Touched
 pub mod Rebasing
 pub mod Playing
 pub mod Keeping

@@ -16,7 +16,6 @@ mod play;
 mod queries;
 mod rebase;
 mod recording;
-mod touched;
 
 pub use answer::{Answer, Report};
 pub use desk::Desk;

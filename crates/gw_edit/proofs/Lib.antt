@@ -9,3 +9,5 @@ pub mod Seeds
 pub mod Untouching
 pub mod Numbers
 pub mod NumberLaws
+pub mod TouchLaws
+pub mod RebaseLaws

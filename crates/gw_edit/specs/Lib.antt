@@ -2,6 +2,8 @@ pub mod Faults
 pub mod Applied
 pub mod Same
 pub mod Touching
+pub mod Touched
+pub mod Rebasing
 pub mod Untouched
 pub mod Numbers
 pub use Rattle.gw_meaning.specs.Listing

@@ -1,8 +1,10 @@
-use crate::{Edit, EditFault, Touch, apply};
+use crate::{Edit, EditFault, Touch, apply, rebase, touched};
 use gw_lines::read_model;
 use gw_meaning::{Replication, Row};
 use gw_model::Version;
 use gw_names::Name;
+use gw_record::Recorded;
+use gw_scan::Tally;
 use std::alloc::Global;
 use std::test::Fail;
 
@@ -116,5 +118,26 @@ fn edits_are_refused(rt: HostRuntime) -> Result<(), Fail> {
         fault(alloc, &old, &capacity),
         Some(EditFault::NoSuchStorage)
     );
+    Ok(())
+}
+
+#[test]
+fn recorded_runs_are_rebased(rt: HostRuntime) -> Result<(), Fail> {
+    let alloc = rt.alloc();
+    let statements = read_model(alloc, b"GENERATE 10\nADVANCE 3\nTERMINATE 1\nSTART 2\n")?;
+    let replications = vec![in alloc; Replication { number: 1, seed: 7 }]?;
+    let old = Version::new(alloc, statements, 21, replications, 100)?;
+    let mut run = Recorded::new(alloc, 4);
+    assert_eq!(rt; run.extend(alloc, &old, 7, 100, &mut Tally::new())?, 12);
+    let later = Edit::Horizon { time: 30 };
+    let new = apply(alloc, &old, &later)?;
+    assert_eq!(rt; touched(&run, &old, &later, &new, 1), None);
+    rebase(&mut run, &old, &later, &new, 1);
+    assert_eq!(rt; run.tip(), 12);
+    let earlier = Edit::Horizon { time: 12 };
+    let new = apply(alloc, &old, &earlier)?;
+    assert_eq!(rt; touched(&run, &old, &earlier, &new, 1), Some(5));
+    rebase(&mut run, &old, &earlier, &new, 1);
+    assert_eq!(rt; run.tip(), 4);
     Ok(())
 }

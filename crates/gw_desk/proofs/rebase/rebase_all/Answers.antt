@@ -1,8 +1,7 @@
 use Rattle.std.proofs.Common.{◌<◌, length, get_or, rules, subst, refl}
 use Rattle.std.proofs.lemmas.List.{get_or_default}
-use Rattle.gw_edit.specs.declared.touch.Touch.{Touch}
 use Rattle.gw_desk.specs.declared.recording.Recording.{Recording}
-use Rattle.gw_desk.specs.Rebasing.{IsRebased, IsCutBy}
+use Rattle.gw_desk.specs.Rebasing.{IsRebasedRecording}
 use Rattle.gw_desk.proofs.RebaseLaws.{one_more, rest_stays}
 use Rattle.gw_desk.proofs.rebase.rebase_all.Goals as goal
 
@@ -16,13 +15,11 @@ loop-recording-preserved c =
     let within : c.loop-recording.recording-index < length c.loop-recording.recording-items = search rules in
     let one : Recording = get_or c.loop-recording.recording-items c.loop-recording.recording-index c.recording-item.result in
     let x : Recording = record { number = (get_or c.loop-recording.recording-items c.loop-recording.recording-index c.recording-item.result).number; run = c.rebase.new.run } in
-    let Cut : Touch → Type 0 = λ touch. IsCutBy touch (get_or c.loop-recording.recording-items c.loop-recording.recording-index c.recording-item.result).run c.rebase.new.run in
-    let cut : IsCutBy c.of_edit-touch.result (get_or c.loop-recording.recording-items c.loop-recording.recording-index c.recording-item.result).run c.rebase.new.run = record { records = c.rebase.ensures.records; kept = c.rebase.ensures.kept; every = c.rebase.ensures.every } in
-    let base : IsRebased c.args.old.now c.args.edit.now c.args.new.now (get_or c.loop-recording.recording-items c.loop-recording.recording-index c.recording-item.result) (record { number = (get_or c.loop-recording.recording-items c.loop-recording.recording-index c.recording-item.result).number; run = c.rebase.new.run }) = record { number = refl; run = subst Cut c.of_edit-touch.ensures cut } in
+    let base : IsRebasedRecording c.args.old.now c.args.edit.now c.args.new.now (get_or c.loop-recording.recording-items c.loop-recording.recording-index c.recording-item.result) (record { number = (get_or c.loop-recording.recording-items c.loop-recording.recording-index c.recording-item.result).number; run = c.rebase.new.run }) = record { number = refl; run = c.rebase.ensures } in
     record {
       count = search rules;
       done = one_more t e u c.args.runs.now.items cur i x c.loop-recording.invariant.count within c.loop-recording.invariant.done c.loop-recording.invariant.rest
-          (λ d. subst (λ r. IsRebased c.args.old.now c.args.edit.now c.args.new.now r (record { number = (get_or c.loop-recording.recording-items c.loop-recording.recording-index c.recording-item.result).number; run = c.rebase.new.run })) (get_or_default cur i c.recording-item.result d within) base);
+          (λ d. subst (λ r. IsRebasedRecording c.args.old.now c.args.edit.now c.args.new.now r (record { number = (get_or c.loop-recording.recording-items c.loop-recording.recording-index c.recording-item.result).number; run = c.rebase.new.run })) (get_or_default cur i c.recording-item.result d within) base);
       rest = rest_stays t e u c.args.runs.now.items cur i x c.loop-recording.invariant.count within c.loop-recording.invariant.done c.loop-recording.invariant.rest
-          (λ d. subst (λ r. IsRebased c.args.old.now c.args.edit.now c.args.new.now r (record { number = (get_or c.loop-recording.recording-items c.loop-recording.recording-index c.recording-item.result).number; run = c.rebase.new.run })) (get_or_default cur i c.recording-item.result d within) base);
+          (λ d. subst (λ r. IsRebasedRecording c.args.old.now c.args.edit.now c.args.new.now r (record { number = (get_or c.loop-recording.recording-items c.loop-recording.recording-index c.recording-item.result).number; run = c.rebase.new.run })) (get_or_default cur i c.recording-item.result d within) base);
     }

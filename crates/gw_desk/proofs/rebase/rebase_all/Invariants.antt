@@ -1,11 +1,11 @@
 use Rattle.std.proofs.Common.{◌≡◌, ◌≤◌, ◌<◌, ℕ, length, get_or}
 use Rattle.gw_desk.specs.declared.recording.Recording.{Recording}
-use Rattle.gw_desk.specs.Rebasing.{IsRebased}
+use Rattle.gw_desk.specs.Rebasing.{IsRebasedRecording}
 use Rattle.gw_desk.proofs.rebase.rebase_all.Given as goal
 
 abbrev pub invariant-loop-recording : goal.invariant-loop-recording
 invariant-loop-recording l = record {
   count : length l.recording-items ≡ length l.fn.runs.items;
-  done : (k : ℕ) (d : Recording) → k < l.recording-index → IsRebased l.old l.edit l.new (get_or l.fn.runs.items k d) (get_or l.recording-items k d);
+  done : (k : ℕ) (d : Recording) → k < l.recording-index → IsRebasedRecording l.old l.edit l.new (get_or l.fn.runs.items k d) (get_or l.recording-items k d);
   rest : (k : ℕ) (d : Recording) → l.recording-index ≤ k → get_or l.recording-items k d ≡ get_or l.fn.runs.items k d;
 }

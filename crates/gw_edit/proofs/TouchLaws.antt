@@ -11,7 +11,7 @@ use Rattle.gw_meaning.specs.Reads.{or_later, first_reading, reads, is_use, is_co
 use Rattle.gw_record.proofs.FirstLaws.{IsFirstReading, first_is, first_same}
 use Rattle.gw_edit.specs.declared.touch.Touch.{Touch}
 use Rattle.gw_edit.specs.Touching.{is_touched, is_at, is_from, is_beyond}
-use Rattle.gw_desk.specs.Touched.{earlier, uses, uses_commands}
+use Rattle.gw_edit.specs.Touched.{earlier, uses, uses_commands}
 
 -- properties that agree have the same first reading
 any_same : (p q : Item → Bool) → ((i : Item) → p i ≡ q i) → (is : List Item) → list_any p is ≡ list_any q is

@@ -1,17 +1,33 @@
-// The first recorded step that read something that an edit touches.
+// The first step of a recorded run that read something that an edit touches.
 ghost use Rattle.std.specs.Prelude.{◌≡◌, ℕ};
 ghost use Rattle.gw_meaning.specs.Listing.{Listing};
 ghost use Rattle.gw_meaning.specs.Reads.{first_reading};
 ghost use Rattle.gw_record.specs.Tape.{Records};
-ghost use Rattle.gw_desk.specs.Touched.{earlier, uses, uses_commands};
-ghost use Rattle.gw_desk.specs.Editing.{touched_step};
+ghost use Rattle.gw_edit.specs.Touching.{touch_of};
+ghost use Rattle.gw_edit.specs.Touched.{earlier, touched_step, uses, uses_commands};
 
-use gw_edit::Touch;
+use crate::edit::Edit;
+use crate::touch::Touch;
 use gw_meaning::Item;
+use gw_model::Version;
 use gw_record::Recorded;
 
-// The first recorded step that read something touched, if any did. It takes no memory.
-pub fn touched(run: &Recorded, touch: &Touch) -> Option<u64>
+/// The first recorded step, from 0, that read something that the edit of a version to a new one touches in the
+/// replication with this number, if any did. It takes no memory.
+pub fn touched(
+    run: &Recorded,
+    old: &Version,
+    edit: &Edit,
+    new: &Version,
+    replication: u64,
+) -> Option<u64>
+    ensures { (seed : ℕ) → Records old.now seed run.now →
+        result ≡ touched_step (touch_of old.now edit.now new.now replication) old.now seed run.now }
+{
+    first_touched(run, &Touch::of_edit(old, edit, new, replication))
+}
+
+fn first_touched(run: &Recorded, touch: &Touch) -> Option<u64>
     ensures { (t : Listing) (seed : ℕ) → Records t seed run.now → result ≡ touched_step touch.now t seed run.now }
 {
     let block = first_use(run, touch.block.map(Item::Block));

@@ -1,7 +1,14 @@
--- The first step that read something touched, part by part of what an edit touches. (Our own.)
+-- The first step of a recorded run that read something touched, as a whole and part by part. (Our own.)
 use Rattle.std.specs.Prelude.{ℕ, Bool, false, Option, Some, None, min}
 use Rattle.gw_meaning.specs.declared.item.Item.{Item}
-use Rattle.gw_meaning.specs.Reads.{is_use, is_command_use}
+use Rattle.gw_meaning.specs.Listing.{Listing}
+use Rattle.gw_meaning.specs.Reads.{first_reading, is_use, is_command_use}
+use Rattle.gw_record.specs.Tape.{Tape}
+use Rattle.gw_edit.specs.declared.touch.Touch.{Touch}
+use Rattle.gw_edit.specs.Touching.{is_touched}
+
+abbrev pub touched_step : Touch → Listing → ℕ → Tape → Option ℕ
+touched_step touch t seed r = first_reading (is_touched touch) t seed r.moment
 
 -- the earlier of two steps, of which either may be none
 abbrev pub earlier : Option ℕ → Option ℕ → Option ℕ

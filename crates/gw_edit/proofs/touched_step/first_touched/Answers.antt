@@ -4,9 +4,9 @@ use Rattle.std.specs.Bool.{then_some}
 use Rattle.gw_meaning.specs.declared.item.Item.{Item}
 use Rattle.gw_meaning.specs.declared.item.Item.TheVariants as items
 use Rattle.gw_meaning.specs.Reads.{first_reading}
-use Rattle.gw_desk.specs.Touched.{uses, uses_commands}
-use Rattle.gw_desk.proofs.TouchLaws.{same_reading, both_are, mapped, touched_parts}
-use Rattle.gw_desk.proofs.touched.touched.Goals as goal
+use Rattle.gw_edit.specs.Touched.{uses, uses_commands}
+use Rattle.gw_edit.proofs.TouchLaws.{same_reading, both_are, mapped, touched_parts}
+use Rattle.gw_edit.proofs.touched_step.first_touched.Goals as goal
 
 pub returns : goal.returns
 returns c = λ t seed h.

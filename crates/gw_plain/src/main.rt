@@ -1,0 +1,64 @@
+//! The report of a model's last START by plain steps from zero: what recording is measured against.
+//!
+//! The model stands on standard input up to the line `end`; what stands behind it is left alone. The report is the
+//! one that the workbench gives of that START with its usual options.
+#![tactic(auto)]
+
+mod plain;
+
+use gw_io::{Budget, FromRead, Sink, Source, ToWrite, split_model, write_all};
+use gw_meaning::{End, Outcome};
+use gw_report::print;
+use gw_script::{Fault, Options, open};
+use plain::plain_run;
+use std::alloc::Global;
+use std::io::BufReader;
+use std::process::ExitCode;
+
+fn main(rt: HostRuntime) -> ExitCode {
+    let alloc = rt.alloc();
+    let Ok(input) = BufReader::new(alloc, rt.stdin()) else {
+        return ExitCode::FAILURE;
+    };
+    let mut reader = FromRead::new(input);
+    let mut writer = ToWrite::new(rt.stdout());
+    match report_plainly(alloc, &mut reader, &mut writer) {
+        Ok(()) => ExitCode::SUCCESS,
+        Err(_) => ExitCode::FAILURE,
+    }
+}
+
+// Writes the report of the last START, where the run completes it.
+fn report_plainly<S: Source, K: Sink>(
+    alloc: Global,
+    reader: &mut S,
+    writer: &mut K,
+) -> Result<(), Fault> {
+    let mut budget = Budget::new();
+    let model = split_model(alloc, reader, &mut budget)?;
+    let desk = open(alloc, &model, Options::USUAL)?;
+    let version = desk.version();
+    let Some(seed) = version.seed(1) else {
+        return Ok(());
+    };
+    let Ok(run) = plain_run(alloc, version, seed) else {
+        return Err(Fault::Memory);
+    };
+    if run.end != Some(End::CommandsDone) {
+        return Ok(());
+    }
+    match print(
+        alloc,
+        version,
+        1,
+        run.state.complete(),
+        &run.state,
+        Outcome::Complete,
+    ) {
+        Ok(text) => match write_all(writer, &text) {
+            Ok(()) => Ok(()),
+            Err(_) => Err(Fault::Write),
+        },
+        Err(_) => Err(Fault::Memory),
+    }
+}
