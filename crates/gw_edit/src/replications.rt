@@ -9,11 +9,7 @@ use std::alloc::{AllocError, Global};
 pub fn replications_of(alloc: Global, version: &Version) -> Result<Vec<Replication>, AllocError>
     ensures { IfOk result (λ rs. rs.items ≡ version.now.replications) }
 {
-    let mut replications = Vec::new(alloc);
-    while let Some(replication) = version.replication(replications.len() as u64 + 1) {
-        replications.push(replication)?;
-    }
-    Ok(replications)
+    Vec::from_slice(alloc, version.replications())
 }
 
 /// The replications, where the one with this number has this seed.
@@ -25,8 +21,8 @@ pub fn reseeded(
 ) -> Result<Vec<Replication>, AllocError>
     ensures { IfOk result (λ rs. rs.items ≡ reseeded number seed version.now.replications) }
 {
-    let replications = replications_of(alloc, version)?;
-    replications
+    version
+        .replications()
         .iter()
         .map(|r| with_seed(r, number, seed))
         .collect(alloc)
@@ -54,8 +50,8 @@ pub fn without_number(
 ) -> Result<Vec<Replication>, AllocError>
     ensures { IfOk result (λ rs. rs.items ≡ without_number number version.now.replications) }
 {
-    let replications = replications_of(alloc, version)?;
-    replications
+    version
+        .replications()
         .iter()
         .copied()
         .filter(|r| r.number != number)

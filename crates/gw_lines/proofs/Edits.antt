@@ -9,7 +9,7 @@ use Rattle.gw_lines.specs.declared.fault.LineFault.{LineFault}
 use Rattle.gw_lines.specs.declared.fault.LineFault.TheVariants as faults
 use Rattle.gw_lines.specs.Reading.{◌>>=◌, Fails, Gives}
 use Rattle.gw_lines.specs.Classes.{front_of, rest_of, tail_of}
-use Rattle.gw_lines.specs.Lines.{code_of, line_in, line_of, wanted, statement_of}
+use Rattle.gw_lines.specs.Lines.{line_of, wanted, statement_of}
 use Rattle.gw_lines.specs.Models.{with_byte}
 use Rattle.gw_lines.specs.Spelling.{Spells}
 use Rattle.gw_lines.specs.Faulty.{FirstFault}
@@ -49,15 +49,7 @@ pub first_part : (text : List ℕ) → text ≢ [] → edit_lines text ≡ front
 first_part [] some = absurd (some refl)
 first_part (b ∷ bs) some = first_is b bs
 
-nothing_there : statement_of [] ≡ Err faults.UnknownVerb
-unfolding statement_of line_of line_in code_of
-nothing_there = refl
-
--- the statement of a line that is alone, and of one that others follow
-pub alone_gives : (text line further : List ℕ) → (text ≢ [] → edit_lines text ≡ line ∷ edit_lines further) → (text ≡ [] → (line ≡ []) × (further ≡ [])) → further ≡ [] → first_of (edit_lines text) ≡ statement_of line
-alone_gives [] line further some none e = sym nothing_there ∙ ap statement_of (sym (none refl).0)
-alone_gives (b ∷ bs) line further some none e = ap first_of (some (λ h. cc) ∙ ap (λ (t : List ℕ). line ∷ edit_lines t) e)
-
+-- the statement of a line that others follow
 pub followed_gives : (text line further : List ℕ) → (text ≢ [] → edit_lines text ≡ line ∷ edit_lines further) → (text ≡ [] → (line ≡ []) × (further ≡ [])) → further ≢ [] → first_of (edit_lines text) ≡ followed (statement_of line)
 followed_gives [] line further some none e = absurd (e (none refl).1)
 followed_gives (b ∷ bs) line further some none e = ap first_of (some (λ h. cc) ∙ ap (λ (t : List (List ℕ)). line ∷ t) (first_part further e))

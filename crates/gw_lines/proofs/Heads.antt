@@ -52,10 +52,6 @@ pub not_none : (text : List ℕ) → is_nothing text ≡ false → text ≢ []
 not_none [] h e = absurd cc
 not_none (b ∷ bs) h e = absurd cc
 
-both_none : (a b : Bool) → (a || b) ≡ false → (a ≡ false) × (b ≡ false)
-both_none true b h = absurd cc
-both_none false b h = (refl, h)
-
 or_true : (a b : Bool) → b ≡ true → (a || b) ≡ true
 or_true true b h = refl
 or_true false b h = h

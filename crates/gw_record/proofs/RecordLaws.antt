@@ -36,10 +36,6 @@ slice_get_more [] x i y is = absurd cc
 slice_get_more (z ∷ xs) x zero y is = is
 slice_get_more (z ∷ xs) x (suc i) y is = slice_get_more xs x i y is
 
-slice_get_last : {X : Type 0} (xs : List X) (x : X) → slice_get (xs ++ x ∷ []) (length xs) ≡ Some x
-slice_get_last [] x = refl
-slice_get_last (z ∷ xs) x = slice_get_last xs x
-
 -- a kept state stays where one more is kept
 there_more : (xs : List Kept) (x : Kept) (m : ℕ) → IsThere xs m → IsThere (xs ++ x ∷ []) m
 there_more xs x m (i, e, is, at) = (i, e, slice_get_more xs x i e is, at)
@@ -108,9 +104,6 @@ state_kept t seed r h wanted =
       tip_end = h.tip_end;
       firsts = h.firsts;
     }
-
-pub tip_is_there : (xs : List Kept) (x : Kept) → IsThere (xs ++ x ∷ []) x.moment
-tip_is_there xs x = (length xs, x, slice_get_last xs x, refl)
 
 -- the tip is noted as a START end
 pub end_kept :

@@ -1,5 +1,5 @@
 -- A section by the bytes of its lines.
-use Rattle.std.proofs.Common.{◌≡◌, ℕ, List, [], ◌∷◌, ◌++◌, map, refl, ap, ◌∙◌, append_assoc, append-nil}
+use Rattle.std.proofs.Common.{◌≡◌, ℕ, List, [], ◌∷◌, ◌++◌, map, refl, ap, append-nil}
 use Rattle.std.specs.List.{flat_map}
 use Rattle.std.proofs.lemmas.List.Concat.{flat_map-append}
 use Rattle.gw_meaning.specs.Listing.{Listing}
@@ -50,8 +50,3 @@ block_shown t s line block h = rw (h, append-nil) refl
 pub rows_mapped : {X Y : Type 0} (columns : List Column) (f : Y → List (List ℕ)) (g : X → Y) (xs : List X) → flat_map (λ x. row_of columns (f (g x))) xs ≡ rows_of columns (map f (map g xs))
 rows_mapped columns f g [] = refl
 rows_mapped columns f g (x ∷ xs) = ap (λ l. row_of columns (f (g x)) ++ l) (rows_mapped columns f g xs)
-
--- the lines of two lists, one behind the other
-pub rows_behind : {X : Type 0} (columns : List Column) (f : X → List (List ℕ)) (xs ys : List X) → rows_of columns (map f xs) ++ rows_of columns (map f ys) ≡ rows_of columns (map f (xs ++ ys))
-rows_behind columns f [] ys = refl
-rows_behind columns f (x ∷ xs) ys = append_assoc (row_of columns (f x)) (rows_of columns (map f xs)) (rows_of columns (map f ys)) ∙ ap (λ l. row_of columns (f x) ++ l) (rows_behind columns f xs ys)

@@ -1,5 +1,5 @@
 -- Few digits make a number of few digits.
-use Rattle.std.proofs.Common.{◌≡◌, ℕ, zero, suc, ◌+◌, ◌-◌, ◌*◌, ◌^◌, ◌≤◌, subst, arith, add-zero, add-suc, add-one}
+use Rattle.std.proofs.Common.{◌≡◌, ℕ, zero, suc, ◌+◌, ◌-◌, ◌^◌, ◌≤◌, subst, arith, add-zero, add-suc}
 use Rattle.std.proofs.Math.Nat.{pow-suc}
 
 -- the power with more zeros is no less
@@ -14,7 +14,3 @@ ten_pow_small i h =
     let P : ℕ → Type 0 = λ n. 10 ^ i ≤ 10 ^ n in
     let large : 10 ^ i ≤ 10 ^ 17 = subst P whole (ten_pow_more i (17 - i)) in
     large
-
--- one digit more
-pub ten_pow_next : (i : ℕ) → 10 ^ (i + 1) ≡ 10 ^ i * 10
-ten_pow_next i = rw add-one (pow-suc 10 i)

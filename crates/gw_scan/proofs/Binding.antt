@@ -1,7 +1,6 @@
 -- A function that calls two functions that ask stands for one program and then the other.
 use Rattle.std.proofs.Common.{◌≡◌, ℕ, List, [], ◌∷◌, ◌++◌, length, take, drop, Result, Ok, Err, refl, sym, ap, ◌∙◌, subst, append_assoc, append-nil}
 use Rattle.std.proofs.lemmas.List.{take-append-drop, take_at}
-use Rattle.std.proofs.Math.Seq.{take-length}
 use Rattle.gw_meaning.specs.declared.item.Item.{Item}
 use Rattle.gw_meaning.specs.Listing.{Listing}
 use Rattle.gw_meaning.specs.Questions.{Answer, ask, Prog, Gives, Asks, items_of, ◌>>=◌}
@@ -51,7 +50,3 @@ decides_whole {A} {B} t seed p k q a r xs ys zs whole first second =
 -- what gives b at once
 pub decides_gives : {B : Type 0} (t : Listing) (seed : ℕ) (b : B) (xs : List Item) → Decides t seed (Gives b) (Ok b) xs xs
 decides_gives t seed b xs = (refl, sym (append-nil xs))
-
--- what refused memory before anything was noted
-pub decides_memory : {B : Type 0} (t : Listing) (seed : ℕ) (p : Prog B) (xs : List Item) → Decides t seed p (Err halts.Memory) xs xs
-decides_memory t seed p xs = take-length xs

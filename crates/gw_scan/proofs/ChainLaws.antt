@@ -1,8 +1,7 @@
 -- Laws of the lists behind the chains.
-use Rattle.std.proofs.Common.{◌≡◌, ℕ, suc, ◌+◌, ◌<◌, Bool, true, false, not, ◌||◌, List, [], ◌∷◌, ◌++◌, length, get_or, take, drop, insert, refl, sym, ap, ◌∙◌, filter, append_assoc, append-nil, if◌then◌else◌}
+use Rattle.std.proofs.Common.{◌≡◌, ℕ, suc, ◌+◌, ◌<◌, Bool, true, false, not, ◌||◌, List, [], ◌∷◌, ◌++◌, length, get_or, take, drop, insert, refl, sym, ap, ◌∙◌, filter, append_assoc, if◌then◌else◌}
 use Rattle.std.specs.List.{list_any}
 use Rattle.std.proofs.lemmas.List.{drop_more, take_more, take-append-drop}
-use Rattle.std.proofs.Math.Seq.{drop-length}
 use Rattle.gw_nums.specs.Range.{is_below}
 use Rattle.gw_meaning.specs.declared.transaction.Transaction.{Transaction}
 use Rattle.gw_meaning.specs.declared.transaction.Event.{Event}
@@ -49,9 +48,6 @@ pub record Sorting (time : ℕ) (F : List Event) (C : List Transaction) (i : ℕ
   pub kept_is : kept ++ filter (λ e. not (is_due time e)) (drop i F) ≡ filter (λ e. not (is_due time e)) F
   pub current_is : all_lined_up (due time (drop i F)) current ≡ all_lined_up (due time F) C
 
-pub sorting_begins : (time : ℕ) (F : List Event) (C : List Transaction) → Sorting time F C 0 F C
-sorting_begins time F C = record { kept = []; future_is = sym (append-nil F); kept_is = refl; current_is = refl }
-
 -- the event that comes next
 next_event : (F : List Event) (i : ℕ) (e : Event) (rest kept : List Event) → i < length F → e ∷ rest ≡ drop i F ++ kept → (e ≡ get_or F i e) × (rest ≡ drop (i + 1) F ++ kept)
 next_event F i e rest kept h is =
@@ -75,11 +71,6 @@ sorted_kept time F C i e rest current h later s =
       kept_is = (let k = s.kept_is in append_assoc s.kept (e ∷ []) (filter (λ e. not (is_due time e)) (drop (i + 1) F)) ∙ (rw (d, later) at k));
       current_is = (let k = s.current_is in rw (d, later) at k);
     }
-
-pub sorting_ends : (time : ℕ) (F : List Event) (C : List Transaction) (i : ℕ) (future : List Event) (current : List Transaction) → i ≡ length F → Sorting time F C i future current → (future ≡ filter (λ e. not (is_due time e)) F) × (current ≡ all_lined_up (due time F) C)
-sorting_ends time F C i future current end s =
-    let d : drop i F ≡ [] = ap (λ n. drop n F) end ∙ drop-length F in
-    (s.future_is ∙ (rw d (sym (append-nil s.kept) ∙ (let k = s.kept_is in rw d at k))), (let k = s.current_is in rw d at k))
 
 -- how many are due among the rest, where the next one is
 pub due_next : (time : ℕ) (F : List Event) (i : ℕ) (e : Event) (rest kept : List Event) → i < length F → e ∷ rest ≡ drop i F ++ kept → length (due time (drop i F)) ≡ (if is_due time e then suc (length (due time (drop (i + 1) F))) else length (due time (drop (i + 1) F)))

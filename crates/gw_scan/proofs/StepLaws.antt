@@ -1,5 +1,5 @@
 -- A step is the move that is decided, made.
-use Rattle.std.proofs.Common.{◌≡◌, ℕ, [], Some, None, Result, Ok, Err, refl, ap, sym, ◌∙◌, append-nil}
+use Rattle.std.proofs.Common.{◌≡◌, ℕ, [], None, Result, Ok, Err, refl, ap, ◌∙◌, append-nil}
 use Rattle.gw_meaning.specs.declared.item.End.{End}
 use Rattle.gw_meaning.specs.declared.moves.Move.{Move}
 use Rattle.gw_meaning.specs.Listing.{Listing}
@@ -27,7 +27,3 @@ step_ends_items t seed s end is = ap (λ r. items_if_moved r (items_of t seed (s
 pub goes_on : (r : Result Machine End) (s : Machine) → r ≡ Ok s → EndsAs r None
 goes_on (Ok u) s is = refl
 goes_on (Err end) s is = absurd cc
-
-pub ends_here : (r : Result Machine End) (end : End) → r ≡ Err end → EndsAs r (Some end)
-ends_here (Ok u) end is = absurd cc
-ends_here (Err e) end is = let same : e ≡ end = cc in ap (λ x. Some x) (sym same)

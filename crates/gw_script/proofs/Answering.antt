@@ -18,7 +18,7 @@ use Rattle.gw_script.specs.declared.fault.Fault.TheVariants as faults
 use Rattle.gw_script.specs.Answers.{ReportsAll, refused, numbers_of}
 use Rattle.gw_script.specs.Changes.{refuses, refusal_of}
 use Rattle.gw_script.specs.Replying.{Answers, read, Replies, Untold, untold_of}
-use Rattle.gw_script.specs.Turns.{BreaksOff, BreaksBy, BreaksRefused, not_begun, begun, Writes}
+use Rattle.gw_script.specs.Turns.{BreaksOff, BreaksBy, BreaksRefused, not_begun, begun}
 
 -- how it is told that memory was refused for an edit
 pub memory_told : codes "refused E7\n" ≡ refusal_of refusals.Memory
@@ -79,10 +79,3 @@ broken_refused {D} {K} wrote writes_of wrote_none version does in_vain d after n
 pub broken_if : {A D K : Type 0} (r : Result A Fault) (wrote : K → List ℕ → K → Type 0) (writes_of : K → ℕ) (Says : List ℕ → D → Type 0) (old new : K) (text : List ℕ) (after : D) → Says text after → IfErr r (λ f. f ≡ faults.Write) → OnErr r (WritesPart wrote old text new) → OnErr r (writes_of new ≡ one_more (writes_of old)) → IfErr r (λ f. BreaksOff wrote writes_of Says old new after f)
 broken_if (Ok x) wrote writes_of Says old new text after is failed part counted = failed
 broken_if (Err f) wrote writes_of Says old new text after is failed part counted = broken_sending wrote writes_of Says old new text after f is part failed counted
-
--- a reply to what a line asks for is an answer to the line
-pub writes_read : {D K : Type 0} (wrote : K → List ℕ → K → Type 0) (version : D → Listing) (does : D → Event → Reply → D → Type 0) (d : D) (n : ℕ) (line : List ℕ) (old new : K) (after : D) → Writes wrote (Replies version does d n (request_of line)) old new after → Writes wrote (Answers version does d n line) old new after
-writes_read wrote version does d n line old new after w = record { front = w.front; answers = read w.answers; written = w.written }
-
-pub breaks_read : {D K : Type 0} (wrote : K → List ℕ → K → Type 0) (writes_of : K → ℕ) (version : D → Listing) (does : D → Event → Reply → D → Type 0) (d : D) (n : ℕ) (line : List ℕ) (old new : K) (after : D) (fault : Fault) → BreaksOff wrote writes_of (Replies version does d n (request_of line)) old new after fault → BreaksOff wrote writes_of (Answers version does d n line) old new after fault
-breaks_read wrote writes_of version does d n line old new after fault broken = record { front = broken.front; left = broken.left; answers = read broken.answers; written = broken.written; cause = broken.cause }
