@@ -1,6 +1,7 @@
 ghost use Rattle.std.specs.Prelude.{◌≤◌};
 
 mod examples;
+mod what_if;
 mod words;
 
 use crate::run::{not_begun, run};
@@ -10,6 +11,7 @@ use gw_script::{Bytes, Options, Page, ReadFault, open, session};
 use std::alloc::Global;
 use std::io::ErrorKind;
 use std::test::Fail;
+use what_if::{Part, SPACINGS, WHAT_IFS, text_of};
 
 const ROOM: usize = 100_000;
 
@@ -30,18 +32,21 @@ fn run_on(
     step: usize,
     room: usize,
 ) -> Ended {
-    let words: [&str; 0] = [];
+    run_with(alloc, &[], input, read_failure, step, room)
+}
+
+fn run_with(
+    alloc: Global,
+    words: &[&str],
+    input: &[u8],
+    read_failure: Option<u32>,
+    step: usize,
+    room: usize,
+) -> Ended {
     let mut reader = Bytes::new(input, read_failure);
     let mut output = Page::new(alloc, step, room);
     let mut errors = Page::new(alloc, ROOM, ROOM);
-    let status = run(
-        alloc,
-        &words,
-        no_file,
-        &mut reader,
-        &mut output,
-        &mut errors,
-    );
+    let status = run(alloc, words, no_file, &mut reader, &mut output, &mut errors);
     Ended {
         status,
         output,
@@ -57,21 +62,55 @@ fn no_file(_path: &str) -> Result<Bytes<'static>, ReadFault> {
 #[test]
 fn examples_have_their_bytes(rt: HostRuntime) {
     for example in EXAMPLES.iter() {
-        let ran = run_on(rt.alloc(), example.input, None, ROOM, ROOM);
-        assert_eq!(rt; ran.status, example.status, "{}", example.name);
-        assert_eq!(rt;
-            ran.output.text.as_slice(),
-            example.output,
-            "{}",
-            example.name
-        );
-        assert_eq!(rt;
-            ran.errors.text.as_slice(),
-            example.errors,
-            "{}",
-            example.name
-        );
+        for every in SPACINGS {
+            let words = ["--every", every];
+            let ran = run_with(rt.alloc(), &words, example.input, None, ROOM, ROOM);
+            let name = example.name;
+            assert_eq!(rt; ran.status, example.status, "{name} {every}");
+            let (output, errors) = (ran.output.text.as_slice(), ran.errors.text.as_slice());
+            assert_eq!(rt; output, example.output, "{name} {every}");
+            assert_eq!(rt; errors, example.errors, "{name} {every}");
+        }
     }
+}
+
+#[test]
+fn edited_examples_have_their_bytes(rt: HostRuntime) -> Result<(), Fail> {
+    let alloc = rt.alloc();
+    for example in WHAT_IFS.iter() {
+        for (nth, every) in SPACINGS.iter().enumerate() {
+            let mut words = Vec::from_slice(alloc, &["--every", *every])?;
+            words.extend_from_slice(example.words)?;
+            let mut input = Vec::from_slice(alloc, example.model)?;
+            input.extend_from_slice(example.script)?;
+            let ran = run_with(alloc, &words, &input, None, ROOM, ROOM);
+            let name = example.name;
+            assert_eq!(rt; ran.status, 0, "{name} {every}");
+            let output = output_of(alloc, example.output, nth)?;
+            assert_eq!(rt;
+                ran.output.text.as_slice(),
+                output.as_slice(),
+                "{name} {every}"
+            );
+        }
+    }
+    Ok(())
+}
+
+// An output at the nth spacing.
+fn output_of(alloc: Global, parts: &[Part], nth: usize) -> Result<Vec<u8>, Fail> {
+    let mut output = Vec::new(alloc);
+    for part in parts {
+        match part {
+            Part::Text(text) => output.extend_from_slice(text)?,
+            Part::Report(shown) => output.extend_from_slice(text_of(*shown))?,
+            Part::Unfinished(left) => {
+                let steps = left.get(nth).ok_or("no such spacing")?;
+                output.extend_from_slice(format!(in alloc; "unfinished {steps}\n")?.as_bytes())?;
+            }
+        }
+    }
+    Ok(output)
 }
 
 // The example that the tests of failures use, and how many bytes it has.

@@ -10,7 +10,7 @@ pub struct Example {
 }
 
 #[rattlefmt::skip]
-pub const EXAMPLES: [Example; 24] = [
+pub const EXAMPLES: [Example; 34] = [
     Example {
         name: "two arrivals, two departures",
         input: b"GENERATE 10\nADVANCE 3\nTERMINATE 1\nSTART 2\nend\nreport 1 1\n",
@@ -110,10 +110,45 @@ pub const EXAMPLES: [Example; 24] = [
         errors: b"",
     },
     Example {
-        name: "a run without end",
-        input: b"GENERATE 0\nTERMINATE\nSTART 1\nend\nreport 1 1\n",
+        name: "an ADVANCE without a time",
+        input: b"GENERATE 10\nADVANCE\nADVANCE 0\nTERMINATE 1\nSTART 2\nend\nreport 1 1\n",
         status: 0,
-        output: b"toolong\n",
+        output: b"report 0 1 1 552\nREPLICATION 1 SEED 1 START 1 COMPLETE\n\nSTART TIME   END TIME     BLOCKS FACILITIES   STORAGES\n         0         20          4          0          0\n\nLABEL        LOC BLOCK TYPE ENTRY COUNT CURRENT COUNT  RETRY\n               1 GENERATE             2             0      0\n               2 ADVANCE              2             0      0\n               3 ADVANCE              2             0      0\n               4 TERMINATE            2             0      0\n\n  FEC XN         PRI        BDT CURRENT    NEXT\n       3           0         30       0       1\n",
+        errors: b"",
+    },
+    Example {
+        name: "a byte above 127 in a comment",
+        input: b"GENERATE 10 ; caf\xc3\xa9\nTERMINATE 1\nSTART 1\nend\nreport 1 1\n",
+        status: 0,
+        output: b"report 0 1 1 430\nREPLICATION 1 SEED 1 START 1 COMPLETE\n\nSTART TIME   END TIME     BLOCKS FACILITIES   STORAGES\n         0         10          2          0          0\n\nLABEL        LOC BLOCK TYPE ENTRY COUNT CURRENT COUNT  RETRY\n               1 GENERATE             1             0      0\n               2 TERMINATE            1             0      0\n\n  FEC XN         PRI        BDT CURRENT    NEXT\n       2           0         20       0       1\n",
+        errors: b"",
+    },
+    Example {
+        name: "the greatest value",
+        input: b"GENERATE 1000000000\nTERMINATE 1\nSTART 1\nend\nreport 1 1\n",
+        status: 0,
+        output: b"report 0 1 1 430\nREPLICATION 1 SEED 1 START 1 COMPLETE\n\nSTART TIME   END TIME     BLOCKS FACILITIES   STORAGES\n         0 1000000000          2          0          0\n\nLABEL        LOC BLOCK TYPE ENTRY COUNT CURRENT COUNT  RETRY\n               1 GENERATE             1             0      0\n               2 TERMINATE            1             0      0\n\n  FEC XN         PRI        BDT CURRENT    NEXT\n       2           0 2000000000       0       1\n",
+        errors: b"",
+    },
+    Example {
+        name: "a last line that is not ended",
+        input: b"GENERATE 10\nADVANCE 3\nTERMINATE 1\nSTART 2\nend\nreport 1 1",
+        status: 0,
+        output: b"report 0 1 1 491\nREPLICATION 1 SEED 1 START 1 COMPLETE\n\nSTART TIME   END TIME     BLOCKS FACILITIES   STORAGES\n         0         23          3          0          0\n\nLABEL        LOC BLOCK TYPE ENTRY COUNT CURRENT COUNT  RETRY\n               1 GENERATE             2             0      0\n               2 ADVANCE              2             0      0\n               3 TERMINATE            2             0      0\n\n  FEC XN         PRI        BDT CURRENT    NEXT\n       3           0         30       0       1\n",
+        errors: b"",
+    },
+    Example {
+        name: "a line of 250 bytes",
+        input: b"GENERATE 10\nADVANCE 3 xxxxxxxxxxxxxxxxxxxxxxxxxxxxxxxxxxxxxxxxxxxxxxxxxxxxxxxxxxxxxxxxxxxxxxxxxxxxxxxxxxxxxxxxxxxxxxxxxxxxxxxxxxxxxxxxxxxxxxxxxxxxxxxxxxxxxxxxxxxxxxxxxxxxxxxxxxxxxxxxxxxxxxxxxxxxxxxxxxxxxxxxxxxxxxxxxxxxxxxxxxxxxxxxxxxxxxxxxxxxxxxxxxxxxxxxxxxxxxxx\nTERMINATE 1\nSTART 2\nend\nreport 1 1\n",
+        status: 0,
+        output: b"report 0 1 1 491\nREPLICATION 1 SEED 1 START 1 COMPLETE\n\nSTART TIME   END TIME     BLOCKS FACILITIES   STORAGES\n         0         23          3          0          0\n\nLABEL        LOC BLOCK TYPE ENTRY COUNT CURRENT COUNT  RETRY\n               1 GENERATE             2             0      0\n               2 ADVANCE              2             0      0\n               3 TERMINATE            2             0      0\n\n  FEC XN         PRI        BDT CURRENT    NEXT\n       3           0         30       0       1\n",
+        errors: b"",
+    },
+    Example {
+        name: "no command",
+        input: b"GENERATE 10\nTERMINATE 1\nend\nreport 1 1\n",
+        status: 0,
+        output: b"nostart\n",
         errors: b"",
     },
     Example {
@@ -171,6 +206,41 @@ pub const EXAMPLES: [Example; 24] = [
         status: 1,
         output: b"",
         errors: b"model refused: line 1 L5 5\n",
+    },
+    Example {
+        name: "a bad label",
+        input: b"3x GENERATE 5\nend\n",
+        status: 1,
+        output: b"",
+        errors: b"model refused: line 1 L4\n",
+    },
+    Example {
+        name: "a verb as a label",
+        input: b"ADVANCE GENERATE 5\nend\n",
+        status: 1,
+        output: b"",
+        errors: b"model refused: line 1 L5 1\n",
+    },
+    Example {
+        name: "a class as a label",
+        input: b"XN1 GENERATE 5\nend\n",
+        status: 1,
+        output: b"",
+        errors: b"model refused: line 1 L4\n",
+    },
+    Example {
+        name: "a value too large",
+        input: b"GENERATE 1000000001\nend\n",
+        status: 1,
+        output: b"",
+        errors: b"model refused: line 1 L5 1\n",
+    },
+    Example {
+        name: "a byte above 127 in an operand",
+        input: b"GENERATE 1\xe9\nend\n",
+        status: 1,
+        output: b"",
+        errors: b"model refused: line 1 L2\n",
     },
     Example {
         name: "a line of 251 bytes",
