@@ -1,6 +1,7 @@
 -- What an edit leaves of the recorded runs are runs of the edited version.
 use Rattle.std.proofs.Common.{◌≡◌, ℕ, suc, ◌+◌, ◌<◌, ◌≤◌, ◌==◌, nat_eq, Bool, true, false, cond, List, [], ◌∷◌, ◌++◌, length, get_or, set, filter, is_some, get_or-set_same, get_or-set_other, Option, Some, None, refl, sym, ap, subst, ◌∙◌, arith}
 use Rattle.std.specs.Option.{option_or}
+use Rattle.std.proofs.lemmas.List.{get_or_default}
 use Rattle.std.proofs.lemmas.Bool.Decides.{nat_tests}
 use Rattle.gw_meaning.specs.declared.statement.Replication.{Replication}
 use Rattle.gw_meaning.specs.Listing.{Listing, seed_at, seed_in}
@@ -11,7 +12,10 @@ use Rattle.gw_desk.specs.declared.recording.Recording.{Recording}
 use Rattle.gw_desk.specs.Book.{run_in}
 use Rattle.gw_desk.specs.Rebasing.{IsRebasedRecording, AreRebased, with_run, with_missing}
 
-module _ (t : Listing) (e : Edit) (u : Listing) (old cur : List Recording) (i : ℕ) (x : Recording) (count : length cur ≡ length old) (within : i < length cur) (done : (k : ℕ) (d : Recording) → k < i → IsRebasedRecording t e u (get_or old k d) (get_or cur k d)) (rest : (k : ℕ) (d : Recording) → i ≤ k → get_or cur k d ≡ get_or old k d) (here : (d : Recording) → IsRebasedRecording t e u (get_or cur i d) x) where
+module _ (t : Listing) (e : Edit) (u : Listing) (old cur : List Recording) (i : ℕ) (x : Recording) (count : length cur ≡ length old) (within : i < length cur) (done : (k : ℕ) (d : Recording) → k < i → IsRebasedRecording t e u (get_or old k d) (get_or cur k d)) (rest : (k : ℕ) (d : Recording) → i ≤ k → get_or cur k d ≡ get_or old k d) (y : Recording) (now : IsRebasedRecording t e u (get_or cur i y) x) where
+  here : (d : Recording) → IsRebasedRecording t e u (get_or cur i d) x
+  here d = subst (λ r. IsRebasedRecording t e u r x) (get_or_default cur i y d within) now
+
   pub one_more : (k : ℕ) (d : Recording) → k < i + 1 → IsRebasedRecording t e u (get_or old k d) (get_or (set cur i x) k d)
   one_more k d less = go (nat_eq k i) refl where
     go : (b : Bool) → nat_eq k i ≡ b → IsRebasedRecording t e u (get_or old k d) (get_or (set cur i x) k d)

@@ -68,28 +68,33 @@ is_usual (Err (refusals.Bad text)) (inl line) = absurd (subst IsBadLine no_fault
 is_usual (Err (refusals.Bad text)) (inr number) = absurd (no_bad_number number.1)
 is_usual (Err refusals.Memory) h = inr refl
 
--- want of memory before anything is read is a conversation that stopped for want of memory within its model
-stops_unread : {S K : Type 0} (took : S → List ℕ → S → Type 0) (ended : S → Type 0) (reads : S → ℕ) (wrote : K → List ℕ → K → Type 0) (writes : K → ℕ) (o : Options) (nothing : (a : S) → took a [] a) (reader reader' : S) (writer writer' : K) → reader' ≡ reader → writer' ≡ writer → Fails took ended reads wrote writes o reader reader' writer writer' faults.Memory
-stops_unread {S} took ended reads wrote writes o nothing reader reader' writer writer' unread unwritten =
-    let P : S → Type 0 = λ v. Breaks took reads IsModelPart reader v 16777216 16777216 causes.Memory in
-    let breaks : Breaks took reads IsModelPart reader reader 16777216 16777216 causes.Memory = record { bytes = []; part = whole_part [] (no_lines [] refl); taken = nothing reader; idle = 0; spent = omega arith; idle_calls = omega arith; counted = refl; limit = tt } in
-    in_model 16777216 causes.Memory (subst P (sym unread) breaks) refl unwritten
+module _ {S K : Type 0} (took : S → List ℕ → S → Type 0) (ended : S → Type 0) (reads : S → ℕ) (wrote : K → List ℕ → K → Type 0) (writes : K → ℕ) (nothing : (a : S) → took a [] a) (reader reader' : S) (writer writer' : K) where
+  -- want of memory before anything is read is a conversation that stopped for want of memory within its model
+  stops_unread : (o : Options) → reader' ≡ reader → writer' ≡ writer → Fails took ended reads wrote writes o reader reader' writer writer' faults.Memory
+  stops_unread o unread unwritten =
+      let P : S → Type 0 = λ v. Breaks took reads IsModelPart reader v 16777216 16777216 causes.Memory in
+      let breaks : Breaks took reads IsModelPart reader reader 16777216 16777216 causes.Memory = record { bytes = []; part = whole_part [] (no_lines [] refl); taken = nothing reader; idle = 0; spent = omega arith; idle_calls = omega arith; counted = refl; limit = tt } in
+      in_model 16777216 causes.Memory (subst P (sym unread) breaks) refl unwritten
 
--- so a run without words is one with its model on standard input, under the usual options
-pub usual_run : {F S K E : Type 0} (opens : List ℕ → Result F ReadFault → Type 0) (took_file : F → List ℕ → F → Type 0) (ended_file : F → Type 0) (reads_file : F → ℕ) (took : S → List ℕ → S → Type 0) (ended : S → Type 0) (reads : S → ℕ) (wrote : K → List ℕ → K → Type 0) (writes : K → ℕ) (told : E → List ℕ → E → Type 0) (losses : E → ℕ) (nothing : (a : S) → took a [] a) (words : List Text) (reader reader' : S) (writer writer' : K) (errors errors' : E) (status : ℕ) → words ≡ [] → Does opens took_file ended_file reads_file took ended reads wrote writes told losses words reader reader' writer writer' errors errors' status → Runs took ended reads wrote writes told losses constants.Options.USUAL reader reader' writer writer' errors errors' status
-usual_run {F} {S} {K} {E} opens took_file ended_file reads_file took ended reads wrote writes told losses nothing words reader reader' writer writer' errors errors' status none d = go (is_usual d.meant (subst (λ (ws : List Text). IsReadAs ws d.meant) none d.reading)) where
-  Done : Result Asked Refusal → Type 0
-  Done meant = Proceeds opens took_file ended_file reads_file took ended reads wrote writes told losses meant reader reader' writer writer' errors errors' status
+  -- so a run without words is one with its model on standard input, under the usual options
+  module _ {F E : Type 0} (opens : List ℕ → Result F ReadFault → Type 0) (took_file : F → List ℕ → F → Type 0) (ended_file : F → Type 0) (reads_file : F → ℕ) (told : E → List ℕ → E → Type 0) (losses : E → ℕ) (errors errors' : E) (status : ℕ) where
+    abbrev IsUsualRun : Type 0
+    IsUsualRun = Runs took ended reads wrote writes told losses constants.Options.USUAL reader reader' writer writer' errors errors' status
 
-  At : ModelAt → Options → Type 0
-  At m o = RunsAt opens took_file ended_file reads_file took ended reads wrote writes told losses m o reader reader' writer writer' errors errors' status
+    unread_run : Declines told losses (codes "stopped: F6\n") 3 reader reader' writer writer' errors errors' status → IsUsualRun
+    unread_run h = stopped faults.Memory (stops_unread constants.Options.USUAL h.unread h.unwritten) h.tells h.status_is
 
-  unread : Declines told losses (codes "stopped: F6\n") 3 reader reader' writer writer' errors errors' status → Runs took ended reads wrote writes told losses constants.Options.USUAL reader reader' writer writer' errors errors' status
-  unread h = stopped faults.Memory (stops_unread took ended reads wrote writes constants.Options.USUAL nothing reader reader' writer writer' h.unread h.unwritten) h.tells h.status_is
+    pub usual_run : (words : List Text) → words ≡ [] → Does opens took_file ended_file reads_file took ended reads wrote writes told losses words reader reader' writer writer' errors errors' status → IsUsualRun
+    usual_run words none d = go (is_usual d.meant (subst (λ (ws : List Text). IsReadAs ws d.meant) none d.reading)) where
+      Done : Result Asked Refusal → Type 0
+      Done meant = Proceeds opens took_file ended_file reads_file took ended reads wrote writes told losses meant reader reader' writer writer' errors errors' status
 
-  go : ((asked : Asked) × (d.meant ≡ Ok asked) × (asked.model ≡ places.Input) × (asked.options ≡ constants.Options.USUAL)) ⊎ (d.meant ≡ Err refusals.Memory) → Runs took ended reads wrote writes told losses constants.Options.USUAL reader reader' writer writer' errors errors' status
-  go (inl h) = subst (At places.Input) h.3 (subst (λ (m : ModelAt). At m h.0.options) h.2 (subst Done h.1 d.done))
-  go (inr memory) = unread (subst Done memory d.done)
+      At : ModelAt → Options → Type 0
+      At m o = RunsAt opens took_file ended_file reads_file took ended reads wrote writes told losses m o reader reader' writer writer' errors errors' status
+
+      go : ((asked : Asked) × (d.meant ≡ Ok asked) × (asked.model ≡ places.Input) × (asked.options ≡ constants.Options.USUAL)) ⊎ (d.meant ≡ Err refusals.Memory) → IsUsualRun
+      go (inl h) = subst (At places.Input) h.3 (subst (λ (m : ModelAt). At m h.0.options) h.2 (subst Done h.1 d.done))
+      go (inr memory) = unread_run (subst Done memory d.done)
 
 -- no words have no texts
 pub no_texts : {W : Type 0} (text : W → Text) (words : List W) → length words ≡ 0 → map text words ≡ []

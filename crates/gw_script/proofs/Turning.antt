@@ -44,57 +44,6 @@ says_regrouped answers b d over i j k x y z says =
     let Q : List ℕ → Type 0 = λ o. Says answers b 1 (i ++ (j ++ k)) o over d in
     subst P (sym (append_assoc i j k)) (subst Q (sym (append_assoc x y z)) says)
 
--- a whole line, answered
-pub turned_line : {D S K : Type 0} (answers : D → ℕ → List ℕ → List ℕ → D → Type 0) (took : S → List ℕ → S → Type 0) (wrote : K → List ℕ → K → Type 0) (took_on : (a b c : S) (x y : List ℕ) → took a x b → took b y c → took a (x ++ y) c) (wrote_on : (a b c : K) (x y : List ℕ) → wrote a x b → wrote b y c → wrote a (x ++ y) c) (b d d' : D) (n left left' : ℕ) (source s s' : S) (sink k k' : K) (text : List ℕ) → Turned answers took wrote b d n left source s sink k → IsUnended text → took s (text ++ 10 ∷ []) s' → left ≡ left' + (length text + 1) → is_quit (request_of (without_cr_of text)) ≡ false → Writes wrote (answers d n (without_cr_of text)) k k' d' → Turned answers took wrote b d' (n + 1) left' source s' sink k'
-turned_line answers took wrote took_on wrote_on b d d' n left left' source s s' sink k k' text before unended taken spent goes r = record {
-  input = before.input ++ (text ++ 10 ∷ []);
-  output = before.output ++ r.front;
-  taken = took_on source s s' before.input (text ++ 10 ∷ []) before.taken taken;
-  written = wrote_on sink k k' before.output r.front before.written r.written;
-  onward = λ rest out over final says. says_regrouped answers b final over before.input (text ++ 10 ∷ []) rest before.output r.front out (before.onward ((text ++ 10 ∷ []) ++ rest) (r.front ++ out) over final (line d d' final n text rest r.front out over unended goes r.answers says));
-  spent = omega (arith, before.spent, spent, length-append before.input (text ++ 10 ∷ []), length-append text (10 ∷ []));
-  few = omega (arith, before.few, spent);
-}
-
--- the last turn: something is said to what it reads, and it is written
-pub serves_last : {D S K : Type 0} (answers : D → ℕ → List ℕ → List ℕ → D → Type 0) (took : S → List ℕ → S → Type 0) (ended : S → Type 0) (wrote : K → List ℕ → K → Type 0) (took_on : (a b c : S) (x y : List ℕ) → took a x b → took b y c → took a (x ++ y) c) (wrote_on : (a b c : K) (x y : List ℕ) → wrote a x b → wrote b y c → wrote a (x ++ y) c) (b d : D) (n left : ℕ) (source s s' : S) (sink k k' : K) (final : D) (bytes front : List ℕ) (over : Over) → Turned answers took wrote b d n left source s sink k → took s bytes s' → wrote k front k' → Says answers d n bytes front over final → IsAllRead (ended s') over → Serves answers took ended wrote b source s' sink k' final over
-serves_last answers took ended wrote took_on wrote_on b d n left source s s' sink k k' final bytes front over before taken written says all = record {
-  input = before.input ++ bytes;
-  output = before.output ++ front;
-  taken = took_on source s s' before.input bytes before.taken taken;
-  written = wrote_on sink k k' before.output front before.written written;
-  says = before.onward bytes front over final says;
-  all_read = all;
-}
-
--- the session stops in a turn: a front of what is said to what it reads is written
-pub stops_within : {D S K : Type 0} (answers : D → ℕ → List ℕ → List ℕ → D → Type 0) (took : S → List ℕ → S → Type 0) (reads_of : S → ℕ) (wrote : K → List ℕ → K → Type 0) (writes_of : K → ℕ) (took_on : (a b c : S) (x y : List ℕ) → took a x b → took b y c → took a (x ++ y) c) (wrote_on : (a b c : K) (x y : List ℕ) → wrote a x b → wrote b y c → wrote a (x ++ y) c) (b d : D) (n left : ℕ) (source s s' : S) (sink k k' : K) (final : D) (bytes front rest : List ℕ) (over : Over) (fault : Fault) (before : Turned answers took wrote b d n left source s sink k) → took s bytes s' → wrote k front k' → Says answers d n bytes (front ++ rest) over final → StopsBy fault (reads_of source) (reads_of s') (writes_of sink) (writes_of k') (length (before.input ++ bytes)) → Stops answers took reads_of wrote writes_of b source s' sink k' final fault
-stops_within answers took reads_of wrote writes_of took_on wrote_on b d n left source s s' sink k k' final bytes front rest over fault before taken written says cause =
-    let P : List ℕ → Type 0 = λ o. Says answers b 1 (before.input ++ bytes) o over final in
-    record {
-      input = before.input ++ bytes;
-      output = before.output ++ front;
-      left = rest;
-      over = over;
-      taken = took_on source s s' before.input bytes before.taken taken;
-      written = wrote_on sink k k' before.output front before.written written;
-      says = subst P (sym (append_assoc before.output front rest)) (before.onward bytes (front ++ rest) over final says);
-      cause = cause;
-    }
-
--- reading a line broke off
-pub stops_reading : {D S K : Type 0} (answers : D → ℕ → List ℕ → List ℕ → D → Type 0) (took : S → List ℕ → S → Type 0) (reads_of : S → ℕ) (wrote : K → List ℕ → K → Type 0) (writes_of : K → ℕ) (took_on : (a b c : S) (x y : List ℕ) → took a x b → took b y c → took a (x ++ y) c) (wrote_on : (a b c : K) (x y : List ℕ) → wrote a x b → wrote b y c → wrote a (x ++ y) c) (wrote_none : (a : K) → wrote a [] a) (some_to : (d : D) (n : ℕ) (line : List ℕ) → (front : List ℕ) × answers d n line front d) (b d : D) (n left left' : ℕ) (source s s' : S) (sink k : K) (fault : ReadFault) (before : Turned answers took wrote b d n left source s sink k) → reads_of s ≡ reads_of source → Breaks took reads_of IsUnended s s' left left' fault → Stops answers took reads_of wrote writes_of b source s' sink k d (stopped_by fault)
-stops_reading answers took reads_of wrote writes_of took_on wrote_on wrote_none some_to b d n left left' source s s' sink k reads.Read before same broken =
-    let said = says_some answers some_to d n broken.bytes broken.part in
-    stops_within answers took reads_of wrote writes_of took_on wrote_on b d n left source s s' sink k k d broken.bytes [] said.0 said.1 faults.Read before broken.taken (wrote_none k) said.2 (broken.counted ∙ ap one_more same)
-stops_reading answers took reads_of wrote writes_of took_on wrote_on wrote_none some_to b d n left left' source s s' sink k reads.Limit before same broken =
-    let said = says_some answers some_to d n broken.bytes broken.part in
-    let all : length (before.input ++ broken.bytes) ≡ 16777216 = omega (arith, before.spent, broken.spent, broken.idle_calls, broken.limit, length-append before.input broken.bytes) in
-    stops_within answers took reads_of wrote writes_of took_on wrote_on b d n left source s s' sink k k d broken.bytes [] said.0 said.1 faults.ReadLimit before broken.taken (wrote_none k) said.2 all
-stops_reading answers took reads_of wrote writes_of took_on wrote_on wrote_none some_to b d n left left' source s s' sink k reads.Memory before same broken =
-    let said = says_some answers some_to d n broken.bytes broken.part in
-    stops_within answers took reads_of wrote writes_of took_on wrote_on b d n left source s s' sink k k d broken.bytes [] said.0 said.1 faults.Memory before broken.taken (wrote_none k) said.2 tt
-
 -- answering broke off for a cause that stops the session
 pub stop_cause : (fault : Fault) (reads reads' writes writes' taken : ℕ) → BreaksBy fault writes writes' → StopsBy fault reads reads' writes writes' taken
 stop_cause (faults.Line faulty) reads reads' writes writes' taken h = h
@@ -121,11 +70,66 @@ says_last answers d d' n text front unended told = go (is_quit (request_of text)
   go true is = last_quit d d' n text front unended is told
   go false is = last d d' n text front unended is told
 
--- answering a line broke off
-pub stops_answering : {D S K : Type 0} (answers : D → ℕ → List ℕ → List ℕ → D → Type 0) (took : S → List ℕ → S → Type 0) (reads_of : S → ℕ) (wrote : K → List ℕ → K → Type 0) (writes_of : K → ℕ) (took_on : (a b c : S) (x y : List ℕ) → took a x b → took b y c → took a (x ++ y) c) (wrote_on : (a b c : K) (x y : List ℕ) → wrote a x b → wrote b y c → wrote a (x ++ y) c) (b d : D) (n left : ℕ) (source s s' : S) (sink k k' : K) (after : D) (bytes text : List ℕ) (over : Over) (fault : Fault) (before : Turned answers took wrote b d n left source s sink k) → writes_of k ≡ writes_of sink → took s bytes s' → (broken : BreaksOff wrote writes_of (answers d n text) k k' after fault) → Says answers d n bytes (broken.front ++ broken.left) over after → Stops answers took reads_of wrote writes_of b source s' sink k' after fault
-stops_answering answers took reads_of wrote writes_of took_on wrote_on b d n left source s s' sink k k' after bytes text over fault before same taken broken says =
-    let C : ℕ → Type 0 = λ w. BreaksBy fault w (writes_of k') in
-    stops_within answers took reads_of wrote writes_of took_on wrote_on b d n left source s s' sink k k' after bytes broken.front broken.left over fault before taken broken.written says (stop_cause fault (reads_of source) (reads_of s') (writes_of sink) (writes_of k') (length (before.input ++ bytes)) (subst C same broken.cause))
+-- the relations that a session is told by: what may be answered, what is taken off the source and written to the sink, and how
+-- each goes on
+module _ {D S K : Type 0} (answers : D → ℕ → List ℕ → List ℕ → D → Type 0) (took : S → List ℕ → S → Type 0) (wrote : K → List ℕ → K → Type 0) (took_on : (a b c : S) (x y : List ℕ) → took a x b → took b y c → took a (x ++ y) c) (wrote_on : (a b c : K) (x y : List ℕ) → wrote a x b → wrote b y c → wrote a (x ++ y) c) where
+  -- a whole line, answered
+  pub turned_line : {b d d' : D} {n left left' : ℕ} {source s s' : S} {sink k k' : K} (text : List ℕ) → Turned answers took wrote b d n left source s sink k → IsUnended text → took s (text ++ 10 ∷ []) s' → left ≡ left' + (length text + 1) → is_quit (request_of (without_cr_of text)) ≡ false → Writes wrote (answers d n (without_cr_of text)) k k' d' → Turned answers took wrote b d' (n + 1) left' source s' sink k'
+  turned_line {b} {d} {d'} {n} {left} {left'} {source} {s} {s'} {sink} {k} {k'} text before unended taken spent goes r = record {
+    input = before.input ++ (text ++ 10 ∷ []);
+    output = before.output ++ r.front;
+    taken = took_on source s s' before.input (text ++ 10 ∷ []) before.taken taken;
+    written = wrote_on sink k k' before.output r.front before.written r.written;
+    onward = λ rest out over final says. says_regrouped answers b final over before.input (text ++ 10 ∷ []) rest before.output r.front out (before.onward ((text ++ 10 ∷ []) ++ rest) (r.front ++ out) over final (line d d' final n text rest r.front out over unended goes r.answers says));
+    spent = omega (arith, before.spent, spent, length-append before.input (text ++ 10 ∷ []), length-append text (10 ∷ []));
+    few = omega (arith, before.few, spent);
+  }
+
+  -- the last turn: something is said to what it reads, and it is written
+  pub serves_last : {b d final : D} {n left : ℕ} {source s s' : S} {sink k k' : K} (ended : S → Type 0) (bytes front : List ℕ) (over : Over) → Turned answers took wrote b d n left source s sink k → took s bytes s' → wrote k front k' → Says answers d n bytes front over final → IsAllRead (ended s') over → Serves answers took ended wrote b source s' sink k' final over
+  serves_last {b} {d} {final} {n} {left} {source} {s} {s'} {sink} {k} {k'} ended bytes front over before taken written says all = record {
+    input = before.input ++ bytes;
+    output = before.output ++ front;
+    taken = took_on source s s' before.input bytes before.taken taken;
+    written = wrote_on sink k k' before.output front before.written written;
+    says = before.onward bytes front over final says;
+    all_read = all;
+  }
+
+  module _ (reads_of : S → ℕ) (writes_of : K → ℕ) {b d : D} {n left : ℕ} {source s s' : S} {sink k : K} (before : Turned answers took wrote b d n left source s sink k) where
+    -- the session stops in a turn: a front of what is said to what it reads is written
+    stops_within : {final : D} {k' : K} (bytes front rest : List ℕ) (over : Over) (fault : Fault) → took s bytes s' → wrote k front k' → Says answers d n bytes (front ++ rest) over final → StopsBy fault (reads_of source) (reads_of s') (writes_of sink) (writes_of k') (length (before.input ++ bytes)) → Stops answers took reads_of wrote writes_of b source s' sink k' final fault
+    stops_within {final} {k'} bytes front rest over fault taken written says cause =
+        let P : List ℕ → Type 0 = λ o. Says answers b 1 (before.input ++ bytes) o over final in
+        record {
+          input = before.input ++ bytes;
+          output = before.output ++ front;
+          left = rest;
+          over = over;
+          taken = took_on source s s' before.input bytes before.taken taken;
+          written = wrote_on sink k k' before.output front before.written written;
+          says = subst P (sym (append_assoc before.output front rest)) (before.onward bytes (front ++ rest) over final says);
+          cause = cause;
+        }
+
+    -- reading a line broke off
+    pub stops_reading : (wrote_none : (a : K) → wrote a [] a) (some_to : (d : D) (n : ℕ) (line : List ℕ) → (front : List ℕ) × answers d n line front d) {left' : ℕ} (fault : ReadFault) → reads_of s ≡ reads_of source → Breaks took reads_of IsUnended s s' left left' fault → Stops answers took reads_of wrote writes_of b source s' sink k d (stopped_by fault)
+    stops_reading wrote_none some_to reads.Read same broken =
+        let said = says_some answers some_to d n broken.bytes broken.part in
+        stops_within broken.bytes [] said.0 said.1 faults.Read broken.taken (wrote_none k) said.2 (broken.counted ∙ ap one_more same)
+    stops_reading wrote_none some_to reads.Limit same broken =
+        let said = says_some answers some_to d n broken.bytes broken.part in
+        let all : length (before.input ++ broken.bytes) ≡ 16777216 = omega (arith, before.spent, broken.spent, broken.idle_calls, broken.limit, length-append before.input broken.bytes) in
+        stops_within broken.bytes [] said.0 said.1 faults.ReadLimit broken.taken (wrote_none k) said.2 all
+    stops_reading wrote_none some_to reads.Memory same broken =
+        let said = says_some answers some_to d n broken.bytes broken.part in
+        stops_within broken.bytes [] said.0 said.1 faults.Memory broken.taken (wrote_none k) said.2 tt
+
+    -- answering a line broke off
+    pub stops_answering : {k' : K} {after : D} (bytes text : List ℕ) (over : Over) (fault : Fault) → writes_of k ≡ writes_of sink → took s bytes s' → (broken : BreaksOff wrote writes_of (answers d n text) k k' after fault) → Says answers d n bytes (broken.front ++ broken.left) over after → Stops answers took reads_of wrote writes_of b source s' sink k' after fault
+    stops_answering {k'} {after} bytes text over fault same taken broken says =
+        let C : ℕ → Type 0 = λ w. BreaksBy fault w (writes_of k') in
+        stops_within bytes broken.front broken.left over fault taken broken.written says (stop_cause fault (reads_of source) (reads_of s') (writes_of sink) (writes_of k') (length (before.input ++ bytes)) (subst C same broken.cause))
 
 -- the end of the input was found, however the session ends behind it
 pub all_read_if : (q : Bool) (E : Type 0) → E → IsAllRead E (over_if q)

@@ -1,5 +1,4 @@
-use Rattle.std.proofs.Common.{◌<◌, length, get_or, rules, subst, refl}
-use Rattle.std.proofs.lemmas.List.{get_or_default}
+use Rattle.std.proofs.Common.{get_or, refl, rules}
 use Rattle.gw_desk.specs.declared.recording.Recording.{Recording}
 use Rattle.gw_desk.specs.Rebasing.{IsRebasedRecording}
 use Rattle.gw_desk.proofs.RebaseLaws.{one_more, rest_stays}
@@ -10,16 +9,14 @@ loop-recording-preserved c =
     let t = c.args.old.now in
     let e = c.args.edit.now in
     let u = c.args.new.now in
+    let known = c.loop-recording.invariant in
     let cur = c.loop-recording.recording-items in
     let i = c.loop-recording.recording-index in
-    let within : c.loop-recording.recording-index < length c.loop-recording.recording-items = search rules in
-    let one : Recording = get_or c.loop-recording.recording-items c.loop-recording.recording-index c.recording-item.result in
-    let x : Recording = record { number = (get_or c.loop-recording.recording-items c.loop-recording.recording-index c.recording-item.result).number; run = c.rebase.new.run } in
-    let base : IsRebasedRecording c.args.old.now c.args.edit.now c.args.new.now (get_or c.loop-recording.recording-items c.loop-recording.recording-index c.recording-item.result) (record { number = (get_or c.loop-recording.recording-items c.loop-recording.recording-index c.recording-item.result).number; run = c.rebase.new.run }) = record { number = refl; run = c.rebase.ensures } in
+    let y = c.recording-item.result in
+    let x : Recording = record { number = (get_or cur i y).number; run = c.rebase.new.run } in
+    let now : IsRebasedRecording t e u (get_or cur i y) x = record { number = refl; run = c.rebase.ensures } in
     record {
       count = search rules;
-      done = one_more t e u c.args.runs.now.items cur i x c.loop-recording.invariant.count within c.loop-recording.invariant.done c.loop-recording.invariant.rest
-          (λ d. subst (λ r. IsRebasedRecording c.args.old.now c.args.edit.now c.args.new.now r (record { number = (get_or c.loop-recording.recording-items c.loop-recording.recording-index c.recording-item.result).number; run = c.rebase.new.run })) (get_or_default cur i c.recording-item.result d within) base);
-      rest = rest_stays t e u c.args.runs.now.items cur i x c.loop-recording.invariant.count within c.loop-recording.invariant.done c.loop-recording.invariant.rest
-          (λ d. subst (λ r. IsRebasedRecording c.args.old.now c.args.edit.now c.args.new.now r (record { number = (get_or c.loop-recording.recording-items c.loop-recording.recording-index c.recording-item.result).number; run = c.rebase.new.run })) (get_or_default cur i c.recording-item.result d within) base);
+      done = one_more t e u c.args.runs.now.items cur i x known.count (search rules) known.done known.rest y now;
+      rest = rest_stays t e u c.args.runs.now.items cur i x known.count (search rules) known.done known.rest y now;
     }

@@ -19,29 +19,40 @@ lines-init g c = record {
 
 pub returns-in_err-line-clause-stops : goal.returns-in_err-line-clause-stops
 returns-in_err-line-clause-stops g c =
+    let answers = Answers g.D.Keeper.version g.D.Keeper.does in
     let exit = c.from_residual in
     let p = err_from_is_err_and exit.result exit.ensures.1 in
     let fault = c.in_err-line.field-0.0 in
-    if_err_at exit.result (Stops (Answers g.D.Keeper.version g.D.Keeper.does) g.S.Source.took g.S.Source.failures g.K.Sink.wrote g.K.Sink.failures c.args.keeper.now c.args.source.now c.read_line.new.source c.args.sink.now c.lines.sink c.lines.keeper) p.0 (stopped_by fault) p.1 p.2 (stops_reading (Answers g.D.Keeper.version g.D.Keeper.does) g.S.Source.took g.S.Source.failures g.K.Sink.wrote g.K.Sink.failures g.met.S.Source.onward g.met.K.Sink.onward g.met.K.Sink.nothing (answers_some g.D.Keeper.version g.D.Keeper.does g.met.D.Keeper.in_vain) c.args.keeper.now c.lines.keeper (c.lines.n + 1) c.lines.budget c.read_line.new.budget c.args.source.now c.lines.source c.read_line.new.source c.args.sink.now c.lines.sink fault c.lines.invariant.turned c.lines.invariant.reads c.in_err-line.ensures.fault)
+    let known = c.lines.invariant in
+    let some = answers_some g.D.Keeper.version g.D.Keeper.does g.met.D.Keeper.in_vain in
+    let stops = stops_reading answers g.S.Source.took g.K.Sink.wrote g.met.S.Source.onward g.met.K.Sink.onward g.S.Source.failures g.K.Sink.failures known.turned g.met.K.Sink.nothing some fault known.reads c.in_err-line.ensures.fault in
+    if_err_at exit.result (Stops answers g.S.Source.took g.S.Source.failures g.K.Sink.wrote g.K.Sink.failures c.args.keeper.now c.args.source.now c.read_line.new.source c.args.sink.now c.lines.sink c.lines.keeper) p.0 (stopped_by fault) p.1 p.2 stops
 
 pub returns-in_err-reply-in-Whole-clause-stops : goal.returns-in_err-reply-in-Whole-clause-stops
 returns-in_err-reply-in-Whole-clause-stops g c =
+    let answers = Answers g.D.Keeper.version g.D.Keeper.does in
     let at = rw c.in-Whole.is at c.in_ok-line.ensures in
     let text = c.in-Whole.line.items in
-    let p = err_from_is_err_and c.from_residual-in_err-reply-in-Whole.result c.from_residual-in_err-reply-in-Whole.ensures.1 in
+    let exit = c.from_residual-in_err-reply-in-Whole in
+    let p = err_from_is_err_and exit.result exit.ensures.1 in
+    let fault = c.in_err-reply-in-Whole.field-0.0 in
+    let known = c.lines.invariant in
     let w : c.without_cr.result.now ≡ without_cr_of text = c.without_cr.ensures ∙ ap without_cr_of c.deref.ensures.value in
     let b = rw w at c.in_err-reply-in-Whole.ensures.err in
-    let said = says_whole (Answers g.D.Keeper.version g.D.Keeper.does) c.lines.keeper c.reply.new.keeper (c.lines.n + 1) text (b.front ++ b.left) at.line b.answers in
-    if_err_at c.from_residual-in_err-reply-in-Whole.result (Stops (Answers g.D.Keeper.version g.D.Keeper.does) g.S.Source.took g.S.Source.failures g.K.Sink.wrote g.K.Sink.failures c.args.keeper.now c.args.source.now c.read_line.new.source c.args.sink.now c.reply.new.sink c.reply.new.keeper) p.0 c.in_err-reply-in-Whole.field-0.0 p.1 p.2 (stops_answering (Answers g.D.Keeper.version g.D.Keeper.does) g.S.Source.took g.S.Source.failures g.K.Sink.wrote g.K.Sink.failures g.met.S.Source.onward g.met.K.Sink.onward c.args.keeper.now c.lines.keeper (c.lines.n + 1) c.lines.budget c.args.source.now c.lines.source c.read_line.new.source c.args.sink.now c.lines.sink c.reply.new.sink c.reply.new.keeper (text ++ 10 ∷ []) (without_cr_of text) said.0 c.in_err-reply-in-Whole.field-0.0 c.lines.invariant.turned c.lines.invariant.writes at.taken b said.1)
+    let said = says_whole answers c.lines.keeper c.reply.new.keeper (c.lines.n + 1) text (b.front ++ b.left) at.line b.answers in
+    let stops = stops_answering answers g.S.Source.took g.K.Sink.wrote g.met.S.Source.onward g.met.K.Sink.onward g.S.Source.failures g.K.Sink.failures known.turned (text ++ 10 ∷ []) (without_cr_of text) said.0 fault known.writes at.taken b said.1 in
+    if_err_at exit.result (Stops answers g.S.Source.took g.S.Source.failures g.K.Sink.wrote g.K.Sink.failures c.args.keeper.now c.args.source.now c.read_line.new.source c.args.sink.now c.reply.new.sink c.reply.new.keeper) p.0 fault p.1 p.2 stops
 
 pub returns-then-branch-clause-serves : goal.returns-then-branch-clause-serves
 returns-then-branch-clause-serves g c =
+    let answers = Answers g.D.Keeper.version g.D.Keeper.does in
     let at = rw c.in-Whole.is at c.in_ok-line.ensures in
     let text = c.in-Whole.line.items in
     let w : c.without_cr.result.now ≡ without_cr_of text = c.without_cr.ensures ∙ ap without_cr_of c.deref.ensures.value in
     let r = rw w at c.in_ok-reply-in-Whole.ensures.ok in
     let q : is_quit (request_of (without_cr_of text)) ≡ true = ap (λ l. is_quit (request_of l)) (sym w) ∙ (sym c.in_ok-reply-in-Whole.ensures.quit ∙ c.if-branch.true) in
-    serves_last (Answers g.D.Keeper.version g.D.Keeper.does) g.S.Source.took g.S.Source.ended g.K.Sink.wrote g.met.S.Source.onward g.met.K.Sink.onward c.args.keeper.now c.lines.keeper (c.lines.n + 1) c.lines.budget c.args.source.now c.lines.source c.read_line.new.source c.args.sink.now c.lines.sink c.reply.new.sink c.reply.new.keeper (text ++ 10 ∷ []) r.front overs.Quit c.lines.invariant.turned at.taken r.written (quit c.lines.keeper c.reply.new.keeper (c.lines.n + 1) text r.front at.line q r.answers) tt
+    serves_last answers g.S.Source.took g.K.Sink.wrote g.met.S.Source.onward g.met.K.Sink.onward g.S.Source.ended (text ++ 10 ∷ []) r.front overs.Quit c.lines.invariant.turned at.taken r.written
+    (quit c.lines.keeper c.reply.new.keeper (c.lines.n + 1) text r.front at.line q r.answers) tt
 
 pub lines-preserved : goal.lines-preserved
 lines-preserved g c =
@@ -51,7 +62,7 @@ lines-preserved g c =
     let r = rw w at c.in_ok-reply-in-Whole.ensures.ok in
     let q : is_quit (request_of (without_cr_of text)) ≡ false = ap (λ l. is_quit (request_of l)) (sym w) ∙ (sym c.in_ok-reply-in-Whole.ensures.quit ∙ c.if-branch.false) in
     record {
-      turned = turned_line (Answers g.D.Keeper.version g.D.Keeper.does) g.S.Source.took g.K.Sink.wrote g.met.S.Source.onward g.met.K.Sink.onward c.args.keeper.now c.lines.keeper c.reply.new.keeper (c.lines.n + 1) c.lines.budget c.read_line.new.budget c.args.source.now c.lines.source c.read_line.new.source c.args.sink.now c.lines.sink c.reply.new.sink text c.lines.invariant.turned at.line at.taken at.spent q r;
+      turned = turned_line (Answers g.D.Keeper.version g.D.Keeper.does) g.S.Source.took g.K.Sink.wrote g.met.S.Source.onward g.met.K.Sink.onward text c.lines.invariant.turned at.line at.taken at.spent q r;
       reads = at.uncounted ∙ c.lines.invariant.reads;
       writes = c.in_ok-reply-in-Whole.ensures.same ∙ c.lines.invariant.writes;
     }
@@ -59,22 +70,30 @@ lines-preserved g c =
 pub returns-in-End-clause-serves : goal.returns-in-End-clause-serves
 returns-in-End-clause-serves g c =
     let at = rw c.in-End.is at c.in_ok-line.ensures in
-    serves_last (Answers g.D.Keeper.version g.D.Keeper.does) g.S.Source.took g.S.Source.ended g.K.Sink.wrote g.met.S.Source.onward g.met.K.Sink.onward c.args.keeper.now c.lines.keeper (c.lines.n + 1) c.lines.budget c.args.source.now c.lines.source c.read_line.new.source c.args.sink.now c.lines.sink c.lines.sink c.lines.keeper [] [] overs.InputEnd c.lines.invariant.turned at.taken (g.met.K.Sink.nothing c.lines.sink) (nothing c.lines.keeper (c.lines.n + 1)) at.line
+    serves_last (Answers g.D.Keeper.version g.D.Keeper.does) g.S.Source.took g.K.Sink.wrote g.met.S.Source.onward g.met.K.Sink.onward g.S.Source.ended [] [] overs.InputEnd c.lines.invariant.turned at.taken (g.met.K.Sink.nothing c.lines.sink)
+    (nothing c.lines.keeper (c.lines.n + 1)) at.line
 
 pub returns-in_err-quit-in-Last-clause-stops : goal.returns-in_err-quit-in-Last-clause-stops
 returns-in_err-quit-in-Last-clause-stops g c =
+    let answers = Answers g.D.Keeper.version g.D.Keeper.does in
     let at = rw c.in-Last.is at c.in_ok-line.ensures in
     let text = c.in-Last.line.items in
     let exit = c.from_residual-in_err-quit-in-Last in
     let p = err_from_is_err_and exit.result exit.ensures.1 in
+    let fault = c.in_err-quit-in-Last.field-0.0 in
+    let known = c.lines.invariant in
     let b = rw c.deref-in-Last.ensures.value at c.in_err-quit-in-Last.ensures.err in
-    let said = says_last (Answers g.D.Keeper.version g.D.Keeper.does) c.lines.keeper c.reply-in-Last.new.keeper (c.lines.n + 1) text (b.front ++ b.left) at.line.0 b.answers in
-    if_err_at exit.result (Stops (Answers g.D.Keeper.version g.D.Keeper.does) g.S.Source.took g.S.Source.failures g.K.Sink.wrote g.K.Sink.failures c.args.keeper.now c.args.source.now c.read_line.new.source c.args.sink.now c.reply-in-Last.new.sink c.reply-in-Last.new.keeper) p.0 c.in_err-quit-in-Last.field-0.0 p.1 p.2 (stops_answering (Answers g.D.Keeper.version g.D.Keeper.does) g.S.Source.took g.S.Source.failures g.K.Sink.wrote g.K.Sink.failures g.met.S.Source.onward g.met.K.Sink.onward c.args.keeper.now c.lines.keeper (c.lines.n + 1) c.lines.budget c.args.source.now c.lines.source c.read_line.new.source c.args.sink.now c.lines.sink c.reply-in-Last.new.sink c.reply-in-Last.new.keeper text text (over_if (is_quit (request_of text))) c.in_err-quit-in-Last.field-0.0 c.lines.invariant.turned c.lines.invariant.writes at.taken b said)
+    let said = says_last answers c.lines.keeper c.reply-in-Last.new.keeper (c.lines.n + 1) text (b.front ++ b.left) at.line.0 b.answers in
+    let stops = stops_answering answers g.S.Source.took g.K.Sink.wrote g.met.S.Source.onward g.met.K.Sink.onward g.S.Source.failures g.K.Sink.failures known.turned text text (over_if (is_quit (request_of text))) fault known.writes at.taken b said in
+    if_err_at exit.result (Stops answers g.S.Source.took g.S.Source.failures g.K.Sink.wrote g.K.Sink.failures c.args.keeper.now c.args.source.now c.read_line.new.source c.args.sink.now c.reply-in-Last.new.sink c.reply-in-Last.new.keeper) p.0 fault p.1 p.2 stops
 
 pub returns-in-Last-clause-serves : goal.returns-in-Last-clause-serves
 returns-in-Last-clause-serves g c =
+    let answers = Answers g.D.Keeper.version g.D.Keeper.does in
     let at = rw c.in-Last.is at c.in_ok-line.ensures in
     let text = c.in-Last.line.items in
     let r = rw c.deref-in-Last.ensures.value at c.in_ok-quit-in-Last.ensures.ok in
     let q = rw c.deref-in-Last.ensures.value at c.in_ok-quit-in-Last.ensures.quit in
-    rw (c.over_if.ensures, q) (serves_last (Answers g.D.Keeper.version g.D.Keeper.does) g.S.Source.took g.S.Source.ended g.K.Sink.wrote g.met.S.Source.onward g.met.K.Sink.onward c.args.keeper.now c.lines.keeper (c.lines.n + 1) c.lines.budget c.args.source.now c.lines.source c.read_line.new.source c.args.sink.now c.lines.sink c.reply-in-Last.new.sink c.reply-in-Last.new.keeper text r.front (over_if (is_quit (request_of text))) c.lines.invariant.turned at.taken r.written (says_last (Answers g.D.Keeper.version g.D.Keeper.does) c.lines.keeper c.reply-in-Last.new.keeper (c.lines.n + 1) text r.front at.line.0 r.answers) (all_read_if (is_quit (request_of text)) (g.S.Source.ended c.read_line.new.source) at.line.2))
+    let said = says_last answers c.lines.keeper c.reply-in-Last.new.keeper (c.lines.n + 1) text r.front at.line.0 r.answers in
+    let all = all_read_if (is_quit (request_of text)) (g.S.Source.ended c.read_line.new.source) at.line.2 in
+    rw (c.over_if.ensures, q) (serves_last answers g.S.Source.took g.K.Sink.wrote g.met.S.Source.onward g.met.K.Sink.onward g.S.Source.ended text r.front (over_if (is_quit (request_of text))) c.lines.invariant.turned at.taken r.written said all)
