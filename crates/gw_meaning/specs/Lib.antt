@@ -1,6 +1,7 @@
 pub mod Statements
 pub mod Texts
 pub mod Listing
+pub mod Numbers
 pub mod Machine
 pub mod Questions
 pub mod Changes
