@@ -6,3 +6,6 @@ pub mod MovedChanges
 pub mod MovedSteps
 pub mod MovedRuns
 pub mod PositionLaws
+pub mod Renaming
+pub mod Renumbering
+pub mod RenamedRuns

@@ -15,7 +15,7 @@ use Rattle.gw_meaning.proofs.Programs.{run_on}
 use Rattle.gw_frame.proofs.ReadLaws.{run_before, step_reads, reads_there}
 
 -- a result with its state moved
-moved_result_with : (move : ℕ → ℕ) (r : Result Machine End) → result_with (moved_machine move) r ≡ moved_result move r
+pub moved_result_with : (move : ℕ → ℕ) (r : Result Machine End) → result_with (moved_machine move) r ≡ moved_result move r
 moved_result_with move (Ok s) = refl
 moved_result_with move (Err end) = refl
 

@@ -2,4 +2,5 @@ pub mod Alike
 pub mod Reads
 pub mod Moved
 pub mod Positions
+pub mod Renamed
 pub use Rattle.gw_meaning.specs.Step

@@ -2,6 +2,7 @@
 ghost use Rattle.gw_frame.specs.Alike.{UnseenEdit, UnseenStep};
 ghost use Rattle.gw_frame.specs.Moved.{StartStays, UnseenMove, UnseenMoveStep, UnseenMoveReads};
 ghost use Rattle.gw_frame.specs.Positions.{InsertionMoves, DeletionMoves};
+ghost use Rattle.gw_frame.specs.Renamed.{HasRenaming, RenamedAnswers, RenamedStep, RenamedRun};
 ghost use Rattle.gw_frame.specs.Reads.{RunAsksItsReads, UnseenStepReads, UnseenReads};
 
 /// A version that answers alike all that a run asked has the same run and is asked the same. So is each of its steps,
@@ -33,4 +34,13 @@ pub fn unseen_move()
 pub fn position_maps()
     ensures insertion { InsertionMoves }
     ensures deletion { DeletionMoves }
+{}
+
+/// The numbers of statements do not matter: where two versions have the same statements in order, each under a number of
+/// its own, one is the other with its places renamed, and so are its answers, its steps and its run.
+pub fn renamed()
+    ensures found { HasRenaming }
+    ensures answers { RenamedAnswers }
+    ensures step { RenamedStep }
+    ensures run { RenamedRun }
 {}

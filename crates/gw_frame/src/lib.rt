@@ -6,4 +6,4 @@
 
 mod laws;
 
-pub use laws::{position_maps, unseen_edit, unseen_move, unseen_reads};
+pub use laws::{position_maps, renamed, unseen_edit, unseen_move, unseen_reads};
