@@ -1,3 +1,4 @@
 pub mod Rows
 pub mod Sections
 pub mod Order
+pub mod Renaming

@@ -1,6 +1,6 @@
 //! The standard report of one START of one replication, as bytes.
 //!
-//! [`print`] is the only call. A section is a table of columns and a function that appends its lines; the
+//! [`print`] is the only call, beside the law that the numbers of statements do not show. A section is a table of columns and a function that appends its lines; the
 //! definition of the whole text, `specs/Report.antt`, and `report.rt` name the sections in the same order.
 #![tactic(auto)]
 
@@ -9,6 +9,7 @@ mod column;
 mod current;
 mod future;
 mod head;
+mod laws;
 mod line;
 mod names;
 mod place;
@@ -16,4 +17,5 @@ mod report;
 mod section;
 mod title;
 
+pub use laws::renamed_text;
 pub use report::print;

@@ -1,0 +1,154 @@
+-- The report of a version with its places renamed is the report.
+use Rattle.std.proofs.Common.{◌≡◌, ℕ, suc, Bool, true, false, cond, List, [], ◌∷◌, ◌++◌, map, filter, length, Option, Some, None, is_some, option_map, option_and_then, option_to_list, unwrap_or, refl, ap, ap₂, subst, ◌∙◌}
+use Rattle.std.specs.Prelude.{decimal, nat_le}
+use Rattle.std.specs.List.{flat_map}
+use Rattle.gw_meaning.specs.declared.statement.Block.{Block}
+use Rattle.gw_meaning.specs.declared.statement.Statement.{Statement}
+use Rattle.gw_meaning.specs.declared.statement.Numbered.{Numbered}
+use Rattle.gw_meaning.specs.declared.transaction.Transaction.{Transaction}
+use Rattle.gw_meaning.specs.declared.transaction.Event.{Event}
+use Rattle.gw_meaning.specs.declared.transaction.Count.{Count}
+use Rattle.gw_meaning.specs.Listing.{Listing, block_of, block_of_body, is_block, position_at, after_at, seed_in}
+use Rattle.gw_meaning.specs.Machine.{Machine, count_at}
+use Rattle.gw_frame.specs.Moved.{moved_machine, moved_transaction, moved_event, moved_count}
+use Rattle.gw_frame.specs.Renamed.{AreRenamed, IsRenamed}
+use Rattle.gw_frame.proofs.MovedLists.{count_at_moved, cond_under}
+use Rattle.gw_frame.proofs.Renaming.{after_renamed, position_renamed}
+use Rattle.gw_report.specs.Layout.{section_of, table_of}
+use Rattle.gw_report.specs.Cells.{signed}
+use Rattle.gw_report.specs.Chains.{place_of, next_number, line_of, put_by, ordered_by, by_time, current_line, future_line, current_columns, future_columns, current_text, future_text}
+use Rattle.gw_report.specs.Blocks.{label_text, name_lines_of, name_lines, block_line, block_lines_of, block_lines, name_columns, block_columns, names_text, blocks_text}
+use Rattle.gw_report.specs.Report.{seed_of, title_text, head_columns, head_text, text_of}
+use Rattle.gw_report.specs.Renamed.{RenamedText}
+
+module _ (move : ℕ → ℕ) (t u : Listing) (r : IsRenamed move t u) where
+  -- the positions of places, and those of the places that may be none
+  place_renamed : (p : ℕ) → place_of u (Some (move p)) ≡ place_of t (Some p)
+  unfolding place_of
+  place_renamed p = ap (λ o. unwrap_or o 0) (position_renamed move r.is_move 0 t.lines u.lines r.lines p)
+
+  maybe_renamed : (o : Option ℕ) → place_of u (option_map move o) ≡ place_of t o
+  unfolding place_of
+  maybe_renamed None = refl
+  maybe_renamed (Some p) = ap (λ o. unwrap_or o 0) (position_renamed move r.is_move 0 t.lines u.lines r.lines p)
+
+  next_renamed : (x : Transaction) (o : Option ℕ) → next_number u (moved_transaction move x) (option_map move o) ≡ option_map move (next_number t x o)
+  next_renamed x None = after_renamed move r.is_move t.lines u.lines r.lines x.current
+  next_renamed x (Some p) = refl
+
+  -- the lines of transactions
+  line_renamed : (moment : ℕ) (x : Transaction) → line_of u moment (moved_transaction move x) ≡ line_of t moment x
+  unfolding line_of
+  line_renamed moment x =
+      let here = place_renamed x.current in
+      let there : place_of u (next_number u (moved_transaction move x) (option_map move x.destination)) ≡ place_of t (next_number t x x.destination) =
+      ap (place_of u) (next_renamed x x.destination) ∙ maybe_renamed (next_number t x x.destination) in
+      ap₂ (λ a b. decimal x.number ∷ signed x.priority ∷ decimal moment ∷ decimal a ∷ decimal b ∷ []) here there
+
+  lines_renamed : (xs : List Transaction) → map (current_line u) (map (moved_transaction move) xs) ≡ map (current_line t) xs
+  lines_renamed [] = refl
+  lines_renamed (x ∷ xs) = ap₂ (λ line lines. line ∷ lines) (line_renamed x.mark x) (lines_renamed xs)
+
+  events_renamed : (es : List Event) → map (future_line u) (map (moved_event move) es) ≡ map (future_line t) es
+  events_renamed [] = refl
+  events_renamed (e ∷ es) = ap₂ (λ line lines. line ∷ lines) (line_renamed e.time e.transaction) (events_renamed es)
+
+  waiting_renamed : (o : Option Transaction) (xs : List Transaction) → map (current_line u) (option_to_list (option_map (moved_transaction move) o) ++ map (moved_transaction move) xs) ≡ map (current_line t) (option_to_list o ++ xs)
+  waiting_renamed None xs = lines_renamed xs
+  waiting_renamed (Some x) xs = lines_renamed (x ∷ xs)
+
+  put_renamed : (e : Event) (es : List Event) → put_by (λ (x : Event). x.time) (moved_event move e) (map (moved_event move) es) ≡ map (moved_event move) (put_by (λ (x : Event). x.time) e es)
+  put_renamed e [] = refl
+  put_renamed e (f ∷ es) = cond_under (map (moved_event move)) (nat_le e.time f.time) _ _ _ _ refl (ap (λ fs. moved_event move f ∷ fs) (put_renamed e es))
+
+  order_renamed : (es : List Event) → by_time (map (moved_event move) es) ≡ map (moved_event move) (by_time es)
+  order_renamed [] = refl
+  order_renamed (e ∷ es) = ap (put_by (λ (x : Event). x.time) (moved_event move e)) (order_renamed es) ∙ put_renamed e (by_time es)
+
+  current_renamed : (s : Machine) → current_text u (moved_machine move s) ≡ current_text t s
+  unfolding current_text
+  current_renamed s = ap (section_of current_columns) (waiting_renamed s.active s.current)
+
+  future_renamed : (s : Machine) → future_text u (moved_machine move s) ≡ future_text t s
+  unfolding future_text
+  future_renamed s = ap (section_of future_columns) (ap (map (future_line u)) (order_renamed s.future) ∙ events_renamed (by_time s.future))
+
+  -- the lines of blocks
+  name_by : (n : ℕ) (o : Option Block) (label : Option (List ℕ)) → name_lines_of u (move n) o label ≡ name_lines_of t n o label
+  name_by n None label = refl
+  name_by n (Some block) None = refl
+  name_by n (Some block) (Some label) = ap (λ p. (label ∷ decimal p ∷ []) ∷ []) (place_renamed n)
+
+  name_renamed : (l m : Numbered) → m.number ≡ move l.number → m.statement ≡ l.statement → name_lines u m ≡ name_lines t l
+  name_renamed l m number statement =
+      ap₂ (λ n (s : Statement). name_lines_of u n (block_of_body s.body) s.label) number statement ∙ name_by l.number (block_of l) l.statement.label
+
+  pub names_renamed : (ls ms : List Numbered) → AreRenamed move ls ms → flat_map (name_lines u) ms ≡ flat_map (name_lines t) ls
+  names_renamed [] [] h = refl
+  names_renamed [] (m ∷ ms) h = absurd h
+  names_renamed (l ∷ ls) [] h = absurd h
+  names_renamed (l ∷ ls) (m ∷ ms) h = ap₂ ◌++◌ (name_renamed l m h.0 h.1) (names_renamed ls ms h.2)
+
+  row_renamed : (s : Machine) (l m : Numbered) (block : Block) → m.number ≡ move l.number → m.statement ≡ l.statement → block_line u m block (count_at (map (moved_count move) s.counts) m.number) ≡ block_line t l block (count_at s.counts l.number)
+  unfolding block_line
+  row_renamed s l m block number statement =
+      let label : label_text m.statement.label ≡ label_text l.statement.label = ap (λ (x : Statement). label_text x.label) statement in
+      let position : place_of u (Some m.number) ≡ place_of t (Some l.number) = ap (λ n. place_of u (Some n)) number ∙ place_renamed l.number in
+      let count : count_at (map (moved_count move) s.counts) m.number ≡ count_at s.counts l.number =
+      ap (count_at (map (moved_count move) s.counts)) number ∙ count_at_moved move r.is_move s.counts l.number in
+      rw (label, position, count) refl
+
+  block_by : (s : Machine) (l m : Numbered) (o : Option Block) → m.number ≡ move l.number → m.statement ≡ l.statement → block_lines_of u (moved_machine move s) m o ≡ block_lines_of t s l o
+  block_by s l m None number statement = refl
+  block_by s l m (Some block) number statement = ap (λ row. row ∷ []) (row_renamed s l m block number statement)
+
+  block_renamed : (s : Machine) (l m : Numbered) → m.number ≡ move l.number → m.statement ≡ l.statement → block_lines u (moved_machine move s) m ≡ block_lines t s l
+  block_renamed s l m number statement =
+      ap (λ (x : Statement). block_lines_of u (moved_machine move s) m (block_of_body x.body)) statement ∙ block_by s l m (block_of l) number statement
+
+  pub blocks_renamed : (s : Machine) (ls ms : List Numbered) → AreRenamed move ls ms → flat_map (block_lines u (moved_machine move s)) ms ≡ flat_map (block_lines t s) ls
+  blocks_renamed s [] [] h = refl
+  blocks_renamed s [] (m ∷ ms) h = absurd h
+  blocks_renamed s (l ∷ ls) [] h = absurd h
+  blocks_renamed s (l ∷ ls) (m ∷ ms) h = ap₂ ◌++◌ (block_renamed s l m h.0 h.1) (blocks_renamed s ls ms h.2)
+
+-- as many blocks
+kind : (l m : Numbered) → m.statement ≡ l.statement → is_block m ≡ is_block l
+kind l m statement = ap (λ (x : Statement). is_some (block_of_body x.body)) statement
+
+blocks_counted : (move : ℕ → ℕ) (ls ms : List Numbered) → AreRenamed move ls ms → length (filter is_block ms) ≡ length (filter is_block ls)
+blocks_counted move [] [] h = refl
+blocks_counted move [] (m ∷ ms) h = absurd h
+blocks_counted move (l ∷ ls) [] h = absurd h
+blocks_counted move (l ∷ ls) (m ∷ ms) h =
+    rw (kind l m h.1)
+    (elim (is_block l) as (λ b. length (cond b (m ∷ filter is_block ms) (filter is_block ms)) ≡ length (cond b (l ∷ filter is_block ls) (filter is_block ls)))
+    [ true ↦ ap suc (blocks_counted move ls ms h.2) | false ↦ blocks_counted move ls ms h.2 ])
+
+head_renamed : (move : ℕ → ℕ) (t u : Listing) (s : Machine) → IsRenamed move t u → head_text u (moved_machine move s) ≡ head_text t s
+unfolding head_text
+head_renamed move t u s r =
+    ap (λ n. table_of head_columns ((decimal s.since ∷ decimal s.clock ∷ decimal n ∷ decimal 0 ∷ decimal 0 ∷ []) ∷ [])) (blocks_counted move t.lines u.lines r.lines)
+
+seed_renamed : (move : ℕ → ℕ) (t u : Listing) (rep : ℕ) → IsRenamed move t u → seed_of u rep ≡ seed_of t rep
+unfolding seed_of
+seed_renamed move t u rep r = ap (λ rs. unwrap_or (seed_in rs rep) 0) r.replications
+
+names_text_renamed : (move : ℕ → ℕ) (t u : Listing) → IsRenamed move t u → names_text u ≡ names_text t
+unfolding names_text
+names_text_renamed move t u r = ap (section_of name_columns) (names_renamed move t u r t.lines u.lines r.lines)
+
+blocks_text_renamed : (move : ℕ → ℕ) (t u : Listing) (s : Machine) → IsRenamed move t u → blocks_text u (moved_machine move s) ≡ blocks_text t s
+unfolding blocks_text
+blocks_text_renamed move t u s r = ap (table_of block_columns) (blocks_renamed move t u r s t.lines u.lines r.lines)
+
+pub renamed_text : RenamedText
+unfolding text_of
+renamed_text move t u rep k s outcome r =
+    ap₂ ◌++◌
+    (ap₂ ◌++◌
+    (ap₂ ◌++◌
+    (ap₂ ◌++◌ (ap₂ ◌++◌ (ap (λ seed. title_text rep seed k outcome) (seed_renamed move t u rep r)) (head_renamed move t u s r)) (names_text_renamed move t u r))
+    (blocks_text_renamed move t u s r))
+    (current_renamed move t u r s))
+    (future_renamed move t u r s)
