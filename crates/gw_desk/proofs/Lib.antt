@@ -8,3 +8,4 @@ pub mod RebaseLaws
 pub mod EditLaws
 pub mod PlayLaws
 pub mod HeadlineLaws
+pub mod AnewLaws

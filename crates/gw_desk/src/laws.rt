@@ -1,4 +1,5 @@
 // Laws above the definitions that the contracts of the calls cite.
+ghost use Rattle.gw_desk.specs.Anew.{SameAnswers, AnsweredAnew};
 ghost use Rattle.gw_desk.specs.Headline.{ReportsAreRight};
 ghost use Rattle.gw_desk.specs.Points.{FindsPoints};
 
@@ -12,4 +13,12 @@ pub fn points_are_found()
 /// byte, the report of a run from zero of the version of the edits accepted so far; a refused edit changes nothing.
 pub fn reports_are_right()
     ensures { ReportsAreRight }
+{}
+
+/// The numbers of statements do not matter: two versions with the same statements in order, whatever their numbers, are
+/// answered alike for every replication and START. So an edited version is answered as the version made anew from the
+/// statements that `list` shows.
+pub fn numbers_do_not_matter()
+    ensures alike { SameAnswers }
+    ensures anew { AnsweredAnew }
 {}

@@ -1,0 +1,100 @@
+-- A version with its places renamed is answered alike, and so is the version made anew.
+use Rattle.std.proofs.Common.{◌≡◌, ℕ, zero, suc, ◌+◌, ◌<◌, ◌||◌, nat_eq, nat_lt, Bool, true, false, cond, List, [], ◌∷◌, length, filter, Option, Some, None, Result, Ok, Err, refl, ap, sym, subst, ◌∙◌, arith}
+use Rattle.std.proofs.lemmas.Bool.{ne_eqb}
+use Rattle.gw_meaning.specs.declared.item.End.{End}
+use Rattle.gw_meaning.specs.declared.item.Outcome.{Outcome}
+use Rattle.gw_meaning.specs.declared.statement.Statement.{Statement}
+use Rattle.gw_meaning.specs.declared.statement.Numbered.{Numbered}
+use Rattle.gw_meaning.specs.Listing.{Listing, line_in, is_start, starts, seed_at, seed_in}
+use Rattle.gw_meaning.specs.Numbers.{AreNumbered}
+use Rattle.gw_meaning.specs.Machine.{Machine, zero_state}
+use Rattle.gw_meaning.specs.Step.{step}
+use Rattle.gw_meaning.specs.Point.{outcome_of}
+use Rattle.gw_model.specs.Listed.{numbered}
+use Rattle.gw_frame.specs.Moved.{moved_machine, moved_result}
+use Rattle.gw_frame.specs.Renamed.{statements_of, IsSameModel, IsRenamed}
+use Rattle.gw_frame.proofs.Renaming.{commands_renamed}
+use Rattle.gw_frame.proofs.RenamedRuns.{renamed_step}
+use Rattle.gw_frame.proofs.Renumbering.{has_renaming}
+use Rattle.gw_report.proofs.Renaming.{renamed_text}
+use Rattle.gw_desk.specs.declared.answer.Answer.TheVariants as answers
+use Rattle.gw_desk.specs.Finding.{Verdict, Point, NoStart, TooLong, with_outcome, at_end, behind, search, verdict}
+use Rattle.gw_desk.specs.Replies.{told, told_of, answer_with, answer_of}
+use Rattle.gw_desk.specs.Anew.{anew, SameAnswers, AnsweredAnew}
+
+-- a verdict with its state renamed
+abbrev moved_verdict : (ℕ → ℕ) → Verdict → Verdict
+moved_verdict move (Point s o) = Point (moved_machine move s) o
+moved_verdict move NoStart = NoStart
+moved_verdict move TooLong = TooLong
+
+module _ (move : ℕ → ℕ) where
+  outcome_renamed : (s : Machine) (o : Option Outcome) → with_outcome (moved_machine move s) o ≡ moved_verdict move (with_outcome s o)
+  outcome_renamed s None = refl
+  outcome_renamed s (Some o) = refl
+
+  end_by : (b : Bool) (s : Machine) (o : Option Outcome) → cond b (with_outcome (moved_machine move s) o) NoStart ≡ moved_verdict move (cond b (with_outcome s o) NoStart)
+  end_by true s o = outcome_renamed s o
+  end_by false s o = refl
+
+  behind_renamed : (k : ℕ) (s : Machine) (on on' : Machine → Verdict) → ((x : Machine) → on' (moved_machine move x) ≡ moved_verdict move (on x)) → (r : Result Machine End) →
+      behind k (moved_machine move s) on' (moved_result move r) ≡ moved_verdict move (behind k s on r)
+  behind_renamed k s on on' each (Ok x) = each x
+  behind_renamed k s on on' each (Err end) = end_by (nat_eq (s.complete + 1) k) s (outcome_of end)
+
+  chosen : (b : Bool) (s : Machine) (o : Outcome) (v w : Verdict) → w ≡ moved_verdict move v → cond b (Point (moved_machine move s) o) w ≡ moved_verdict move (cond b (Point s o) v)
+  chosen true s o v w e = refl
+  chosen false s o v w e = e
+
+module _ (move : ℕ → ℕ) (t u : Listing) (seed k : ℕ) (r : IsRenamed move t u) where
+  search_renamed : (n : ℕ) (s : Machine) → search u seed k n (moved_machine move s) ≡ moved_verdict move (search t seed k n s)
+  search_renamed zero s =
+      chosen move (nat_eq s.complete k) s _ _ _ (ap (behind k (moved_machine move s) (λ x. TooLong)) (renamed_step move t u seed s r) ∙ behind_renamed move k s (λ x. TooLong) (λ x. TooLong) (λ x. refl) (step t seed s))
+  search_renamed (suc n) s =
+      chosen move (nat_eq s.complete k) s _ _ _
+      (ap (behind k (moved_machine move s) (search u seed k n)) (renamed_step move t u seed s r) ∙ behind_renamed move k s (search t seed k n) (search u seed k n) (search_renamed n) (step t seed s))
+
+  verdict_renamed : verdict u seed k ≡ moved_verdict move (verdict t seed k)
+  verdict_renamed = ap (λ n. search u seed k n zero_state) r.limit ∙ search_renamed t.limit zero_state
+
+module _ (move : ℕ → ℕ) (t u : Listing) (r : IsRenamed move t u) where
+  told_renamed : (edits rep k : ℕ) (v : Verdict) → told u edits rep k (moved_verdict move v) ≡ told t edits rep k v
+  told_renamed edits rep k (Point s o) = ap (λ text. answers.Ready (record { edits = edits; replication = rep; start = k; text = text })) (renamed_text move t u rep k s o r)
+  told_renamed edits rep k NoStart = refl
+  told_renamed edits rep k TooLong = refl
+
+  starts_renamed : starts u ≡ starts t
+  starts_renamed = ap (λ cs. length (filter is_start cs)) (commands_renamed move t.lines u.lines r.lines)
+
+  seeded : (edits rep k : ℕ) (o : Option ℕ) → answer_with u edits rep k o ≡ answer_with t edits rep k o
+  seeded edits rep k None = refl
+  seeded edits rep k (Some seed) =
+      let same = ap (told u edits rep k) (verdict_renamed move t u seed k r) ∙ told_renamed edits rep k (verdict t seed k) in
+      ap (λ n. cond (nat_eq k 0 || nat_lt n k) answers.NoStart (told u edits rep k (verdict u seed k))) starts_renamed ∙ ap (λ a. cond (nat_eq k 0 || nat_lt (starts t) k) answers.NoStart a) same
+
+  pub renamed_answers : (edits rep k : ℕ) → answer_of u edits rep k ≡ answer_of t edits rep k
+  renamed_answers edits rep k = ap (λ rs. answer_with u edits rep k (seed_in rs rep)) r.replications ∙ seeded edits rep k (seed_at t rep)
+
+pub same_answers : SameAnswers
+same_answers t u same first second edits rep k =
+    let found = has_renaming t u same first second in renamed_answers found.0 t u found.1 edits rep k
+
+-- statements that are numbered one after another are numbered, and stay what they are
+absent : (first : ℕ) (statements : List Statement) (n : ℕ) → n < first → line_in (numbered first statements) n ≡ None
+absent first [] n less = refl
+absent first (s ∷ ss) n less =
+    subst (λ b. cond b (Some (record { number = first; statement = s })) (line_in (numbered (first + 1) ss) n) ≡ None) (sym (ne_eqb first n (λ e. absurd (omega arith)))) (absent (first + 1) ss n (omega arith))
+
+are_numbered : (first : ℕ) (statements : List Statement) → 0 < first → AreNumbered (numbered first statements)
+are_numbered first [] some = tt
+are_numbered first (s ∷ ss) some = (omega arith, absent (first + 1) ss first (omega arith), are_numbered (first + 1) ss (omega arith))
+
+same_statements : (first : ℕ) (statements : List Statement) → statements_of (numbered first statements) ≡ statements
+same_statements first [] = refl
+same_statements first (s ∷ ss) = ap (λ rest. s ∷ rest) (same_statements (first + 1) ss)
+
+pub answered_anew : AnsweredAnew
+answered_anew t are =
+    let statements = statements_of t.lines in
+    let same : IsSameModel t (anew t) = record { statements = same_statements 1 statements; horizon = refl; replications = refl; limit = refl } in
+    same_answers t (anew t) same are (are_numbered 1 statements (omega arith))
