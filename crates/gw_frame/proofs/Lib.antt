@@ -5,7 +5,9 @@ pub mod MovedLists
 pub mod MovedChanges
 pub mod MovedSteps
 pub mod MovedRuns
-pub mod PositionLaws
+pub mod Places
+pub mod PlacedSteps
+pub mod PlacedStates
 pub mod Renaming
 pub mod Renumbering
 pub mod RenamedRuns

@@ -1,20 +1,44 @@
--- How the positions of blocks move where one goes in or out. (Our own.)
-use Rattle.std.specs.Prelude.{ℕ, ◌+◌, ◌-◌, ◌<◌, ◌≤◌, ◌==◌, if◌then◌else◌, nat_lt, nat_le}
-use Rattle.gw_frame.specs.Moved.{IsMove}
+-- The frame law in positions. A state names a block by the number of its statement, which edits leave alone; a version tells
+-- its position. Where statements go out of a version and others come in between those that stay, the positions behind them
+-- move, and nothing else of a run does that answers alike. (Manual: positions. Our own: numbers.)
+use Rattle.std.specs.Prelude.{ℕ, ◌≡◌, ◌+◌, ◌-◌, ◌<◌, ◌≤◌, List, ◌++◌, length, map, filter, Ok, if◌then◌else◌, nat_le, unwrap_or}
+use Rattle.gw_meaning.specs.declared.statement.Numbered.{Numbered}
+use Rattle.gw_meaning.specs.Listing.{Listing, is_block, position_at}
+use Rattle.gw_meaning.specs.Numbers.{AreNumbered}
+use Rattle.gw_meaning.specs.Machine.{Machine}
+use Rattle.gw_meaning.specs.Step.{run}
+use Rattle.gw_meaning.specs.Reads.{reads}
+use Rattle.gw_frame.specs.Alike.{AnswersAlike}
+use Rattle.gw_frame.specs.Moved.{moved_item, moved_machine}
 
--- a block goes in at a position: those from there on are one further; 0, which is no block, stays
-abbrev pub insert_move : ℕ → ℕ → ℕ
-insert_move at place = if place == 0 then 0 else (if nat_le at place then place + 1 else place)
+-- the position of a place, from 1; 0 for what is no block of the version
+abbrev pub position_of : Listing → ℕ → ℕ
+position_of t place = unwrap_or (position_at t place) 0
 
--- the block at a position goes out, of so many: those behind it are one nearer, and it takes the last position, which no
--- block has any more, so that no two become one
-abbrev pub delete_move : ℕ → ℕ → ℕ → ℕ
-delete_move at last place =
-    if nat_lt place at then place else (if place == at then last else (if nat_le place last then place - 1 else place))
+-- at most one statement goes out, and at most one comes in, between a front and a back that stay
+pub record IsSplice (t u : Listing) (front goes comes back : List Numbered) : Type 0 where
+  pub old : t.lines ≡ front ++ (goes ++ back)
+  pub new : u.lines ≡ front ++ (comes ++ back)
+  pub one_goes : length goes ≤ 1
+  pub one_comes : length comes ≤ 1
 
--- both number places anew
-abbrev pub InsertionMoves : Type 0
-InsertionMoves = (at : ℕ) → IsMove (insert_move at)
+abbrev pub count_blocks : List Numbered → ℕ
+count_blocks lines = length (filter is_block lines)
 
-abbrev pub DeletionMoves : Type 0
-DeletionMoves = (at last : ℕ) → 0 < at → at ≤ last → IsMove (delete_move at last)
+-- positions behind the front move on by the blocks that come in, and back by those that go
+abbrev pub shifted : List Numbered → List Numbered → List Numbered → ℕ → ℕ
+shifted front goes comes position =
+    if nat_le position (count_blocks front) then position else (position - count_blocks goes) + count_blocks comes
+
+-- where the second version answers alike all that the steps below n read, the run of n steps is the same state; told in
+-- positions it is the old one with its positions moved, and its steps read the old items moved
+abbrev pub FrameInPositions : Type 0
+FrameInPositions =
+    (t : Listing) (seed : ℕ) (u : Listing) (new_seed n : ℕ) (s : Machine) (front goes comes back : List Numbered) →
+    IsSplice t u front goes comes back → AreNumbered t.lines → AreNumbered u.lines → run t seed n ≡ Ok s →
+    ((j : ℕ) → j < n → AnswersAlike t seed u new_seed (reads t seed j)) →
+    (run u new_seed n ≡ Ok s)
+    × (moved_machine (position_of u) s ≡ moved_machine (shifted front goes comes) (moved_machine (position_of t) s))
+    × ((j : ℕ) → j < n →
+      map (moved_item (position_of u)) (reads u new_seed j)
+      ≡ map (moved_item (shifted front goes comes)) (map (moved_item (position_of t)) (reads t seed j)))

@@ -1,0 +1,122 @@
+-- A state of a run names no place but the blocks of its version, and its steps read no other.
+use Rattle.std.proofs.Common.{◌≡◌, ℕ, zero, suc, nat_eq, nat_le, Bool, true, false, cond, not, List, [], ◌∷◌, ◌++◌, filter, Option, Some, None, option_and_then, Result, Ok, Err, ◌⊎◌, inl, inr, ℤ, pos, refl, ap, sym, subst, ◌∙◌}
+use Rattle.std.specs.List.{AllByRecursion, list_any}
+use Rattle.std.proofs.lemmas.Bool.{eq-eqb, eqb-true}
+use Rattle.gw_nums.specs.Range.{is_negative, magnitude}
+use Rattle.gw_expr.specs.Term.{Term, Constant}
+use Rattle.gw_expr.specs.declared.stop.Stop.{Stop}
+use Rattle.gw_expr.specs.declared.stop.Stop.TheVariants.{NegativeTime, TooManyTransactions, BadCount}
+use Rattle.gw_meaning.specs.declared.item.Item.{Item}
+use Rattle.gw_meaning.specs.declared.item.Item.TheVariants as items
+use Rattle.gw_meaning.specs.declared.item.End.{End}
+use Rattle.gw_meaning.specs.declared.item.End.TheVariants as ends
+use Rattle.gw_meaning.specs.declared.statement.Body.{Body}
+use Rattle.gw_meaning.specs.declared.statement.Body.TheVariants as bodies
+use Rattle.gw_meaning.specs.declared.statement.Block.{Block}
+use Rattle.gw_meaning.specs.declared.statement.Block.TheVariants as blocks
+use Rattle.gw_meaning.specs.declared.statement.Numbered.{Numbered}
+use Rattle.gw_meaning.specs.declared.statement.Command.{Command}
+use Rattle.gw_meaning.specs.declared.statement.Command.TheVariants as commands
+use Rattle.gw_meaning.specs.declared.transaction.Transaction.{Transaction}
+use Rattle.gw_meaning.specs.declared.transaction.Event.{Event}
+use Rattle.gw_meaning.specs.declared.transaction.Count.{Count}
+use Rattle.gw_meaning.specs.declared.moves.Arrival.{Arrival}
+use Rattle.gw_meaning.specs.declared.moves.Move.{Move}
+use Rattle.gw_meaning.specs.declared.moves.Move.TheVariants as moves
+use Rattle.gw_meaning.specs.Listing.{Listing, block_at, block_of, block_of_body, is_generate_body, is_generate, line_in, generates_in}
+use Rattle.gw_meaning.specs.Numbers.{AreNumbered}
+use Rattle.gw_meaning.specs.Machine.{Machine, raised, live, count_at, count_in, with_count}
+use Rattle.gw_meaning.specs.Changes.{lined_up, all_lined_up, left_at, left, entered, passed_through, made_one, is_due, due, Making, made, maybe_made, all_made, making_of, moved, picked}
+use Rattle.gw_meaning.specs.Questions.{Answer, ask, Prog, Gives, Ends, Asks, result_of, items_of, ◌>>=◌}
+use Rattle.gw_meaning.specs.Step.{value_prog, value_or_zero, stops_if, arrival_at, arrival_in_time, arrival_within, arrival_prog, first_time, first_arrival, with_arrival, arrivals_prog, start_prog, command_prog, generate_prog, delay_of, advance_prog, terminate_prog, enter_prog, try_prog, attempt_prog, least_time, within_prog, clock_prog, pick_prog, scan_prog, move_prog, decide, step_prog, step, run, run_prog}
+use Rattle.gw_meaning.proofs.Programs.{bind_gives, bind_ends}
+
+-- no block yet, or a block of the version
+abbrev pub IsPlace : Listing → ℕ → Type 0
+IsPlace t place = (place ≡ 0) ⊎ ((block : Block) × (block_at t place ≡ Some block))
+
+-- what names no other place
+abbrev pub IsPlaceIfAny : Listing → Option ℕ → Type 0
+IsPlaceIfAny t None = Unit {0}
+IsPlaceIfAny t (Some place) = IsPlace t place
+
+pub record TransactionNames (t : Listing) (x : Transaction) : Type 0 where
+  pub current : IsPlace t x.current
+  pub destination : IsPlaceIfAny t x.destination
+
+abbrev pub ActiveNames : Listing → Option Transaction → Type 0
+ActiveNames t None = Unit {0}
+ActiveNames t (Some x) = TransactionNames t x
+
+abbrev pub EventNames : Listing → Event → Type 0
+EventNames t e = TransactionNames t e.transaction
+
+abbrev pub CountNames : Listing → ℕ × Count → Type 0
+CountNames t c = IsPlace t c.0
+
+pub record StateNames (t : Listing) (s : Machine) : Type 0 where
+  pub active : ActiveNames t s.active
+  pub current : AllByRecursion (TransactionNames t) s.current
+  pub future : AllByRecursion (EventNames t) s.future
+  pub counts : AllByRecursion (CountNames t) s.counts
+
+abbrev pub ItemNames : Listing → Item → Type 0
+ItemNames t (items.Block place) = IsPlace t place
+ItemNames t (items.After place) = IsPlace t place
+ItemNames t items.Generates = Unit {0}
+ItemNames t (items.Cmd i) = Unit {0}
+ItemNames t items.Seed = Unit {0}
+ItemNames t (items.Within time) = Unit {0}
+
+abbrev pub ArrivalNames : Listing → Arrival → Type 0
+ArrivalNames t a = IsPlace t a.place
+
+abbrev pub ArrivalNamesIfAny : Listing → Option Arrival → Type 0
+ArrivalNamesIfAny t None = Unit {0}
+ArrivalNamesIfAny t (Some a) = ArrivalNames t a
+
+abbrev pub MoveNames : Listing → Move → Type 0
+MoveNames t (moves.Start count arrivals) = AllByRecursion (ArrivalNames t) arrivals
+MoveNames t (moves.Generate place next) = IsPlace t place × ArrivalNamesIfAny t next
+MoveNames t (moves.Pass place) = IsPlace t place
+MoveNames t (moves.Delay place until) = IsPlace t place
+MoveNames t (moves.Terminate place count) = IsPlace t place
+MoveNames t moves.Pick = Unit {0}
+MoveNames t (moves.Clock time) = Unit {0}
+
+-- a program that gives what has a property, and reads named items alone
+pub record Keeps {A : Type 0} (t : Listing) (seed : ℕ) (Q : A → Type 0) (p : Prog A) : Type 0 where
+  pub runs : (a : A) → result_of t seed p ≡ Ok a → Q a × AllByRecursion (ItemNames t) (items_of t seed p)
+
+pub all_with : {X : Type 0} (P : X → Type 0) (xs ys : List X) → AllByRecursion P xs → AllByRecursion P ys → AllByRecursion P (xs ++ ys)
+all_with P [] ys h k = k
+all_with P (x ∷ xs) ys h k = (h.0, all_with P xs ys h.1 k)
+
+module _ (t : Listing) (seed : ℕ) where
+  pub keeps_gives : {A : Type 0} (Q : A → Type 0) (a : A) → Q a → Keeps t seed Q (Gives a)
+  keeps_gives Q a h = record { runs = λ b is. (let same : a ≡ b = cc in subst Q same h, tt) }
+
+  pub keeps_ends : {A : Type 0} (Q : A → Type 0) (end : End) → Keeps t seed Q (Ends end)
+  keeps_ends Q end = record { runs = λ b is. absurd cc }
+
+  pub keeps_asks : {A : Type 0} (Q : A → Type 0) (i : Item) (k : Answer i → Prog A) → ItemNames t i → Keeps t seed Q (k (ask t seed i)) → Keeps t seed Q (Asks i k)
+  keeps_asks Q i k named rest = record { runs = λ a is. (let h = rest.runs a is in (h.0, (named, h.1))) }
+
+  pub keeps_cond : {A : Type 0} (Q : A → Type 0) (b : Bool) (p q : Prog A) → Keeps t seed Q p → Keeps t seed Q q → Keeps t seed Q (cond b p q)
+  keeps_cond Q true p q h k = h
+  keeps_cond Q false p q h k = k
+
+  pub keeps_stops : {A : Type 0} (Q : A → Type 0) (b : Bool) (stop : Stop) (p : Prog A) → Keeps t seed Q p → Keeps t seed Q (stops_if b stop p)
+  keeps_stops Q true stop p h = keeps_ends Q _
+  keeps_stops Q false stop p h = h
+
+  pub keeps_bind : {A B : Type 0} (Q : A → Type 0) (R : B → Type 0) (p : Prog A) (k : A → Prog B) → Keeps t seed Q p → ((a : A) → Q a → Keeps t seed R (k a)) → Keeps t seed R (p >>= k)
+  keeps_bind {A} {B} Q R p k first second = record { runs = λ b is. go b is (result_of t seed p) refl } where
+    go : (b : B) → result_of t seed (p >>= k) ≡ Ok b → (r : Result A End) → result_of t seed p ≡ r → R b × AllByRecursion (ItemNames t) (items_of t seed (p >>= k))
+    go b is (Ok a) there =
+        let both = bind_gives t seed p k a there in
+        let one = first.runs a there in
+        let two = (second a one.0).runs b (sym both.0 ∙ is) in
+        let F : List Item → Type 0 = λ asked. AllByRecursion (ItemNames t) asked in
+        (two.0, subst F (sym both.1) (all_with (ItemNames t) (items_of t seed p) (items_of t seed (k a)) one.1 two.1))
+    go b is (Err end) there = absurd (let whole : Err end ≡ Ok b = sym (bind_ends t seed p k end there).0 ∙ is in cc)
