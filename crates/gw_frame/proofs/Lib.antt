@@ -8,6 +8,8 @@ pub mod MovedRuns
 pub mod Places
 pub mod PlacedSteps
 pub mod PlacedStates
+pub mod PositionLaws
+pub mod PositionFrame
 pub mod Renaming
 pub mod Renumbering
 pub mod RenamedRuns

@@ -32,7 +32,8 @@ use Rattle.gw_meaning.specs.Questions.{Answer, ask, Prog, Gives, Ends, Asks, res
 use Rattle.gw_meaning.specs.Step.{value_prog, value_or_zero, stops_if, arrival_at, arrival_in_time, arrival_within, arrival_prog, first_time, first_arrival, with_arrival, arrivals_prog, start_prog, command_prog, generate_prog, delay_of, advance_prog, terminate_prog, enter_prog, try_prog, attempt_prog, least_time, within_prog, clock_prog, pick_prog, scan_prog, move_prog, decide, step_prog, step, run, run_prog}
 use Rattle.gw_meaning.proofs.Programs.{bind_gives, bind_ends}
 
-use Rattle.gw_frame.proofs.Places.{IsPlace, IsPlaceIfAny, TransactionNames, ActiveNames, EventNames, CountNames, StateNames, ItemNames, ArrivalNames, ArrivalNamesIfAny, MoveNames, Keeps, all_with, keeps_gives, keeps_bind}
+use Rattle.gw_frame.specs.Places.{IsPlace, IsPlaceIfAny, TransactionNames, ActiveNames, EventNames, CountNames, StateNames, ItemNames, StatesNameBlocks, StepsReadBlocks}
+use Rattle.gw_frame.proofs.Places.{ArrivalNames, ArrivalNamesIfAny, MoveNames, Keeps, all_with, keeps_gives, keeps_ends, keeps_asks, keeps_cond, keeps_stops, keeps_bind}
 use Rattle.gw_frame.proofs.PlacedSteps.{move_keeps}
 use Rattle.gw_meaning.specs.Reads.{reads}
 use Rattle.gw_meaning.proofs.Programs.{run_on}
@@ -146,7 +147,7 @@ step_keeps : (t : Listing) (seed : ℕ) (s : Machine) → AreNumbered t.lines �
 step_keeps t seed s numbered h =
     keeps_bind t seed (MoveNames t) (StateNames t) (decide s) (λ m. Gives (moved s m)) (move_keeps t seed s s.remaining numbered h.active) (λ m named. keeps_gives t seed (StateNames t) (moved s m) (moved_names t s m h named))
 
-pub run_names : (t : Listing) (seed n : ℕ) (s : Machine) → AreNumbered t.lines → run t seed n ≡ Ok s → StateNames t s
+pub run_names : StatesNameBlocks
 run_names t seed zero s numbered is =
     let zero_names : StateNames t zero_state = record { active = tt; current = tt; future = tt; counts = tt } in
     let same : zero_state ≡ s = cc in subst (StateNames t) same zero_names
@@ -155,7 +156,7 @@ run_names t seed (suc n) v numbered is =
     let goes : step t seed before.0 ≡ Ok v = sym (run_on t seed n before.0 before.1) ∙ is in
     ((step_keeps t seed before.0 numbered (run_names t seed n before.0 numbered before.1)).runs v goes).0
 
-pub reads_names : (t : Listing) (seed n : ℕ) (s v : Machine) → AreNumbered t.lines → run t seed n ≡ Ok s → step t seed s ≡ Ok v → AllByRecursion (ItemNames t) (reads t seed n)
+pub reads_names : StepsReadBlocks
 reads_names t seed n s v numbered there goes =
     let named = ((step_keeps t seed s numbered (run_names t seed n s numbered there)).runs v goes).1 in
     let F : List Item → Type 0 = λ is. AllByRecursion (ItemNames t) is in

@@ -31,7 +31,8 @@ use Rattle.gw_meaning.specs.Questions.{Answer, ask, Prog, Gives, Ends, Asks, res
 use Rattle.gw_meaning.specs.Step.{value_prog, value_or_zero, stops_if, arrival_at, arrival_in_time, arrival_within, arrival_prog, first_time, first_arrival, with_arrival, arrivals_prog, start_prog, command_prog, generate_prog, delay_of, advance_prog, terminate_prog, enter_prog, try_prog, attempt_prog, least_time, within_prog, clock_prog, pick_prog, scan_prog, move_prog, decide, step_prog, step, run, run_prog}
 use Rattle.gw_meaning.proofs.Programs.{bind_gives, bind_ends}
 
-use Rattle.gw_frame.proofs.Places.{IsPlace, IsPlaceIfAny, TransactionNames, ActiveNames, ItemNames, ArrivalNames, ArrivalNamesIfAny, MoveNames, Keeps, all_with, keeps_gives, keeps_ends, keeps_asks, keeps_cond, keeps_stops, keeps_bind}
+use Rattle.gw_frame.specs.Places.{IsPlace, IsPlaceIfAny, TransactionNames, ActiveNames, EventNames, CountNames, StateNames, ItemNames, StatesNameBlocks, StepsReadBlocks}
+use Rattle.gw_frame.proofs.Places.{ArrivalNames, ArrivalNamesIfAny, MoveNames, Keeps, all_with, keeps_gives, keeps_ends, keeps_asks, keeps_cond, keeps_stops, keeps_bind}
 
 -- of a value nothing is wanted
 abbrev Whatever : {A : Type 0} → A → Type 0

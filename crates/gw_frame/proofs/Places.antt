@@ -30,43 +30,7 @@ use Rattle.gw_meaning.specs.Changes.{lined_up, all_lined_up, left_at, left, ente
 use Rattle.gw_meaning.specs.Questions.{Answer, ask, Prog, Gives, Ends, Asks, result_of, items_of, ◌>>=◌}
 use Rattle.gw_meaning.specs.Step.{value_prog, value_or_zero, stops_if, arrival_at, arrival_in_time, arrival_within, arrival_prog, first_time, first_arrival, with_arrival, arrivals_prog, start_prog, command_prog, generate_prog, delay_of, advance_prog, terminate_prog, enter_prog, try_prog, attempt_prog, least_time, within_prog, clock_prog, pick_prog, scan_prog, move_prog, decide, step_prog, step, run, run_prog}
 use Rattle.gw_meaning.proofs.Programs.{bind_gives, bind_ends}
-
--- no block yet, or a block of the version
-abbrev pub IsPlace : Listing → ℕ → Type 0
-IsPlace t place = (place ≡ 0) ⊎ ((block : Block) × (block_at t place ≡ Some block))
-
--- what names no other place
-abbrev pub IsPlaceIfAny : Listing → Option ℕ → Type 0
-IsPlaceIfAny t None = Unit {0}
-IsPlaceIfAny t (Some place) = IsPlace t place
-
-pub record TransactionNames (t : Listing) (x : Transaction) : Type 0 where
-  pub current : IsPlace t x.current
-  pub destination : IsPlaceIfAny t x.destination
-
-abbrev pub ActiveNames : Listing → Option Transaction → Type 0
-ActiveNames t None = Unit {0}
-ActiveNames t (Some x) = TransactionNames t x
-
-abbrev pub EventNames : Listing → Event → Type 0
-EventNames t e = TransactionNames t e.transaction
-
-abbrev pub CountNames : Listing → ℕ × Count → Type 0
-CountNames t c = IsPlace t c.0
-
-pub record StateNames (t : Listing) (s : Machine) : Type 0 where
-  pub active : ActiveNames t s.active
-  pub current : AllByRecursion (TransactionNames t) s.current
-  pub future : AllByRecursion (EventNames t) s.future
-  pub counts : AllByRecursion (CountNames t) s.counts
-
-abbrev pub ItemNames : Listing → Item → Type 0
-ItemNames t (items.Block place) = IsPlace t place
-ItemNames t (items.After place) = IsPlace t place
-ItemNames t items.Generates = Unit {0}
-ItemNames t (items.Cmd i) = Unit {0}
-ItemNames t items.Seed = Unit {0}
-ItemNames t (items.Within time) = Unit {0}
+use Rattle.gw_frame.specs.Places.{IsPlace, IsPlaceIfAny, TransactionNames, ActiveNames, EventNames, CountNames, StateNames, ItemNames, StatesNameBlocks, StepsReadBlocks}
 
 abbrev pub ArrivalNames : Listing → Arrival → Type 0
 ArrivalNames t a = IsPlace t a.place

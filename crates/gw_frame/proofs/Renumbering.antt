@@ -28,7 +28,7 @@ renaming ls ms zero = zero
 renaming ls ms (suc p) = renamed_by (greatest ms) (suc p) (number_for ls ms (suc p))
 
 -- where a test fails, what stands behind it decides
-behind : {X : Type 0} (b : Bool) (x : X) (o : Option X) → cond b (Some x) o ≡ None → (b ≡ false) × (o ≡ None)
+pub behind : {X : Type 0} (b : Bool) (x : X) (o : Option X) → cond b (Some x) o ≡ None → (b ≡ false) × (o ≡ None)
 behind true x o none = absurd cc
 behind false x o none = (refl, none)
 
@@ -113,7 +113,7 @@ renamed_by_places move (l ∷ ls) (m ∷ ms) same numbered leads =
       other false is = subst (λ c. cond c (Some m.number) (number_for ls ms p) ≡ Some n) (sym is) some
 
 -- 0 is no place
-no_place : (ls : List Numbered) → AreNumbered ls → line_in ls 0 ≡ None
+pub no_place : (ls : List Numbered) → AreNumbered ls → line_in ls 0 ≡ None
 no_place [] numbered = refl
 no_place (l ∷ ls) numbered =
     let least : 1 ≤ l.number = numbered.0 in

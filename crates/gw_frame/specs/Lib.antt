@@ -1,6 +1,7 @@
 pub mod Alike
 pub mod Reads
 pub mod Moved
+pub mod Places
 pub mod Positions
 pub mod Renamed
 pub use Rattle.gw_meaning.specs.Step

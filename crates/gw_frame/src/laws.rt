@@ -1,7 +1,8 @@
 // Laws above the definitions of the run.
 ghost use Rattle.gw_frame.specs.Alike.{UnseenEdit, UnseenStep};
 ghost use Rattle.gw_frame.specs.Moved.{StartStays, UnseenMove, UnseenMoveStep, UnseenMoveReads};
-ghost use Rattle.gw_frame.specs.Positions.{InsertionMoves, DeletionMoves};
+ghost use Rattle.gw_frame.specs.Places.{StatesNameBlocks, StepsReadBlocks};
+ghost use Rattle.gw_frame.specs.Positions.{FrameInPositions};
 ghost use Rattle.gw_frame.specs.Renamed.{HasRenaming, RenamedAnswers, RenamedStep, RenamedRun};
 ghost use Rattle.gw_frame.specs.Reads.{RunAsksItsReads, UnseenStepReads, UnseenReads};
 
@@ -30,10 +31,17 @@ pub fn unseen_move()
     ensures reads { UnseenMoveReads }
 {}
 
-/// Where a block goes in, or out, the positions of the others move, and no two become one.
-pub fn position_maps()
-    ensures insertion { InsertionMoves }
-    ensures deletion { DeletionMoves }
+/// A state of a run names no place but the blocks of its version, and its steps read no other.
+pub fn places_are_blocks()
+    ensures states { StatesNameBlocks }
+    ensures steps { StepsReadBlocks }
+{}
+
+/// The frame law in positions: where a statement goes out of a version, or comes in, and the other version answers alike all
+/// that the steps below n read, the run of n steps, told in positions, is the old one with its positions moved, and its steps
+/// read the old items moved.
+pub fn frame_in_positions()
+    ensures { FrameInPositions }
 {}
 
 /// The numbers of statements do not matter: where two versions have the same statements in order, each under a number of

@@ -6,4 +6,4 @@
 
 mod laws;
 
-pub use laws::{position_maps, renamed, unseen_edit, unseen_move, unseen_reads};
+pub use laws::{frame_in_positions, places_are_blocks, renamed, unseen_edit, unseen_move, unseen_reads};

@@ -1,0 +1,63 @@
+-- Which places a state and an item name: a state of a run names no place but the blocks of its version, and its steps read no
+-- other. (Our own.)
+use Rattle.std.specs.Prelude.{ℕ, ◌≡◌, ◌⊎◌, List, Option, Some, None, Ok}
+use Rattle.std.specs.List.{AllByRecursion}
+use Rattle.gw_meaning.specs.declared.item.Item.{Item}
+use Rattle.gw_meaning.specs.declared.item.Item.TheVariants as items
+use Rattle.gw_meaning.specs.declared.statement.Block.{Block}
+use Rattle.gw_meaning.specs.declared.transaction.Transaction.{Transaction}
+use Rattle.gw_meaning.specs.declared.transaction.Event.{Event}
+use Rattle.gw_meaning.specs.declared.transaction.Count.{Count}
+use Rattle.gw_meaning.specs.Listing.{Listing, block_at}
+use Rattle.gw_meaning.specs.Numbers.{AreNumbered}
+use Rattle.gw_meaning.specs.Machine.{Machine}
+use Rattle.gw_meaning.specs.Step.{step, run}
+use Rattle.gw_meaning.specs.Reads.{reads}
+
+-- no block yet, or a block of the version
+abbrev pub IsPlace : Listing → ℕ → Type 0
+IsPlace t place = (place ≡ 0) ⊎ ((block : Block) × (block_at t place ≡ Some block))
+
+-- what names no other place: a place that there may be, a transaction, an event and a count
+abbrev pub IsPlaceIfAny : Listing → Option ℕ → Type 0
+IsPlaceIfAny t None = Unit {0}
+IsPlaceIfAny t (Some place) = IsPlace t place
+
+pub record TransactionNames (t : Listing) (x : Transaction) : Type 0 where
+  pub current : IsPlace t x.current
+  pub destination : IsPlaceIfAny t x.destination
+
+abbrev pub ActiveNames : Listing → Option Transaction → Type 0
+ActiveNames t None = Unit {0}
+ActiveNames t (Some x) = TransactionNames t x
+
+abbrev pub EventNames : Listing → Event → Type 0
+EventNames t e = TransactionNames t e.transaction
+
+abbrev pub CountNames : Listing → ℕ × Count → Type 0
+CountNames t c = IsPlace t c.0
+
+-- a state
+pub record StateNames (t : Listing) (s : Machine) : Type 0 where
+  pub active : ActiveNames t s.active
+  pub current : AllByRecursion (TransactionNames t) s.current
+  pub future : AllByRecursion (EventNames t) s.future
+  pub counts : AllByRecursion (CountNames t) s.counts
+
+-- an item
+abbrev pub ItemNames : Listing → Item → Type 0
+ItemNames t (items.Block place) = IsPlace t place
+ItemNames t (items.After place) = IsPlace t place
+ItemNames t items.Generates = Unit {0}
+ItemNames t (items.Cmd i) = Unit {0}
+ItemNames t items.Seed = Unit {0}
+ItemNames t (items.Within time) = Unit {0}
+
+-- so it is of every state of every run, and of all that its steps read
+abbrev pub StatesNameBlocks : Type 0
+StatesNameBlocks = (t : Listing) (seed n : ℕ) (s : Machine) → AreNumbered t.lines → run t seed n ≡ Ok s → StateNames t s
+
+abbrev pub StepsReadBlocks : Type 0
+StepsReadBlocks =
+    (t : Listing) (seed n : ℕ) (s v : Machine) → AreNumbered t.lines → run t seed n ≡ Ok s → step t seed s ≡ Ok v →
+    AllByRecursion (ItemNames t) (reads t seed n)
