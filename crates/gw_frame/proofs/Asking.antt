@@ -2,28 +2,18 @@
 use Rattle.std.proofs.Common.{◌≡◌, ℕ, ◌∷◌, refl, ap, ap₂}
 use Rattle.std.specs.List.{AllByRecursion}
 use Rattle.std.proofs.lemmas.List.Elements.{recursion_from_All}
-use Rattle.gw_meaning.specs.declared.item.Item.{Item}
-use Rattle.gw_meaning.specs.declared.item.Item.TheVariants as items
 use Rattle.gw_meaning.specs.Listing.{Listing}
 use Rattle.gw_meaning.specs.Questions.{ask, Prog, Gives, Ends, Asks, result_of, items_of}
 use Rattle.gw_meaning.specs.Step.{step_prog, run_prog, items_if_moved}
 use Rattle.gw_frame.specs.Alike.{SameAnswer, AnswersAlike, UnseenEdit, UnseenStep}
 
--- what is answered alike is the same answer
-same_answer : (t : Listing) (seed : ℕ) (u : Listing) (new_seed : ℕ) (i : Item) → SameAnswer t seed u new_seed i → ask u new_seed i ≡ ask t seed i
-same_answer t seed u new_seed (items.Block place) h = h
-same_answer t seed u new_seed (items.After place) h = h
-same_answer t seed u new_seed items.Generates h = h
-same_answer t seed u new_seed (items.Cmd i) h = h
-same_answer t seed u new_seed items.Seed h = h
-same_answer t seed u new_seed (items.Within time) h = h
-
+-- each answer asked for is the same
 asks_alike : {A : Type 0} (t : Listing) (seed : ℕ) (u : Listing) (new_seed : ℕ) (p : Prog A) → AllByRecursion (SameAnswer t seed u new_seed) (items_of t seed p) → (result_of u new_seed p ≡ result_of t seed p) × (items_of u new_seed p ≡ items_of t seed p)
 asks_alike t seed u new_seed (Gives a) h = (refl, refl)
 asks_alike t seed u new_seed (Ends end) h = (refl, refl)
 asks_alike t seed u new_seed (Asks i k) h =
     let rest = asks_alike t seed u new_seed (k (ask t seed i)) h.1 in
-    rw (same_answer t seed u new_seed i h.0) (rest.0, ap (λ is. i ∷ is) rest.1)
+    rw h.0 (rest.0, ap (λ is. i ∷ is) rest.1)
 
 -- a program that is answered alike comes to the same and asks the same
 pub same_answers : {A : Type 0} (t : Listing) (seed : ℕ) (u : Listing) (new_seed : ℕ) (p : Prog A) → AnswersAlike t seed u new_seed (items_of t seed p) → (result_of u new_seed p ≡ result_of t seed p) × (items_of u new_seed p ≡ items_of t seed p)

@@ -4,7 +4,6 @@ pub mod Follows
 pub mod MovedLists
 pub mod MovedChanges
 pub mod MovedSteps
-pub mod MovedRuns
 pub mod Places
 pub mod PlacedSteps
 pub mod PlacedStates

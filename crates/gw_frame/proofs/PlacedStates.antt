@@ -1,41 +1,24 @@
 -- What a move makes of a state names only blocks of the version, where the state and the move do; and so does every state of
 -- a run, and every item that it reads.
-use Rattle.std.proofs.Common.{◌≡◌, ℕ, zero, suc, nat_eq, nat_le, Bool, true, false, cond, not, List, [], ◌∷◌, ◌++◌, filter, Option, Some, None, option_and_then, Result, Ok, Err, ◌⊎◌, inl, inr, ℤ, pos, refl, ap, sym, subst, ◌∙◌}
+use Rattle.std.proofs.Common.{◌≡◌, ℕ, zero, suc, nat_eq, Bool, true, false, cond, not, List, [], ◌∷◌, filter, Option, Some, None, Ok, inl, refl, sym, subst, ◌∙◌}
 use Rattle.std.specs.List.{AllByRecursion, list_any}
-use Rattle.std.proofs.lemmas.Bool.{eq-eqb, eqb-true}
-use Rattle.gw_nums.specs.Range.{is_below, is_negative, magnitude}
-use Rattle.gw_expr.specs.Term.{Term, Constant}
-use Rattle.gw_expr.specs.declared.stop.Stop.{Stop}
-use Rattle.gw_expr.specs.declared.stop.Stop.TheVariants.{NegativeTime, TooManyTransactions, BadCount}
+use Rattle.gw_nums.specs.Range.{is_below}
 use Rattle.gw_meaning.specs.declared.item.Item.{Item}
-use Rattle.gw_meaning.specs.declared.item.Item.TheVariants as items
-use Rattle.gw_meaning.specs.declared.item.End.{End}
-use Rattle.gw_meaning.specs.declared.item.End.TheVariants as ends
-use Rattle.gw_meaning.specs.declared.statement.Body.{Body}
-use Rattle.gw_meaning.specs.declared.statement.Body.TheVariants as bodies
-use Rattle.gw_meaning.specs.declared.statement.Block.{Block}
-use Rattle.gw_meaning.specs.declared.statement.Block.TheVariants as blocks
-use Rattle.gw_meaning.specs.declared.statement.Numbered.{Numbered}
-use Rattle.gw_meaning.specs.declared.statement.Command.{Command}
-use Rattle.gw_meaning.specs.declared.statement.Command.TheVariants as commands
 use Rattle.gw_meaning.specs.declared.transaction.Transaction.{Transaction}
 use Rattle.gw_meaning.specs.declared.transaction.Event.{Event}
 use Rattle.gw_meaning.specs.declared.transaction.Count.{Count}
 use Rattle.gw_meaning.specs.declared.moves.Arrival.{Arrival}
 use Rattle.gw_meaning.specs.declared.moves.Move.{Move}
 use Rattle.gw_meaning.specs.declared.moves.Move.TheVariants as moves
-use Rattle.gw_meaning.specs.Listing.{Listing, block_at, block_of, block_of_body, is_generate_body, is_generate, line_in, generates_in}
+use Rattle.gw_meaning.specs.Listing.{Listing}
 use Rattle.gw_meaning.specs.Numbers.{AreNumbered}
-use Rattle.gw_meaning.specs.Machine.{Machine, zero_state, raised, live, count_at, count_in, with_count}
-use Rattle.gw_meaning.specs.Changes.{lined_up, all_lined_up, left_at, left, entered, passed_through, made_one, is_due, due, Making, made, maybe_made, all_made, making, making_of, with_active, generated, moved_on, delayed, terminated, moved, picked}
-use Rattle.gw_meaning.specs.Questions.{Answer, ask, Prog, Gives, Ends, Asks, result_of, items_of, ◌>>=◌}
-use Rattle.gw_meaning.specs.Step.{value_prog, value_or_zero, stops_if, arrival_at, arrival_in_time, arrival_within, arrival_prog, first_time, first_arrival, with_arrival, arrivals_prog, start_prog, command_prog, generate_prog, delay_of, advance_prog, terminate_prog, enter_prog, try_prog, attempt_prog, least_time, within_prog, clock_prog, pick_prog, scan_prog, move_prog, decide, step_prog, step, run, run_prog}
-use Rattle.gw_meaning.proofs.Programs.{bind_gives, bind_ends}
-
+use Rattle.gw_meaning.specs.Machine.{Machine, zero_state, count_in, with_count}
+use Rattle.gw_meaning.specs.Changes.{lined_up, all_lined_up, left_at, left, entered, is_due, due, Making, made, maybe_made, all_made, making, making_of, with_active, generated, moved_on, delayed, terminated, moved, picked}
+use Rattle.gw_meaning.specs.Questions.{Gives}
+use Rattle.gw_meaning.specs.Step.{decide, step_prog, step}
 use Rattle.gw_frame.specs.Places.{IsPlace, IsPlaceIfAny, TransactionNames, ActiveNames, EventNames, CountNames, StateNames, ItemNames, StatesNameBlocks, StepsReadBlocks}
-use Rattle.gw_frame.proofs.Places.{ArrivalNames, ArrivalNamesIfAny, MoveNames, Keeps, all_with, keeps_gives, keeps_ends, keeps_asks, keeps_cond, keeps_stops, keeps_bind}
+use Rattle.gw_frame.proofs.Places.{ArrivalNames, ArrivalNamesIfAny, MoveNames, Keeps, all_with, keeps_gives, keeps_bind}
 use Rattle.gw_frame.proofs.PlacedSteps.{move_keeps}
-use Rattle.gw_meaning.specs.Reads.{reads}
 use Rattle.gw_meaning.proofs.Programs.{run_on}
 use Rattle.gw_frame.proofs.ReadLaws.{run_before, step_reads, reads_there}
 

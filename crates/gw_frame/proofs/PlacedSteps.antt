@@ -1,14 +1,11 @@
 -- The move that a step is names only blocks of the version, and so do the items that it reads: one line for each choice.
-use Rattle.std.proofs.Common.{◌≡◌, ℕ, zero, suc, nat_eq, nat_le, Bool, true, false, cond, not, List, [], ◌∷◌, ◌++◌, filter, Option, Some, None, option_and_then, Result, Ok, Err, ◌⊎◌, inl, inr, ℤ, pos, refl, ap, sym, subst, ◌∙◌}
-use Rattle.std.specs.List.{AllByRecursion, list_any}
+use Rattle.std.proofs.Common.{◌≡◌, ℕ, zero, suc, nat_eq, nat_le, Bool, true, false, cond, List, [], ◌∷◌, Option, Some, None, option_and_then, inr, ℤ, refl, ap, sym, subst}
+use Rattle.std.specs.List.{AllByRecursion}
 use Rattle.std.proofs.lemmas.Bool.{eq-eqb, eqb-true}
 use Rattle.gw_nums.specs.Range.{is_negative, magnitude}
 use Rattle.gw_expr.specs.Term.{Term, Constant}
-use Rattle.gw_expr.specs.declared.stop.Stop.{Stop}
 use Rattle.gw_expr.specs.declared.stop.Stop.TheVariants.{NegativeTime, TooManyTransactions, BadCount}
-use Rattle.gw_meaning.specs.declared.item.Item.{Item}
 use Rattle.gw_meaning.specs.declared.item.Item.TheVariants as items
-use Rattle.gw_meaning.specs.declared.item.End.{End}
 use Rattle.gw_meaning.specs.declared.item.End.TheVariants as ends
 use Rattle.gw_meaning.specs.declared.statement.Body.{Body}
 use Rattle.gw_meaning.specs.declared.statement.Body.TheVariants as bodies
@@ -18,20 +15,15 @@ use Rattle.gw_meaning.specs.declared.statement.Numbered.{Numbered}
 use Rattle.gw_meaning.specs.declared.statement.Command.{Command}
 use Rattle.gw_meaning.specs.declared.statement.Command.TheVariants as commands
 use Rattle.gw_meaning.specs.declared.transaction.Transaction.{Transaction}
-use Rattle.gw_meaning.specs.declared.transaction.Event.{Event}
-use Rattle.gw_meaning.specs.declared.transaction.Count.{Count}
 use Rattle.gw_meaning.specs.declared.moves.Arrival.{Arrival}
-use Rattle.gw_meaning.specs.declared.moves.Move.{Move}
 use Rattle.gw_meaning.specs.declared.moves.Move.TheVariants as moves
 use Rattle.gw_meaning.specs.Listing.{Listing, block_at, block_of, block_of_body, is_generate_body, is_generate, line_in, generates_in}
 use Rattle.gw_meaning.specs.Numbers.{AreNumbered}
-use Rattle.gw_meaning.specs.Machine.{Machine, raised, live, count_at, count_in, with_count}
-use Rattle.gw_meaning.specs.Changes.{lined_up, all_lined_up, left_at, left, entered, passed_through, made_one, is_due, due, Making, made, maybe_made, all_made, making_of, moved, picked}
-use Rattle.gw_meaning.specs.Questions.{Answer, ask, Prog, Gives, Ends, Asks, result_of, items_of, ◌>>=◌}
-use Rattle.gw_meaning.specs.Step.{value_prog, value_or_zero, stops_if, arrival_at, arrival_in_time, arrival_within, arrival_prog, first_time, first_arrival, with_arrival, arrivals_prog, start_prog, command_prog, generate_prog, delay_of, advance_prog, terminate_prog, enter_prog, try_prog, attempt_prog, least_time, within_prog, clock_prog, pick_prog, scan_prog, move_prog, decide, step_prog, step, run, run_prog}
-use Rattle.gw_meaning.proofs.Programs.{bind_gives, bind_ends}
-
-use Rattle.gw_frame.specs.Places.{IsPlace, IsPlaceIfAny, TransactionNames, ActiveNames, EventNames, CountNames, StateNames, ItemNames, StatesNameBlocks, StepsReadBlocks}
+use Rattle.gw_meaning.specs.Machine.{Machine, raised, live}
+use Rattle.gw_meaning.specs.Changes.{made}
+use Rattle.gw_meaning.specs.Questions.{Gives, Asks, result_of}
+use Rattle.gw_meaning.specs.Step.{value_prog, value_or_zero, arrival_at, arrival_in_time, arrival_within, arrival_prog, first_time, first_arrival, with_arrival, arrivals_prog, start_prog, command_prog, generate_prog, delay_of, advance_prog, terminate_prog, enter_prog, try_prog, attempt_prog, least_time, within_prog, clock_prog, pick_prog, scan_prog, move_prog}
+use Rattle.gw_frame.specs.Places.{IsPlace, TransactionNames, ActiveNames}
 use Rattle.gw_frame.proofs.Places.{ArrivalNames, ArrivalNamesIfAny, MoveNames, Keeps, all_with, keeps_gives, keeps_ends, keeps_asks, keeps_cond, keeps_stops, keeps_bind}
 
 -- of a value nothing is wanted
@@ -62,9 +54,9 @@ generates_there : (lines : List Numbered) → AreNumbered lines → AllByRecursi
 generates_there [] numbered = tt
 generates_there (line ∷ lines) numbered =
     go (is_generate line) refl (all_behind line lines (generates_in lines) numbered.1 (generates_there lines numbered.2)) where
-  go : (b : Bool) → is_generate line ≡ b → AllByRecursion (IsBlockIn (line ∷ lines)) (generates_in lines) → AllByRecursion (IsBlockIn (line ∷ lines)) (cond (is_generate line) (line.number ∷ generates_in lines) (generates_in lines))
-  go true is rest = subst (λ c. AllByRecursion (IsBlockIn (line ∷ lines)) (cond c (line.number ∷ generates_in lines) (generates_in lines))) (sym is) (generate_there line lines line.statement.body refl is, rest)
-  go false is rest = subst (λ c. AllByRecursion (IsBlockIn (line ∷ lines)) (cond c (line.number ∷ generates_in lines) (generates_in lines))) (sym is) rest
+      go : (b : Bool) → is_generate line ≡ b → AllByRecursion (IsBlockIn (line ∷ lines)) (generates_in lines) → AllByRecursion (IsBlockIn (line ∷ lines)) (cond (is_generate line) (line.number ∷ generates_in lines) (generates_in lines))
+      go true is rest = subst (λ c. AllByRecursion (IsBlockIn (line ∷ lines)) (cond c (line.number ∷ generates_in lines) (generates_in lines))) (sym is) (generate_there line lines line.statement.body refl is, rest)
+      go false is rest = subst (λ c. AllByRecursion (IsBlockIn (line ∷ lines)) (cond c (line.number ∷ generates_in lines) (generates_in lines))) (sym is) rest
 
 module _ (t : Listing) (seed : ℕ) where
   value_keeps : (s : Machine) (term : Term) → Keeps t seed Whatever (value_prog s term)

@@ -1,11 +1,10 @@
 -- The frame law in positions.
-use Rattle.std.proofs.Common.{◌≡◌, ℕ, zero, suc, ◌+◌, ◌<◌, ◌≤◌, List, [], ◌∷◌, map, Option, Some, None, option_map, Ok, refl, ap, ap₂, sym, subst, ◌∙◌, arith, below_more}
+use Rattle.std.proofs.Common.{◌≡◌, ℕ, zero, suc, ◌<◌, List, [], ◌∷◌, map, Option, Some, None, option_map, Ok, refl, ap, ap₂, sym, subst, ◌∙◌, arith, below_more}
 use Rattle.std.specs.List.{AllByRecursion}
 use Rattle.gw_meaning.specs.declared.item.Item.{Item}
 use Rattle.gw_meaning.specs.declared.item.Item.TheVariants as items
 use Rattle.gw_meaning.specs.declared.transaction.Transaction.{Transaction}
 use Rattle.gw_meaning.specs.declared.transaction.Event.{Event}
-use Rattle.gw_meaning.specs.declared.transaction.Count.{Count}
 use Rattle.gw_meaning.specs.Listing.{Listing}
 use Rattle.gw_meaning.specs.Machine.{Machine}
 use Rattle.gw_meaning.specs.Step.{step, run}
@@ -79,10 +78,10 @@ frame_in_positions t seed u new_seed n s front goes comes back splice first seco
       state_same t u (position_of u) (position_of t) move same s (run_names t seed n s first there) (run_names u new_seed n s second unseen.0),
       λ j below. reads_same same unseen.0 j below (unseen.1 j below),
     ) where
-  reads_same : ((p : ℕ) → IsPlace t p → IsPlace u p → position_of u p ≡ shifted front goes comes (position_of t p)) → run u new_seed n ≡ Ok s → (j : ℕ) → j < n → reads u new_seed j ≡ reads t seed j → map (moved_item (position_of u)) (reads u new_seed j) ≡ map (moved_item (shifted front goes comes)) (map (moved_item (position_of t)) (reads t seed j))
-  reads_same same also j below reads_alike =
-      let old = goes_below t seed n s there j below in
-      let new = goes_below u new_seed n s also j below in
-      let named = reads_names t seed j old.from old.to first old.there old.goes in
-      let renamed = subst (λ is. AllByRecursion (ItemNames u) is) reads_alike (reads_names u new_seed j new.from new.to second new.there new.goes) in
-      ap (map (moved_item (position_of u))) reads_alike ∙ items_same t u (position_of u) (position_of t) (shifted front goes comes) same (reads t seed j) named renamed
+      reads_same : ((p : ℕ) → IsPlace t p → IsPlace u p → position_of u p ≡ shifted front goes comes (position_of t p)) → run u new_seed n ≡ Ok s → (j : ℕ) → j < n → reads u new_seed j ≡ reads t seed j → map (moved_item (position_of u)) (reads u new_seed j) ≡ map (moved_item (shifted front goes comes)) (map (moved_item (position_of t)) (reads t seed j))
+      reads_same same also j below reads_alike =
+          let old = goes_below t seed n s there j below in
+          let new = goes_below u new_seed n s also j below in
+          let named = reads_names t seed j old.from old.to first old.there old.goes in
+          let renamed = subst (λ is. AllByRecursion (ItemNames u) is) reads_alike (reads_names u new_seed j new.from new.to second new.there new.goes) in
+          ap (map (moved_item (position_of u))) reads_alike ∙ items_same t u (position_of u) (position_of t) (shifted front goes comes) same (reads t seed j) named renamed

@@ -1,10 +1,10 @@
 -- Where a place is a block of both versions, its position moves as the splice says.
-use Rattle.std.proofs.Common.{◌≡◌, ℕ, zero, suc, ◌+◌, ◌-◌, ◌≤◌, nat_eq, nat_le, Bool, true, false, cond, List, [], ◌∷◌, ◌++◌, length, filter, Option, Some, None, is_some, option_and_then, unwrap_or, ◌⊎◌, inl, inr, refl, ap, sym, subst, ◌∙◌, arith}
-use Rattle.std.proofs.lemmas.Bool.{eq-eqb, eqb-true, ne_eqb}
+use Rattle.std.proofs.Common.{◌≡◌, ℕ, suc, ◌+◌, ◌-◌, ◌≤◌, nat_eq, nat_le, Bool, true, false, cond, List, [], ◌∷◌, ◌++◌, length, filter, Option, Some, None, is_some, option_and_then, unwrap_or, ◌⊎◌, inl, inr, refl, ap, sym, subst, ◌∙◌, arith}
+use Rattle.std.proofs.lemmas.Bool.{eqb-true}
 use Rattle.std.proofs.lemmas.Bool.Decides.{nat_tests}
 use Rattle.gw_meaning.specs.declared.statement.Block.{Block}
 use Rattle.gw_meaning.specs.declared.statement.Numbered.{Numbered}
-use Rattle.gw_meaning.specs.Listing.{Listing, is_block, block_of, line_in, position_in, position_at}
+use Rattle.gw_meaning.specs.Listing.{Listing, is_block, block_of, line_in, position_in}
 use Rattle.gw_meaning.specs.Numbers.{AreNumbered}
 use Rattle.gw_frame.specs.Positions.{position_of, IsSplice, count_blocks, shifted}
 use Rattle.gw_frame.proofs.Renumbering.{behind, no_place}
@@ -102,8 +102,8 @@ at_splice goes comes back b p x y first second (inl l) (inl m) =
       new = ap (λ ls. position_in b (ls ++ back) p) m.alone ∙ position_here b m.line back p y m.number m.block;
       move = rw (one, other) (kept b);
     } where
-  kept : (b : ℕ) → b + 1 ≡ cond (nat_le (b + 1) (b + 0)) (b + 1) (((b + 1) - 1) + 1)
-  kept b = grind (arith, nat_tests)
+      kept : (b : ℕ) → b + 1 ≡ cond (nat_le (b + 1) (b + 0)) (b + 1) (((b + 1) - 1) + 1)
+      kept b = grind (arith, nat_tests)
 at_splice goes comes back b p x y first second (inl l) (inr m) = absurd (not_behind l.line goes back p y l.alone first l.number m.there)
 at_splice goes comes back b p x y first second (inr l) (inl m) = absurd (not_behind m.line comes back p x m.alone second m.number l.there)
 at_splice goes comes back b p x y first second (inr l) (inr m) =
@@ -115,8 +115,8 @@ at_splice goes comes back b p x y first second (inr l) (inr m) =
       new = m.stands b found.0 found.1;
       move = goes_on b (count_blocks goes) (count_blocks comes) found.0;
     } where
-  goes_on : (b g c k : ℕ) → (b + c) + suc k ≡ cond (nat_le ((b + g) + suc k) (b + 0)) ((b + g) + suc k) ((((b + g) + suc k) - g) + c)
-  goes_on b g c k = grind (arith, nat_tests)
+      goes_on : (b g c k : ℕ) → (b + c) + suc k ≡ cond (nat_le ((b + g) + suc k) (b + 0)) ((b + g) + suc k) ((((b + g) + suc k) - g) + c)
+      goes_on b g c k = grind (arith, nat_tests)
 
 numbered_behind : (line : Numbered) (lines : List Numbered) → AreNumbered (line ∷ lines) → AreNumbered lines
 numbered_behind line lines numbered = numbered.2
@@ -135,8 +135,8 @@ module _ (goes comes back : List Numbered) (one : length goes ≤ 1) (other : le
         new = position_here b line (front ++ (comes ++ back)) p x is block;
         move = stays (count_blocks (line ∷ front)) (count_blocks goes) (count_blocks comes) (let e : count_blocks (line ∷ front) ≡ suc (count_blocks front) = rw (ap is_some block) refl in omega arith);
       } where
-    stays : (n g c : ℕ) → 1 ≤ n → b + 1 ≡ cond (nat_le (b + 1) (b + n)) (b + 1) (((b + 1) - g) + c)
-    stays n g c some = grind (arith, nat_tests)
+        stays : (n g c : ℕ) → 1 ≤ n → b + 1 ≡ cond (nat_le (b + 1) (b + n)) (b + 1) (((b + 1) - g) + c)
+        stays n g c some = grind (arith, nat_tests)
   shifts_by line front b old new rest false is =
       let before = cond (is_block line) (b + 1) b in
       let h = rest before (further line (front ++ (goes ++ back)) p x is old) (further line (front ++ (comes ++ back)) p y is new) in

@@ -1,15 +1,12 @@
 -- A version with its places renamed answers renamed, and two versions with the same statements are one renamed.
 use Rattle.std.proofs.Common.{◌≡◌, ℕ, ◌+◌, nat_eq, nat_le, Bool, true, false, cond, List, [], ◌∷◌, map, Option, Some, None, is_some, option_map, option_and_then, filter_map, refl, ap, ap₂, ◌∙◌}
 use Rattle.std.specs.List.{cons_option}
-use Rattle.gw_meaning.specs.declared.item.Item.{Item}
 use Rattle.gw_meaning.specs.declared.item.Item.TheVariants as items
-use Rattle.gw_meaning.specs.declared.statement.Block.{Block}
 use Rattle.gw_meaning.specs.declared.statement.Statement.{Statement}
 use Rattle.gw_meaning.specs.declared.statement.Numbered.{Numbered}
-use Rattle.gw_meaning.specs.Listing.{Listing, block_of, block_of_body, command_of, command_of_body, is_block, is_generate, is_generate_body, line_in, first_block, after_in, position_in, generates_in, nth}
-use Rattle.gw_meaning.specs.Numbers.{AreNumbered}
-use Rattle.gw_frame.specs.Moved.{IsMove, MovedAnswer}
-use Rattle.gw_frame.specs.Renamed.{AreRenamed, IsRenamed, RenamedAnswers}
+use Rattle.gw_meaning.specs.Listing.{block_of, block_of_body, command_of, command_of_body, is_block, is_generate, is_generate_body, line_in, first_block, after_in, position_in, generates_in, nth}
+use Rattle.gw_frame.specs.Moved.{IsMove}
+use Rattle.gw_frame.specs.Renamed.{AreRenamed, RenamedAnswers}
 use Rattle.gw_frame.proofs.MovedLists.{eq_moved}
 
 module _ (move : ℕ → ℕ) (is : IsMove move) where

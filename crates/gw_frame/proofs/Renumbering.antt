@@ -2,12 +2,10 @@
 -- what is no place goes beyond all of them.
 use Rattle.std.proofs.Common.{◌≡◌, ℕ, zero, suc, ◌+◌, ◌≤◌, max, nat_eq, Bool, true, false, cond, List, [], ◌∷◌, Option, Some, None, ◌⊎◌, inl, inr, refl, sym, subst, ◌∙◌, arith}
 use Rattle.std.proofs.lemmas.Bool.{eq-eqb, eqb-true, ne_eqb}
-use Rattle.gw_meaning.specs.declared.statement.Statement.{Statement}
 use Rattle.gw_meaning.specs.declared.statement.Numbered.{Numbered}
-use Rattle.gw_meaning.specs.Listing.{Listing, line_in}
+use Rattle.gw_meaning.specs.Listing.{line_in}
 use Rattle.gw_meaning.specs.Numbers.{AreNumbered}
-use Rattle.gw_frame.specs.Moved.{IsMove}
-use Rattle.gw_frame.specs.Renamed.{statements_of, AreRenamed, IsRenamed, HasRenaming}
+use Rattle.gw_frame.specs.Renamed.{statements_of, AreRenamed, HasRenaming}
 
 -- the number that stands in the second list where the first has this one
 abbrev number_for : List Numbered → List Numbered → ℕ → Option ℕ
@@ -57,21 +55,25 @@ within : (ls ms : List Numbered) (p n : ℕ) → AreNumbered ms → number_for l
 within [] ms p n numbered some = absurd cc
 within (l ∷ ls) [] p n numbered some = absurd cc
 within (l ∷ ls) (m ∷ ms) p n numbered some =
-    elim (ahead (nat_eq l.number p) m.number n (number_for ls ms p) some)
-    [ inl h ↦ (let least : 1 ≤ m.number = numbered.0 in let e : m.number ≡ n = h.1 in (omega arith, omega arith))
-    | inr h ↦ (let rest = within ls ms p n numbered.2 h.1 in (rest.0, omega (arith, rest.1))) ]
+    elim (ahead (nat_eq l.number p) m.number n (number_for ls ms p) some) [
+      | inl h ↦ (let least : 1 ≤ m.number = numbered.0 in let e : m.number ≡ n = h.1 in (omega arith, omega arith))
+      | inr h ↦ (let rest = within ls ms p n numbered.2 h.1 in (rest.0, omega (arith, rest.1)))
+    ]
 
 leads_back : (ls ms : List Numbered) (p q n : ℕ) → AreNumbered ms → number_for ls ms p ≡ Some n → number_for ls ms q ≡ Some n → p ≡ q
 leads_back [] ms p q n numbered some other = absurd cc
 leads_back (l ∷ ls) [] p q n numbered some other = absurd cc
 leads_back (l ∷ ls) (m ∷ ms) p q n numbered some other =
-    elim (ahead (nat_eq l.number p) m.number n (number_for ls ms p) some)
-    [ inl h ↦ elim (ahead (nat_eq l.number q) m.number n (number_for ls ms q) other)
-      [ inl k ↦ sym (eqb-true l.number p h.0) ∙ eqb-true l.number q k.0
-      | inr k ↦ absurd (in_second ls ms q n k.1 (subst (λ x. line_in ms x ≡ None) h.1 numbered.1)) ]
-    | inr h ↦ elim (ahead (nat_eq l.number q) m.number n (number_for ls ms q) other)
-      [ inl k ↦ absurd (in_second ls ms p n h.1 (subst (λ x. line_in ms x ≡ None) k.1 numbered.1))
-      | inr k ↦ leads_back ls ms p q n numbered.2 h.1 k.1 ] ]
+    elim (ahead (nat_eq l.number p) m.number n (number_for ls ms p) some) [
+      | inl h ↦ elim (ahead (nat_eq l.number q) m.number n (number_for ls ms q) other) [
+        | inl k ↦ sym (eqb-true l.number p h.0) ∙ eqb-true l.number q k.0
+        | inr k ↦ absurd (in_second ls ms q n k.1 (subst (λ x. line_in ms x ≡ None) h.1 numbered.1))
+      ]
+      | inr h ↦ elim (ahead (nat_eq l.number q) m.number n (number_for ls ms q) other) [
+        | inl k ↦ absurd (in_second ls ms p n h.1 (subst (λ x. line_in ms x ≡ None) k.1 numbered.1))
+        | inr k ↦ leads_back ls ms p q n numbered.2 h.1 k.1
+      ]
+    ]
 
 -- no place becomes 0, and no two become one
 named_some : (bound p : ℕ) (o : Option ℕ) → 1 ≤ p → ((n : ℕ) → o ≡ Some n → (1 ≤ n) × (n ≤ bound)) → renamed_by bound p o ≡ 0 → ⊥

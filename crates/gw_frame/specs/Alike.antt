@@ -1,21 +1,15 @@
--- What it is for two versions, each with its seed, to answer a question alike, by the kinds of questions; and the law that
--- a run depends only on what it asked. (Our own.)
-use Rattle.std.specs.Prelude.{◌≡◌, ℕ, List, All, nat_le}
+-- What it is for two versions, each with its seed, to answer a question alike; and the law that a run depends only on what
+-- it asked. (Our own.)
+use Rattle.std.specs.Prelude.{◌≡◌, ℕ, List, All}
 use Rattle.gw_meaning.specs.declared.item.Item.{Item}
-use Rattle.gw_meaning.specs.declared.item.Item.TheVariants as items
-use Rattle.gw_meaning.specs.Listing.{Listing, block_at, after_at, generates_in, command_at}
+use Rattle.gw_meaning.specs.Listing.{Listing}
 use Rattle.gw_meaning.specs.Machine.{Machine}
-use Rattle.gw_meaning.specs.Questions.{items_of}
+use Rattle.gw_meaning.specs.Questions.{ask, items_of}
 use Rattle.gw_meaning.specs.Step.{step, step_prog, step_items, run, run_prog}
 
 -- the second version answers a question as the first does
 abbrev pub SameAnswer : Listing → ℕ → Listing → ℕ → Item → Type 0
-SameAnswer t seed u new_seed (items.Block place) = block_at u place ≡ block_at t place
-SameAnswer t seed u new_seed (items.After place) = after_at u place ≡ after_at t place
-SameAnswer t seed u new_seed items.Generates = generates_in u.lines ≡ generates_in t.lines
-SameAnswer t seed u new_seed (items.Cmd i) = command_at u i ≡ command_at t i
-SameAnswer t seed u new_seed items.Seed = new_seed ≡ seed
-SameAnswer t seed u new_seed (items.Within time) = nat_le time u.horizon ≡ nat_le time t.horizon
+SameAnswer t seed u new_seed i = ask u new_seed i ≡ ask t seed i
 
 -- it answers each of these questions as the first does
 abbrev pub AnswersAlike : Listing → ℕ → Listing → ℕ → List Item → Type 0

@@ -40,5 +40,5 @@ FrameInPositions =
     (run u new_seed n ≡ Ok s)
     × (moved_machine (position_of u) s ≡ moved_machine (shifted front goes comes) (moved_machine (position_of t) s))
     × ((j : ℕ) → j < n →
-      map (moved_item (position_of u)) (reads u new_seed j)
-      ≡ map (moved_item (shifted front goes comes)) (map (moved_item (position_of t)) (reads t seed j)))
+    map (moved_item (position_of u)) (reads u new_seed j)
+    ≡ map (moved_item (shifted front goes comes)) (map (moved_item (position_of t)) (reads t seed j)))

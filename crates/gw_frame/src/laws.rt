@@ -1,6 +1,5 @@
 // Laws above the definitions of the run.
 ghost use Rattle.gw_frame.specs.Alike.{UnseenEdit, UnseenStep};
-ghost use Rattle.gw_frame.specs.Moved.{StartStays, UnseenMove, UnseenMoveStep, UnseenMoveReads};
 ghost use Rattle.gw_frame.specs.Places.{StatesNameBlocks, StepsReadBlocks};
 ghost use Rattle.gw_frame.specs.Positions.{FrameInPositions};
 ghost use Rattle.gw_frame.specs.Renamed.{HasRenaming, RenamedAnswers, RenamedStep, RenamedRun};
@@ -19,16 +18,6 @@ pub fn unseen_reads()
     ensures asked { RunAsksItsReads }
     ensures step { UnseenStepReads }
     ensures run { UnseenReads }
-{}
-
-/// Where blocks have other places, and a version answers all that a run asked with the places moved, its run is the run
-/// with the places moved, in every transaction and every count, and it is asked for the moved places. So is each step,
-/// from a state and that state moved. A run begins in the same state as ever, where no transaction is at a block.
-pub fn unseen_move()
-    ensures start { StartStays }
-    ensures run { UnseenMove }
-    ensures step { UnseenMoveStep }
-    ensures reads { UnseenMoveReads }
 {}
 
 /// A state of a run names no place but the blocks of its version, and its steps read no other.

@@ -1,9 +1,10 @@
 //! A run depends only on the questions that it asked.
 //!
-//! A version that answers those alike has the same run, state for state, and is asked the same. One whose blocks
-//! moved to other places, and which answers accordingly, has the run with its places moved.
+//! A version that answers those alike has the same run, state for state, and is asked the same. One whose statements have
+//! other numbers has the run with its places renamed. Told in positions, a run behind an edit that it did not see is the old
+//! one with its positions moved.
 #![tactic(auto)]
 
 mod laws;
 
-pub use laws::{frame_in_positions, places_are_blocks, renamed, unseen_edit, unseen_move, unseen_reads};
+pub use laws::{frame_in_positions, places_are_blocks, renamed, unseen_edit, unseen_reads};
