@@ -8,7 +8,9 @@ use Rattle.gw_meaning.specs.Step.{step_prog, run_prog, items_if_moved}
 use Rattle.gw_frame.specs.Alike.{SameAnswer, AnswersAlike, UnseenEdit, UnseenStep}
 
 -- each answer asked for is the same
-asks_alike : {A : Type 0} (t : Listing) (seed : ℕ) (u : Listing) (new_seed : ℕ) (p : Prog A) → AllByRecursion (SameAnswer t seed u new_seed) (items_of t seed p) → (result_of u new_seed p ≡ result_of t seed p) × (items_of u new_seed p ≡ items_of t seed p)
+asks_alike : {A : Type 0} (t : Listing) (seed : ℕ) (u : Listing) (new_seed : ℕ) (p : Prog A) →
+    AllByRecursion (SameAnswer t seed u new_seed) (items_of t seed p) → (result_of u new_seed p ≡ result_of t seed p) ×
+    (items_of u new_seed p ≡ items_of t seed p)
 asks_alike t seed u new_seed (Gives a) h = (refl, refl)
 asks_alike t seed u new_seed (Ends end) h = (refl, refl)
 asks_alike t seed u new_seed (Asks i k) h =
@@ -16,7 +18,8 @@ asks_alike t seed u new_seed (Asks i k) h =
     rw h.0 (rest.0, ap (λ is. i ∷ is) rest.1)
 
 -- a program that is answered alike comes to the same and asks the same
-pub same_answers : {A : Type 0} (t : Listing) (seed : ℕ) (u : Listing) (new_seed : ℕ) (p : Prog A) → AnswersAlike t seed u new_seed (items_of t seed p) → (result_of u new_seed p ≡ result_of t seed p) × (items_of u new_seed p ≡ items_of t seed p)
+pub same_answers : {A : Type 0} (t : Listing) (seed : ℕ) (u : Listing) (new_seed : ℕ) (p : Prog A) → AnswersAlike t seed u new_seed (items_of t seed p) →
+    (result_of u new_seed p ≡ result_of t seed p) × (items_of u new_seed p ≡ items_of t seed p)
 same_answers t seed u new_seed p h = asks_alike t seed u new_seed p (recursion_from_All (SameAnswer t seed u new_seed) (items_of t seed p) h)
 
 pub unseen_edit : UnseenEdit

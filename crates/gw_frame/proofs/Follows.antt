@@ -21,7 +21,8 @@ IsAnsweredMoved move t seed u new_seed = (i : Item) → MovedAnswer move t seed 
 
 -- q follows p, with f of what p gives
 pub record Follows {A B : Type 0} (move : ℕ → ℕ) (f : A → B) (p : Prog A) (q : Prog B) : Type 0 where
-  pub runs : (t : Listing) (seed : ℕ) (u : Listing) (new_seed : ℕ) → IsAnsweredMoved move t seed u new_seed → result_of u new_seed q ≡ result_with f (result_of t seed p)
+  pub runs : (t : Listing) (seed : ℕ) (u : Listing) (new_seed : ℕ) → IsAnsweredMoved move t seed u new_seed →
+      result_of u new_seed q ≡ result_with f (result_of t seed p)
 
 module _ (move : ℕ → ℕ) where
   pub follows_gives : {A B : Type 0} (f : A → B) (a : A) (b : B) → b ≡ f a → Follows move f (Gives a) (Gives b)
@@ -30,20 +31,25 @@ module _ (move : ℕ → ℕ) where
   pub follows_ends : {A B : Type 0} (f : A → B) (end : End) → Follows move f (Ends end) (Ends end)
   follows_ends f end = record { runs = λ t seed u new_seed h. refl }
 
-  pub follows_asks : {A B : Type 0} (f : A → B) (i : Item) (k : Answer i → Prog A) (l : Answer (moved_item move i) → Prog B) → ((x : Answer i) → Follows move f (k x) (l (moved_answer move i x))) → Follows move f (Asks i k) (Asks (moved_item move i) l)
+  pub follows_asks : {A B : Type 0} (f : A → B) (i : Item) (k : Answer i → Prog A) (l : Answer (moved_item move i) → Prog B) →
+      ((x : Answer i) → Follows move f (k x) (l (moved_answer move i x))) → Follows move f (Asks i k) (Asks (moved_item move i) l)
   follows_asks f i k l each = record { runs = λ t seed u new_seed h. rw (h i) ((each (ask t seed i)).runs t seed u new_seed h) }
 
-  pub follows_cond : {A B : Type 0} (f : A → B) (b : Bool) (p p' : Prog A) (q q' : Prog B) → Follows move f p q → Follows move f p' q' → Follows move f (cond b p p') (cond b q q')
+  pub follows_cond : {A B : Type 0} (f : A → B) (b : Bool) (p p' : Prog A) (q q' : Prog B) → Follows move f p q → Follows move f p' q' →
+      Follows move f (cond b p p') (cond b q q')
   follows_cond f true p p' q q' yes' no' = yes'
   follows_cond f false p p' q q' yes' no' = no'
 
-  pub follows_stops : {A B : Type 0} (f : A → B) (b : Bool) (stop : Stop) (p : Prog A) (q : Prog B) → Follows move f p q → Follows move f (stops_if b stop p) (stops_if b stop q)
+  pub follows_stops : {A B : Type 0} (f : A → B) (b : Bool) (stop : Stop) (p : Prog A) (q : Prog B) → Follows move f p q →
+      Follows move f (stops_if b stop p) (stops_if b stop q)
   follows_stops f true stop p q h = follows_ends f _
   follows_stops f false stop p q h = h
 
-  pub follows_bind : {A B C D : Type 0} (f : A → B) (g : C → D) (p : Prog A) (q : Prog B) (k : A → Prog C) (l : B → Prog D) → Follows move f p q → ((a : A) → Follows move g (k a) (l (f a))) → Follows move g (p >>= k) (q >>= l)
+  pub follows_bind : {A B C D : Type 0} (f : A → B) (g : C → D) (p : Prog A) (q : Prog B) (k : A → Prog C) (l : B → Prog D) → Follows move f p q →
+      ((a : A) → Follows move g (k a) (l (f a))) → Follows move g (p >>= k) (q >>= l)
   follows_bind {A} {B} {C} {D} f g p q k l first second = record { runs = λ t seed u new_seed h. go t seed u new_seed h (result_of t seed p) refl } where
-    go : (t : Listing) (seed : ℕ) (u : Listing) (new_seed : ℕ) → IsAnsweredMoved move t seed u new_seed → (r : Result A End) → result_of t seed p ≡ r → result_of u new_seed (q >>= l) ≡ result_with g (result_of t seed (p >>= k))
+    go : (t : Listing) (seed : ℕ) (u : Listing) (new_seed : ℕ) → IsAnsweredMoved move t seed u new_seed → (r : Result A End) → result_of t seed p ≡ r →
+        result_of u new_seed (q >>= l) ≡ result_with g (result_of t seed (p >>= k))
     go t seed u new_seed h (Ok a) is =
         let there = bind_gives u new_seed q l (f a) (first.runs t seed u new_seed h ∙ ap (result_with f) is) in
         there.0 ∙ ((second a).runs t seed u new_seed h ∙ ap (result_with g) (sym (bind_gives t seed p k a is).0))

@@ -37,32 +37,41 @@ module _ (move : ℕ → ℕ) (is : IsMove move) where
       (ap (λ e. map (moved_event move) w.future ++ e ∷ []) (newcomer_moved w.next a) ∙ sym (map-append (moved_event move) w.future (newcomer w.next a ∷ [])))
       (made_one_moved move is w.counts a.place)
 
-  maybe_made_moved : (next : Option Arrival) (w : Making) → maybe_made (option_map (moved_arrival move) next) (moved_making move w) ≡ moved_making move (maybe_made next w)
+  maybe_made_moved : (next : Option Arrival) (w : Making) →
+      maybe_made (option_map (moved_arrival move) next) (moved_making move w) ≡ moved_making move (maybe_made next w)
   maybe_made_moved None w = refl
   maybe_made_moved (Some a) w = made_moved a w
 
-  all_made_moved : (arrivals : List Arrival) (w : Making) → all_made (map (moved_arrival move) arrivals) (moved_making move w) ≡ moved_making move (all_made arrivals w)
+  all_made_moved : (arrivals : List Arrival) (w : Making) →
+      all_made (map (moved_arrival move) arrivals) (moved_making move w) ≡ moved_making move (all_made arrivals w)
   all_made_moved [] w = refl
   all_made_moved (a ∷ rest) w = ap (all_made (map (moved_arrival move) rest)) (made_moved a w) ∙ all_made_moved rest (made a w)
 
-  started_moved : (s : Machine) (count : ℕ) (arrivals : List Arrival) → moved (moved_machine move s) (moved_move move (moves.Start count arrivals)) ≡ moved_machine move (moved s (moves.Start count arrivals))
+  started_moved : (s : Machine) (count : ℕ) (arrivals : List Arrival) →
+      moved (moved_machine move s) (moved_move move (moves.Start count arrivals)) ≡ moved_machine move (moved s (moves.Start count arrivals))
   started_moved s count arrivals = ap (λ w. with_making w (started count (moved_machine move s))) (all_made_moved arrivals (making_of s))
 
-  arrived_moved : (next : Option Arrival) (s : Machine) → arrived (option_map (moved_arrival move) next) (moved_machine move s) ≡ moved_machine move (arrived next s)
+  arrived_moved : (next : Option Arrival) (s : Machine) →
+      arrived (option_map (moved_arrival move) next) (moved_machine move s) ≡ moved_machine move (arrived next s)
   arrived_moved next s = ap (λ w. with_making w (moved_machine move s)) (maybe_made_moved next (making_of s))
 
-  generated_moved : (s : Machine) (x : Transaction) (place : ℕ) (next : Option Arrival) → generated (moved_machine move s) (moved_transaction move x) (move place) (option_map (moved_arrival move) next) ≡ moved_machine move (generated s x place next)
+  generated_moved : (s : Machine) (x : Transaction) (place : ℕ) (next : Option Arrival) →
+      generated (moved_machine move s) (moved_transaction move x) (move place) (option_map (moved_arrival move) next) ≡
+      moved_machine move (generated s x place next)
   generated_moved s x place next =
       let there : Machine = record s { active = Some (record (placed x place) { mark = s.clock }); counts = entered (left s.counts x.current) place } in
       rw (went_moved move is s.counts x.current place) (arrived_moved next there)
 
-  moved_on_moved : (s : Machine) (x : Transaction) (place : ℕ) → moved_on (moved_machine move s) (moved_transaction move x) (move place) ≡ moved_machine move (moved_on s x place)
+  moved_on_moved : (s : Machine) (x : Transaction) (place : ℕ) →
+      moved_on (moved_machine move s) (moved_transaction move x) (move place) ≡ moved_machine move (moved_on s x place)
   moved_on_moved s x place = rw (went_moved move is s.counts x.current place) refl
 
-  delayed_moved : (s : Machine) (x : Transaction) (place until : ℕ) → delayed (moved_machine move s) (moved_transaction move x) (move place) until ≡ moved_machine move (delayed s x place until)
+  delayed_moved : (s : Machine) (x : Transaction) (place until : ℕ) →
+      delayed (moved_machine move s) (moved_transaction move x) (move place) until ≡ moved_machine move (delayed s x place until)
   delayed_moved s x place until = rw (went_moved move is s.counts x.current place, map-append (moved_event move) s.future) refl
 
-  terminated_moved : (s : Machine) (x : Transaction) (place count : ℕ) → terminated (moved_machine move s) (moved_transaction move x) (move place) count ≡ moved_machine move (terminated s x place count)
+  terminated_moved : (s : Machine) (x : Transaction) (place count : ℕ) →
+      terminated (moved_machine move s) (moved_transaction move x) (move place) count ≡ moved_machine move (terminated s x place count)
   terminated_moved s x place count = rw (gone_moved move is s.counts x.current place) refl
 
   picked_moved : (s : Machine) (xs : List Transaction) → picked (moved_machine move s) (map (moved_transaction move) xs) ≡ moved_machine move (picked s xs)
@@ -72,7 +81,9 @@ module _ (move : ℕ → ℕ) (is : IsMove move) where
   advanced_moved : (s : Machine) (time : ℕ) → advanced (moved_machine move s) time ≡ moved_machine move (advanced s time)
   advanced_moved s time = rw (due_moved move time s.future, later_moved move time s.future, all_lined_up_moved move (due time s.future) s.current) refl
 
-  with_active_moved : (s : Machine) (o : Option Transaction) (f g : Transaction → Machine) → ((x : Transaction) → g (moved_transaction move x) ≡ moved_machine move (f x)) → with_active (option_map (moved_transaction move) o) g (moved_machine move s) ≡ moved_machine move (with_active o f s)
+  with_active_moved : (s : Machine) (o : Option Transaction) (f g : Transaction → Machine) →
+      ((x : Transaction) → g (moved_transaction move x) ≡ moved_machine move (f x)) →
+      with_active (option_map (moved_transaction move) o) g (moved_machine move s) ≡ moved_machine move (with_active o f s)
   with_active_moved s None f g each = refl
   with_active_moved s (Some x) f g each = each x
 

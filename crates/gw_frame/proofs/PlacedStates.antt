@@ -28,22 +28,27 @@ all_cond P true xs ys h k = h
 all_cond P false xs ys h k = k
 
 module _ (t : Listing) where
-  with_count_names : (cs : List (ℕ × Count)) (place : ℕ) (c : Count) → IsPlace t place → AllByRecursion (CountNames t) cs → AllByRecursion (CountNames t) (with_count cs place c)
+  with_count_names : (cs : List (ℕ × Count)) (place : ℕ) (c : Count) → IsPlace t place → AllByRecursion (CountNames t) cs →
+      AllByRecursion (CountNames t) (with_count cs place c)
   with_count_names [] place c named all = (named, tt)
   with_count_names (d ∷ ds) place c named all = all_cond (CountNames t) (nat_eq place d.0) _ _ (all.0, all.1) (all.0, with_count_names ds place c named all.1)
 
-  left_at_names : (o : Option Count) (cs : List (ℕ × Count)) (place : ℕ) → IsPlace t place → AllByRecursion (CountNames t) cs → AllByRecursion (CountNames t) (left_at o cs place)
+  left_at_names : (o : Option Count) (cs : List (ℕ × Count)) (place : ℕ) → IsPlace t place → AllByRecursion (CountNames t) cs →
+      AllByRecursion (CountNames t) (left_at o cs place)
   left_at_names None cs place named all = all
   left_at_names (Some c) cs place named all = with_count_names cs place _ named all
 
   left_names : (cs : List (ℕ × Count)) (place : ℕ) → IsPlace t place → AllByRecursion (CountNames t) cs → AllByRecursion (CountNames t) (left cs place)
   left_names cs place named all = left_at_names (count_in cs place) cs place named all
 
-  lined_up_names : (x : Transaction) (ys : List Transaction) → TransactionNames t x → AllByRecursion (TransactionNames t) ys → AllByRecursion (TransactionNames t) (lined_up x ys)
+  lined_up_names : (x : Transaction) (ys : List Transaction) → TransactionNames t x → AllByRecursion (TransactionNames t) ys →
+      AllByRecursion (TransactionNames t) (lined_up x ys)
   lined_up_names x [] named all = (named, tt)
-  lined_up_names x (y ∷ ys) named all = all_cond (TransactionNames t) (list_any (λ (z : Transaction). not (is_below z.priority x.priority)) (y ∷ ys)) (y ∷ lined_up x ys) (x ∷ y ∷ ys) (all.0, lined_up_names x ys named all.1) (named, all)
+  lined_up_names x (y ∷ ys) named all = all_cond (TransactionNames t) (list_any (λ (z : Transaction). not (is_below z.priority x.priority)) (y ∷ ys))
+      (y ∷ lined_up x ys) (x ∷ y ∷ ys) (all.0, lined_up_names x ys named all.1) (named, all)
 
-  all_lined_up_names : (xs chain : List Transaction) → AllByRecursion (TransactionNames t) xs → AllByRecursion (TransactionNames t) chain → AllByRecursion (TransactionNames t) (all_lined_up xs chain)
+  all_lined_up_names : (xs chain : List Transaction) → AllByRecursion (TransactionNames t) xs → AllByRecursion (TransactionNames t) chain →
+      AllByRecursion (TransactionNames t) (all_lined_up xs chain)
   all_lined_up_names [] chain named all = all
   all_lined_up_names (x ∷ xs) chain named all = all_lined_up_names xs (lined_up x chain) named.1 (lined_up_names x chain named.0 all)
 
@@ -79,10 +84,12 @@ module _ (t : Listing) where
   picked_names s [] h all = h
   picked_names s (x ∷ xs) h all = record { active = all.0; current = all.1; future = h.future; counts = h.counts }
 
-  crossed : (s : Machine) (x : Transaction) (place : ℕ) → StateNames t s → TransactionNames t x → IsPlace t place → (c : Count) → AllByRecursion (CountNames t) (with_count (left s.counts x.current) place c)
+  crossed : (s : Machine) (x : Transaction) (place : ℕ) → StateNames t s → TransactionNames t x → IsPlace t place → (c : Count) →
+      AllByRecursion (CountNames t) (with_count (left s.counts x.current) place c)
   crossed s x place h moving named c = with_count_names (left s.counts x.current) place c named (left_names s.counts x.current moving.current h.counts)
 
-  with_active_names : (s : Machine) (o : Option Transaction) (f : Transaction → Machine) → StateNames t s → ActiveNames t o → ((x : Transaction) → TransactionNames t x → StateNames t (f x)) → StateNames t (with_active o f s)
+  with_active_names : (s : Machine) (o : Option Transaction) (f : Transaction → Machine) → StateNames t s → ActiveNames t o →
+      ((x : Transaction) → TransactionNames t x → StateNames t (f x)) → StateNames t (with_active o f s)
   with_active_names s None f h active each = h
   with_active_names s (Some x) f h active each = each x active
 
@@ -91,7 +98,8 @@ module _ (t : Listing) where
   placed_names place named x y here none =
       record { current = subst (λ p. IsPlace t p) (sym here) named; destination = subst (λ o. IsPlaceIfAny t o) (sym none) tt }
 
-  generated_names : (s : Machine) (x : Transaction) (place : ℕ) (next : Option Arrival) → StateNames t s → TransactionNames t x → IsPlace t place → ArrivalNamesIfAny t next → StateNames t (generated s x place next)
+  generated_names : (s : Machine) (x : Transaction) (place : ℕ) (next : Option Arrival) → StateNames t s → TransactionNames t x → IsPlace t place →
+      ArrivalNamesIfAny t next → StateNames t (generated s x place next)
   generated_names s x place next h moving named coming =
       let w : Making = making s.next s.future (entered (left s.counts x.current) place) in
       let made = maybe_made_names next w coming (record { future = h.future; counts = crossed s x place h moving named _ }) in
@@ -105,7 +113,13 @@ module _ (t : Listing) where
       with_active_names s s.active (λ x. generated s x place next) h h.active (λ x moving. generated_names s x place next h moving named.0 named.1)
   moved_names s (moves.Pass place) h named =
       with_active_names s s.active (λ x. moved_on s x place) h h.active
-      (λ x moving. record { active = placed_names place named x _ refl refl; current = h.current; future = h.future; counts = crossed s x place h moving named _ })
+      (λ x moving. record {
+        active = placed_names place named x _ refl refl;
+        current = h.current;
+        future = h.future;
+        counts =
+            crossed s x place h moving named _;
+      })
   moved_names s (moves.Delay place until) h named =
       with_active_names s s.active (λ x. delayed s x place until) h h.active
       (λ x moving. record {
@@ -128,7 +142,8 @@ module _ (t : Listing) where
 -- a step, and each state of a run with what its step reads
 step_keeps : (t : Listing) (seed : ℕ) (s : Machine) → AreNumbered t.lines → StateNames t s → Keeps t seed (StateNames t) (step_prog s)
 step_keeps t seed s numbered h =
-    keeps_bind t seed (MoveNames t) (StateNames t) (decide s) (λ m. Gives (moved s m)) (move_keeps t seed s s.remaining numbered h.active) (λ m named. keeps_gives t seed (StateNames t) (moved s m) (moved_names t s m h named))
+    keeps_bind t seed (MoveNames t) (StateNames t) (decide s) (λ m. Gives (moved s m)) (move_keeps t seed s s.remaining numbered h.active)
+    (λ m named. keeps_gives t seed (StateNames t) (moved s m) (moved_names t s m h named))
 
 pub run_names : StatesNameBlocks
 run_names t seed zero s numbered is =

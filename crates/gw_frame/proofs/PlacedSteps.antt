@@ -31,7 +31,8 @@ abbrev Whatever : {A : Type 0} → A → Type 0
 Whatever a = Unit {0}
 
 -- the places of GENERATEs are blocks
-found_behind : (line : Numbered) (lines : List Numbered) (n : ℕ) (block : Block) → line_in lines line.number ≡ None → option_and_then block_of (line_in lines n) ≡ Some block → option_and_then block_of (line_in (line ∷ lines) n) ≡ Some block
+found_behind : (line : Numbered) (lines : List Numbered) (n : ℕ) (block : Block) → line_in lines line.number ≡ None →
+    option_and_then block_of (line_in lines n) ≡ Some block → option_and_then block_of (line_in (line ∷ lines) n) ≡ Some block
 found_behind line lines n block apart there = go (nat_eq line.number n) refl where
   go : (b : Bool) → nat_eq line.number n ≡ b → option_and_then block_of (cond (nat_eq line.number n) (Some line) (line_in lines n)) ≡ Some block
   go true is = absurd (let none : line_in lines n ≡ None = subst (λ m. line_in lines m ≡ None) (eqb-true line.number n is) apart in
@@ -41,21 +42,28 @@ found_behind line lines n block apart there = go (nat_eq line.number n) refl whe
 abbrev IsBlockIn : List Numbered → ℕ → Type 0
 IsBlockIn lines n = (block : Block) × (option_and_then block_of (line_in lines n) ≡ Some block)
 
-all_behind : (line : Numbered) (lines : List Numbered) (ns : List ℕ) → line_in lines line.number ≡ None → AllByRecursion (IsBlockIn lines) ns → AllByRecursion (IsBlockIn (line ∷ lines)) ns
+all_behind : (line : Numbered) (lines : List Numbered) (ns : List ℕ) → line_in lines line.number ≡ None → AllByRecursion (IsBlockIn lines) ns →
+    AllByRecursion (IsBlockIn (line ∷ lines)) ns
 all_behind line lines [] apart h = tt
 all_behind line lines (n ∷ ns) apart h = ((h.0.0, found_behind line lines n h.0.0 apart h.0.1), all_behind line lines ns apart h.1)
 
-generate_there : (line : Numbered) (lines : List Numbered) (body : Body) → line.statement.body ≡ body → is_generate_body body ≡ true → IsBlockIn (line ∷ lines) line.number
-generate_there line lines (bodies.Block block) is there =
-    (block, subst (λ b. option_and_then block_of (cond b (Some line) (line_in lines line.number)) ≡ Some block) (sym (eq-eqb line.number line.number refl)) (ap block_of_body is))
+generate_there : (line : Numbered) (lines : List Numbered) (body : Body) → line.statement.body ≡ body → is_generate_body body ≡ true →
+    IsBlockIn (line ∷ lines) line.number
+generate_there line lines (bodies.Block block) is there = (
+  block,
+  subst (λ b. option_and_then block_of (cond b (Some line) (line_in lines line.number)) ≡ Some block) (sym (eq-eqb line.number line.number refl))
+      (ap block_of_body is),
+)
 generate_there line lines (bodies.Command command) is there = absurd cc
 
 generates_there : (lines : List Numbered) → AreNumbered lines → AllByRecursion (IsBlockIn lines) (generates_in lines)
 generates_there [] numbered = tt
 generates_there (line ∷ lines) numbered =
     go (is_generate line) refl (all_behind line lines (generates_in lines) numbered.1 (generates_there lines numbered.2)) where
-      go : (b : Bool) → is_generate line ≡ b → AllByRecursion (IsBlockIn (line ∷ lines)) (generates_in lines) → AllByRecursion (IsBlockIn (line ∷ lines)) (cond (is_generate line) (line.number ∷ generates_in lines) (generates_in lines))
-      go true is rest = subst (λ c. AllByRecursion (IsBlockIn (line ∷ lines)) (cond c (line.number ∷ generates_in lines) (generates_in lines))) (sym is) (generate_there line lines line.statement.body refl is, rest)
+      go : (b : Bool) → is_generate line ≡ b → AllByRecursion (IsBlockIn (line ∷ lines)) (generates_in lines) →
+          AllByRecursion (IsBlockIn (line ∷ lines)) (cond (is_generate line) (line.number ∷ generates_in lines) (generates_in lines))
+      go true is rest = subst (λ c. AllByRecursion (IsBlockIn (line ∷ lines)) (cond c (line.number ∷ generates_in lines) (generates_in lines))) (sym is)
+          (generate_there line lines line.statement.body refl is, rest)
       go false is rest = subst (λ c. AllByRecursion (IsBlockIn (line ∷ lines)) (cond c (line.number ∷ generates_in lines) (generates_in lines))) (sym is) rest
 
 module _ (t : Listing) (seed : ℕ) where
@@ -68,19 +76,26 @@ module _ (t : Listing) (seed : ℕ) where
 
   -- arrivals
   arrival_at_keeps : (s : Machine) (place : ℕ) (time priority : ℤ) → IsPlace t place → Keeps t seed (ArrivalNamesIfAny t) (arrival_at s place time priority)
-  arrival_at_keeps s place time priority named = keeps_stops t seed _ (is_negative time) NegativeTime _ (keeps_stops t seed _ (nat_le 100000 (live s)) TooManyTransactions _ (keeps_gives t seed _ _ named))
+  arrival_at_keeps s place time priority named = keeps_stops t seed _ (is_negative time) NegativeTime _
+      (keeps_stops t seed _ (nat_le 100000 (live s)) TooManyTransactions _ (keeps_gives t seed _ _ named))
 
-  arrival_in_time_keeps : (s : Machine) (place : ℕ) (time priority : Option Term) → IsPlace t place → Keeps t seed (ArrivalNamesIfAny t) (arrival_in_time s place time priority)
+  arrival_in_time_keeps : (s : Machine) (place : ℕ) (time priority : Option Term) → IsPlace t place →
+      Keeps t seed (ArrivalNamesIfAny t) (arrival_in_time s place time priority)
   arrival_in_time_keeps s place time priority named =
-      keeps_bind t seed Whatever _ _ _ (value_or_zero_keeps s time) (λ v h. keeps_bind t seed Whatever _ _ _ (value_or_zero_keeps s priority) (λ p k. arrival_at_keeps s place v p named))
+      keeps_bind t seed Whatever _ _ _ (value_or_zero_keeps s time)
+      (λ v h. keeps_bind t seed Whatever _ _ _ (value_or_zero_keeps s priority) (λ p k. arrival_at_keeps s place v p named))
 
-  arrival_within_keeps : (s : Machine) (place made : ℕ) (time priority : Option Term) (n : ℤ) → IsPlace t place → Keeps t seed (ArrivalNamesIfAny t) (arrival_within s place made time priority n)
+  arrival_within_keeps : (s : Machine) (place made : ℕ) (time priority : Option Term) (n : ℤ) → IsPlace t place →
+      Keeps t seed (ArrivalNamesIfAny t) (arrival_within s place made time priority n)
   arrival_within_keeps s place made time priority n named =
-      keeps_stops t seed _ (is_negative n) BadCount _ (keeps_cond t seed _ (nat_le (magnitude n) made) _ _ (keeps_gives t seed _ _ tt) (arrival_in_time_keeps s place time priority named))
+      keeps_stops t seed _ (is_negative n) BadCount _ (keeps_cond t seed _ (nat_le (magnitude n) made) _ _ (keeps_gives t seed _ _ tt)
+      (arrival_in_time_keeps s place time priority named))
 
-  arrival_keeps : (s : Machine) (place made : ℕ) (time limit priority : Option Term) → IsPlace t place → Keeps t seed (ArrivalNamesIfAny t) (arrival_prog s place made time limit priority)
+  arrival_keeps : (s : Machine) (place made : ℕ) (time limit priority : Option Term) → IsPlace t place →
+      Keeps t seed (ArrivalNamesIfAny t) (arrival_prog s place made time limit priority)
   arrival_keeps s place made time None priority named = arrival_in_time_keeps s place time priority named
-  arrival_keeps s place made time (Some limit) priority named = keeps_bind t seed Whatever _ _ _ (value_keeps s limit) (λ n h. arrival_within_keeps s place made time priority n named)
+  arrival_keeps s place made time (Some limit) priority named =
+      keeps_bind t seed Whatever _ _ _ (value_keeps s limit) (λ n h. arrival_within_keeps s place made time priority n named)
 
   -- priming
   first_arrival_keeps : (s : Machine) (place : ℕ) (block : Option Block) → IsPlace t place → Keeps t seed (ArrivalNamesIfAny t) (first_arrival s place block)
@@ -89,14 +104,17 @@ module _ (t : Listing) (seed : ℕ) where
   first_arrival_keeps s place (Some (blocks.Terminate count)) named = keeps_gives t seed _ _ tt
   first_arrival_keeps s place None named = keeps_gives t seed _ _ tt
 
-  with_arrival_names : (a : Option Arrival) (made : List Arrival) → ArrivalNamesIfAny t a → AllByRecursion (ArrivalNames t) made → AllByRecursion (ArrivalNames t) (with_arrival a made)
+  with_arrival_names : (a : Option Arrival) (made : List Arrival) → ArrivalNamesIfAny t a → AllByRecursion (ArrivalNames t) made →
+      AllByRecursion (ArrivalNames t) (with_arrival a made)
   with_arrival_names None made named all = all
   with_arrival_names (Some a) made named all = all_with (ArrivalNames t) made (a ∷ []) all (named, tt)
 
-  arrivals_keep : (s : Machine) (places : List ℕ) (made : List Arrival) → AllByRecursion (IsBlockIn t.lines) places → AllByRecursion (ArrivalNames t) made → Keeps t seed (AllByRecursion (ArrivalNames t)) (arrivals_prog s places made)
+  arrivals_keep : (s : Machine) (places : List ℕ) (made : List Arrival) → AllByRecursion (IsBlockIn t.lines) places → AllByRecursion (ArrivalNames t) made →
+      Keeps t seed (AllByRecursion (ArrivalNames t)) (arrivals_prog s places made)
   arrivals_keep s [] made named all = keeps_gives t seed _ _ all
   arrivals_keep s (place ∷ places) made named all =
-      keeps_bind t seed (ArrivalNamesIfAny t) _ _ _ (keeps_asks t seed _ (items.Block place) _ (inr named.0) (first_arrival_keeps s place (block_at t place) (inr named.0)))
+      keeps_bind t seed (ArrivalNamesIfAny t) _ _ _ (keeps_asks t seed _ (items.Block place) _ (inr named.0)
+      (first_arrival_keeps s place (block_at t place) (inr named.0)))
       (λ a h. arrivals_keep s places (with_arrival a made) named.1 (with_arrival_names a made h all))
 
   -- commands
@@ -104,16 +122,20 @@ module _ (t : Listing) (seed : ℕ) where
   start_keeps s true count numbered = keeps_gives t seed _ _ tt
   start_keeps s false count numbered =
       keeps_bind t seed (AllByRecursion (ArrivalNames t)) (MoveNames t) _ (λ first. Gives (moves.Start count first))
-      (keeps_asks t seed _ items.Generates (λ places. arrivals_prog s places []) tt (arrivals_keep s (generates_in t.lines) [] (generates_there t.lines numbered) tt)) (λ first h. keeps_gives t seed (MoveNames t) (moves.Start count first) h)
+      (keeps_asks t seed _ items.Generates (λ places. arrivals_prog s places []) tt
+      (arrivals_keep s (generates_in t.lines) [] (generates_there t.lines numbered) tt))
+      (λ first h. keeps_gives t seed (MoveNames t) (moves.Start count first) h)
 
   command_keeps : (s : Machine) (command : Option Command) → AreNumbered t.lines → Keeps t seed (MoveNames t) (command_prog s command)
   command_keeps s None numbered = keeps_ends t seed _ ends.CommandsDone
   command_keeps s (Some (commands.Start count)) numbered = start_keeps s s.primed count numbered
 
   -- blocks
-  generate_keeps : (s : Machine) (x : Transaction) (place : ℕ) (mean limit priority : Option Term) → IsPlace t place → Keeps t seed (MoveNames t) (generate_prog s x place mean limit priority)
+  generate_keeps : (s : Machine) (x : Transaction) (place : ℕ) (mean limit priority : Option Term) → IsPlace t place →
+      Keeps t seed (MoveNames t) (generate_prog s x place mean limit priority)
   generate_keeps s x place mean limit priority named =
-      keeps_cond t seed _ (nat_eq x.current 0) _ _ (keeps_bind t seed (ArrivalNamesIfAny t) _ _ _ (arrival_keeps s place _ mean limit priority named) (λ next h. keeps_gives t seed _ _ (named, h))) (keeps_ends t seed _ _)
+      keeps_cond t seed _ (nat_eq x.current 0) _ _ (keeps_bind t seed (ArrivalNamesIfAny t) _ _ _ (arrival_keeps s place _ mean limit priority named)
+      (λ next h. keeps_gives t seed _ _ (named, h))) (keeps_ends t seed _ _)
 
   delay_names : (s : Machine) (place n : ℕ) → IsPlace t place → MoveNames t (delay_of s place n)
   delay_names s place zero named = named
@@ -121,7 +143,8 @@ module _ (t : Listing) (seed : ℕ) where
 
   advance_keeps : (s : Machine) (place : ℕ) (time : Option Term) → IsPlace t place → Keeps t seed (MoveNames t) (advance_prog s place time)
   advance_keeps s place time named =
-      keeps_bind t seed Whatever _ _ _ (value_or_zero_keeps s time) (λ v h. keeps_stops t seed _ (is_negative v) NegativeTime _ (keeps_gives t seed _ _ (delay_names s place (magnitude v) named)))
+      keeps_bind t seed Whatever _ _ _ (value_or_zero_keeps s time)
+      (λ v h. keeps_stops t seed _ (is_negative v) NegativeTime _ (keeps_gives t seed _ _ (delay_names s place (magnitude v) named)))
 
   terminate_keeps : (s : Machine) (place : ℕ) (count : Option Term) → IsPlace t place → Keeps t seed (MoveNames t) (terminate_prog s place count)
   terminate_keeps s place count named =
@@ -133,11 +156,13 @@ module _ (t : Listing) (seed : ℕ) where
   enter_keeps s x place (blocks.Terminate count) named = terminate_keeps s place count named
 
   -- attempts: a place that is no block ends the run
-  try_block : (s : Machine) (x : Transaction) (place : ℕ) (block : Option Block) → block_at t place ≡ block → Keeps t seed (MoveNames t) (Asks (items.Block place) (enter_prog s x place))
+  try_block : (s : Machine) (x : Transaction) (place : ℕ) (block : Option Block) → block_at t place ≡ block →
+      Keeps t seed (MoveNames t) (Asks (items.Block place) (enter_prog s x place))
   try_block s x place None is = record { runs = λ m there. absurd (let ends = ap (λ o. result_of t seed (enter_prog s x place o)) is in cc) }
   try_block s x place (Some block) is =
       let named : IsPlace t place = inr (block, is) in
-      keeps_asks t seed _ (items.Block place) _ named (subst (λ o. Keeps t seed (MoveNames t) (enter_prog s x place o)) (sym is) (enter_keeps s x place block named))
+      keeps_asks t seed _ (items.Block place) _ named (subst (λ o. Keeps t seed (MoveNames t) (enter_prog s x place o)) (sym is)
+      (enter_keeps s x place block named))
 
   try_keeps : (s : Machine) (x : Transaction) (place : Option ℕ) → Keeps t seed (MoveNames t) (try_prog s x place)
   try_keeps s x None = keeps_ends t seed _ _

@@ -44,7 +44,8 @@ module _ (t : Listing) (seed : ℕ) where
   pub keeps_ends : {A : Type 0} (Q : A → Type 0) (end : End) → Keeps t seed Q (Ends end)
   keeps_ends Q end = record { runs = λ b is. absurd cc }
 
-  pub keeps_asks : {A : Type 0} (Q : A → Type 0) (i : Item) (k : Answer i → Prog A) → ItemNames t i → Keeps t seed Q (k (ask t seed i)) → Keeps t seed Q (Asks i k)
+  pub keeps_asks : {A : Type 0} (Q : A → Type 0) (i : Item) (k : Answer i → Prog A) → ItemNames t i → Keeps t seed Q (k (ask t seed i)) →
+      Keeps t seed Q (Asks i k)
   keeps_asks Q i k named rest = record { runs = λ a is. (let h = rest.runs a is in (h.0, (named, h.1))) }
 
   pub keeps_cond : {A : Type 0} (Q : A → Type 0) (b : Bool) (p q : Prog A) → Keeps t seed Q p → Keeps t seed Q q → Keeps t seed Q (cond b p q)
@@ -55,9 +56,11 @@ module _ (t : Listing) (seed : ℕ) where
   keeps_stops Q true stop p h = keeps_ends Q _
   keeps_stops Q false stop p h = h
 
-  pub keeps_bind : {A B : Type 0} (Q : A → Type 0) (R : B → Type 0) (p : Prog A) (k : A → Prog B) → Keeps t seed Q p → ((a : A) → Q a → Keeps t seed R (k a)) → Keeps t seed R (p >>= k)
+  pub keeps_bind : {A B : Type 0} (Q : A → Type 0) (R : B → Type 0) (p : Prog A) (k : A → Prog B) → Keeps t seed Q p → ((a : A) → Q a → Keeps t seed R (k a)) →
+      Keeps t seed R (p >>= k)
   keeps_bind {A} {B} Q R p k first second = record { runs = λ b is. go b is (result_of t seed p) refl } where
-    go : (b : B) → result_of t seed (p >>= k) ≡ Ok b → (r : Result A End) → result_of t seed p ≡ r → R b × AllByRecursion (ItemNames t) (items_of t seed (p >>= k))
+    go : (b : B) → result_of t seed (p >>= k) ≡ Ok b → (r : Result A End) → result_of t seed p ≡ r → R b ×
+        AllByRecursion (ItemNames t) (items_of t seed (p >>= k))
     go b is (Ok a) there =
         let both = bind_gives t seed p k a there in
         let one = first.runs a there in

@@ -25,23 +25,29 @@ module _ (t u : Listing) (f g h : ℕ → ℕ) (same : (p : ℕ) → IsPlace t p
 
   transaction_same : (x : Transaction) → TransactionNames t x → TransactionNames u x → moved_transaction f x ≡ moved_transaction h (moved_transaction g x)
   transaction_same x there also =
-      ap₂ (λ current destination. let y : Transaction = record x { current = current; destination = destination } in y) (same x.current there.current also.current) (maybe_same x.destination there.destination also.destination)
+      ap₂ (λ current destination. let y : Transaction = record x { current = current; destination = destination } in y)
+      (same x.current there.current also.current) (maybe_same x.destination there.destination also.destination)
 
-  active_same : (o : Option Transaction) → ActiveNames t o → ActiveNames u o → option_map (moved_transaction f) o ≡ option_map (moved_transaction h) (option_map (moved_transaction g) o)
+  active_same : (o : Option Transaction) → ActiveNames t o → ActiveNames u o →
+      option_map (moved_transaction f) o ≡ option_map (moved_transaction h) (option_map (moved_transaction g) o)
   active_same None there also = refl
   active_same (Some x) there also = ap (λ y. Some y) (transaction_same x there also)
 
   -- lists of what is the same for each
-  list_same : {X : Type 0} (P Q : X → Type 0) (a b c : X → X) → ((x : X) → P x → Q x → a x ≡ c (b x)) → (xs : List X) → AllByRecursion P xs → AllByRecursion Q xs → map a xs ≡ map c (map b xs)
+  list_same : {X : Type 0} (P Q : X → Type 0) (a b c : X → X) → ((x : X) → P x → Q x → a x ≡ c (b x)) → (xs : List X) → AllByRecursion P xs →
+      AllByRecursion Q xs → map a xs ≡ map c (map b xs)
   list_same P Q a b c each [] there also = refl
   list_same P Q a b c each (x ∷ xs) there also = ap₂ (λ y ys. y ∷ ys) (each x there.0 also.0) (list_same P Q a b c each xs there.1 also.1)
 
   state_same : (s : Machine) → StateNames t s → StateNames u s → moved_machine f s ≡ moved_machine h (moved_machine g s)
   state_same s there also =
       let active = active_same s.active there.active also.active in
-      let current = list_same (TransactionNames t) (TransactionNames u) (moved_transaction f) (moved_transaction g) (moved_transaction h) transaction_same s.current there.current also.current in
-      let future = list_same (EventNames t) (EventNames u) (moved_event f) (moved_event g) (moved_event h) (λ e k l. ap (λ x. let y : Event = record e { transaction = x } in y) (transaction_same e.transaction k l)) s.future there.future also.future in
-      let counts = list_same (CountNames t) (CountNames u) (moved_count f) (moved_count g) (moved_count h) (λ c k l. ap (λ p. (p, c.1)) (same c.0 k l)) s.counts there.counts also.counts in
+      let current = list_same (TransactionNames t) (TransactionNames u) (moved_transaction f) (moved_transaction g) (moved_transaction h)
+      transaction_same s.current there.current also.current in
+      let future = list_same (EventNames t) (EventNames u) (moved_event f) (moved_event g) (moved_event h)
+      (λ e k l. ap (λ x. let y : Event = record e { transaction = x } in y) (transaction_same e.transaction k l)) s.future there.future also.future in
+      let counts = list_same (CountNames t) (CountNames u) (moved_count f) (moved_count g) (moved_count h) (λ c k l. ap (λ p. (p, c.1)) (same c.0 k l))
+      s.counts there.counts also.counts in
       rw (active, current, future, counts) refl
 
   item_same : (i : Item) → ItemNames t i → ItemNames u i → moved_item f i ≡ moved_item h (moved_item g i)
@@ -52,7 +58,8 @@ module _ (t u : Listing) (f g h : ℕ → ℕ) (same : (p : ℕ) → IsPlace t p
   item_same items.Seed there also = refl
   item_same (items.Within time) there also = refl
 
-  items_same : (is : List Item) → AllByRecursion (ItemNames t) is → AllByRecursion (ItemNames u) is → map (moved_item f) is ≡ map (moved_item h) (map (moved_item g) is)
+  items_same : (is : List Item) → AllByRecursion (ItemNames t) is → AllByRecursion (ItemNames u) is →
+      map (moved_item f) is ≡ map (moved_item h) (map (moved_item g) is)
   items_same is there also = list_same (ItemNames t) (ItemNames u) (moved_item f) (moved_item g) (moved_item h) item_same is there also
 
 -- each step of a run goes
@@ -78,10 +85,13 @@ frame_in_positions t seed u new_seed n s front goes comes back splice first seco
       state_same t u (position_of u) (position_of t) move same s (run_names t seed n s first there) (run_names u new_seed n s second unseen.0),
       λ j below. reads_same same unseen.0 j below (unseen.1 j below),
     ) where
-      reads_same : ((p : ℕ) → IsPlace t p → IsPlace u p → position_of u p ≡ shifted front goes comes (position_of t p)) → run u new_seed n ≡ Ok s → (j : ℕ) → j < n → reads u new_seed j ≡ reads t seed j → map (moved_item (position_of u)) (reads u new_seed j) ≡ map (moved_item (shifted front goes comes)) (map (moved_item (position_of t)) (reads t seed j))
+      reads_same : ((p : ℕ) → IsPlace t p → IsPlace u p → position_of u p ≡ shifted front goes comes (position_of t p)) → run u new_seed n ≡ Ok s → (j : ℕ) →
+          j < n → reads u new_seed j ≡ reads t seed j → map (moved_item (position_of u)) (reads u new_seed j) ≡
+          map (moved_item (shifted front goes comes)) (map (moved_item (position_of t)) (reads t seed j))
       reads_same same also j below reads_alike =
           let old = goes_below t seed n s there j below in
           let new = goes_below u new_seed n s also j below in
           let named = reads_names t seed j old.from old.to first old.there old.goes in
           let renamed = subst (λ is. AllByRecursion (ItemNames u) is) reads_alike (reads_names u new_seed j new.from new.to second new.there new.goes) in
-          ap (map (moved_item (position_of u))) reads_alike ∙ items_same t u (position_of u) (position_of t) (shifted front goes comes) same (reads t seed j) named renamed
+          ap (map (moved_item (position_of u))) reads_alike ∙
+          items_same t u (position_of u) (position_of t) (shifted front goes comes) same (reads t seed j) named renamed

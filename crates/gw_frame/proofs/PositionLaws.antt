@@ -18,30 +18,41 @@ block_in lines p = option_and_then block_of (line_in lines p)
 here : (line : Numbered) (lines : List Numbered) (p : ℕ) (x : Block) → nat_eq line.number p ≡ true → block_in (line ∷ lines) p ≡ Some x → block_of line ≡ Some x
 here line lines p x is there = subst (λ b. option_and_then block_of (cond b (Some line) (line_in lines p)) ≡ Some x) is there
 
-further : (line : Numbered) (lines : List Numbered) (p : ℕ) (x : Block) → nat_eq line.number p ≡ false → block_in (line ∷ lines) p ≡ Some x → block_in lines p ≡ Some x
+further : (line : Numbered) (lines : List Numbered) (p : ℕ) (x : Block) → nat_eq line.number p ≡ false → block_in (line ∷ lines) p ≡ Some x →
+    block_in lines p ≡ Some x
 further line lines p x is there = subst (λ b. option_and_then block_of (cond b (Some line) (line_in lines p)) ≡ Some x) is there
 
-position_here : (b : ℕ) (line : Numbered) (lines : List Numbered) (p : ℕ) (x : Block) → nat_eq line.number p ≡ true → block_of line ≡ Some x → position_in b (line ∷ lines) p ≡ Some (b + 1)
+position_here : (b : ℕ) (line : Numbered) (lines : List Numbered) (p : ℕ) (x : Block) → nat_eq line.number p ≡ true → block_of line ≡ Some x →
+    position_in b (line ∷ lines) p ≡ Some (b + 1)
 position_here b line lines p x is block = rw (is, ap is_some block) refl
 
-position_further : (b : ℕ) (line : Numbered) (lines : List Numbered) (p : ℕ) → nat_eq line.number p ≡ false → position_in b (line ∷ lines) p ≡ position_in (cond (is_block line) (b + 1) b) lines p
+position_further : (b : ℕ) (line : Numbered) (lines : List Numbered) (p : ℕ) → nat_eq line.number p ≡ false →
+    position_in b (line ∷ lines) p ≡ position_in (cond (is_block line) (b + 1) b) lines p
 position_further b line lines p is = rw is refl
 
 -- the blocks in front of the next line
 counted : (b : ℕ) (line : Numbered) (lines : List Numbered) → cond (is_block line) (b + 1) b + count_blocks lines ≡ b + count_blocks (line ∷ lines)
-counted b line lines = elim (is_block line) as (λ k. cond k (b + 1) b + count_blocks lines ≡ b + length (cond k (line ∷ filter is_block lines) (filter is_block lines))) [ true ↦ omega arith | false ↦ refl ]
+counted b line lines = elim (is_block line) as (λ k. cond k (b + 1) b + count_blocks lines ≡
+    b + length (cond k (line ∷ filter is_block lines) (filter is_block lines))) [ true ↦ omega arith | false ↦ refl ]
 
 -- a block of these lines stands so many blocks behind what is in front of them
 abbrev Stands : List Numbered → ℕ → ℕ → Type 0
 Stands lines p k = (b : ℕ) → position_in b lines p ≡ Some (b + suc k)
 
-stands_behind : (line : Numbered) (lines : List Numbered) (p : ℕ) → nat_eq line.number p ≡ false → (k : ℕ) × Stands lines p k → (k : ℕ) × Stands (line ∷ lines) p k
+stands_behind : (line : Numbered) (lines : List Numbered) (p : ℕ) → nat_eq line.number p ≡ false → (k : ℕ) × Stands lines p k → (k : ℕ) ×
+    Stands (line ∷ lines) p k
 stands_behind line lines p is (k, rest) = go (is_block line) refl where
   go : (kind : Bool) → is_block line ≡ kind → (n : ℕ) × Stands (line ∷ lines) p n
-  go true kind = (suc k, λ b. position_further b line lines p is ∙ (ap (λ c. position_in (cond c (b + 1) b) lines p) kind ∙ (rest (b + 1) ∙ (let e : (b + 1) + suc k ≡ b + suc (suc k) = omega arith in ap (λ n. Some n) e))))
+  go true kind = (
+    suc k,
+    λ b. position_further b line lines p is ∙
+        (ap (λ c. position_in (cond c (b + 1) b) lines p) kind ∙
+        (rest (b + 1) ∙ (let e : (b + 1) + suc k ≡ b + suc (suc k) = omega arith in ap (λ n. Some n) e))),
+  )
   go false kind = (k, λ b. position_further b line lines p is ∙ (ap (λ c. position_in (cond c (b + 1) b) lines p) kind ∙ rest b))
 
-stands_by : (line : Numbered) (lines : List Numbered) (p : ℕ) (x : Block) → block_in (line ∷ lines) p ≡ Some x → (block_in lines p ≡ Some x → (k : ℕ) × Stands lines p k) → (b : Bool) → nat_eq line.number p ≡ b → (k : ℕ) × Stands (line ∷ lines) p k
+stands_by : (line : Numbered) (lines : List Numbered) (p : ℕ) (x : Block) → block_in (line ∷ lines) p ≡ Some x →
+    (block_in lines p ≡ Some x → (k : ℕ) × Stands lines p k) → (b : Bool) → nat_eq line.number p ≡ b → (k : ℕ) × Stands (line ∷ lines) p k
 stands_by line lines p x there rest true is = (0, λ b. position_here b line lines p x is (here line lines p x is there))
 stands_by line lines p x there rest false is = stands_behind line lines p is (rest (further line lines p x is there))
 
@@ -60,19 +71,27 @@ pub record IsBehind (lines back : List Numbered) (p : ℕ) (x : Block) : Type 0 
   pub there : block_in back p ≡ Some x
   pub stands : (b k : ℕ) → Stands back p k → position_in b (lines ++ back) p ≡ Some ((b + count_blocks lines) + suc k)
 
-line_or_back : (lines back : List Numbered) (p : ℕ) (x : Block) → length lines ≤ 1 → block_in (lines ++ back) p ≡ Some x → IsLine lines p x ⊎ IsBehind lines back p x
-line_or_back [] back p x one there = inr (record { there = there; stands = λ b k back_stands. back_stands b ∙ (let e : b + suc k ≡ (b + 0) + suc k = omega arith in ap (λ n. Some n) e) })
+line_or_back : (lines back : List Numbered) (p : ℕ) (x : Block) → length lines ≤ 1 → block_in (lines ++ back) p ≡ Some x → IsLine lines p x ⊎
+    IsBehind lines back p x
+line_or_back [] back p x one there = inr (record {
+  there = there;
+  stands =
+      λ b k back_stands. back_stands b ∙ (let e : b + suc k ≡ (b + 0) + suc k = omega arith in ap (λ n. Some n) e);
+})
 line_or_back (line ∷ []) back p x one there = go (nat_eq line.number p) refl where
   go : (b : Bool) → nat_eq line.number p ≡ b → IsLine (line ∷ []) p x ⊎ IsBehind (line ∷ []) back p x
   go true is = inl (record { line = line; alone = refl; number = is; block = here line back p x is there })
   go false is = inr (record {
     there = further line back p x is there;
-    stands = λ b k back_stands. position_further b line back p is ∙ (back_stands (cond (is_block line) (b + 1) b) ∙ (let e : cond (is_block line) (b + 1) b + suc k ≡ (b + count_blocks (line ∷ [])) + suc k = omega (arith, counted b line []) in ap (λ n. Some n) e));
+    stands = λ b k back_stands. position_further b line back p is ∙
+        (back_stands (cond (is_block line) (b + 1) b) ∙ (let e : cond (is_block line) (b + 1) b + suc k ≡ (b + count_blocks (line ∷ [])) + suc k =
+        omega (arith, counted b line []) in ap (λ n. Some n) e));
   })
 line_or_back (line ∷ other ∷ lines) back p x one there = absurd (omega arith)
 
 -- where the line is the one that is looked for, the back has none
-not_behind : (line : Numbered) (lines back : List Numbered) (p : ℕ) (x : Block) → lines ≡ line ∷ [] → AreNumbered (lines ++ back) → nat_eq line.number p ≡ true → block_in back p ≡ Some x → ⊥
+not_behind : (line : Numbered) (lines back : List Numbered) (p : ℕ) (x : Block) → lines ≡ line ∷ [] → AreNumbered (lines ++ back) →
+    nat_eq line.number p ≡ true → block_in back p ≡ Some x → ⊥
 not_behind line lines back p x alone numbered is there =
     let apart : AreNumbered (line ∷ back) = subst (λ ls. AreNumbered (ls ++ back)) alone numbered in
     let none : line_in back p ≡ None = subst (λ n. line_in back n ≡ None) (eqb-true line.number p is) apart.1 in
@@ -90,7 +109,8 @@ pub record Shifts (b front goes comes : ℕ) (o n : Option ℕ) : Type 0 where
 one_block : (line : Numbered) (x : Block) → block_of line ≡ Some x → count_blocks (line ∷ []) ≡ 1
 one_block line x block = rw (ap is_some block) refl
 
-at_splice : (goes comes back : List Numbered) (b p : ℕ) (x y : Block) → AreNumbered (goes ++ back) → AreNumbered (comes ++ back) → IsLine goes p x ⊎ IsBehind goes back p x → IsLine comes p y ⊎ IsBehind comes back p y →
+at_splice : (goes comes back : List Numbered) (b p : ℕ) (x y : Block) → AreNumbered (goes ++ back) → AreNumbered (comes ++ back) → IsLine goes p x ⊎
+    IsBehind goes back p x → IsLine comes p y ⊎ IsBehind comes back p y →
     Shifts b 0 (count_blocks goes) (count_blocks comes) (position_in b (goes ++ back) p) (position_in b (comes ++ back) p)
 at_splice goes comes back b p x y first second (inl l) (inl m) =
     let one : count_blocks goes ≡ 1 = ap count_blocks l.alone ∙ one_block l.line x l.block in
@@ -122,10 +142,14 @@ numbered_behind : (line : Numbered) (lines : List Numbered) → AreNumbered (lin
 numbered_behind line lines numbered = numbered.2
 
 module _ (goes comes back : List Numbered) (one : length goes ≤ 1) (other : length comes ≤ 1) (p : ℕ) (x y : Block) where
-  shifts_by : (line : Numbered) (front : List Numbered) (b : ℕ) → block_in (line ∷ front ++ (goes ++ back)) p ≡ Some x → block_in (line ∷ front ++ (comes ++ back)) p ≡ Some y →
-      ((c : ℕ) → block_in (front ++ (goes ++ back)) p ≡ Some x → block_in (front ++ (comes ++ back)) p ≡ Some y → Shifts c (count_blocks front) (count_blocks goes) (count_blocks comes) (position_in c (front ++ (goes ++ back)) p) (position_in c (front ++ (comes ++ back)) p)) →
+  shifts_by : (line : Numbered) (front : List Numbered) (b : ℕ) → block_in (line ∷ front ++ (goes ++ back)) p ≡ Some x →
+      block_in (line ∷ front ++ (comes ++ back)) p ≡ Some y →
+      ((c : ℕ) → block_in (front ++ (goes ++ back)) p ≡ Some x → block_in (front ++ (comes ++ back)) p ≡ Some y →
+      Shifts c (count_blocks front) (count_blocks goes) (count_blocks comes) (position_in c (front ++ (goes ++ back)) p)
+      (position_in c (front ++ (comes ++ back)) p)) →
       (test : Bool) → nat_eq line.number p ≡ test →
-      Shifts b (count_blocks (line ∷ front)) (count_blocks goes) (count_blocks comes) (position_in b (line ∷ front ++ (goes ++ back)) p) (position_in b (line ∷ front ++ (comes ++ back)) p)
+      Shifts b (count_blocks (line ∷ front)) (count_blocks goes) (count_blocks comes) (position_in b (line ∷ front ++ (goes ++ back)) p)
+      (position_in b (line ∷ front ++ (comes ++ back)) p)
   shifts_by line front b old new rest true is =
       let block = here line (front ++ (goes ++ back)) p x is old in
       record {
@@ -133,7 +157,8 @@ module _ (goes comes back : List Numbered) (one : length goes ≤ 1) (other : le
         to = b + 1;
         old = position_here b line (front ++ (goes ++ back)) p x is block;
         new = position_here b line (front ++ (comes ++ back)) p x is block;
-        move = stays (count_blocks (line ∷ front)) (count_blocks goes) (count_blocks comes) (let e : count_blocks (line ∷ front) ≡ suc (count_blocks front) = rw (ap is_some block) refl in omega arith);
+        move = stays (count_blocks (line ∷ front)) (count_blocks goes) (count_blocks comes)
+            (let e : count_blocks (line ∷ front) ≡ suc (count_blocks front) = rw (ap is_some block) refl in omega arith);
       } where
         stays : (n g c : ℕ) → 1 ≤ n → b + 1 ≡ cond (nat_le (b + 1) (b + n)) (b + 1) (((b + 1) - g) + c)
         stays n g c some = grind (arith, nat_tests)
@@ -148,11 +173,14 @@ module _ (goes comes back : List Numbered) (one : length goes ≤ 1) (other : le
         move = h.move ∙ ap (λ n. cond (nat_le h.from n) h.from ((h.from - count_blocks goes) + count_blocks comes)) (counted b line front);
       }
 
-  shifts : (front : List Numbered) (b : ℕ) → AreNumbered (front ++ (goes ++ back)) → AreNumbered (front ++ (comes ++ back)) → block_in (front ++ (goes ++ back)) p ≡ Some x → block_in (front ++ (comes ++ back)) p ≡ Some y →
-      Shifts b (count_blocks front) (count_blocks goes) (count_blocks comes) (position_in b (front ++ (goes ++ back)) p) (position_in b (front ++ (comes ++ back)) p)
+  shifts : (front : List Numbered) (b : ℕ) → AreNumbered (front ++ (goes ++ back)) → AreNumbered (front ++ (comes ++ back)) →
+      block_in (front ++ (goes ++ back)) p ≡ Some x → block_in (front ++ (comes ++ back)) p ≡ Some y →
+      Shifts b (count_blocks front) (count_blocks goes) (count_blocks comes) (position_in b (front ++ (goes ++ back)) p)
+      (position_in b (front ++ (comes ++ back)) p)
   shifts [] b first second old new = at_splice goes comes back b p x y first second (line_or_back goes back p x one old) (line_or_back comes back p y other new)
   shifts (line ∷ front) b first second old new =
-      shifts_by line front b old new (λ c o n. shifts front c (numbered_behind line (front ++ (goes ++ back)) first) (numbered_behind line (front ++ (comes ++ back)) second) o n) (nat_eq line.number p) refl
+      shifts_by line front b old new (λ c o n. shifts front c (numbered_behind line (front ++ (goes ++ back)) first)
+      (numbered_behind line (front ++ (comes ++ back)) second) o n) (nat_eq line.number p) refl
 
 -- what is no block has no position
 no_position : (b : ℕ) (lines : List Numbered) (p : ℕ) → line_in lines p ≡ None → position_in b lines p ≡ None
@@ -169,7 +197,8 @@ none_shifts front goes comes = by_number (count_blocks front) (count_blocks goes
 position_none : (t : Listing) (p : ℕ) → AreNumbered t.lines → p ≡ 0 → position_of t p ≡ 0
 position_none t p numbered is = ap (position_of t) is ∙ ap (λ o. unwrap_or o 0) (no_position 0 t.lines 0 (no_place t.lines numbered))
 
-pub position_shifts : (t u : Listing) (front goes comes back : List Numbered) → IsSplice t u front goes comes back → AreNumbered t.lines → AreNumbered u.lines → (p : ℕ) → IsPlace t p → IsPlace u p → position_of u p ≡ shifted front goes comes (position_of t p)
+pub position_shifts : (t u : Listing) (front goes comes back : List Numbered) → IsSplice t u front goes comes back → AreNumbered t.lines → AreNumbered u.lines →
+    (p : ℕ) → IsPlace t p → IsPlace u p → position_of u p ≡ shifted front goes comes (position_of t p)
 position_shifts t u front goes comes back splice first second p (inl is) there =
     position_none u p second is ∙ (none_shifts front goes comes ∙ ap (shifted front goes comes) (sym (position_none t p first is)))
 position_shifts t u front goes comes back splice first second p (inr found) (inl is) =
@@ -177,9 +206,11 @@ position_shifts t u front goes comes back splice first second p (inr found) (inl
 position_shifts t u front goes comes back splice first second p (inr found) (inr there) =
     let old : block_in (front ++ (goes ++ back)) p ≡ Some found.0 = subst (λ ls. block_in ls p ≡ Some found.0) splice.old found.1 in
     let new : block_in (front ++ (comes ++ back)) p ≡ Some there.0 = subst (λ ls. block_in ls p ≡ Some there.0) splice.new there.1 in
-    let h = shifts goes comes back splice.one_goes splice.one_comes p found.0 there.0 front 0 (subst (λ ls. AreNumbered ls) splice.old first) (subst (λ ls. AreNumbered ls) splice.new second) old new in
+    let h = shifts goes comes back splice.one_goes splice.one_comes p found.0 there.0 front 0 (subst (λ ls. AreNumbered ls) splice.old first)
+    (subst (λ ls. AreNumbered ls) splice.new second) old new in
     let from : position_of t p ≡ h.from = ap (λ ls. unwrap_or (position_in 0 ls p) 0) splice.old ∙ ap (λ o. unwrap_or o 0) h.old in
     let to : position_of u p ≡ h.to = ap (λ ls. unwrap_or (position_in 0 ls p) 0) splice.new ∙ ap (λ o. unwrap_or o 0) h.new in
     let same : 0 + count_blocks front ≡ count_blocks front = omega arith in
-    let moves : h.to ≡ shifted front goes comes h.from = h.move ∙ ap (λ n. cond (nat_le h.from n) h.from ((h.from - count_blocks goes) + count_blocks comes)) same in
+    let moves : h.to ≡ shifted front goes comes h.from =
+    h.move ∙ ap (λ n. cond (nat_le h.from n) h.from ((h.from - count_blocks goes) + count_blocks comes)) same in
     to ∙ (moves ∙ ap (shifted front goes comes) (sym from))

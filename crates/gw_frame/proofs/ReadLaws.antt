@@ -33,7 +33,8 @@ run_asks_its_reads t seed (suc n) v is =
     let before = run_before t seed n v is in
     let goes : step t seed before.0 ≡ Ok v = sym (run_on t seed n before.0 before.1) ∙ is in
     let last : items_of t seed (step_prog before.0) ≡ reads t seed n = sym (step_reads t seed before.0 v goes) ∙ sym (reads_there t seed n before.0 before.1) in
-    (bind_gives t seed (run_prog n) step_prog before.0 before.1).1 ∙ (ap (λ is. is ++ items_of t seed (step_prog before.0)) (run_asks_its_reads t seed n before.0 before.1) ∙ ap (λ is. reads_below t seed n ++ is) last)
+    (bind_gives t seed (run_prog n) step_prog before.0 before.1).1 ∙
+    (ap (λ is. is ++ items_of t seed (step_prog before.0)) (run_asks_its_reads t seed n before.0 before.1) ∙ ap (λ is. reads_below t seed n ++ is) last)
 
 pub unseen_step_reads : UnseenStepReads
 unseen_step_reads t seed u new_seed s v goes h =

@@ -14,13 +14,15 @@ module _ (move : ℕ → ℕ) (is : IsMove move) where
   same_test : (l m : Numbered) (p : ℕ) → m.number ≡ move l.number → nat_eq m.number (move p) ≡ nat_eq l.number p
   same_test l m p e = ap (λ n. nat_eq n (move p)) e ∙ eq_moved move is l.number p
 
-  pub block_renamed : (ls ms : List Numbered) → AreRenamed move ls ms → (p : ℕ) → option_and_then block_of (line_in ms (move p)) ≡ option_and_then block_of (line_in ls p)
+  pub block_renamed : (ls ms : List Numbered) → AreRenamed move ls ms → (p : ℕ) →
+      option_and_then block_of (line_in ms (move p)) ≡ option_and_then block_of (line_in ls p)
   block_renamed [] [] r p = refl
   block_renamed [] (m ∷ ms) r p = absurd r
   block_renamed (l ∷ ls) [] r p = absurd r
   block_renamed (l ∷ ls) (m ∷ ms) r p =
       rw (same_test l m p r.0)
-      (elim (nat_eq l.number p) as (λ b. option_and_then block_of (cond b (Some m) (line_in ms (move p))) ≡ option_and_then block_of (cond b (Some l) (line_in ls p)))
+      (elim (nat_eq l.number p) as (λ b. option_and_then block_of (cond b (Some m) (line_in ms (move p))) ≡
+      option_and_then block_of (cond b (Some l) (line_in ls p)))
       [ true ↦ ap (λ (s : Statement). block_of_body s.body) r.1 | false ↦ block_renamed ls ms r.2 p ])
 
   same_kind : (l m : Numbered) → m.statement ≡ l.statement → is_block m ≡ is_block l
@@ -35,7 +37,8 @@ module _ (move : ℕ → ℕ) (is : IsMove move) where
       (elim (is_block l) as (λ b. cond b (Some m.number) (first_block ms) ≡ option_map move (cond b (Some l.number) (first_block ls)))
       [ true ↦ ap (λ n. Some n) r.0 | false ↦ first_renamed ls ms r.2 ])
 
-  after_renamed_by : (b c : Bool) (o o' p p' : Option ℕ) → o' ≡ option_map move o → p' ≡ option_map move p → cond b (cond c o' None) p' ≡ option_map move (cond b (cond c o None) p)
+  after_renamed_by : (b c : Bool) (o o' p p' : Option ℕ) → o' ≡ option_map move o → p' ≡ option_map move p →
+      cond b (cond c o' None) p' ≡ option_map move (cond b (cond c o None) p)
   after_renamed_by true true o o' p p' e f = e
   after_renamed_by true false o o' p p' e f = refl
   after_renamed_by false c o o' p p' e f = f
@@ -46,7 +49,8 @@ module _ (move : ℕ → ℕ) (is : IsMove move) where
   after_renamed (l ∷ ls) [] r p = absurd r
   after_renamed (l ∷ ls) (m ∷ ms) r p =
       rw (same_test l m p r.0, same_kind l m r.1)
-      (after_renamed_by (nat_eq l.number p) (is_block l) (first_block ls) (first_block ms) (after_in ls p) (after_in ms (move p)) (first_renamed ls ms r.2) (after_renamed ls ms r.2 p))
+      (after_renamed_by (nat_eq l.number p) (is_block l) (first_block ls) (first_block ms) (after_in ls p) (after_in ms (move p)) (first_renamed ls ms r.2)
+      (after_renamed ls ms r.2 p))
 
   pub position_renamed : (before : ℕ) (ls ms : List Numbered) → AreRenamed move ls ms → (p : ℕ) → position_in before ms (move p) ≡ position_in before ls p
   position_renamed before [] [] r p = refl
@@ -62,7 +66,8 @@ module _ (move : ℕ → ℕ) (is : IsMove move) where
   generates_renamed (l ∷ ls) [] r = absurd r
   generates_renamed (l ∷ ls) (m ∷ ms) r =
       rw (ap (λ (s : Statement). is_generate_body s.body) r.1, r.0)
-      (elim (is_generate l) as (λ b. cond b (move l.number ∷ generates_in ms) (generates_in ms) ≡ map move (cond b (l.number ∷ generates_in ls) (generates_in ls)))
+      (elim (is_generate l) as (λ b. cond b (move l.number ∷ generates_in ms) (generates_in ms) ≡
+      map move (cond b (l.number ∷ generates_in ls) (generates_in ls)))
       [ true ↦ ap (λ ns. move l.number ∷ ns) (generates_renamed ls ms r.2) | false ↦ generates_renamed ls ms r.2 ])
 
 pub commands_renamed : (move : ℕ → ℕ) (ls ms : List Numbered) → AreRenamed move ls ms → filter_map command_of ms ≡ filter_map command_of ls

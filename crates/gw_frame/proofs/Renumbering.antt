@@ -80,7 +80,8 @@ named_some : (bound p : ℕ) (o : Option ℕ) → 1 ≤ p → ((n : ℕ) → o �
 named_some bound p None some bounds none = omega arith
 named_some bound p (Some n) some bounds none = let least = (bounds n refl).0 in omega arith
 
-named_apart : (bound p q : ℕ) (o r : Option ℕ) → 1 ≤ p → 1 ≤ q → ((n : ℕ) → o ≡ Some n → (1 ≤ n) × (n ≤ bound)) → ((n : ℕ) → r ≡ Some n → (1 ≤ n) × (n ≤ bound)) →
+named_apart : (bound p q : ℕ) (o r : Option ℕ) → 1 ≤ p → 1 ≤ q → ((n : ℕ) → o ≡ Some n → (1 ≤ n) × (n ≤ bound)) →
+    ((n : ℕ) → r ≡ Some n → (1 ≤ n) × (n ≤ bound)) →
     ((n : ℕ) → o ≡ Some n → r ≡ Some n → p ≡ q) → renamed_by bound p o ≡ renamed_by bound q r → p ≡ q
 named_apart bound p q None None some other left right one same = omega arith
 named_apart bound p q None (Some n) some other left right one same = let most = (right n refl).1 in absurd (omega arith)
@@ -98,12 +99,14 @@ renaming_apart ls ms numbered (suc p) (suc q) same =
     (λ n. within ls ms (suc p) n numbered) (λ n. within ls ms (suc q) n numbered) (λ n. leads_back ls ms (suc p) (suc q) n numbered) same
 
 -- a list with the same statements is the renamed one, where the renaming goes by the places of both
-renamed_by_places : (move : ℕ → ℕ) (ls ms : List Numbered) → statements_of ms ≡ statements_of ls → AreNumbered ls → ((p n : ℕ) → number_for ls ms p ≡ Some n → move p ≡ n) → AreRenamed move ls ms
+renamed_by_places : (move : ℕ → ℕ) (ls ms : List Numbered) → statements_of ms ≡ statements_of ls → AreNumbered ls →
+    ((p n : ℕ) → number_for ls ms p ≡ Some n → move p ≡ n) → AreRenamed move ls ms
 renamed_by_places move [] [] same numbered leads = tt
 renamed_by_places move [] (m ∷ ms) same numbered leads = absurd cc
 renamed_by_places move (l ∷ ls) [] same numbered leads = absurd cc
 renamed_by_places move (l ∷ ls) (m ∷ ms) same numbered leads =
-    let here : number_for (l ∷ ls) (m ∷ ms) l.number ≡ Some m.number = subst (λ b. cond b (Some m.number) (number_for ls ms l.number) ≡ Some m.number) (sym (eq-eqb l.number l.number refl)) refl in
+    let here : number_for (l ∷ ls) (m ∷ ms) l.number ≡ Some m.number =
+    subst (λ b. cond b (Some m.number) (number_for ls ms l.number) ≡ Some m.number) (sym (eq-eqb l.number l.number refl)) refl in
     let first : m.statement ≡ l.statement = cc in
     let rest : statements_of ms ≡ statements_of ls = cc in
     (sym (leads l.number m.number here), first, renamed_by_places move ls ms rest numbered.2 (λ p n some. leads p n (further p n some)))

@@ -1,4 +1,5 @@
--- The places of blocks given other names, wherever they stand: in questions, answers and states; and what it is for a version
+-- The places of blocks given other names, wherever they stand: in questions, answers and states; and what it is for a
+-- version
 -- to answer accordingly. Operands and ends name no place. (Our own.)
 use Rattle.std.specs.Prelude.{◌≡◌, ℕ, map, option_map, Result, Ok, Err}
 use Rattle.gw_meaning.specs.declared.item.Item.{Item}
@@ -47,7 +48,13 @@ module _ (move : ℕ → ℕ) where
 
   abbrev pub moved_machine : Machine → Machine
   moved_machine s =
-      record s { active = option_map moved_transaction s.active; current = map moved_transaction s.current; future = map moved_event s.future; counts = map moved_count s.counts }
+      record s {
+        active = option_map moved_transaction s.active;
+        current = map moved_transaction s.current;
+        future =
+            map moved_event s.future;
+        counts = map moved_count s.counts;
+      }
 
   -- what a run comes to
   abbrev pub moved_result : Result Machine End → Result Machine End

@@ -20,14 +20,14 @@ pub record Takes {S : Type 0} (took : S → List ℕ → S → Type 0) (ended : 
   pub uncounted : reads between ≡ reads reader
 
 -- a conversation came to its end: the model was taken and opened, and the session served what stands behind it
-pub record Converses {S K : Type 0} (took : S → List ℕ → S → Type 0) (ended : S → Type 0) (reads : S → ℕ) (wrote : K → List ℕ → K → Type 0) (o : Options) (reader reader' : S) (writer writer' : K) (over : Over) : Type 0 where
+pub record Converses {S K : Type 0} (took : S → List ℕ → S → Type 0) (ended : S → Type 0) (reads : S → ℕ) (wrote : K → List ℕ → K → Type 0) (writes : K → ℕ) (o : Options) (reader reader' : S) (writer writer' : K) (over : Over) : Type 0 where
   pub between : S
   pub model : List ℕ
   pub book : Book
   pub after : Book
   pub taken : Takes took ended reads reader between model
   pub opens : Opens model o book
-  pub serves : Serves DeskAnswers took ended wrote book between reader' writer writer' after over
+  pub serves : Serves DeskAnswers took ended reads wrote writes book between reader' writer writer' after over
 
 -- a conversation stopped: within the model, with nothing written; behind a model that is refused, with nothing more read
 -- and nothing written; or in the session over the model
@@ -44,4 +44,4 @@ pub data Ends {E : Type 0} (told : E → List ℕ → E → Type 0) (losses : E 
 
 -- a run of the program with its model on standard input
 abbrev pub Runs : {S K E : Type 0} → (S → List ℕ → S → Type 0) → (S → Type 0) → (S → ℕ) → (K → List ℕ → K → Type 0) → (K → ℕ) → (E → List ℕ → E → Type 0) → (E → ℕ) → Options → S → S → K → K → E → E → ℕ → Type 0
-Runs took ended reads wrote writes told losses o reader reader' writer writer' errors errors' status = Ends told losses (Converses took ended reads wrote o reader reader' writer writer') (Fails took ended reads wrote writes o reader reader' writer writer') errors errors' status
+Runs took ended reads wrote writes told losses o reader reader' writer writer' errors errors' status = Ends told losses (Converses took ended reads wrote writes o reader reader' writer writer') (Fails took ended reads wrote writes o reader reader' writer writer') errors errors' status

@@ -22,13 +22,13 @@ pub record TakesFile {F : Type 0} (took : F → List ℕ → F → Type 0) (ende
   pub uncounted : reads behind ≡ reads file
 
 -- a conversation over a model file came to its end: the model opens, and the session served the script
-pub record FileConverses {F S K : Type 0} (took_file : F → List ℕ → F → Type 0) (ended_file : F → Type 0) (reads_file : F → ℕ) (took : S → List ℕ → S → Type 0) (ended : S → Type 0) (wrote : K → List ℕ → K → Type 0) (o : Options) (opened : Result F ReadFault) (reader reader' : S) (writer writer' : K) (over : Over) : Type 0 where
+pub record FileConverses {F S K : Type 0} (took_file : F → List ℕ → F → Type 0) (ended_file : F → Type 0) (reads_file : F → ℕ) (took : S → List ℕ → S → Type 0) (ended : S → Type 0) (reads : S → ℕ) (wrote : K → List ℕ → K → Type 0) (writes : K → ℕ) (o : Options) (opened : Result F ReadFault) (reader reader' : S) (writer writer' : K) (over : Over) : Type 0 where
   pub model : List ℕ
   pub book : Book
   pub after : Book
   pub taken : TakesFile took_file ended_file reads_file opened model
   pub opens : Opens model o book
-  pub serves : Serves DeskAnswers took ended wrote book reader reader' writer writer' after over
+  pub serves : Serves DeskAnswers took ended reads wrote writes book reader reader' writer writer' after over
 
 -- a conversation over a model file stopped: the file could not be opened, or not be read to its end, or its model is
 -- refused, with no script read and nothing written; or it stopped in the session over the model

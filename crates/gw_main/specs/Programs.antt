@@ -29,7 +29,7 @@ pub data Helps {K E : Type 0} (wrote : K → List ℕ → K → Type 0) (writes 
 
 -- a run with its model in a file
 abbrev pub FileRuns : {F S K E : Type 0} → (F → List ℕ → F → Type 0) → (F → Type 0) → (F → ℕ) → (S → List ℕ → S → Type 0) → (S → Type 0) → (S → ℕ) → (K → List ℕ → K → Type 0) → (K → ℕ) → (E → List ℕ → E → Type 0) → (E → ℕ) → Options → Result F ReadFault → S → S → K → K → E → E → ℕ → Type 0
-FileRuns took_file ended_file reads_file took ended reads wrote writes told losses o opened reader reader' writer writer' errors errors' status = Ends told losses (FileConverses took_file ended_file reads_file took ended wrote o opened reader reader' writer writer') (FileFails took_file ended_file reads_file took reads wrote writes o opened reader reader' writer writer') errors errors' status
+FileRuns took_file ended_file reads_file took ended reads wrote writes told losses o opened reader reader' writer writer' errors errors' status = Ends told losses (FileConverses took_file ended_file reads_file took ended reads wrote writes o opened reader reader' writer writer') (FileFails took_file ended_file reads_file took reads wrote writes o opened reader reader' writer writer') errors errors' status
 
 -- a run that was asked for: its model stands on standard input, or in a file that was opened; `opens` says what the
 -- opening of a file of a name may give

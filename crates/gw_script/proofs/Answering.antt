@@ -70,7 +70,7 @@ broken_refused {D} {K} wrote writes_of wrote_none version does in_vain d after n
     let still : after ≡ d = rw other at untold in
     let some = replies_some version does in_vain d n request in
     let R : D → Type 0 = λ x. Replies version does d n request some.0 x in
-    record { front = []; left = some.0; answers = subst R (sym still) some.1; written = subst W (sym same) (wrote_none old); cause = subst C (sym memory) tt }
+    record { front = []; left = some.0; answers = subst R (sym still) some.1; written = subst W (sym same) (wrote_none old); cause = subst C (sym memory) (ap writes_of same) }
 broken_refused {D} {K} wrote writes_of wrote_none version does in_vain d after n request old new fault untold (begun front left asks written failed counted) =
     let C : Fault → Type 0 = λ f. BreaksBy f (writes_of old) (writes_of new) in
     record { front = front; left = left; answers = untold_replies version does d after n request (front ++ left) asks untold; written = written; cause = subst C (sym failed) counted }

@@ -1,9 +1,9 @@
 -- A session, turn by turn: whatever is still to come, the output so far and what is said to the rest are what is said to all.
-use Rattle.std.proofs.Common.{◌≡◌, ℕ, ◌+◌, ◌≤◌, Bool, true, false, List, [], ◌∷◌, ◌++◌, length, refl, ap, sym, subst, ◌∙◌, append_assoc, append-nil, length-append, arith}
+use Rattle.std.proofs.Common.{◌≡◌, ℕ, ◌+◌, ◌<◌, ◌≤◌, Bool, true, false, List, [], ◌∷◌, ◌++◌, length, refl, ap, sym, subst, ◌∙◌, append_assoc, append-nil, length-append, arith}
 use Rattle.gw_io.specs.declared.budget.ReadFault.{ReadFault}
 use Rattle.gw_io.specs.declared.budget.ReadFault.TheVariants as reads
 use Rattle.gw_io.specs.Failures.{one_more}
-use Rattle.gw_io.specs.Reading.{Breaks}
+use Rattle.gw_io.specs.Reading.{Breaks, AreIdleCalls, IsSpentAt, failures_at}
 use Rattle.gw_io.specs.Line.{IsUnended, without_cr_of}
 use Rattle.gw_request.specs.Requests.{request_of}
 use Rattle.gw_script.specs.declared.fault.Over.{Over}
@@ -11,7 +11,7 @@ use Rattle.gw_script.specs.declared.fault.Over.TheVariants as overs
 use Rattle.gw_script.specs.declared.fault.Fault.{Fault}
 use Rattle.gw_script.specs.declared.fault.Fault.TheVariants as faults
 use Rattle.gw_script.specs.Replying.{is_quit}
-use Rattle.gw_script.specs.Sessions.{Says, nothing, line, last, quit, last_quit, IsAllRead, Serves, Stops, StopsBy}
+use Rattle.gw_script.specs.Sessions.{Says, nothing, line, last, quit, last_quit, IsAllRead, end_calls, Serves, Stops, StopsBy}
 use Rattle.gw_script.specs.Turns.{Writes, BreaksOff, BreaksBy, stopped_by, over_if}
 
 -- after some lines over the keeper b, before line n over the keeper d
@@ -44,14 +44,21 @@ says_regrouped answers b d over i j k x y z says =
     let Q : List ℕ → Type 0 = λ o. Says answers b 1 (i ++ (j ++ k)) o over d in
     subst P (sym (append_assoc i j k)) (subst Q (sym (append_assoc x y z)) says)
 
--- answering broke off for a cause that stops the session
-pub stop_cause : (fault : Fault) (reads reads' writes writes' taken : ℕ) → BreaksBy fault writes writes' → StopsBy fault reads reads' writes writes' taken
-stop_cause (faults.Line faulty) reads reads' writes writes' taken h = h
-stop_cause (faults.Model fault) reads reads' writes writes' taken h = h
-stop_cause faults.Read reads reads' writes writes' taken h = absurd h
-stop_cause faults.Write reads reads' writes writes' taken h = h
-stop_cause faults.ReadLimit reads reads' writes writes' taken h = absurd h
-stop_cause faults.Memory reads reads' writes writes' taken h = h
+-- answering broke off for a cause that stops the session, where reading did not fail
+pub stop_cause : (fault : Fault) (reads reads' writes writes' taken : ℕ) → reads' ≡ reads → taken ≤ 16777216 → BreaksBy fault writes writes' → StopsBy fault reads reads' writes writes' taken
+stop_cause (faults.Line faulty) reads reads' writes writes' taken same few h = h
+stop_cause (faults.Model fault) reads reads' writes writes' taken same few h = h
+stop_cause faults.Read reads reads' writes writes' taken same few h = absurd h
+stop_cause faults.Write reads reads' writes writes' taken same few h = (same, h, few)
+stop_cause faults.ReadLimit reads reads' writes writes' taken same few h = absurd h
+stop_cause faults.Memory reads reads' writes writes' taken same few h = (same, h, few)
+
+-- reading broke off for a cause that stops the session
+pub read_cause : (fault : ReadFault) (reads reads' reads'' writes writes' left idle taken : ℕ) → reads' ≡ reads → writes' ≡ writes → taken + (left + idle) ≡ 16777216 → AreIdleCalls fault idle → reads'' ≡ failures_at fault reads' → IsSpentAt fault left →
+    StopsBy (stopped_by fault) reads reads'' writes writes' taken
+read_cause reads.Read n m o writes writes' left idle taken same written total calls counted spent = (counted ∙ ap one_more same, written, omega (arith, total, calls))
+read_cause reads.Limit n m o writes writes' left idle taken same written total calls counted spent = (counted ∙ same, written, omega (arith, total, calls, spent))
+read_cause reads.Memory n m o writes writes' left idle taken same written total calls counted spent = (counted ∙ same, written, omega (arith, total))
 
 -- what is said to a whole line with nothing behind it
 pub says_whole : {D : Type 0} (answers : D → ℕ → List ℕ → List ℕ → D → Type 0) (d d' : D) (n : ℕ) (text front : List ℕ) → IsUnended text → answers d n (without_cr_of text) front d' → (over : Over) × Says answers d n (text ++ 10 ∷ []) front over d'
@@ -85,17 +92,6 @@ module _ {D S K : Type 0} (answers : D → ℕ → List ℕ → List ℕ → D �
     few = omega (arith, before.few, spent);
   }
 
-  -- the last turn: something is said to what it reads, and it is written
-  pub serves_last : {b d final : D} {n left : ℕ} {source s s' : S} {sink k k' : K} (ended : S → Type 0) (bytes front : List ℕ) (over : Over) → Turned answers took wrote b d n left source s sink k → took s bytes s' → wrote k front k' → Says answers d n bytes front over final → IsAllRead (ended s') over → Serves answers took ended wrote b source s' sink k' final over
-  serves_last {b} {d} {final} {n} {left} {source} {s} {s'} {sink} {k} {k'} ended bytes front over before taken written says all = record {
-    input = before.input ++ bytes;
-    output = before.output ++ front;
-    taken = took_on source s s' before.input bytes before.taken taken;
-    written = wrote_on sink k k' before.output front before.written written;
-    says = before.onward bytes front over final says;
-    all_read = all;
-  }
-
   module _ (reads_of : S → ℕ) (writes_of : K → ℕ) {b d : D} {n left : ℕ} {source s s' : S} {sink k : K} (before : Turned answers took wrote b d n left source s sink k) where
     -- the session stops in a turn: a front of what is said to what it reads is written
     stops_within : {final : D} {k' : K} (bytes front rest : List ℕ) (over : Over) (fault : Fault) → took s bytes s' → wrote k front k' → Says answers d n bytes (front ++ rest) over final → StopsBy fault (reads_of source) (reads_of s') (writes_of sink) (writes_of k') (length (before.input ++ bytes)) → Stops answers took reads_of wrote writes_of b source s' sink k' final fault
@@ -112,26 +108,45 @@ module _ {D S K : Type 0} (answers : D → ℕ → List ℕ → List ℕ → D �
           cause = cause;
         }
 
+    -- the last turn: something is said to what it reads, and it is written
+    pub serves_last : {final : D} {k' : K} (ended : S → Type 0) (bytes front : List ℕ) (over : Over) → took s bytes s' → wrote k front k' → Says answers d n bytes front over final → IsAllRead (ended s') over →
+        length bytes + end_calls over ≤ left → reads_of s' ≡ reads_of source → writes_of k' ≡ writes_of sink → Serves answers took ended reads_of wrote writes_of b source s' sink k' final over
+    serves_last {final} {k'} ended bytes front over taken written says all few read_well wrote_well = record {
+      input = before.input ++ bytes;
+      output = before.output ++ front;
+      taken = took_on source s s' before.input bytes before.taken taken;
+      written = wrote_on sink k k' before.output front before.written written;
+      says = before.onward bytes front over final says;
+      all_read = all;
+      calls = omega (arith, before.spent, few, length-append before.input bytes);
+      read_well = read_well;
+      wrote_well = wrote_well;
+    }
+
     -- reading a line broke off
-    pub stops_reading : (wrote_none : (a : K) → wrote a [] a) (some_to : (d : D) (n : ℕ) (line : List ℕ) → (front : List ℕ) × answers d n line front d) {left' : ℕ} (fault : ReadFault) → reads_of s ≡ reads_of source → Breaks took reads_of IsUnended s s' left left' fault → Stops answers took reads_of wrote writes_of b source s' sink k d (stopped_by fault)
-    stops_reading wrote_none some_to reads.Read same broken =
+    pub stops_reading : (wrote_none : (a : K) → wrote a [] a) (some_to : (d : D) (n : ℕ) (line : List ℕ) → (front : List ℕ) × answers d n line front d) {left' : ℕ} (fault : ReadFault) → reads_of s ≡ reads_of source → writes_of k ≡ writes_of sink →
+        Breaks took reads_of IsUnended s s' left left' fault → Stops answers took reads_of wrote writes_of b source s' sink k d (stopped_by fault)
+    stops_reading wrote_none some_to {left'} fault same written broken =
         let said = says_some answers some_to d n broken.bytes broken.part in
-        stops_within broken.bytes [] said.0 said.1 faults.Read broken.taken (wrote_none k) said.2 (broken.counted ∙ ap one_more same)
-    stops_reading wrote_none some_to reads.Limit same broken =
-        let said = says_some answers some_to d n broken.bytes broken.part in
-        let all : length (before.input ++ broken.bytes) ≡ 16777216 = omega (arith, before.spent, broken.spent, broken.idle_calls, broken.limit, length-append before.input broken.bytes) in
-        stops_within broken.bytes [] said.0 said.1 faults.ReadLimit broken.taken (wrote_none k) said.2 all
-    stops_reading wrote_none some_to reads.Memory same broken =
-        let said = says_some answers some_to d n broken.bytes broken.part in
-        stops_within broken.bytes [] said.0 said.1 faults.Memory broken.taken (wrote_none k) said.2 tt
+        let total : length (before.input ++ broken.bytes) + (left' + broken.idle) ≡ 16777216 = omega (arith, before.spent, broken.spent, length-append before.input broken.bytes) in
+        stops_within broken.bytes [] said.0 said.1 (stopped_by fault) broken.taken (wrote_none k) said.2
+        (read_cause fault (reads_of source) (reads_of s) (reads_of s') (writes_of sink) (writes_of k) left' broken.idle (length (before.input ++ broken.bytes)) same written total broken.idle_calls broken.counted broken.limit)
 
     -- answering a line broke off
-    pub stops_answering : {k' : K} {after : D} (bytes text : List ℕ) (over : Over) (fault : Fault) → writes_of k ≡ writes_of sink → took s bytes s' → (broken : BreaksOff wrote writes_of (answers d n text) k k' after fault) → Says answers d n bytes (broken.front ++ broken.left) over after → Stops answers took reads_of wrote writes_of b source s' sink k' after fault
-    stops_answering {k'} {after} bytes text over fault same taken broken says =
+    pub stops_answering : {k' : K} {after : D} (bytes text : List ℕ) (over : Over) (fault : Fault) → reads_of s' ≡ reads_of source → writes_of k ≡ writes_of sink → length bytes ≤ left → took s bytes s' →
+        (broken : BreaksOff wrote writes_of (answers d n text) k k' after fault) → Says answers d n bytes (broken.front ++ broken.left) over after → Stops answers took reads_of wrote writes_of b source s' sink k' after fault
+    stops_answering {k'} {after} bytes text over fault read_well same fits taken broken says =
         let C : ℕ → Type 0 = λ w. BreaksBy fault w (writes_of k') in
-        stops_within bytes broken.front broken.left over fault taken broken.written says (stop_cause fault (reads_of source) (reads_of s') (writes_of sink) (writes_of k') (length (before.input ++ bytes)) (subst C same broken.cause))
+        let few : length (before.input ++ bytes) ≤ 16777216 = omega (arith, before.spent, fits, length-append before.input bytes) in
+        stops_within bytes broken.front broken.left over fault taken broken.written says
+        (stop_cause fault (reads_of source) (reads_of s') (writes_of sink) (writes_of k') (length (before.input ++ bytes)) read_well few (subst C same broken.cause))
 
 -- the end of the input was found, however the session ends behind it
 pub all_read_if : (q : Bool) (E : Type 0) → E → IsAllRead E (over_if q)
 all_read_if true E e = tt
 all_read_if false E e = e
+
+-- at most one call found it
+pub end_calls_if : (q : Bool) → end_calls (over_if q) ≤ 1
+end_calls_if true = omega arith
+end_calls_if false = omega arith

@@ -1,5 +1,5 @@
 -- What a session writes to a script: one answer for each line, in order, up to `quit` or the end of the input. (Our own.)
-use Rattle.std.specs.Prelude.{◌≡◌, ℕ, ◌+◌, true, false, List, [], ◌∷◌, ◌++◌, length}
+use Rattle.std.specs.Prelude.{◌≡◌, ℕ, ◌+◌, ◌<◌, ◌≤◌, true, false, List, [], ◌∷◌, ◌++◌, length}
 use Rattle.gw_io.specs.Failures.{one_more}
 use Rattle.gw_io.specs.Line.{IsUnended, without_cr_of}
 use Rattle.gw_request.specs.Requests.{request_of}
@@ -24,26 +24,40 @@ abbrev pub IsAllRead : Type 0 → Over → Type 0
 IsAllRead ended overs.Quit = Unit {0}
 IsAllRead ended overs.InputEnd = ended
 
--- a session read an input, wrote what is said to it, and left the keeper as that leaves it
-pub record Serves {D S K : Type 0} (answers : D → ℕ → List ℕ → List ℕ → D → Type 0) (took : S → List ℕ → S → Type 0) (ended : S → Type 0) (wrote : K → List ℕ → K → Type 0) (d : D) (source source' : S) (sink sink' : K) (d' : D) (over : Over) : Type 0 where
+-- the call of read that found the end of the input
+abbrev pub end_calls : Over → ℕ
+end_calls overs.Quit = 0
+end_calls overs.InputEnd = 1
+
+-- a session read an input, wrote what is said to it, and left the keeper as that leaves it; neither reader nor writer failed,
+-- and at most 16,777,216 calls of read were made
+pub record Serves {D S K : Type 0} (answers : D → ℕ → List ℕ → List ℕ → D → Type 0)
+    (took : S → List ℕ → S → Type 0) (ended : S → Type 0) (reads : S → ℕ) (wrote : K → List ℕ → K → Type 0) (writes : K → ℕ)
+    (d : D) (source source' : S) (sink sink' : K) (d' : D) (over : Over) : Type 0 where
   pub input : List ℕ
   pub output : List ℕ
   pub taken : took source input source'
   pub written : wrote sink output sink'
   pub says : Says answers d 1 input output over d'
   pub all_read : IsAllRead (ended source') over
+  pub calls : length input + end_calls over ≤ 16777216
+  pub read_well : reads source' ≡ reads source
+  pub wrote_well : writes sink' ≡ writes sink
 
--- why a session may stop: the reader failed, the writer failed, all calls of read were made, or a growth was refused
+-- why a session may stop behind so many bytes, and what is counted then. The reader failed, or the writer: just that is
+-- counted, once; all calls of read were made, or a growth was refused: nothing is
 abbrev pub StopsBy : Fault → ℕ → ℕ → ℕ → ℕ → ℕ → Type 0
 StopsBy (faults.Line faulty) reads reads' writes writes' taken = ⊥
 StopsBy (faults.Model fault) reads reads' writes writes' taken = ⊥
-StopsBy faults.Read reads reads' writes writes' taken = reads' ≡ one_more reads
-StopsBy faults.Write reads reads' writes writes' taken = writes' ≡ one_more writes
-StopsBy faults.ReadLimit reads reads' writes writes' taken = taken ≡ 16777216
-StopsBy faults.Memory reads reads' writes writes' taken = Unit {0}
+StopsBy faults.Read reads reads' writes writes' taken = (reads' ≡ one_more reads) × (writes' ≡ writes) × (taken < 16777216)
+StopsBy faults.Write reads reads' writes writes' taken = (reads' ≡ reads) × (writes' ≡ one_more writes) × (taken ≤ 16777216)
+StopsBy faults.ReadLimit reads reads' writes writes' taken = (reads' ≡ reads) × (writes' ≡ writes) × (taken ≡ 16777216)
+StopsBy faults.Memory reads reads' writes writes' taken = (reads' ≡ reads) × (writes' ≡ writes) × (taken ≤ 16777216)
 
 -- a session stopped: what it wrote is the front of what is said to what it read, and it left the keeper as that leaves it
-pub record Stops {D S K : Type 0} (answers : D → ℕ → List ℕ → List ℕ → D → Type 0) (took : S → List ℕ → S → Type 0) (reads : S → ℕ) (wrote : K → List ℕ → K → Type 0) (writes : K → ℕ) (d : D) (source source' : S) (sink sink' : K) (d' : D) (fault : Fault) : Type 0 where
+pub record Stops {D S K : Type 0} (answers : D → ℕ → List ℕ → List ℕ → D → Type 0)
+    (took : S → List ℕ → S → Type 0) (reads : S → ℕ) (wrote : K → List ℕ → K → Type 0) (writes : K → ℕ)
+    (d : D) (source source' : S) (sink sink' : K) (d' : D) (fault : Fault) : Type 0 where
   pub input : List ℕ
   pub output : List ℕ
   pub left : List ℕ

@@ -22,14 +22,14 @@ pub record Writes {D K : Type 0} (wrote : K → List ℕ → K → Type 0) (A : 
   pub answers : A front after
   pub written : wrote old front new
 
--- why an answer broke off: the writer failed, or a growth was refused
+-- why an answer broke off: the writer failed, which is counted, or a growth was refused, and then it did not fail
 abbrev pub BreaksBy : Fault → ℕ → ℕ → Type 0
 BreaksBy (faults.Line faulty) writes writes' = ⊥
 BreaksBy (faults.Model fault) writes writes' = ⊥
 BreaksBy faults.Read writes writes' = ⊥
 BreaksBy faults.Write writes writes' = writes' ≡ one_more writes
 BreaksBy faults.ReadLimit writes writes' = ⊥
-BreaksBy faults.Memory writes writes' = Unit {0}
+BreaksBy faults.Memory writes writes' = writes' ≡ writes
 
 -- a front part of an answer was written: bytes that may be answered, which leave the keeper so, begin with it
 pub record BreaksOff {D K : Type 0} (wrote : K → List ℕ → K → Type 0) (writes : K → ℕ) (A : List ℕ → D → Type 0) (old new : K) (after : D) (fault : Fault) : Type 0 where

@@ -30,7 +30,7 @@ pub fn session_on<D: Keeper, S: Source, K: Sink>(
     source: &mut S,
     sink: &mut K,
 ) -> Result<Over, Fault>
-    ensures serves { IfOk result (Serves (Answers D.version D.does) S.took S.ended K.wrote keeper.old source.old source.new sink.old sink.new keeper.new) }
+    ensures serves { IfOk result (Serves (Answers D.version D.does) S.took S.ended S.failures K.wrote K.failures keeper.old source.old source.new sink.old sink.new keeper.new) }
     ensures stops { IfErr result (Stops (Answers D.version D.does) S.took S.failures K.wrote K.failures keeper.old source.old source.new sink.old sink.new keeper.new) }
 {
     let mut budget = Budget::new();
@@ -61,7 +61,7 @@ pub fn session<S: Source, K: Sink>(
     sink: &mut K,
 ) -> Result<Over, Fault>
     requires { 1 ≤ options.every }
-    ensures serves { IfOk result (λ over. (b : Book) × (b' : Book) × Opens model.now options b × Serves DeskAnswers S.took S.ended K.wrote b source.old source.new sink.old sink.new b' over) }
+    ensures serves { IfOk result (λ over. (b : Book) × (b' : Book) × Opens model.now options b × Serves DeskAnswers S.took S.ended S.failures K.wrote K.failures b source.old source.new sink.old sink.new b' over) }
     ensures stops { IfErr result (λ fault. (Refuses model.now options fault × (source.new ≡ source.old) × (sink.new ≡ sink.old))
         ⊎ ((b : Book) × (b' : Book) × Opens model.now options b × Stops DeskAnswers S.took S.failures K.wrote K.failures b source.old source.new sink.old sink.new b' fault)) }
 {

@@ -1,4 +1,4 @@
-use Rattle.std.proofs.Common.{◌≡◌, ◌+◌, ◌++◌, ◌∷◌, [], ap, sym, ◌∙◌, refl, true, false}
+use Rattle.std.proofs.Common.{◌≡◌, ◌+◌, ◌++◌, ◌∷◌, [], ap, sym, ◌∙◌, refl, true, false, ◌≤◌, length-append, arith}
 use Rattle.std.proofs.lemmas.Result.{err_from_is_err_and}
 use Rattle.gw_io.specs.Line.{without_cr_of}
 use Rattle.gw_request.specs.Requests.{request_of}
@@ -7,7 +7,7 @@ use Rattle.gw_script.specs.Replying.{Answers, is_quit}
 use Rattle.gw_script.specs.Sessions.{nothing, quit, Stops}
 use Rattle.gw_script.specs.Turns.{over_if, stopped_by}
 use Rattle.gw_script.proofs.Answering.{answers_some, if_err_at}
-use Rattle.gw_script.proofs.Turning.{turned_none, turned_line, serves_last, stops_reading, stops_answering, says_whole, says_last, all_read_if}
+use Rattle.gw_script.proofs.Turning.{turned_none, turned_line, serves_last, stops_reading, stops_answering, says_whole, says_last, all_read_if, end_calls_if}
 use Rattle.gw_script.proofs.sessions.session_on.Goals as goal
 
 pub lines-init : goal.lines-init
@@ -25,7 +25,7 @@ returns-in_err-line-clause-stops g c =
     let fault = c.in_err-line.field-0.0 in
     let known = c.lines.invariant in
     let some = answers_some g.D.Keeper.version g.D.Keeper.does g.met.D.Keeper.in_vain in
-    let stops = stops_reading answers g.S.Source.took g.K.Sink.wrote g.met.S.Source.onward g.met.K.Sink.onward g.S.Source.failures g.K.Sink.failures known.turned g.met.K.Sink.nothing some fault known.reads c.in_err-line.ensures.fault in
+    let stops = stops_reading answers g.S.Source.took g.K.Sink.wrote g.met.S.Source.onward g.met.K.Sink.onward g.S.Source.failures g.K.Sink.failures known.turned g.met.K.Sink.nothing some fault known.reads known.writes c.in_err-line.ensures.fault in
     if_err_at exit.result (Stops answers g.S.Source.took g.S.Source.failures g.K.Sink.wrote g.K.Sink.failures c.args.keeper.now c.args.source.now c.read_line.new.source c.args.sink.now c.lines.sink c.lines.keeper) p.0 (stopped_by fault) p.1 p.2 stops
 
 pub returns-in_err-reply-in-Whole-clause-stops : goal.returns-in_err-reply-in-Whole-clause-stops
@@ -40,7 +40,7 @@ returns-in_err-reply-in-Whole-clause-stops g c =
     let w : c.without_cr.result.now ≡ without_cr_of text = c.without_cr.ensures ∙ ap without_cr_of c.deref.ensures.value in
     let b = rw w at c.in_err-reply-in-Whole.ensures.err in
     let said = says_whole answers c.lines.keeper c.reply.new.keeper (c.lines.n + 1) text (b.front ++ b.left) at.line b.answers in
-    let stops = stops_answering answers g.S.Source.took g.K.Sink.wrote g.met.S.Source.onward g.met.K.Sink.onward g.S.Source.failures g.K.Sink.failures known.turned (text ++ 10 ∷ []) (without_cr_of text) said.0 fault known.writes at.taken b said.1 in
+    let stops = stops_answering answers g.S.Source.took g.K.Sink.wrote g.met.S.Source.onward g.met.K.Sink.onward g.S.Source.failures g.K.Sink.failures known.turned (text ++ 10 ∷ []) (without_cr_of text) said.0 fault (at.uncounted ∙ known.reads) known.writes (omega (arith, at.spent, length-append text (10 ∷ []))) at.taken b said.1 in
     if_err_at exit.result (Stops answers g.S.Source.took g.S.Source.failures g.K.Sink.wrote g.K.Sink.failures c.args.keeper.now c.args.source.now c.read_line.new.source c.args.sink.now c.reply.new.sink c.reply.new.keeper) p.0 fault p.1 p.2 stops
 
 pub returns-then-branch-clause-serves : goal.returns-then-branch-clause-serves
@@ -51,8 +51,9 @@ returns-then-branch-clause-serves g c =
     let w : c.without_cr.result.now ≡ without_cr_of text = c.without_cr.ensures ∙ ap without_cr_of c.deref.ensures.value in
     let r = rw w at c.in_ok-reply-in-Whole.ensures.ok in
     let q : is_quit (request_of (without_cr_of text)) ≡ true = ap (λ l. is_quit (request_of l)) (sym w) ∙ (sym c.in_ok-reply-in-Whole.ensures.quit ∙ c.if-branch.true) in
-    serves_last answers g.S.Source.took g.K.Sink.wrote g.met.S.Source.onward g.met.K.Sink.onward g.S.Source.ended (text ++ 10 ∷ []) r.front overs.Quit c.lines.invariant.turned at.taken r.written
-    (quit c.lines.keeper c.reply.new.keeper (c.lines.n + 1) text r.front at.line q r.answers) tt
+    let known = c.lines.invariant in
+    serves_last answers g.S.Source.took g.K.Sink.wrote g.met.S.Source.onward g.met.K.Sink.onward g.S.Source.failures g.K.Sink.failures known.turned g.S.Source.ended (text ++ 10 ∷ []) r.front overs.Quit at.taken r.written
+    (quit c.lines.keeper c.reply.new.keeper (c.lines.n + 1) text r.front at.line q r.answers) tt (omega (arith, at.spent, length-append text (10 ∷ []))) (at.uncounted ∙ known.reads) (c.in_ok-reply-in-Whole.ensures.same ∙ known.writes)
 
 pub lines-preserved : goal.lines-preserved
 lines-preserved g c =
@@ -70,8 +71,9 @@ lines-preserved g c =
 pub returns-in-End-clause-serves : goal.returns-in-End-clause-serves
 returns-in-End-clause-serves g c =
     let at = rw c.in-End.is at c.in_ok-line.ensures in
-    serves_last (Answers g.D.Keeper.version g.D.Keeper.does) g.S.Source.took g.K.Sink.wrote g.met.S.Source.onward g.met.K.Sink.onward g.S.Source.ended [] [] overs.InputEnd c.lines.invariant.turned at.taken (g.met.K.Sink.nothing c.lines.sink)
-    (nothing c.lines.keeper (c.lines.n + 1)) at.line
+    let known = c.lines.invariant in
+    serves_last (Answers g.D.Keeper.version g.D.Keeper.does) g.S.Source.took g.K.Sink.wrote g.met.S.Source.onward g.met.K.Sink.onward g.S.Source.failures g.K.Sink.failures known.turned g.S.Source.ended [] [] overs.InputEnd at.taken
+    (g.met.K.Sink.nothing c.lines.sink) (nothing c.lines.keeper (c.lines.n + 1)) at.line (omega (arith, at.spent)) (at.uncounted ∙ known.reads) known.writes
 
 pub returns-in_err-quit-in-Last-clause-stops : goal.returns-in_err-quit-in-Last-clause-stops
 returns-in_err-quit-in-Last-clause-stops g c =
@@ -84,7 +86,7 @@ returns-in_err-quit-in-Last-clause-stops g c =
     let known = c.lines.invariant in
     let b = rw c.deref-in-Last.ensures.value at c.in_err-quit-in-Last.ensures.err in
     let said = says_last answers c.lines.keeper c.reply-in-Last.new.keeper (c.lines.n + 1) text (b.front ++ b.left) at.line.0 b.answers in
-    let stops = stops_answering answers g.S.Source.took g.K.Sink.wrote g.met.S.Source.onward g.met.K.Sink.onward g.S.Source.failures g.K.Sink.failures known.turned text text (over_if (is_quit (request_of text))) fault known.writes at.taken b said in
+    let stops = stops_answering answers g.S.Source.took g.K.Sink.wrote g.met.S.Source.onward g.met.K.Sink.onward g.S.Source.failures g.K.Sink.failures known.turned text text (over_if (is_quit (request_of text))) fault (at.uncounted ∙ known.reads) known.writes (omega (arith, at.spent)) at.taken b said in
     if_err_at exit.result (Stops answers g.S.Source.took g.S.Source.failures g.K.Sink.wrote g.K.Sink.failures c.args.keeper.now c.args.source.now c.read_line.new.source c.args.sink.now c.reply-in-Last.new.sink c.reply-in-Last.new.keeper) p.0 fault p.1 p.2 stops
 
 pub returns-in-Last-clause-serves : goal.returns-in-Last-clause-serves
@@ -96,4 +98,8 @@ returns-in-Last-clause-serves g c =
     let q = rw c.deref-in-Last.ensures.value at c.in_ok-quit-in-Last.ensures.quit in
     let said = says_last answers c.lines.keeper c.reply-in-Last.new.keeper (c.lines.n + 1) text r.front at.line.0 r.answers in
     let all = all_read_if (is_quit (request_of text)) (g.S.Source.ended c.read_line.new.source) at.line.2 in
-    rw (c.over_if.ensures, q) (serves_last answers g.S.Source.took g.K.Sink.wrote g.met.S.Source.onward g.met.K.Sink.onward g.S.Source.ended text r.front (over_if (is_quit (request_of text))) c.lines.invariant.turned at.taken r.written said all)
+    let known = c.lines.invariant in
+    let one = end_calls_if (is_quit (request_of text)) in
+    rw (c.over_if.ensures, q)
+    (serves_last answers g.S.Source.took g.K.Sink.wrote g.met.S.Source.onward g.met.K.Sink.onward g.S.Source.failures g.K.Sink.failures known.turned g.S.Source.ended text r.front (over_if (is_quit (request_of text))) at.taken r.written
+    said all (omega (arith, at.spent, one)) (at.uncounted ∙ known.reads) (c.in_ok-quit-in-Last.ensures.same ∙ known.writes))
