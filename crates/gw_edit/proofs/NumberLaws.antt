@@ -1,4 +1,4 @@
--- Edits keep the numbers apart, and a line that comes in or goes out then touches no more than is said.
+-- Since the numbers are apart, a line that comes in or goes out touches no more than is said.
 use Rattle.std.proofs.Common.{◌≡◌, ℕ, suc, ◌+◌, ◌-◌, Bool, true, false, cond, List, [], ◌∷◌, ◌++◌, Option, Some, None, is_some, option_and_then, ◌||◌, length, take, drop, refl, ap, sym, subst, ◌∙◌, arith}
 use Rattle.std.proofs.lemmas.Bool.{eq-eqb}
 use Rattle.std.proofs.lemmas.List.{take-append-drop}
@@ -10,52 +10,18 @@ use Rattle.gw_meaning.specs.Listing.{Listing, line_in, block_of, block_of_body, 
 use Rattle.gw_model.specs.Faults.{is_outside}
 use Rattle.gw_edit.specs.declared.edit.Edit.TheVariants as edits
 use Rattle.gw_edit.specs.declared.touch.Touch.{Touch}
-use Rattle.gw_edit.specs.Applied.{checked, spelled_by, with_line, without_line, with_change, fresh_line, reseeded, without_number, has_replication}
+use Rattle.gw_model.specs.Spliced.{with_splice}
+use Rattle.gw_meaning.specs.Numbers.{AreNumbered}
+use Rattle.gw_model.proofs.Numbers.{absent_first, absent_gone, new_absent}
+use Rattle.gw_edit.specs.Applied.{spelled_by}
 use Rattle.gw_edit.specs.Touching.{nothing, named_in, line_touch, line_touched, block_before, command_from}
-use Rattle.gw_edit.specs.Numbers.{AreApart, KeptApart, InsertTouches, DeleteTouches, ruled_touch}
-use Rattle.gw_edit.proofs.Numbers.{absent_first, apart_with, apart_without, absent_gone, fresh_absent, apart_restated}
-use Rattle.gw_edit.proofs.Splits.{place_in, nth_get, get_inserted, cut_at}
-use Rattle.gw_edit.proofs.Untouching.{checked_gives, spelled_gives, other_side, one_side}
+use Rattle.gw_edit.specs.Numbers.{InsertTouches, DeleteTouches, ruled_touch}
+use Rattle.gw_edit.proofs.Splits.{place_in, nth_between, fresh_line, come_parts, gone_at}
+use Rattle.gw_edit.proofs.Untouching.{checked_gives, spelled_gives, other_side}
 
 -- lines cut in two and put together
 whole : (P : List Numbered → Type 0) (i : ℕ) (lines : List Numbered) → P lines → P (take i lines ++ drop i lines)
 whole P i lines h = subst P (sym (take-append-drop i lines)) h
-
-same_lines : (t v u : Listing) → v ≡ u → v.lines ≡ t.lines → AreApart t.lines → AreApart u.lines
-same_lines t v u same lines apart = subst (λ (ls : List Numbered). AreApart ls) (sym lines ∙ ap (λ (x : Listing). x.lines) same) apart
-
-pub kept_apart : KeptApart
-kept_apart t (edits.Insert place text) u made apart =
-    let side = other_side (is_outside 1 (length t.lines + 1) place) _ _ u made in
-    let spelled = spelled_gives (spelled_by text) (λ s. with_line t place s) u side.1 in
-    let line = fresh_line t.lines spelled.0 in
-    let i = place - 1 in
-    subst (λ (v : Listing). AreApart v.lines) spelled.1
-    (apart_with (take i t.lines) (drop i t.lines) line (whole AreApart i t.lines apart) (whole (λ ls. line_in ls line.number ≡ None) i t.lines (fresh_absent t.lines)))
-kept_apart t (edits.Delete place) u made apart =
-    let side = other_side (is_outside 1 (length t.lines) place) _ _ u made in
-    let within = place_in (length t.lines) place side.0 in
-    let cut = cut_at t.lines (place - 1) (omega (arith, within.0, within.1)) in
-    let i = place - 1 in
-    subst (λ (v : Listing). AreApart v.lines) (checked_gives (without_line t place) u side.1)
-    (apart_without (take i t.lines) (drop (suc i) t.lines) cut.0 (subst (λ (ls : List Numbered). AreApart ls) cut.1.parts apart))
-kept_apart t (edits.Change place text) u made apart =
-    let side = other_side (is_outside 1 (length t.lines) place) _ _ u made in
-    let spelled = spelled_gives (spelled_by text) (λ s. with_change t place s) u side.1 in
-    subst (λ (v : Listing). AreApart v.lines) spelled.1 (apart_restated t.lines (place - 1) spelled.0 apart)
-kept_apart t (edits.Capacity name amount) u made apart = absurd cc
-kept_apart t (edits.Seed number seed) u made apart =
-    let v : Listing = record t { replications = reseeded number seed t.replications } in
-    same_lines t v u (checked_gives v u (one_side (has_replication t number) _ (checked v) u made)) refl apart
-kept_apart t (edits.Replicate number seed) u made apart =
-    let v : Listing = record t { replications = t.replications ++ record { number = number; seed = seed } ∷ [] } in
-    same_lines t v u (checked_gives v u ((other_side (has_replication t number) _ (checked v) u made).1)) refl apart
-kept_apart t (edits.Drop number) u made apart =
-    let v : Listing = record t { replications = without_number number t.replications } in
-    same_lines t v u (checked_gives v u (one_side (has_replication t number) _ (checked v) u made)) refl apart
-kept_apart t (edits.Horizon time) u made apart =
-    let v : Listing = record t { horizon = time } in
-    same_lines t v u (checked_gives v u made) refl apart
 
 -- a line behind lines without its number is found by it
 found_here : (front back : List Numbered) (line : Numbered) → line_in (front ++ back) line.number ≡ None → line_in (front ++ line ∷ back) line.number ≡ Some line
@@ -106,17 +72,18 @@ named_goes t u line some none =
 pub insert_touches : InsertTouches
 insert_touches t place text u r line made there apart =
     let side = other_side (is_outside 1 (length t.lines + 1) place) _ _ u made in
-    let spelled = spelled_gives (spelled_by text) (λ s. with_line t place s) u side.1 in
+    let spelled = spelled_gives (spelled_by text) (λ s. with_splice t place false (Some s)) u side.1 in
     let within = place_in (length t.lines + 1) place side.0 in
     let fresh = fresh_line t.lines spelled.0 in
-    let v = with_line t place spelled.0 in
+    let v = with_splice t place false (Some spelled.0) in
     let i = place - 1 in
-    let at_v : nth v.lines place ≡ Some fresh = nth_get v.lines place fresh within.0 (get_inserted t.lines i fresh (omega (arith, within.0, within.1))) in
+    let new : v.lines ≡ take i t.lines ++ fresh ∷ drop i t.lines = come_parts t.lines place spelled.0 in
+    let at_v : nth v.lines place ≡ Some fresh = ap (λ ls. nth ls place) new ∙ nth_between t.lines (drop i t.lines) place fresh within.0 within.1 in
     let at_u : nth u.lines place ≡ Some fresh = subst (λ (x : Listing). nth x.lines place ≡ Some fresh) spelled.1 at_v in
     let same : fresh ≡ line = cc in
-    let absent : line_in (take i t.lines ++ drop i t.lines) fresh.number ≡ None = whole (λ ls. line_in ls fresh.number ≡ None) i t.lines (fresh_absent t.lines) in
-    let none : block_at t fresh.number ≡ None = ap (λ o. option_and_then block_of o) (fresh_absent t.lines) in
-    let some : block_at v fresh.number ≡ block_of fresh = ap (λ o. option_and_then block_of o) (found_here (take i t.lines) (drop i t.lines) fresh absent) in
+    let absent : line_in (take i t.lines ++ drop i t.lines) fresh.number ≡ None = whole (λ ls. line_in ls fresh.number ≡ None) i t.lines (new_absent t.lines) in
+    let none : block_at t fresh.number ≡ None = ap (λ o. option_and_then block_of o) (new_absent t.lines) in
+    let some : block_at v fresh.number ≡ block_of fresh = ap (λ ls. option_and_then block_of (line_in ls fresh.number)) new ∙ ap (λ o. option_and_then block_of o) (found_here (take i t.lines) (drop i t.lines) fresh absent) in
     let ruled : line_touch t v place fresh ≡ ruled_touch t place fresh = touch_ruled t v place fresh (named_comes t v fresh none some) in
     let here : line_touch t u place fresh ≡ ruled_touch t place fresh = subst (λ (x : Listing). line_touch t x place fresh ≡ ruled_touch t place fresh) spelled.1 ruled in
     ap (λ o. line_touched t u place o) there ∙ subst (λ (l : Numbered). line_touch t u place l ≡ ruled_touch t place l) same here
@@ -125,18 +92,18 @@ pub delete_touches : DeleteTouches
 delete_touches t place u r line made there apart =
     let side = other_side (is_outside 1 (length t.lines) place) _ _ u made in
     let within = place_in (length t.lines) place side.0 in
-    let i = place - 1 in
-    let cut = cut_at t.lines i (omega (arith, within.0, within.1)) in
-    let v = without_line t place in
-    let at_t : nth t.lines place ≡ Some cut.0 = nth_get t.lines place cut.0 within.0 cut.1.found in
-    let same : cut.0 ≡ line = cc in
-    let front = take i t.lines in
-    let back = drop (suc i) t.lines in
-    let parted : AreApart (front ++ cut.0 ∷ back) = subst (λ (ls : List Numbered). AreApart ls) cut.1.parts apart in
-    let absent : line_in (front ++ back) cut.0.number ≡ None = absent_gone front back cut.0 parted in
-    let found : line_in t.lines cut.0.number ≡ Some cut.0 = ap (λ ls. line_in ls cut.0.number) cut.1.parts ∙ found_here front back cut.0 absent in
-    let some : block_at t cut.0.number ≡ block_of cut.0 = ap (λ o. option_and_then block_of o) found in
-    let none : block_at v cut.0.number ≡ None = ap (λ o. option_and_then block_of o) absent in
-    let ruled : line_touch t v place cut.0 ≡ ruled_touch t place cut.0 = touch_ruled t v place cut.0 (named_goes t v cut.0 some none) in
-    let here : line_touch t u place cut.0 ≡ ruled_touch t place cut.0 = subst (λ (x : Listing). line_touch t x place cut.0 ≡ ruled_touch t place cut.0) (checked_gives v u side.1) ruled in
+    let v = with_splice t place true None in
+    let gone = gone_at t.lines place None within.0 within.1 in
+    let old = gone.0 in
+    let found_at = gone.1.found in
+    let same : old ≡ line = cc in
+    let front = take (place - 1) t.lines in
+    let back = drop place t.lines in
+    let parted : AreNumbered (front ++ old ∷ back) = subst (λ (ls : List Numbered). AreNumbered ls) gone.1.old apart in
+    let absent : line_in (front ++ back) old.number ≡ None = absent_gone front back old parted in
+    let found : line_in t.lines old.number ≡ Some old = ap (λ ls. line_in ls old.number) gone.1.old ∙ found_here front back old absent in
+    let some : block_at t old.number ≡ block_of old = ap (λ o. option_and_then block_of o) found in
+    let none : block_at v old.number ≡ None = ap (λ ls. option_and_then block_of (line_in ls old.number)) gone.1.new ∙ ap (λ o. option_and_then block_of o) absent in
+    let ruled : line_touch t v place old ≡ ruled_touch t place old = touch_ruled t v place old (named_goes t v old some none) in
+    let here : line_touch t u place old ≡ ruled_touch t place old = subst (λ (x : Listing). line_touch t x place old ≡ ruled_touch t place old) (checked_gives v u side.1) ruled in
     ap (λ o. line_touched t u place o) there ∙ subst (λ (l : Numbered). line_touch t u place l ≡ ruled_touch t place l) same here

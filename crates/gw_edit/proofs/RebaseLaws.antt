@@ -7,6 +7,7 @@ use Rattle.gw_meaning.specs.declared.item.Item.{Item}
 use Rattle.gw_meaning.specs.Listing.{Listing, seed_at}
 use Rattle.gw_meaning.specs.Reads.{first_reading, reads}
 use Rattle.gw_model.specs.Faults.{is_outside}
+use Rattle.gw_model.specs.Spliced.{with_splice}
 use Rattle.gw_frame.specs.Alike.{SameAnswer}
 use Rattle.gw_record.specs.Tape.{Tape, Records}
 use Rattle.gw_record.specs.Carrying.{Carries}
@@ -14,7 +15,7 @@ use Rattle.gw_record.proofs.FirstLaws.{IsFirstReading, first_is}
 use Rattle.gw_edit.specs.declared.edit.Edit.{Edit}
 use Rattle.gw_edit.specs.declared.edit.Edit.TheVariants as edits
 use Rattle.gw_edit.specs.declared.touch.Touch.{Touch}
-use Rattle.gw_edit.specs.Applied.{applied, checked, spelled_by, with_line, without_line, with_change, reseeded, without_number, has_replication}
+use Rattle.gw_edit.specs.Applied.{applied, checked, spelled_by, reseeded, without_number, has_replication}
 use Rattle.gw_edit.specs.Touching.{touch_of, is_touched}
 use Rattle.gw_edit.specs.Touched.{touched_step}
 use Rattle.gw_edit.specs.Rebasing.{IsKeptOf, IsRebased}
@@ -27,14 +28,14 @@ limit_of v u same = ap (λ (x : Listing). x.limit) (sym same)
 limit_stays : (t : Listing) (e : Edit) (u : Listing) → applied t e ≡ Ok u → u.limit ≡ t.limit
 limit_stays t (edits.Insert place text) u made =
     let side = other_side (is_outside 1 (length t.lines + 1) place) _ _ u made in
-    let spelled = spelled_gives (spelled_by text) (λ s. with_line t place s) u side.1 in
+    let spelled = spelled_gives (spelled_by text) (λ s. with_splice t place false (Some s)) u side.1 in
     limit_of _ u spelled.1
 limit_stays t (edits.Delete place) u made =
     let side = other_side (is_outside 1 (length t.lines) place) _ _ u made in
-    limit_of _ u (checked_gives (without_line t place) u side.1)
+    limit_of _ u (checked_gives (with_splice t place true None) u side.1)
 limit_stays t (edits.Change place text) u made =
     let side = other_side (is_outside 1 (length t.lines) place) _ _ u made in
-    let spelled = spelled_gives (spelled_by text) (λ s. with_change t place s) u side.1 in
+    let spelled = spelled_gives (spelled_by text) (λ s. with_splice t place true (Some s)) u side.1 in
     limit_of _ u spelled.1
 limit_stays t (edits.Capacity name amount) u made = absurd cc
 limit_stays t (edits.Seed number seed) u made =

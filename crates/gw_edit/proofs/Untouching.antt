@@ -14,14 +14,15 @@ use Rattle.gw_model.specs.Faults.{fault_of, is_outside}
 use Rattle.gw_frame.specs.Alike.{SameAnswer}
 use Rattle.gw_edit.specs.declared.edit.Edit.TheVariants as edits
 use Rattle.gw_edit.specs.declared.fault.EditFault.{EditFault}
-use Rattle.gw_edit.specs.Applied.{checked, unless_faulty, spelled_by, with_line, without_line, with_change, fresh_line, reseeded, without_number, has_replication}
-use Rattle.gw_edit.specs.Touching.{touch_of, is_touched, nothing, line_touched, change_touched, same_seed}
+use Rattle.gw_model.specs.Spliced.{with_splice}
+use Rattle.gw_edit.specs.Applied.{checked, unless_faulty, spelled_by, reseeded, without_number, has_replication}
+use Rattle.gw_edit.specs.Touching.{touch_of, is_touched, nothing, lines_before, line_touched, change_touched, same_seed}
 use Rattle.gw_edit.specs.Untouched.{UntouchedAlike}
 use Rattle.gw_edit.proofs.Fronts.{block_in}
 use Rattle.gw_edit.proofs.LineLaws.{line_comes, line_goes}
 use Rattle.gw_edit.proofs.ChangeLaws.{IsChanged, changed_line, change_alike}
 use Rattle.gw_edit.proofs.Seeds.{seed_in_front, seed_without}
-use Rattle.gw_edit.proofs.Splits.{place_in, nth_get, get_inserted, cut_at, restated_at}
+use Rattle.gw_edit.proofs.Splits.{place_in, nth_between, fresh_line, come_parts, gone_at}
 
 -- the parts of an edit that was made
 unless_gives : (o : Option ModelFault) (v u : Listing) → unless_faulty o v ≡ Ok u → v ≡ u
@@ -54,38 +55,39 @@ abbrev pub IsAlike : Listing → Listing → ℕ → (Item → Bool) → Type 0
 IsAlike t u r touched = (a b : ℕ) → seed_at t r ≡ Some a → seed_at u r ≡ Some b → (i : Item) → touched i ≡ false → SameAnswer t a u b i
 
 insert_alike : (t : Listing) (place : ℕ) (s : Statement) (r : ℕ) → is_outside 1 (length t.lines + 1) place ≡ false →
-    IsAlike t (with_line t place s) r (is_touched (line_touched t (with_line t place s) place (nth (with_line t place s).lines place)))
+    IsAlike t (with_splice t place false (Some s)) r (is_touched (line_touched t (with_splice t place false (Some s)) place (nth (with_splice t place false (Some s)).lines place)))
 insert_alike t place s r inside a b was is i h =
     let within = place_in (length t.lines + 1) place inside in
     let line = fresh_line t.lines s in
-    let u = with_line t place s in
-    let there : nth u.lines place ≡ Some line = nth_get u.lines place line within.0 (get_inserted t.lines (place - 1) line (omega (arith, within.0, within.1))) in
+    let u = with_splice t place false (Some s) in
+    let back = drop (place - 1) t.lines in
+    let new : u.lines ≡ lines_before t place ++ line ∷ back = come_parts t.lines place s in
+    let there : nth u.lines place ≡ Some line = ap (λ ls. nth ls place) new ∙ nth_between t.lines back place line within.0 within.1 in
     let old = sym (take-append-drop (place - 1) t.lines) in
-    line_comes t u place line (drop (place - 1) t.lines) old refl refl a b (one_seed (seed_at t r) a b was is) i
+    line_comes t u place line back old new refl a b (one_seed (seed_at t r) a b was is) i
     (subst (λ (o : Option Numbered). is_touched (line_touched t u place o) i ≡ false) there h)
 
-delete_alike : (t : Listing) (place r : ℕ) → is_outside 1 (length t.lines) place ≡ false → IsAlike t (without_line t place) r (is_touched (line_touched t (without_line t place) place (nth t.lines place)))
+delete_alike : (t : Listing) (place r : ℕ) → is_outside 1 (length t.lines) place ≡ false → IsAlike t (with_splice t place true None) r (is_touched (line_touched t (with_splice t place true None) place (nth t.lines place)))
 delete_alike t place r inside a b was is i h =
     let within = place_in (length t.lines) place inside in
-    let cut = cut_at t.lines (place - 1) (omega (arith, within.0, within.1)) in
-    let there : nth t.lines place ≡ Some cut.0 = nth_get t.lines place cut.0 within.0 cut.1.found in
-    let u = without_line t place in
-    line_goes t u place cut.0 (drop (suc (place - 1)) t.lines) cut.1.parts refl refl a b (one_seed (seed_at t r) a b was is) i
-    (subst (λ (o : Option Numbered). is_touched (line_touched t u place o) i ≡ false) there h)
+    let gone = gone_at t.lines place None within.0 within.1 in
+    let u = with_splice t place true None in
+    line_goes t u place gone.0 (drop place t.lines) gone.1.old gone.1.new refl a b (one_seed (seed_at t r) a b was is) i
+    (subst (λ (o : Option Numbered). is_touched (line_touched t u place o) i ≡ false) gone.1.found h)
 
 change_made_alike : (t : Listing) (place : ℕ) (s : Statement) (r : ℕ) → is_outside 1 (length t.lines) place ≡ false →
-    IsAlike t (with_change t place s) r (is_touched (change_touched t place (nth t.lines place) (nth (with_change t place s).lines place)))
+    IsAlike t (with_splice t place true (Some s)) r (is_touched (change_touched t place (nth t.lines place) (nth (with_splice t place true (Some s)).lines place)))
 change_made_alike t place s r inside a b was is i h =
     let within = place_in (length t.lines) place inside in
-    let cut = cut_at t.lines (place - 1) (omega (arith, within.0, within.1)) in
-    let made = restated_at t.lines (place - 1) cut.0 s cut.1.found in
-    let u = with_change t place s in
-    let there : nth t.lines place ≡ Some cut.0 = nth_get t.lines place cut.0 within.0 cut.1.found in
-    let here : nth u.lines place ≡ Some (changed_line cut.0 s) = nth_get u.lines place (changed_line cut.0 s) within.0 made.found in
-    let e : IsChanged t u place cut.0 s (drop (suc (place - 1)) t.lines) = record { old = cut.1.parts; new = made.parts; horizon = refl } in
-    change_alike t u place cut.0 s (drop (suc (place - 1)) t.lines) e a b (one_seed (seed_at t r) a b was is) i
-    (subst (λ (o : Option Numbered). is_touched (change_touched t place (Some cut.0) o) i ≡ false) here
-    (subst (λ (o : Option Numbered). is_touched (change_touched t place o (nth u.lines place)) i ≡ false) there h))
+    let gone = gone_at t.lines place (Some s) within.0 within.1 in
+    let line = gone.0 in
+    let back = drop place t.lines in
+    let u = with_splice t place true (Some s) in
+    let here : nth u.lines place ≡ Some (changed_line line s) = ap (λ ls. nth ls place) gone.1.new ∙ nth_between t.lines back place (changed_line line s) within.0 (let w = within.1 in omega (arith, w)) in
+    let e : IsChanged t u place line s back = record { old = gone.1.old; new = gone.1.new; horizon = refl } in
+    change_alike t u place line s back e a b (one_seed (seed_at t r) a b was is) i
+    (subst (λ (o : Option Numbered). is_touched (change_touched t place (Some line) o) i ≡ false) here
+    (subst (λ (o : Option Numbered). is_touched (change_touched t place o (nth u.lines place)) i ≡ false) gone.1.found h))
 
 -- only the seeds are others
 seeds_alike : (t u : Listing) (touched : Bool) (a b : ℕ) → u.lines ≡ t.lines → u.horizon ≡ t.horizon → (touched ≡ false → b ≡ a) → (i : Item) → is_touched (record nothing { seed = touched }) i ≡ false → SameAnswer t a u b i
@@ -119,14 +121,14 @@ horizon_alike t time a b seeds (items.Within moment) h = within_both t.horizon t
 pub untouched_alike : UntouchedAlike
 untouched_alike t (edits.Insert place text) u r a b made was is i h =
     let side = other_side (is_outside 1 (length t.lines + 1) place) _ _ u made in
-    let spelled = spelled_gives (spelled_by text) (λ s. with_line t place s) u side.1 in
+    let spelled = spelled_gives (spelled_by text) (λ s. with_splice t place false (Some s)) u side.1 in
     subst (λ (v : Listing). IsAlike t v r (is_touched (touch_of t (edits.Insert place text) v r))) spelled.1 (insert_alike t place spelled.0 r side.0) a b was is i h
 untouched_alike t (edits.Delete place) u r a b made was is i h =
     let side = other_side (is_outside 1 (length t.lines) place) _ _ u made in
-    subst (λ (v : Listing). IsAlike t v r (is_touched (touch_of t (edits.Delete place) v r))) (checked_gives (without_line t place) u side.1) (delete_alike t place r side.0) a b was is i h
+    subst (λ (v : Listing). IsAlike t v r (is_touched (touch_of t (edits.Delete place) v r))) (checked_gives (with_splice t place true None) u side.1) (delete_alike t place r side.0) a b was is i h
 untouched_alike t (edits.Change place text) u r a b made was is i h =
     let side = other_side (is_outside 1 (length t.lines) place) _ _ u made in
-    let spelled = spelled_gives (spelled_by text) (λ s. with_change t place s) u side.1 in
+    let spelled = spelled_gives (spelled_by text) (λ s. with_splice t place true (Some s)) u side.1 in
     subst (λ (v : Listing). IsAlike t v r (is_touched (touch_of t (edits.Change place text) v r))) spelled.1 (change_made_alike t place spelled.0 r side.0) a b was is i h
 untouched_alike t (edits.Capacity name amount) u r a b made was is i h = absurd cc
 untouched_alike t (edits.Seed number seed) u r a b made was is i h =
