@@ -18,7 +18,7 @@ absent_first line lines k h =
 pub absent_from : (line : Numbered) (lines : List Numbered) (k : ℕ) → (line.number == k) ≡ false → line_in lines k ≡ None → line_in (line ∷ lines) k ≡ None
 absent_from line lines k other none = subst (λ (b : Bool). cond b (Some line) (line_in lines k) ≡ None) (sym other) none
 
-other_way : (m n : ℕ) → (m == n) ≡ false → (n == m) ≡ false
+pub other_way : (m n : ℕ) → (m == n) ≡ false → (n == m) ≡ false
 other_way m n h = ne_eqb n m (λ e. both_ways (m == n) h (eq-eqb m n (sym e)))
 
 -- a line that comes in, and one that goes out
