@@ -12,7 +12,7 @@ use Rattle.gw_model.proofs.Numbers.{other_way}
 use Rattle.gw_edit.specs.Same.{same_statement}
 use Rattle.gw_edit.specs.declared.touch.Probe.{Probe}
 use Rattle.gw_edit.specs.declared.touch.Probe.TheVariants.{One}
-use Rattle.gw_edit.specs.Touching.{lines_before, generates_if, line_probes, block_change, change_probes, is_touched}
+use Rattle.gw_edit.specs.Touching.{lines_before, generates_if, line_probes, block_change, splice_probes, is_touched}
 use Rattle.gw_edit.proofs.Fronts.{block_in, block_behind, after_behind, generates_behind, commands_behind}
 use Rattle.gw_edit.proofs.LineLaws.{command_none, untouched_both, not_generates, line_alike}
 use Rattle.gw_edit.proofs.SameBlocks.{statement_same}
@@ -116,5 +116,5 @@ module _ (t u : Listing) (place : ℕ) (line : Numbered) (s : Statement) (back :
   by_kinds absent false false was is i h = kind_alike absent i h
 
   -- another statement
-  pub change_alike : line_in (lines_before t place ++ back) line.number ≡ None → (i : Item) → is_touched (change_probes t place line (changed_line line s)) i ≡ false → ask u b i ≡ ask t a i
+  pub change_alike : line_in (lines_before t place ++ back) line.number ≡ None → (i : Item) → is_touched (splice_probes t place (Some line) (Some (changed_line line s))) i ≡ false → ask u b i ≡ ask t a i
   change_alike absent i h = by_kinds absent (is_block line) (is_block (changed_line line s)) refl refl i h

@@ -22,10 +22,10 @@ use Rattle.gw_edit.specs.declared.fault.EditFault.{EditFault}
 use Rattle.gw_edit.specs.declared.touch.Probe.{Probe}
 use Rattle.gw_edit.specs.declared.touch.Probe.TheVariants.{One, Beyond}
 use Rattle.gw_edit.specs.Applied.{applied, checked, unless_faulty, spelled_by, reseeded, without_number, has_replication}
-use Rattle.gw_edit.specs.Touching.{touch_of, is_touched, lines_before, line_touched, change_touched, same_seed}
+use Rattle.gw_edit.specs.Touching.{touch_of, is_touched, lines_before, line_probes, splice_probes, same_seed}
 use Rattle.gw_edit.specs.Untouched.{UntouchedAlike}
 use Rattle.gw_edit.proofs.Fronts.{block_in}
-use Rattle.gw_edit.proofs.LineLaws.{line_alike}
+use Rattle.gw_edit.proofs.LineLaws.{untouched_both, line_alike}
 use Rattle.gw_edit.proofs.ChangeLaws.{changed_line, change_alike}
 use Rattle.gw_edit.proofs.Seeds.{seed_in_front, seed_without}
 use Rattle.gw_edit.proofs.Splits.{place_in, nth_between, fresh_line, come_parts, gone_at}
@@ -70,7 +70,7 @@ as_same t a u b (items.Within time) h = h
 
 -- a statement comes in
 insert_alike : (t : Listing) (place : ℕ) (s : Statement) (r : ℕ) → is_outside 1 (length t.lines + 1) place ≡ false →
-    IsAlike t (with_splice t place false (Some s)) r (line_touched t place (nth (with_splice t place false (Some s)).lines place))
+    IsAlike t (with_splice t place false (Some s)) r (splice_probes t place None (nth (with_splice t place false (Some s)).lines place))
 insert_alike t place s r inside a b was is i h =
     let within = place_in (length t.lines + 1) place inside in
     let line = fresh_line t.lines s in
@@ -81,10 +81,10 @@ insert_alike t place s r inside a b was is i h =
     let old : t.lines ≡ lines_before t place ++ back = sym (take-append-drop (place - 1) t.lines) in
     let absent : line_in (lines_before t place ++ back) line.number ≡ None = subst (λ (ls : List Numbered). line_in ls line.number ≡ None) old (new_absent t.lines) in
     line_alike t place line back u t (record { has = new; lacks = old; horizon = refl; absent = absent }) a b (one_seed (seed_at t r) a b was is) i
-    (subst (λ (o : Option Numbered). is_touched (line_touched t place o) i ≡ false) there h)
+    (subst (λ (o : Option Numbered). is_touched (splice_probes t place None o) i ≡ false) there h)
 
 -- a statement goes out
-delete_alike : (t : Listing) (place r : ℕ) → AreNumbered t.lines → is_outside 1 (length t.lines) place ≡ false → IsAlike t (with_splice t place true None) r (line_touched t place (nth t.lines place))
+delete_alike : (t : Listing) (place r : ℕ) → AreNumbered t.lines → is_outside 1 (length t.lines) place ≡ false → IsAlike t (with_splice t place true None) r (splice_probes t place (nth t.lines place) None)
 delete_alike t place r numbered inside a b was is i h =
     let within = place_in (length t.lines) place inside in
     let gone = gone_at t.lines place None within.0 within.1 in
@@ -93,11 +93,11 @@ delete_alike t place r numbered inside a b was is i h =
     let u = with_splice t place true None in
     let absent = absent_gone (lines_before t place) back line (subst (λ (ls : List Numbered). AreNumbered ls) gone.1.old numbered) in
     sym (line_alike t place line back t u (record { has = gone.1.old; lacks = gone.1.new; horizon = refl; absent = absent }) b a (sym (one_seed (seed_at t r) a b was is)) i
-    (subst (λ (o : Option Numbered). is_touched (line_touched t place o) i ≡ false) gone.1.found h))
+    ((untouched_both (line_probes t place line) [] i (subst (λ (o : Option Numbered). is_touched (splice_probes t place o None) i ≡ false) gone.1.found h)).0))
 
 -- another one takes its place
 change_made_alike : (t : Listing) (place : ℕ) (s : Statement) (r : ℕ) → AreNumbered t.lines → is_outside 1 (length t.lines) place ≡ false →
-    IsAlike t (with_splice t place true (Some s)) r (change_touched t place (nth t.lines place) (nth (with_splice t place true (Some s)).lines place))
+    IsAlike t (with_splice t place true (Some s)) r (splice_probes t place (nth t.lines place) (nth (with_splice t place true (Some s)).lines place))
 change_made_alike t place s r numbered inside a b was is i h =
     let within = place_in (length t.lines) place inside in
     let gone = gone_at t.lines place (Some s) within.0 within.1 in
@@ -107,8 +107,8 @@ change_made_alike t place s r numbered inside a b was is i h =
     let here : nth u.lines place ≡ Some (changed_line line s) = ap (λ ls. nth ls place) gone.1.new ∙ nth_between t.lines back place (changed_line line s) within.0 (let w = within.1 in omega (arith, w)) in
     let absent = absent_gone (lines_before t place) back line (subst (λ (ls : List Numbered). AreNumbered ls) gone.1.old numbered) in
     change_alike t u place line s back (record { old = gone.1.old; new = gone.1.new; horizon = refl }) a b (one_seed (seed_at t r) a b was is) absent i
-    (subst (λ (o : Option Numbered). is_touched (change_touched t place (Some line) o) i ≡ false) here
-    (subst (λ (o : Option Numbered). is_touched (change_touched t place o (nth u.lines place)) i ≡ false) gone.1.found h))
+    (subst (λ (o : Option Numbered). is_touched (splice_probes t place (Some line) o) i ≡ false) here
+    (subst (λ (o : Option Numbered). is_touched (splice_probes t place o (nth u.lines place)) i ≡ false) gone.1.found h))
 
 -- the seeds alone are others
 seeds_alike : (t u : Listing) (a b : ℕ) → u.lines ≡ t.lines → u.horizon ≡ t.horizon → (i : Item) → (i ≡ items.Seed → b ≡ a) → ask u b i ≡ ask t a i

@@ -64,18 +64,16 @@ abbrev pub block_change : Numbered → Numbered → List Probe
 block_change old new =
     if same_statement old.statement new.statement then [] else (One (items.Block old.number) ∷ generates_if (is_generate old || is_generate new))
 
--- a statement that is another one; where one of the two is a command, what the one that goes and the one that comes touch
-abbrev pub change_probes : Listing → ℕ → Numbered → Numbered → List Probe
-change_probes t place old new = if is_block old && is_block new then block_change old new else line_probes t place old ++ line_probes t place new
+-- of a statement, where there is one
+abbrev pub probes_of : Listing → ℕ → Option Numbered → List Probe
+probes_of t place None = []
+probes_of t place (Some line) = line_probes t place line
 
--- at a place where there is one
-abbrev pub line_touched : Listing → ℕ → Option Numbered → List Probe
-line_touched t place None = []
-line_touched t place (Some line) = line_probes t place line
-
-abbrev pub change_touched : Listing → ℕ → Option Numbered → Option Numbered → List Probe
-change_touched t place (Some old) (Some new) = change_probes t place old new
-change_touched t place old new = []
+-- a splice at a place, by the statement that goes, if any, and the one that comes in, if any: what a block for a block
+-- touches, and else what the one touches that goes and the one that comes in
+abbrev pub splice_probes : Listing → ℕ → Option Numbered → Option Numbered → List Probe
+splice_probes t place (Some old) (Some new) = if is_block old && is_block new then block_change old new else line_probes t place old ++ line_probes t place new
+splice_probes t place goes comes = probes_of t place goes ++ probes_of t place comes
 
 -- two seeds, of which either may be none
 abbrev pub same_seed : Option ℕ → Option ℕ → Bool
@@ -87,9 +85,9 @@ same_seed (Some a) (Some b) = a == b
 -- what an edit of a version to another touches in a replication: the seed where it differs, and the first clock step beyond
 -- the lesser horizon. A capacity touches nothing yet, nor does a replication that comes in or goes out touch another one
 abbrev pub touch_of : Listing → Edit → Listing → ℕ → List Probe
-touch_of t (edits.Insert place text) u replication = line_touched t place (nth u.lines place)
-touch_of t (edits.Delete place) u replication = line_touched t place (nth t.lines place)
-touch_of t (edits.Change place text) u replication = change_touched t place (nth t.lines place) (nth u.lines place)
+touch_of t (edits.Insert place text) u replication = splice_probes t place None (nth u.lines place)
+touch_of t (edits.Delete place) u replication = splice_probes t place (nth t.lines place) None
+touch_of t (edits.Change place text) u replication = splice_probes t place (nth t.lines place) (nth u.lines place)
 touch_of t (edits.Capacity name amount) u replication = []
 touch_of t (edits.Seed number seed) u replication = if same_seed (seed_at t replication) (seed_at u replication) then [] else One Seed ∷ []
 touch_of t (edits.Replicate number seed) u replication = []

@@ -24,5 +24,4 @@ pub use fault::EditFault;
 pub use laws::untouched;
 pub use making::apply;
 pub use rebasing::rebase;
-pub use touch::Probe;
 pub use touched_step::touched;

@@ -1,8 +1,8 @@
-ghost use Rattle.std.specs.Prelude.{◌≡◌, ◌++◌, [], ◌∷◌, if◌then◌else◌, option_copied};
+ghost use Rattle.std.specs.Prelude.{◌≡◌, ◌++◌, [], ◌∷◌, if◌then◌else◌, Some, None, option_copied};
 ghost use Rattle.gw_meaning.specs.declared.item.Item.TheVariants as items;
-ghost use Rattle.gw_meaning.specs.Listing.{is_generate, nth};
+ghost use Rattle.gw_meaning.specs.Listing.{is_generate};
 ghost use Rattle.gw_edit.specs.declared.touch.Probe.TheVariants.{One};
-ghost use Rattle.gw_edit.specs.Touching.{touch_of, given, behind, generates_if, block_before, command_from, line_probes, line_touched, block_change, change_probes, change_touched, same_seed};
+ghost use Rattle.gw_edit.specs.Touching.{touch_of, given, behind, generates_if, block_before, command_from, line_probes, probes_of, splice_probes, block_change, same_seed};
 
 use crate::edit::Edit;
 use crate::lines::{count_commands, is_block, is_generate, last_block, line_at, lines_before};
@@ -26,9 +26,9 @@ pub enum Probe {
 /// What an edit touches: at most eight probes, so that it takes no memory.
 #[derive(Debug, Drop)]
 pub struct Touch {
-    /// The probes of the statement that goes out, and of an edit of no statement.
+    /// Those of the statement that goes, or of an edit of no statement.
     pub first: Probes,
-    /// The probes of the statement that comes in.
+    /// Those of the statement that comes in.
     pub rest: Probes,
 }
 
@@ -50,9 +50,14 @@ pub fn touch_of(old: &Version, edit: &Edit, new: &Version, replication: u64) -> 
     ensures { result ≡ touch_of old.now edit.now new.now replication }
 {
     match edit {
-        Edit::Insert { place, .. } => line_touched(old, *place, line_at(new.lines(), *place)),
-        Edit::Delete { place } => line_touched(old, *place, line_at(old.lines(), *place)),
-        Edit::Change { place, .. } => change_touched(old, new, *place),
+        Edit::Insert { place, .. } => splice_touch(old, *place, None, line_at(new.lines(), *place)),
+        Edit::Delete { place } => splice_touch(old, *place, line_at(old.lines(), *place), None),
+        Edit::Change { place, .. } => splice_touch(
+            old,
+            *place,
+            line_at(old.lines(), *place),
+            line_at(new.lines(), *place),
+        ),
         Edit::Seed { .. } => seed_touched(old.seed(replication), new.seed(replication)),
         Edit::Horizon { .. } => alone(Some(Probe::Beyond(old.horizon().min(new.horizon())))),
         Edit::Capacity { .. } | Edit::Replicate { .. } | Edit::Drop { .. } => alone(None),
@@ -79,16 +84,30 @@ fn seed_touched(old: Option<u64>, new: Option<u64>) -> Touch
     }
 }
 
-// A line that comes in or goes out at a place.
-fn line_touched(version: &Version, place: u64, line: Option<&Numbered>) -> Touch
-    ensures { result ≡ line_touched version.now place (option_copied line.entry) }
+// A line that goes at a place, if any, and one that comes in, if any.
+fn splice_touch(
+    version: &Version,
+    place: u64,
+    goes: Option<&Numbered>,
+    comes: Option<&Numbered>,
+) -> Touch
+    ensures { result ≡ splice_probes version.now place (option_copied goes.entry) (option_copied comes.entry) }
+{
+    match (goes, comes) {
+        (Some(old), Some(new)) => change_touch(version, place, old, new),
+        _ => Touch {
+            first: probes_of(version, place, goes),
+            rest: probes_of(version, place, comes),
+        },
+    }
+}
+
+fn probes_of(version: &Version, place: u64, line: Option<&Numbered>) -> Probes
+    ensures { given result ≡ probes_of version.now place (option_copied line.entry) }
 {
     match line {
-        Some(line) => Touch {
-            first: line_probes(version, place, line),
-            rest: [None, None, None, None],
-        },
-        None => alone(None),
+        Some(line) => line_probes(version, place, line),
+        None => [None, None, None, None],
     }
 }
 
@@ -125,18 +144,9 @@ fn generates_if(other: bool) -> Option<Probe>
     }
 }
 
-// A line that has another statement at a place.
-fn change_touched(old: &Version, new: &Version, place: u64) -> Touch
-    ensures { result ≡ change_touched old.now place (nth old.now.lines place) (nth new.now.lines place) }
-{
-    match (line_at(old.lines(), place), line_at(new.lines(), place)) {
-        (Some(line), Some(new_line)) => change_touch(old, place, line, new_line),
-        _ => alone(None),
-    }
-}
-
+// A line that has another statement.
 fn change_touch(version: &Version, place: u64, old: &Numbered, new: &Numbered) -> Touch
-    ensures { result ≡ change_probes version.now place old.now new.now }
+    ensures { result ≡ splice_probes version.now place (Some old.now) (Some new.now) }
 {
     if is_block(old) && is_block(new) {
         block_change(old, new)
