@@ -3,6 +3,7 @@ use Rattle.std.proofs.Common.{◌≡◌, ℕ, ◌<◌, Bool, true, false, cond, 
 use Rattle.gw_meaning.specs.declared.statement.Statement.{Statement}
 use Rattle.gw_meaning.specs.Listing.{Listing, seed_at}
 use Rattle.gw_model.specs.Faults.{is_outside, fault_of}
+use Rattle.gw_model.specs.Spliced.{with_splice}
 use Rattle.gw_record.specs.Tape.{Tape, Records, blank}
 use Rattle.gw_edit.specs.declared.edit.Edit.{Edit}
 use Rattle.gw_edit.specs.declared.edit.Edit.TheVariants as edits
@@ -15,7 +16,7 @@ use Rattle.gw_lines.specs.Edits.{edit_of}
 use Rattle.gw_lines.specs.Reading.{◌>>=◌}
 use Rattle.gw_model.specs.declared.fault.ModelFault.{ModelFault}
 use Rattle.gw_model.specs.declared.fault.ModelFault.TheVariants as models
-use Rattle.gw_edit.specs.Applied.{applied, checked, unless_faulty, or_refusal, spelled_by, with_line, without_line, with_change, reseeded, without_number, has_replication}
+use Rattle.gw_edit.specs.Applied.{applied, checked, unless_faulty, or_refusal, spelled_by, reseeded, without_number, has_replication}
 use Rattle.gw_edit.specs.Touching.{touch_of}
 use Rattle.gw_desk.specs.declared.recording.Recording.{Recording}
 use Rattle.gw_desk.specs.Book.{Book, IsBook, run_in, IsRunOf, AreRuns}
@@ -106,9 +107,9 @@ other_or true fault r h k is = k is
 other_or false fault r h k is = h cc
 
 pub never_full : (t : Listing) (e : Edit) → applied t e ≡ Err faults.HistoryFull → ⊥
-never_full t (edits.Insert place text) is = one_or (is_outside 1 (length t.lines + 1) place) faults.NoSuchPlace (spelled_by text >>= (λ s. checked (with_line t place s))) (λ e. absurd cc) (λ e. spelled_refused (edit_of text) (λ s. with_line t place s) e) is
-never_full t (edits.Delete place) is = one_or (is_outside 1 (length t.lines) place) faults.NoSuchPlace (checked (without_line t place)) (λ e. absurd cc) (λ e. checked_refused (without_line t place) e) is
-never_full t (edits.Change place text) is = one_or (is_outside 1 (length t.lines) place) faults.NoSuchPlace (spelled_by text >>= (λ s. checked (with_change t place s))) (λ e. absurd cc) (λ e. spelled_refused (edit_of text) (λ s. with_change t place s) e) is
+never_full t (edits.Insert place text) is = one_or (is_outside 1 (length t.lines + 1) place) faults.NoSuchPlace (spelled_by text >>= (λ s. checked (with_splice t place false (Some s)))) (λ e. absurd cc) (λ e. spelled_refused (edit_of text) (λ s. with_splice t place false (Some s)) e) is
+never_full t (edits.Delete place) is = one_or (is_outside 1 (length t.lines) place) faults.NoSuchPlace (checked (with_splice t place true None)) (λ e. absurd cc) (λ e. checked_refused (with_splice t place true None) e) is
+never_full t (edits.Change place text) is = one_or (is_outside 1 (length t.lines) place) faults.NoSuchPlace (spelled_by text >>= (λ s. checked (with_splice t place true (Some s)))) (λ e. absurd cc) (λ e. spelled_refused (edit_of text) (λ s. with_splice t place true (Some s)) e) is
 never_full t (edits.Capacity name amount) is = absurd cc
 never_full t (edits.Seed number seed) is =
     let v : Listing = record t { replications = reseeded number seed t.replications } in

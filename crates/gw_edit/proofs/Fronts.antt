@@ -9,7 +9,12 @@ use Rattle.gw_meaning.specs.declared.statement.Block.{Block}
 use Rattle.gw_meaning.specs.declared.statement.Command.{Command}
 use Rattle.gw_meaning.specs.declared.statement.Numbered.{Numbered}
 use Rattle.gw_meaning.specs.Listing.{line_in, block_of, block_of_body, is_block, command_of, command_of_body, is_generate, first_block, after_in, generates_in, nth}
-use Rattle.gw_edit.specs.Touching.{last_block, is_at}
+use Rattle.gw_edit.specs.Touching.{last_block}
+
+-- whether a number is this one
+abbrev pub is_at : Option ℕ → ℕ → Bool
+is_at None number = false
+is_at (Some other) number = other == number
 
 -- the block with a number
 abbrev pub block_in : List Numbered → ℕ → Option Block

@@ -7,7 +7,5 @@ pub mod ChangeLaws
 pub mod Splits
 pub mod Seeds
 pub mod Untouching
-pub mod Numbers
-pub mod NumberLaws
 pub mod TouchLaws
 pub mod RebaseLaws

@@ -1,18 +1,22 @@
--- Two versions of which one has a line more: what is not touched, they answer alike.
-use Rattle.std.proofs.Common.{◌≡◌, ℕ, ◌+◌, Bool, true, false, cond, not, List, ◌∷◌, ◌++◌, Option, Some, None, is_some, option_and_then, ◌==◌, ◌||◌, length, filter, nat_le, refl, ap, sym, subst, ◌∙◌, inl, inr, ◌⊎◌, ⊎_elim}
-use Rattle.std.specs.List.{filter_map, cons_option}
-use Rattle.std.proofs.lemmas.Bool.{cases_Bool, eqb-true, or_parts, both_ways}
+-- Lines of which one goes or comes in: what it does not touch, those with it and those without it answer alike.
+use Rattle.std.proofs.Common.{◌≡◌, ℕ, ◌+◌, Bool, true, false, cond, not, List, [], ◌∷◌, ◌++◌, Option, Some, None, is_some, option_and_then, ◌==◌, ◌||◌, length, filter, nat_le, refl, ap, sym, subst, ◌∙◌, ⊎_elim}
+use Rattle.std.specs.List.{filter_map, cons_option, list_any}
+use Rattle.std.proofs.lemmas.Bool.{cases_Bool, eqb-true, or_parts}
+use Rattle.std.proofs.lemmas.List.Folds.{list_any-append}
 use Rattle.gw_meaning.specs.declared.item.Item.{Item}
 use Rattle.gw_meaning.specs.declared.item.Item.TheVariants as items
 use Rattle.gw_meaning.specs.declared.statement.Body.{Body}
 use Rattle.gw_meaning.specs.declared.statement.Body.TheVariants as bodies
 use Rattle.gw_meaning.specs.declared.statement.Numbered.{Numbered}
-use Rattle.gw_meaning.specs.Listing.{Listing, line_in, block_of, block_of_body, is_block, command_of, command_of_body, is_generate, first_block, after_in, block_at, generates_in, nth}
-use Rattle.gw_frame.specs.Alike.{SameAnswer}
-use Rattle.gw_edit.specs.Touching.{last_block, lines_before, named_in, line_touch, is_touched, is_at, is_from}
-use Rattle.gw_edit.proofs.Fronts.{block_in, block_behind, after_behind, after_in_front, generates_behind, commands_behind, commands_front, after_none}
+use Rattle.gw_meaning.specs.Listing.{Listing, line_in, block_of, block_of_body, is_block, command_of, command_of_body, is_generate, is_generate_body, first_block, after_in, generates_in, nth}
+use Rattle.gw_meaning.specs.Questions.{ask}
+use Rattle.gw_model.proofs.Numbers.{absent_first, other_way}
+use Rattle.gw_edit.specs.declared.touch.Probe.{Probe}
+use Rattle.gw_edit.specs.declared.touch.Probe.TheVariants.{One, CommandsFrom}
+use Rattle.gw_edit.specs.Touching.{last_block, lines_before, block_before, command_from, behind, generates_if, block_probes, line_probes, is_probed, is_touched}
+use Rattle.gw_edit.proofs.Fronts.{is_at, block_in, block_behind, after_behind, after_in_front, generates_behind, commands_behind, commands_front, after_none}
 
--- a block is no command
+-- a block is no command, and a command is no block
 no_command : (body : Body) → is_some (block_of_body body) ≡ true → command_of_body body ≡ None
 no_command (bodies.Block block) h = refl
 no_command (bodies.Command command) h = absurd cc
@@ -20,86 +24,120 @@ no_command (bodies.Command command) h = absurd cc
 pub command_none : (line : Numbered) → is_block line ≡ true → command_of line ≡ None
 command_none line h = no_command line.statement.body h
 
+no_block_of : (body : Body) → is_some (block_of_body body) ≡ false → block_of_body body ≡ None
+no_block_of (bodies.Block block) h = absurd cc
+no_block_of (bodies.Command command) h = refl
+
+no_block : (line : Numbered) → is_block line ≡ false → block_of line ≡ None
+no_block line h = no_block_of line.statement.body h
+
+no_generate_of : (body : Body) → is_some (block_of_body body) ≡ false → is_generate_body body ≡ false
+no_generate_of (bodies.Block block) h = absurd cc
+no_generate_of (bodies.Command command) h = refl
+
+no_generate : (line : Numbered) → is_block line ≡ false → is_generate line ≡ false
+no_generate line h = no_generate_of line.statement.body h
+
+-- what is not touched by probes is not touched by any part of them
+pub untouched_both : (ps qs : List Probe) (i : Item) → is_touched (ps ++ qs) i ≡ false → (is_touched ps i ≡ false) × (is_touched qs i ≡ false)
+untouched_both ps qs i h = or_parts (is_touched ps i) (is_touched qs i) (sym (list_any-append (λ p. is_probed p i) ps qs) ∙ h)
+
+not_behind : (o : Option ℕ) (k : ℕ) → is_touched (behind o) (items.After k) ≡ false → is_at o k ≡ false
+not_behind None k h = refl
+not_behind (Some n) k h = other_way k n ((or_parts _ _ h).0)
+
+pub not_generates : (b : Bool) → is_touched (generates_if b) items.Generates ≡ false → b ≡ false
+not_generates false h = refl
+not_generates true h = absurd cc
+
+-- behind lines without a number it is not there either
+absent_behind : (front back : List Numbered) (k : ℕ) → line_in (front ++ back) k ≡ None → line_in back k ≡ None
+absent_behind [] back k none = none
+absent_behind (x ∷ front) back k none = absent_behind front back k ((absent_first x (front ++ back) k none).1)
+
 module _ (front back : List Numbered) (line : Numbered) where
-  block_without : (k : ℕ) → (line.number == k) ≡ false → block_in (front ++ line ∷ back) k ≡ block_in (front ++ back) k
-  block_without k other =
+  -- a block
+  block_other : (k : ℕ) → (line.number == k) ≡ false → block_in (front ++ line ∷ back) k ≡ block_in (front ++ back) k
+  block_other k other =
       block_behind front (line ∷ back) back k
       (subst (λ (b : Bool). option_and_then block_of (cond b (Some line) (line_in back k)) ≡ block_in back k) (sym other) refl)
 
-  after_without : (k : ℕ) → (line.number == k) ≡ false → is_at (cond (is_block line) (last_block None front) None) k ≡ false → after_in (front ++ line ∷ back) k ≡ after_in (front ++ back) k
-  after_without k other last =
-      let here : after_in (line ∷ back) k ≡ after_in back k = subst (λ (b : Bool). cond b (cond (is_block line) (first_block back) None) (after_in back k) ≡ after_in back k) (sym other) refl in
-      ⊎_elim
-      (λ (block : is_block line ≡ true). after_in_front front (line ∷ back) back k (subst (λ (b : Bool). is_at (cond b (last_block None front) None) k ≡ false) block last) here)
-      (λ (command : is_block line ≡ false). after_behind front (line ∷ back) back k (ap (λ b. cond b (Some line.number) (first_block back)) command) here)
-      (cases_Bool (is_block line))
+  after_other : (k : ℕ) → (line.number == k) ≡ false → is_at (last_block None front) k ≡ false → after_in (front ++ line ∷ back) k ≡ after_in (front ++ back) k
+  after_other k other last =
+      after_in_front front (line ∷ back) back k last
+      (subst (λ (b : Bool). cond b (cond (is_block line) (first_block back) None) (after_in back k) ≡ after_in back k) (sym other) refl)
 
   generates_without : is_generate line ≡ false → generates_in (front ++ line ∷ back) ≡ generates_in (front ++ back)
   generates_without none = generates_behind front (line ∷ back) back (ap (λ b. cond b (line.number ∷ generates_in back) (generates_in back)) none)
 
-  commands_without : (j : ℕ) → is_from (cond (is_block line) None (Some (length (filter (λ (l : Numbered). not (is_block l)) front) + 1))) j ≡ false →
-      nth (filter_map command_of (front ++ line ∷ back)) j ≡ nth (filter_map command_of (front ++ back)) j
-  commands_without j before =
-      let first = length (filter (λ (l : Numbered). not (is_block l)) front) + 1 in
-      ⊎_elim
-      (λ (block : is_block line ≡ true). ap (λ cs. nth cs j) (commands_behind front (line ∷ back) back (ap (λ o. cons_option o (filter_map command_of back)) (command_none line block))))
-      (λ (command : is_block line ≡ false). commands_front front (line ∷ back) back j (subst (λ (b : Bool). is_from (cond b None (Some first)) j ≡ false) command before))
-      (cases_Bool (is_block line))
+  commands_same : (j : ℕ) → is_block line ≡ true → nth (filter_map command_of (front ++ line ∷ back)) j ≡ nth (filter_map command_of (front ++ back)) j
+  commands_same j block = ap (λ cs. nth cs j) (commands_behind front (line ∷ back) back (ap (λ o. cons_option o (filter_map command_of back)) (command_none line block)))
 
--- a number that is not touched is another one, or no block's
-not_some : {X : Type 0} (o : Option X) → is_some o ≡ false → o ≡ None
-not_some None h = refl
-not_some (Some x) h = absurd cc
+  -- a command, whose number no block has
+  module _ (command : is_block line ≡ false) (absent : line_in (front ++ back) line.number ≡ None) where
+    block_hidden : (k : ℕ) → block_in (line ∷ back) k ≡ block_in back k
+    block_hidden k =
+        ⊎_elim
+        (λ (same : (line.number == k) ≡ true).
+        let none : line_in back k ≡ None = subst (λ (n : ℕ). line_in back n ≡ None) (eqb-true line.number k same) (absent_behind front back line.number absent) in
+        subst (λ (b : Bool). option_and_then block_of (cond b (Some line) (line_in back k)) ≡ block_in back k) (sym same)
+        (no_block line command ∙ sym (ap (λ o. option_and_then block_of o) none)))
+        (λ (other : (line.number == k) ≡ false).
+        subst (λ (b : Bool). option_and_then block_of (cond b (Some line) (line_in back k)) ≡ block_in back k) (sym other) refl)
+        (cases_Bool (line.number == k))
 
-named_none : (b : Bool) (n k : ℕ) → (n == k) ≡ true → is_at (cond b (Some n) None) k ≡ false → b ≡ false
-named_none true n k same h = absurd (both_ways (n == k) h same)
-named_none false n k same h = refl
+    after_hidden : (k : ℕ) → after_in (line ∷ back) k ≡ after_in back k
+    after_hidden k =
+        ⊎_elim
+        (λ (same : (line.number == k) ≡ true).
+        let none : line_in back k ≡ None = subst (λ (n : ℕ). line_in back n ≡ None) (eqb-true line.number k same) (absent_behind front back line.number absent) in
+        subst (λ (b : Bool). cond b (cond (is_block line) (first_block back) None) (after_in back k) ≡ after_in back k) (sym same)
+        (ap (λ b. cond b (first_block back) None) command ∙ sym (after_none back k (ap (λ o. option_and_then block_of o) none))))
+        (λ (other : (line.number == k) ≡ false).
+        subst (λ (b : Bool). cond b (cond (is_block line) (first_block back) None) (after_in back k) ≡ after_in back k) (sym other) refl)
+        (cases_Bool (line.number == k))
 
-named : (t u : Listing) (n k : ℕ) → is_at (named_in t u n) k ≡ false → ((n == k) ≡ false) ⊎ ((block_at t k ≡ None) × (block_at u k ≡ None))
-named t u n k h =
-    ⊎_elim
-    (λ (same : (n == k) ≡ true).
-    let none = or_parts (is_some (block_at t n)) (is_some (block_at u n)) (named_none (is_some (block_at t n) || is_some (block_at u n)) n k same h) in
-    inr (subst (λ (m : ℕ). (block_at t m ≡ None) × (block_at u m ≡ None)) (eqb-true n k same) (not_some (block_at t n) none.0, not_some (block_at u n) none.1)))
-    (λ (other : (n == k) ≡ false). inl other)
-    (cases_Bool (n == k))
+    block_same : (k : ℕ) → block_in (front ++ line ∷ back) k ≡ block_in (front ++ back) k
+    block_same k = block_behind front (line ∷ back) back k (block_hidden k)
 
--- the line comes in
-pub line_comes : (t u : Listing) (place : ℕ) (line : Numbered) (back : List Numbered) → t.lines ≡ lines_before t place ++ back → u.lines ≡ lines_before t place ++ line ∷ back → u.horizon ≡ t.horizon →
-    (a b : ℕ) → b ≡ a → (i : Item) → is_touched (line_touch t u place line) i ≡ false → SameAnswer t a u b i
-line_comes t u place line back old new same a b seeds (items.Block k) h =
-    ⊎_elim
-    (λ other. ap (λ ls. block_in ls k) new ∙ block_without (lines_before t place) back line k other ∙ sym (ap (λ ls. block_in ls k) old))
-    (λ none. none.1 ∙ sym none.0)
-    (named t u line.number k h)
-line_comes t u place line back old new same a b seeds (items.After k) h =
-    let parts = or_parts _ _ h in
-    ⊎_elim
-    (λ other. ap (λ ls. after_in ls k) new ∙ after_without (lines_before t place) back line k other parts.0 ∙ sym (ap (λ ls. after_in ls k) old))
-    (λ none. after_none u.lines k none.1 ∙ sym (after_none t.lines k none.0))
-    (named t u line.number k parts.1)
-line_comes t u place line back old new same a b seeds items.Generates h = ap generates_in new ∙ generates_without (lines_before t place) back line h ∙ sym (ap generates_in old)
-line_comes t u place line back old new same a b seeds (items.Cmd j) h =
-    ap (λ ls. nth (filter_map command_of ls) j) new ∙ commands_without (lines_before t place) back line j h ∙ sym (ap (λ ls. nth (filter_map command_of ls) j) old)
-line_comes t u place line back old new same a b seeds items.Seed h = seeds
-line_comes t u place line back old new same a b seeds (items.Within time) h = ap (λ n. nat_le time n) same
+    after_same : (k : ℕ) → after_in (front ++ line ∷ back) k ≡ after_in (front ++ back) k
+    after_same k = after_behind front (line ∷ back) back k (ap (λ b. cond b (Some line.number) (first_block back)) command) (after_hidden k)
 
--- the line goes out
-pub line_goes : (t u : Listing) (place : ℕ) (line : Numbered) (back : List Numbered) → t.lines ≡ lines_before t place ++ line ∷ back → u.lines ≡ lines_before t place ++ back → u.horizon ≡ t.horizon →
-    (a b : ℕ) → b ≡ a → (i : Item) → is_touched (line_touch t u place line) i ≡ false → SameAnswer t a u b i
-line_goes t u place line back old new same a b seeds (items.Block k) h =
-    ⊎_elim
-    (λ other. ap (λ ls. block_in ls k) new ∙ sym (block_without (lines_before t place) back line k other) ∙ sym (ap (λ ls. block_in ls k) old))
-    (λ none. none.1 ∙ sym none.0)
-    (named t u line.number k h)
-line_goes t u place line back old new same a b seeds (items.After k) h =
-    let parts = or_parts _ _ h in
-    ⊎_elim
-    (λ other. ap (λ ls. after_in ls k) new ∙ sym (after_without (lines_before t place) back line k other parts.0) ∙ sym (ap (λ ls. after_in ls k) old))
-    (λ none. after_none u.lines k none.1 ∙ sym (after_none t.lines k none.0))
-    (named t u line.number k parts.1)
-line_goes t u place line back old new same a b seeds items.Generates h = ap generates_in new ∙ sym (generates_without (lines_before t place) back line h) ∙ sym (ap generates_in old)
-line_goes t u place line back old new same a b seeds (items.Cmd j) h =
-    ap (λ ls. nth (filter_map command_of ls) j) new ∙ sym (commands_without (lines_before t place) back line j h) ∙ sym (ap (λ ls. nth (filter_map command_of ls) j) old)
-line_goes t u place line back old new same a b seeds items.Seed h = seeds
-line_goes t u place line back old new same a b seeds (items.Within time) h = ap (λ n. nat_le time n) same
+-- a version whose lines are those with the line, and one whose lines are those without it
+pub record IsWith (t : Listing) (place : ℕ) (line : Numbered) (back : List Numbered) (with without : Listing) : Type 0 where
+  pub has : with.lines ≡ lines_before t place ++ line ∷ back
+  pub lacks : without.lines ≡ lines_before t place ++ back
+  pub horizon : with.horizon ≡ without.horizon
+  pub absent : line_in (lines_before t place ++ back) line.number ≡ None
+
+module _ (t : Listing) (place : ℕ) (line : Numbered) (back : List Numbered) (with without : Listing) (e : IsWith t place line back with without) (a b : ℕ) (seeds : b ≡ a) where
+  -- what the lines answer alike, the versions do
+  between : {X : Type 0} (f : List Numbered → X) → f (lines_before t place ++ line ∷ back) ≡ f (lines_before t place ++ back) → f with.lines ≡ f without.lines
+  between f h = ap f e.has ∙ h ∙ sym (ap f e.lacks)
+
+  by_block : is_block line ≡ true → (i : Item) → is_touched (block_probes t place line) i ≡ false → ask with b i ≡ ask without a i
+  by_block block i h = go i (untouched_both (behind (block_before t place)) (One (items.Block line.number) ∷ One (items.After line.number) ∷ generates_if (is_generate line)) i h) where
+    go : (i : Item) → (is_touched (behind (block_before t place)) i ≡ false) × (is_touched (One (items.Block line.number) ∷ One (items.After line.number) ∷ generates_if (is_generate line)) i ≡ false) → ask with b i ≡ ask without a i
+    go (items.Block k) h = between (λ ls. block_in ls k) (block_other (lines_before t place) back line k (other_way k line.number ((or_parts _ _ h.1).0)))
+    go (items.After k) h =
+        between (λ ls. after_in ls k) (after_other (lines_before t place) back line k (other_way k line.number ((or_parts _ _ h.1).0)) (not_behind (block_before t place) k h.0))
+    go items.Generates h = between generates_in (generates_without (lines_before t place) back line (not_generates (is_generate line) h.1))
+    go (items.Cmd j) h = between (λ ls. nth (filter_map command_of ls) j) (commands_same (lines_before t place) back line j block)
+    go items.Seed h = seeds
+    go (items.Within time) h = ap (λ n. nat_le time n) e.horizon
+
+  by_command : is_block line ≡ false → (i : Item) → is_touched (CommandsFrom (command_from t place) ∷ []) i ≡ false → ask with b i ≡ ask without a i
+  by_command command (items.Block k) h = between (λ ls. block_in ls k) (block_same (lines_before t place) back line command e.absent k)
+  by_command command (items.After k) h = between (λ ls. after_in ls k) (after_same (lines_before t place) back line command e.absent k)
+  by_command command items.Generates h = between generates_in (generates_without (lines_before t place) back line (no_generate line command))
+  by_command command (items.Cmd j) h =
+      between (λ ls. nth (filter_map command_of ls) j) (commands_front (lines_before t place) (line ∷ back) back j ((or_parts _ _ h).0))
+  by_command command items.Seed h = seeds
+  by_command command (items.Within time) h = ap (λ n. nat_le time n) e.horizon
+
+  by_kind : (block : Bool) → is_block line ≡ block → (i : Item) → is_touched (cond block (block_probes t place line) (CommandsFrom (command_from t place) ∷ [])) i ≡ false → ask with b i ≡ ask without a i
+  by_kind true block i h = by_block block i h
+  by_kind false command i h = by_command command i h
+
+  pub line_alike : (i : Item) → is_touched (line_probes t place line) i ≡ false → ask with b i ≡ ask without a i
+  line_alike i h = by_kind (is_block line) refl i h

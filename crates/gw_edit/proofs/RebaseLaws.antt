@@ -5,16 +5,18 @@ use Rattle.std.specs.List.{list_any, AllByRecursion}
 use Rattle.std.proofs.lemmas.List.Elements.{All-from_recursion}
 use Rattle.gw_meaning.specs.declared.item.Item.{Item}
 use Rattle.gw_meaning.specs.Listing.{Listing, seed_at}
+use Rattle.gw_meaning.specs.Numbers.{AreNumbered}
 use Rattle.gw_meaning.specs.Reads.{first_reading, reads}
 use Rattle.gw_model.specs.Faults.{is_outside}
+use Rattle.gw_model.specs.Spliced.{with_splice}
 use Rattle.gw_frame.specs.Alike.{SameAnswer}
 use Rattle.gw_record.specs.Tape.{Tape, Records}
 use Rattle.gw_record.specs.Carrying.{Carries}
 use Rattle.gw_record.proofs.FirstLaws.{IsFirstReading, first_is}
 use Rattle.gw_edit.specs.declared.edit.Edit.{Edit}
 use Rattle.gw_edit.specs.declared.edit.Edit.TheVariants as edits
-use Rattle.gw_edit.specs.declared.touch.Touch.{Touch}
-use Rattle.gw_edit.specs.Applied.{applied, checked, spelled_by, with_line, without_line, with_change, reseeded, without_number, has_replication}
+use Rattle.gw_edit.specs.declared.touch.Probe.{Probe}
+use Rattle.gw_edit.specs.Applied.{applied, checked, spelled_by, reseeded, without_number, has_replication}
 use Rattle.gw_edit.specs.Touching.{touch_of, is_touched}
 use Rattle.gw_edit.specs.Touched.{touched_step}
 use Rattle.gw_edit.specs.Rebasing.{IsKeptOf, IsRebased}
@@ -27,14 +29,14 @@ limit_of v u same = ap (λ (x : Listing). x.limit) (sym same)
 limit_stays : (t : Listing) (e : Edit) (u : Listing) → applied t e ≡ Ok u → u.limit ≡ t.limit
 limit_stays t (edits.Insert place text) u made =
     let side = other_side (is_outside 1 (length t.lines + 1) place) _ _ u made in
-    let spelled = spelled_gives (spelled_by text) (λ s. with_line t place s) u side.1 in
+    let spelled = spelled_gives (spelled_by text) (λ s. with_splice t place false (Some s)) u side.1 in
     limit_of _ u spelled.1
 limit_stays t (edits.Delete place) u made =
     let side = other_side (is_outside 1 (length t.lines) place) _ _ u made in
-    limit_of _ u (checked_gives (without_line t place) u side.1)
+    limit_of _ u (checked_gives (with_splice t place true None) u side.1)
 limit_stays t (edits.Change place text) u made =
     let side = other_side (is_outside 1 (length t.lines) place) _ _ u made in
-    let spelled = spelled_gives (spelled_by text) (λ s. with_change t place s) u side.1 in
+    let spelled = spelled_gives (spelled_by text) (λ s. with_splice t place true (Some s)) u side.1 in
     limit_of _ u spelled.1
 limit_stays t (edits.Capacity name amount) u made = absurd cc
 limit_stays t (edits.Seed number seed) u made =
@@ -58,14 +60,14 @@ none_touched p P f (i ∷ is) h = go (p i) refl h (none_touched p P f is) where
   go false e h rest = (f i e, rest h)
 
 -- the steps that are kept of a run read nothing touched
-unread : (touch : Touch) (t : Listing) (seed : ℕ) (r : Tape) (n : ℕ) → n ≤ r.moment → IsKeptOf t seed r (touched_step touch t seed r) n → (j : ℕ) → j < n → list_any (is_touched touch) (reads t seed j) ≡ false
+unread : (touch : List Probe) (t : Listing) (seed : ℕ) (r : Tape) (n : ℕ) → n ≤ r.moment → IsKeptOf t seed r (touched_step touch t seed r) n → (j : ℕ) → j < n → list_any (is_touched touch) (reads t seed j) ≡ false
 unread touch t seed r n low kept j less = go (first_reading (is_touched touch) t seed r.moment) (first_is (is_touched touch) t seed r.moment) kept where
   go : (o : Option ℕ) → IsFirstReading (is_touched touch) t seed r.moment o → IsKeptOf t seed r o n → list_any (is_touched touch) (reads t seed j) ≡ false
   go None h k = h j (omega (arith, less, low))
   go (Some m) h k = let b = k.below in h.2 j (omega (arith, less, b))
 
 -- no run grows by going back
-shorter : (touch : Touch) (t : Listing) (seed : ℕ) (r : Tape) (n : ℕ) → IsKeptOf t seed r (touched_step touch t seed r) n → n ≤ r.moment
+shorter : (touch : List Probe) (t : Listing) (seed : ℕ) (r : Tape) (n : ℕ) → IsKeptOf t seed r (touched_step touch t seed r) n → n ≤ r.moment
 shorter touch t seed r n kept = go (touched_step touch t seed r) kept where
   go : (o : Option ℕ) → IsKeptOf t seed r o n → n ≤ r.moment
   go None k = omega (arith, k)
@@ -77,12 +79,12 @@ pub record WentBack (t : Listing) (e : Edit) (u : Listing) (n : ℕ) (r s : Tape
   pub kept : (a : ℕ) → Records t a r → IsKeptOf t a r (touched_step (touch_of t e u n) t a r) s.moment
   pub every : s.every ≡ r.every
 
-module _ (t : Listing) (e : Edit) (u : Listing) (n : ℕ) (r s : Tape) (carries : Carries s) (back : WentBack t e u n r s) where
+module _ (t : Listing) (e : Edit) (u : Listing) (n : ℕ) (r s : Tape) (numbered : AreNumbered t.lines) (carries : Carries s) (back : WentBack t e u n r s) where
   carried_over : (a b : ℕ) → applied t e ≡ Ok u → seed_at t n ≡ Some a → seed_at u n ≡ Some b → Records t a r → Records u b s
   carried_over a b made was is h =
       let low = shorter (touch_of t e u n) t a r s.moment (back.kept a h) in
       let unread_at = unread (touch_of t e u n) t a r s.moment low (back.kept a h) in
-      let alike = none_touched (is_touched (touch_of t e u n)) (SameAnswer t a u b) (untouched_alike t e u n a b made was is) in
+      let alike = none_touched (is_touched (touch_of t e u n)) (SameAnswer t a u b) (untouched_alike t e u n a b numbered made was is) in
       carries t a u b (back.records a h) (limit_stays t e u made) (λ j less. All-from_recursion (SameAnswer t a u b) (reads t a j) (alike (reads t a j) (unread_at j less)))
 
   pub is_rebased : IsRebased t e u n r s

@@ -1,47 +1,49 @@
--- Lists cut at a place.
-use Rattle.std.proofs.Common.{◌≡◌, ℕ, zero, suc, ◌-◌, ◌<◌, ◌≤◌, List, [], ◌∷◌, ◌++◌, Some, length, take, drop, insert, false, refl, ap, subst, arith}
+-- Lists cut at a place, and what a splice there makes of them.
+use Rattle.std.proofs.Common.{◌≡◌, ℕ, zero, suc, ◌+◌, ◌-◌, ◌≤◌, List, [], ◌∷◌, ◌++◌, Option, Some, length, take, drop, true, false, refl, ap, subst, ◌∙◌, arith, append_assoc}
 use Rattle.std.specs.List.{slice_get}
 use Rattle.std.proofs.lemmas.Bool.{or_parts, ltb-false}
 use Rattle.gw_meaning.specs.declared.statement.Statement.{Statement}
 use Rattle.gw_meaning.specs.declared.statement.Numbered.{Numbered}
 use Rattle.gw_meaning.specs.Listing.{nth}
 use Rattle.gw_model.specs.Faults.{is_outside}
-use Rattle.gw_edit.specs.Applied.{restated}
+use Rattle.gw_model.specs.Spliced.{greatest_number, number_in, come, spliced}
+use Rattle.gw_model.proofs.Numbers.{nth_get, cut_at}
 
 -- a place that is not outside
 pub place_in : (last place : ℕ) → is_outside 1 last place ≡ false → (1 ≤ place) × (place ≤ last)
 place_in last place h = let parts = or_parts _ _ h in (ltb-false place 1 parts.0, ltb-false last place parts.1)
 
--- the item at a place is the one at the index before
-pub nth_get : {X : Type 0} (xs : List X) (place : ℕ) (x : X) → 1 ≤ place → slice_get xs (place - 1) ≡ Some x → nth xs place ≡ Some x
-nth_get xs place x least h =
-    let e : suc (place - 1) ≡ place = omega arith in
-    subst (λ (p : ℕ). nth xs p ≡ Some x) e h
+-- what stands at a place
+get_between : {X : Type 0} (xs ys : List X) (i : ℕ) (x : X) → i ≤ length xs → slice_get (take i xs ++ x ∷ ys) i ≡ Some x
+get_between xs ys zero x within = refl
+get_between [] ys (suc i) x within = absurd (omega arith)
+get_between (z ∷ xs) ys (suc i) x within = get_between xs ys i x (omega arith)
 
--- what goes in at an index is found there
-pub get_inserted : {X : Type 0} (xs : List X) (i : ℕ) (x : X) → i ≤ length xs → slice_get (insert xs i x) i ≡ Some x
-get_inserted xs zero x within = refl
-get_inserted [] (suc i) x within = absurd (omega arith)
-get_inserted (y ∷ ys) (suc i) x within = get_inserted ys i x (omega arith)
+pub nth_between : {X : Type 0} (xs ys : List X) (place : ℕ) (x : X) → 1 ≤ place → place ≤ length xs + 1 → nth (take (place - 1) xs ++ x ∷ ys) place ≡ Some x
+nth_between xs ys place x least within = nth_get (take (place - 1) xs ++ x ∷ ys) place x least (get_between xs ys (place - 1) x (omega arith))
 
--- a list cut round an index
-pub record IsCut {X : Type 0} (xs : List X) (i : ℕ) (x : X) : Type 0 where
-  pub found : slice_get xs i ≡ Some x
-  pub parts : xs ≡ take i xs ++ x ∷ drop (suc i) xs
+-- a statement comes in where none goes
+abbrev pub fresh_line : List Numbered → Statement → Numbered
+fresh_line lines s = record { number = greatest_number lines + 1; statement = s }
 
-pub cut_at : {X : Type 0} (xs : List X) (i : ℕ) → i < length xs → (x : X) × IsCut xs i x
-cut_at [] i less = absurd (omega arith)
-cut_at (y ∷ ys) zero less = (y, record { found = refl; parts = refl })
-cut_at (y ∷ ys) (suc i) less = let rest = cut_at ys i (omega arith) in (rest.0, record { found = rest.1.found; parts = ap (λ zs. y ∷ zs) rest.1.parts })
+pub come_parts : (lines : List Numbered) (place : ℕ) (s : Statement) → spliced lines place false (Some s) ≡ take (place - 1) lines ++ fresh_line lines s ∷ drop (place - 1) lines
+come_parts lines place s = append_assoc (take (place - 1) lines) (fresh_line lines s ∷ []) (drop (place - 1) lines)
 
--- another statement at an index
-pub record IsRestated (lines : List Numbered) (i : ℕ) (line : Numbered) (s : Statement) : Type 0 where
-  pub found : slice_get (restated lines i s) i ≡ Some (record line { statement = s })
-  pub parts : restated lines i s ≡ take i lines ++ record line { statement = s } ∷ drop (suc i) lines
+-- a statement goes, and another one comes in, or none
+pub record IsGone (lines : List Numbered) (place : ℕ) (comes : Option Statement) (line : Numbered) : Type 0 where
+  pub found : nth lines place ≡ Some line
+  pub old : lines ≡ take (place - 1) lines ++ line ∷ drop place lines
+  pub new : spliced lines place true comes ≡ take (place - 1) lines ++ (come line.number comes ++ drop place lines)
 
-pub restated_at : (lines : List Numbered) (i : ℕ) (line : Numbered) (s : Statement) → slice_get lines i ≡ Some line → IsRestated lines i line s
-restated_at [] i line s h = absurd cc
-restated_at (l ∷ ls) zero line s h =
-    let same : l ≡ line = cc in
-    subst (λ (x : Numbered). IsRestated (l ∷ ls) zero x s) same (record { found = refl; parts = refl })
-restated_at (l ∷ ls) (suc i) line s h = let rest = restated_at ls i line s h in record { found = rest.found; parts = ap (λ zs. l ∷ zs) rest.parts }
+pub gone_at : (lines : List Numbered) (place : ℕ) (comes : Option Statement) → 1 ≤ place → place ≤ length lines → (line : Numbered) × IsGone lines place comes line
+gone_at lines place comes least within =
+    let i = place - 1 in
+    let next : suc i ≡ place = omega arith in
+    let cut = cut_at lines i (omega arith) in
+    let line = cut.0 in
+    let found = nth_get lines place line least cut.1.found in
+    (line, record {
+      found = found;
+      old = subst (λ (p : ℕ). lines ≡ take i lines ++ line ∷ drop p lines) next cut.1.parts;
+      new = ap (λ (o : Option Numbered). take i lines ++ come (number_in lines o) comes ++ drop place lines) found ∙ append_assoc (take i lines) (come line.number comes) (drop place lines);
+    })

@@ -1,17 +1,17 @@
--- The first step that read something touched, part by part.
-use Rattle.std.proofs.Common.{◌≡◌, ℕ, zero, suc, ◌<◌, ◌≤◌, min, ◌==◌, ◌||◌, nat_le, Bool, true, false, cond, List, [], ◌∷◌, Option, Some, None, refl, ap, ◌∙◌, arith}
-use Rattle.std.specs.Prelude.{option_map, MatchOption, IsSomeAnd}
-use Rattle.std.specs.Bool.{then_some}
+-- The first step that read something touched, probe by probe.
+use Rattle.std.proofs.Common.{◌≡◌, ℕ, zero, suc, ◌<◌, ◌≤◌, min, ◌||◌, nat_le, Bool, true, false, cond, List, [], ◌∷◌, ◌++◌, Option, Some, None, refl, sym, ap, ◌∙◌, ◌+◌, length, take, get_or, add-one, arith}
 use Rattle.std.specs.List.{list_any}
 use Rattle.std.proofs.lemmas.Bool.Decides.{nat_tests}
+use Rattle.std.proofs.lemmas.List.Folds.{list_any-append}
+use Rattle.std.proofs.lemmas.List.Elements.{filter_map-append}
+use Rattle.std.proofs.Math.Seq.{take-suc}
 use Rattle.gw_meaning.specs.declared.item.Item.{Item}
-use Rattle.gw_meaning.specs.declared.item.Item.TheVariants as items
 use Rattle.gw_meaning.specs.Listing.{Listing}
-use Rattle.gw_meaning.specs.Reads.{or_later, first_reading, reads, is_use, is_command_use}
+use Rattle.gw_meaning.specs.Reads.{or_later, first_reading, reads}
 use Rattle.gw_record.proofs.FirstLaws.{IsFirstReading, first_is, first_same}
-use Rattle.gw_edit.specs.declared.touch.Touch.{Touch}
-use Rattle.gw_edit.specs.Touching.{is_touched, is_at, is_from, is_beyond}
-use Rattle.gw_edit.specs.Touched.{earlier, uses, uses_commands}
+use Rattle.gw_edit.specs.declared.touch.Probe.{Probe}
+use Rattle.gw_edit.specs.Touching.{is_probed, is_touched, given}
+use Rattle.gw_edit.specs.Touched.{earlier}
 
 -- properties that agree have the same first reading
 any_same : (p q : Item → Bool) → ((i : Item) → p i ≡ q i) → (is : List Item) → list_any p is ≡ list_any q is
@@ -68,79 +68,24 @@ or_false : (b : Bool) → (b || false) ≡ b
 or_false true = refl
 or_false false = refl
 
-eq_comm : (a b : ℕ) → (a == b) ≡ (b == a)
-eq_comm a b = go (a == b) refl (b == a) refl where
-  go : (x : Bool) → (a == b) ≡ x → (y : Bool) → (b == a) ≡ y → x ≡ y
-  go true e true f = refl
-  go false e false f = refl
-  go true e false f = absurd (grind (arith, nat_tests))
-  go false e true f = absurd (grind (arith, nat_tests))
+-- no probe, one, and probes behind others
+pub touched_none : (t : Listing) (seed n : ℕ) → None ≡ first_reading (is_touched []) t seed n
+touched_none t seed n = no_reading (is_touched []) (λ i. refl) t seed n
 
--- the item of a number, where there is one
-pub mapped : (item : ℕ → Item) (o : Option ℕ) (r : Option Item) → MatchOption o (r ≡ None) (λ n. IsSomeAnd r (λ i. i ≡ item n)) → r ≡ option_map item o
-mapped item None r h = h
-mapped item (Some n) (Some i) h = ap (λ j. Some j) h
-mapped item (Some n) None h = absurd h
+pub touched_one : (p : Probe) (t : Listing) (seed n : ℕ) → first_reading (is_probed p) t seed n ≡ first_reading (is_touched (p ∷ [])) t seed n
+touched_one p t seed n = same_reading (is_probed p) (is_touched (p ∷ [])) (λ i. sym (or_false (is_probed p i))) t seed n
 
--- an item of another kind is not used
-unused : (item : ℕ → Item) (i : Item) → ((n : ℕ) → is_use (item n) i ≡ false) → (o : Option ℕ) → uses (option_map item o) i ≡ false
-unused item i none None = refl
-unused item i none (Some n) = none n
+pub touched_both : (ps qs : List Probe) (t : Listing) (seed n : ℕ) → earlier (first_reading (is_touched ps) t seed n) (first_reading (is_touched qs) t seed n) ≡ first_reading (is_touched (ps ++ qs)) t seed n
+touched_both ps qs t seed n =
+    either_reading (is_touched ps) (is_touched qs) t seed n
+    ∙ same_reading (λ i. is_touched ps i || is_touched qs i) (is_touched (ps ++ qs)) (λ i. sym (list_any-append (λ p. is_probed p i) ps qs)) t seed n
 
-unused_if : (item i : Item) → is_use item i ≡ false → (b : Bool) → uses (then_some b item) i ≡ false
-unused_if item i none false = refl
-unused_if item i none true = none
+pub joined : (ps qs : List Probe) (t : Listing) (seed n : ℕ) (a b r : Option ℕ) → r ≡ earlier a b → a ≡ first_reading (is_touched ps) t seed n → b ≡ first_reading (is_touched qs) t seed n → r ≡ first_reading (is_touched (ps ++ qs)) t seed n
+joined ps qs t seed n a b r is one two =
+    is ∙ (ap (λ o. earlier o b) one ∙ (ap (λ o. earlier (first_reading (is_touched ps) t seed n) o) two ∙ touched_both ps qs t seed n))
 
--- one of the same kind is, where it is the item that is touched
-block_used : (o : Option ℕ) (place : ℕ) → uses (option_map items.Block o) (items.Block place) ≡ is_at o place
-block_used None place = refl
-block_used (Some n) place = eq_comm place n
-
-after_used : (o : Option ℕ) (place : ℕ) → uses (option_map items.After o) (items.After place) ≡ is_at o place
-after_used None place = refl
-after_used (Some n) place = eq_comm place n
-
-command_used : (o : Option ℕ) (i : ℕ) → uses_commands o (items.Cmd i) ≡ is_from o i
-command_used None i = refl
-command_used (Some n) i = refl
-
-within_used : (o : Option ℕ) (time : ℕ) → uses (option_map items.Within o) (items.Within time) ≡ is_beyond o time
-within_used None time = refl
-within_used (Some n) time = refl
-
-used_if : (item : Item) → is_use item item ≡ true → (b : Bool) → uses (then_some b item) item ≡ b
-used_if item is false = refl
-used_if item is true = is
-
-no_command : (o : Option ℕ) (i : Item) → ((n : ℕ) → is_command_use n i ≡ false) → uses_commands o i ≡ false
-no_command None i none = refl
-no_command (Some n) i none = none n
-
--- the parts make the whole
-abbrev pub parts : Touch → Item → Bool
-parts touch i =
-    (uses (option_map items.Block touch.block) i || (uses (option_map items.After touch.front) i || uses (option_map items.After touch.own) i))
-    || (uses (then_some touch.generates items.Generates) i || (uses_commands touch.commands i || (uses (then_some touch.seed items.Seed) i || uses (option_map items.Within touch.beyond) i)))
-
-pub touched_parts : (touch : Touch) (i : Item) → parts touch i ≡ is_touched touch i
-touched_parts touch (items.Block place) =
-    rw (block_used touch.block place, unused items.After (items.Block place) (λ n. refl) touch.front, unused items.After (items.Block place) (λ n. refl) touch.own, unused_if items.Generates (items.Block place) refl touch.generates, no_command touch.commands (items.Block place) (λ n. refl), unused_if items.Seed (items.Block place) refl touch.seed, unused items.Within (items.Block place) (λ n. refl) touch.beyond)
-    (or_false (is_at touch.block place || false) ∙ or_false (is_at touch.block place))
-touched_parts touch (items.After place) =
-    rw (unused items.Block (items.After place) (λ n. refl) touch.block, after_used touch.front place, after_used touch.own place, unused_if items.Generates (items.After place) refl touch.generates, no_command touch.commands (items.After place) (λ n. refl), unused_if items.Seed (items.After place) refl touch.seed, unused items.Within (items.After place) (λ n. refl) touch.beyond)
-    (or_false (is_at touch.front place || is_at touch.own place))
-touched_parts touch items.Generates =
-    rw (unused items.Block items.Generates (λ n. refl) touch.block, unused items.After items.Generates (λ n. refl) touch.front, unused items.After items.Generates (λ n. refl) touch.own, used_if items.Generates refl touch.generates, no_command touch.commands items.Generates (λ n. refl), unused_if items.Seed items.Generates refl touch.seed, unused items.Within items.Generates (λ n. refl) touch.beyond)
-    (or_false touch.generates)
-touched_parts touch (items.Cmd j) =
-    rw (unused items.Block (items.Cmd j) (λ n. refl) touch.block, unused items.After (items.Cmd j) (λ n. refl) touch.front, unused items.After (items.Cmd j) (λ n. refl) touch.own, unused_if items.Generates (items.Cmd j) refl touch.generates, command_used touch.commands j, unused_if items.Seed (items.Cmd j) refl touch.seed, unused items.Within (items.Cmd j) (λ n. refl) touch.beyond)
-    (or_false (is_from touch.commands j))
-touched_parts touch items.Seed =
-    rw (unused items.Block items.Seed (λ n. refl) touch.block, unused items.After items.Seed (λ n. refl) touch.front, unused items.After items.Seed (λ n. refl) touch.own, unused_if items.Generates items.Seed refl touch.generates, no_command touch.commands items.Seed (λ n. refl), used_if items.Seed refl touch.seed, unused items.Within items.Seed (λ n. refl) touch.beyond)
-    (or_false touch.seed)
-touched_parts touch (items.Within time) =
-    rw (unused items.Block (items.Within time) (λ n. refl) touch.block, unused items.After (items.Within time) (λ n. refl) touch.front, unused items.After (items.Within time) (λ n. refl) touch.own, unused_if items.Generates (items.Within time) refl touch.generates, no_command touch.commands (items.Within time) (λ n. refl), unused_if items.Seed (items.Within time) refl touch.seed, within_used touch.beyond time)
-    refl
-
-pub both_are : (p q : Item → Bool) (t : Listing) (seed n : ℕ) (a b r : Option ℕ) → r ≡ earlier a b → a ≡ first_reading p t seed n → b ≡ first_reading q t seed n → r ≡ first_reading (λ i. p i || q i) t seed n
-both_are p q t seed n a b r is one two = is ∙ (ap (λ o. earlier o b) one ∙ (ap (λ o. earlier (first_reading p t seed n) o) two ∙ either_reading p q t seed n))
+-- one more place, free or not
+pub one_more : (ps : List (Option Probe)) (k : ℕ) (x : Option Probe) → k < length ps → x ≡ get_or ps k x → given (take (k + 1) ps) ≡ given (take k ps) ++ given (x ∷ [])
+one_more ps k x less is =
+    let step : take (k + 1) ps ≡ take k ps ++ x ∷ [] = rw add-one (take-suc ps k x less ∙ ap (λ y. take k ps ++ y ∷ []) (sym is)) in
+    ap given step ∙ filter_map-append (λ p. p) (take k ps) (x ∷ [])

@@ -1,7 +1,6 @@
 -- The version that an edit makes of a version, or its refusal. (Our own.)
-use Rattle.std.specs.Prelude.{ℕ, zero, suc, ◌+◌, ◌-◌, Bool, ◌==◌, List, [], ◌∷◌, ◌++◌, Option, Some, None, Result, Ok, Err, is_some, not, if◌then◌else◌, length, filter, insert, remove, map, max}
+use Rattle.std.specs.Prelude.{ℕ, ◌+◌, Bool, true, false, ◌==◌, List, [], ◌∷◌, ◌++◌, Option, Some, None, Result, Ok, Err, is_some, not, if◌then◌else◌, length, filter, map}
 use Rattle.gw_meaning.specs.declared.statement.Statement.{Statement}
-use Rattle.gw_meaning.specs.declared.statement.Numbered.{Numbered}
 use Rattle.gw_meaning.specs.declared.statement.Replication.{Replication}
 use Rattle.gw_meaning.specs.Listing.{Listing, seed_at}
 use Rattle.gw_lines.specs.declared.fault.LineFault.{LineFault}
@@ -9,6 +8,7 @@ use Rattle.gw_lines.specs.Reading.{◌>>=◌}
 use Rattle.gw_lines.specs.Edits.{edit_of}
 use Rattle.gw_model.specs.declared.fault.ModelFault.{ModelFault}
 use Rattle.gw_model.specs.Faults.{fault_of, is_outside}
+use Rattle.gw_model.specs.Spliced.{with_splice}
 use Rattle.gw_edit.specs.declared.edit.Edit.{Edit}
 use Rattle.gw_edit.specs.declared.edit.Edit.TheVariants as edits
 use Rattle.gw_edit.specs.declared.fault.EditFault.{EditFault}
@@ -31,30 +31,6 @@ unless_faulty (Some fault) t = Err (of_model fault)
 unfoldable pub checked : Listing → Result Listing EditFault
 checked t = unless_faulty (fault_of t) t
 
--- the greatest number of these lines, 0 where there are none; a line that comes in has the next one
-abbrev pub greatest_number : List Numbered → ℕ
-greatest_number [] = 0
-greatest_number (line ∷ lines) = max line.number (greatest_number lines)
-
-abbrev pub fresh_line : List Numbered → Statement → Numbered
-fresh_line lines statement = record { number = greatest_number lines + 1; statement = statement }
-
--- the lines with another statement at an index, which keeps the number
-abbrev pub restated : List Numbered → ℕ → Statement → List Numbered
-restated [] i statement = []
-restated (line ∷ lines) zero statement = record line { statement = statement } ∷ lines
-restated (line ∷ lines) (suc i) statement = line ∷ restated lines i statement
-
--- a version with a line more, a line less, another statement at a place
-abbrev pub with_line : Listing → ℕ → Statement → Listing
-with_line t place statement = record t { lines = insert t.lines (place - 1) (fresh_line t.lines statement) }
-
-abbrev pub without_line : Listing → ℕ → Listing
-without_line t place = record t { lines = remove t.lines (place - 1) }
-
-abbrev pub with_change : Listing → ℕ → Statement → Listing
-with_change t place statement = record t { lines = restated t.lines (place - 1) statement }
-
 -- the replications with another seed for a number, without a number
 abbrev pub with_seed : ℕ → ℕ → Replication → Replication
 with_seed number seed r = if r.number == number then record { number = number; seed = seed } else r
@@ -72,14 +48,14 @@ has_replication t number = is_some (seed_at t number)
 -- what each edit makes
 abbrev pub insert_made : Listing → ℕ → List ℕ → Result Listing EditFault
 insert_made t place text =
-    if is_outside 1 (length t.lines + 1) place then Err NoSuchPlace else (spelled_by text >>= (λ statement. checked (with_line t place statement)))
+    if is_outside 1 (length t.lines + 1) place then Err NoSuchPlace else (spelled_by text >>= (λ statement. checked (with_splice t place false (Some statement))))
 
 abbrev pub delete_made : Listing → ℕ → Result Listing EditFault
-delete_made t place = if is_outside 1 (length t.lines) place then Err NoSuchPlace else checked (without_line t place)
+delete_made t place = if is_outside 1 (length t.lines) place then Err NoSuchPlace else checked (with_splice t place true None)
 
 abbrev pub change_made : Listing → ℕ → List ℕ → Result Listing EditFault
 change_made t place text =
-    if is_outside 1 (length t.lines) place then Err NoSuchPlace else (spelled_by text >>= (λ statement. checked (with_change t place statement)))
+    if is_outside 1 (length t.lines) place then Err NoSuchPlace else (spelled_by text >>= (λ statement. checked (with_splice t place true (Some statement))))
 
 abbrev pub seed_made : Listing → ℕ → ℕ → Result Listing EditFault
 seed_made t number seed =

@@ -5,6 +5,5 @@ pub mod Touching
 pub mod Touched
 pub mod Rebasing
 pub mod Untouched
-pub mod Numbers
 pub use Rattle.gw_meaning.specs.Listing
 pub use Rattle.gw_frame.specs.Alike

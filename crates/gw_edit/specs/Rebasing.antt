@@ -1,5 +1,5 @@
--- What an edit leaves of a recorded run: the run of the edited version, as far as the last kept moment at or before the
--- first step that read something touched. (Our own.)
+-- The recorded run that an edit leaves: it is of the edited version, and goes as far as it went, or, where a step read
+-- something touched, to the last kept moment at or before the first such step. (Our own.)
 use Rattle.std.specs.Prelude.{◌≡◌, ℕ, Option, Some, None, Ok}
 use Rattle.gw_meaning.specs.Listing.{Listing, seed_at}
 use Rattle.gw_record.specs.Tape.{Tape, Records, IsLastKept}

@@ -1,9 +1,8 @@
 //! Edits of a version.
 //!
-//! [`apply`] gives the version that an edit makes of a version, or its refusal. [`Touch::of_edit`] says what the
-//! edit touches: what else the two versions are asked, they answer alike ([`untouched`]). So a recorded run stands
-//! as far as it asked for nothing that is touched ([`touched`]), and [`rebase`] makes it the run of the edited
-//! version. A statement keeps its number, and no two have one ([`numbers_apart`]).
+//! [`apply`] gives the version that an edit makes of a version, or its refusal. What the edit touches is a list of
+//! probes: what else the two versions are asked, they answer alike ([`untouched`]). So a recorded run stands as far
+//! as it asked for nothing that is touched ([`touched`]), and [`rebase`] makes it the run of the edited version.
 #![tactic(auto)]
 
 mod edit;
@@ -22,8 +21,7 @@ mod touched_step;
 
 pub use edit::Edit;
 pub use fault::EditFault;
-pub use laws::{numbers_apart, untouched};
+pub use laws::untouched;
 pub use making::apply;
 pub use rebasing::rebase;
-pub use touch::Touch;
 pub use touched_step::touched;

@@ -1,14 +1,13 @@
-ghost use Rattle.std.specs.Prelude.{◌≡◌};
-ghost use Rattle.gw_model.specs.Listed.{listing_of};
+ghost use Rattle.std.specs.Prelude.{◌≡◌, ◌≤◌, ◌+◌, length, IsTrue};
+ghost use Rattle.gw_model.specs.Spliced.{with_splice};
 ghost use Rattle.gw_edit.specs.Applied.{applied, checked, insert_made, delete_made, change_made, seed_made, replicate_made, drop_made, horizon_made};
 ghost use Rattle.gw_edit.specs.Faults.{Gives};
 
 use crate::edit::Edit;
 use crate::fault::{EditFault, of_model};
-use crate::lines::{copy_lines, with_change, with_line, without_line};
-use crate::replications::{replications_of, reseeded, with_replication, without_number};
+use crate::replications::{reseeded, with_replication, without_number};
 use crate::text::spelled_by;
-use gw_meaning::{Numbered, Replication};
+use gw_meaning::{Replication, Statement};
 use gw_model::Version;
 use std::alloc::Global;
 
@@ -37,8 +36,7 @@ fn insert(alloc: Global, version: &Version, place: u64, text: &[u8]) -> Result<V
         return Err(EditFault::NoSuchPlace);
     }
     let statement = spelled_by(alloc, text)?;
-    let lines = with_line(alloc, version.lines(), place as usize - 1, statement)?;
-    with_lines(alloc, version, lines)
+    splice(alloc, version, place, false, Some(statement))
 }
 
 fn delete(alloc: Global, version: &Version, place: u64) -> Result<Version, EditFault>
@@ -47,8 +45,7 @@ fn delete(alloc: Global, version: &Version, place: u64) -> Result<Version, EditF
     if place < 1 || (version.statements() as u64) < place {
         return Err(EditFault::NoSuchPlace);
     }
-    let lines = without_line(alloc, version.lines(), place as usize - 1)?;
-    with_lines(alloc, version, lines)
+    splice(alloc, version, place, true, None)
 }
 
 fn change(alloc: Global, version: &Version, place: u64, text: &[u8]) -> Result<Version, EditFault>
@@ -58,8 +55,7 @@ fn change(alloc: Global, version: &Version, place: u64, text: &[u8]) -> Result<V
         return Err(EditFault::NoSuchPlace);
     }
     let statement = spelled_by(alloc, text)?;
-    let lines = with_change(alloc, version.lines(), place as usize - 1, statement)?;
-    with_lines(alloc, version, lines)
+    splice(alloc, version, place, true, Some(statement))
 }
 
 fn reseed(alloc: Global, version: &Version, number: u64, seed: u64) -> Result<Version, EditFault>
@@ -93,29 +89,38 @@ fn drop_replication(alloc: Global, version: &Version, number: u64) -> Result<Ver
     with_replications(alloc, version, without_number(alloc, version, number)?)
 }
 
+#[tactic(auto, using(crate::proofs::Checking::refused_by), unfolding(crate::specs::Applied::checked))]
 fn move_horizon(alloc: Global, version: &Version, time: u64) -> Result<Version, EditFault>
     ensures { Gives result (horizon_made version.now time) }
 {
-    let lines = copy_lines(alloc, version.lines())?;
-    let replications = replications_of(alloc, version)?;
-    checked(alloc, lines, time, replications, version.limit())
+    match version.with_horizon(alloc, time) {
+        Ok(new) => Ok(new),
+        Err(fault) => Err(of_model(fault)),
+    }
 }
 
-// The version with other lines.
-fn with_lines(alloc: Global, version: &Version, lines: Vec<Numbered>) -> Result<Version, EditFault>
-    ensures { Gives result (checked (record version.now { lines = lines.items })) }
+// The version with one splice, unless it has a fault.
+#[tactic(auto, using(crate::proofs::Checking::refused_by), unfolding(crate::specs::Applied::checked))]
+fn splice(
+    alloc: Global,
+    version: &Version,
+    place: u64,
+    goes: bool,
+    comes: Option<Statement>,
+) -> Result<Version, EditFault>
+    requires first { 1 ≤ place }
+    requires last { place ≤ length version.now.lines + 1 }
+    requires there { IsTrue goes → place ≤ length version.now.lines }
+    ensures { Gives result (checked (with_splice version.now place goes comes)) }
 {
-    let replications = replications_of(alloc, version)?;
-    checked(
-        alloc,
-        lines,
-        version.horizon().ticks(),
-        replications,
-        version.limit(),
-    )
+    match version.with_splice(alloc, place, goes, comes) {
+        Ok(new) => Ok(new),
+        Err(fault) => Err(of_model(fault)),
+    }
 }
 
-// The version with other replications.
+// The version with other replications, unless it has a fault.
+#[tactic(auto, using(crate::proofs::Checking::refused_by), unfolding(crate::specs::Applied::checked))]
 fn with_replications(
     alloc: Global,
     version: &Version,
@@ -123,29 +128,8 @@ fn with_replications(
 ) -> Result<Version, EditFault>
     ensures { Gives result (checked (record version.now { replications = replications.items })) }
 {
-    let lines = copy_lines(alloc, version.lines())?;
-    checked(
-        alloc,
-        lines,
-        version.horizon().ticks(),
-        replications,
-        version.limit(),
-    )
-}
-
-// The version of these parts, unless it has a fault.
-#[tactic(auto, using(crate::proofs::Checking::refused_by), unfolding(crate::specs::Applied::checked))]
-fn checked(
-    alloc: Global,
-    lines: Vec<Numbered>,
-    horizon: u64,
-    replications: Vec<Replication>,
-    limit: u64,
-) -> Result<Version, EditFault>
-    ensures { Gives result (checked (listing_of lines.items horizon replications.items limit)) }
-{
-    match Version::from_lines(alloc, lines, horizon, replications, limit) {
-        Ok(version) => Ok(version),
+    match version.with_replications(alloc, replications) {
+        Ok(new) => Ok(new),
         Err(fault) => Err(of_model(fault)),
     }
 }

@@ -16,5 +16,6 @@ pub fn rebase(run: &mut Recorded, old: &Version, edit: &Edit, new: &Version, rep
         run.cut(step);
     }
     // What is left asked for nothing that the two versions answer in another way.
+    old.numbered();
     run.carry();
 }

@@ -5,13 +5,6 @@ use gw_meaning::Replication;
 use gw_model::Version;
 use std::alloc::{AllocError, Global};
 
-/// The replications, in the order of adding.
-pub fn replications_of(alloc: Global, version: &Version) -> Result<Vec<Replication>, AllocError>
-    ensures { IfOk result (λ rs. rs.items ≡ version.now.replications) }
-{
-    Vec::from_slice(alloc, version.replications())
-}
-
 /// The replications, where the one with this number has this seed.
 pub fn reseeded(
     alloc: Global,
@@ -37,7 +30,7 @@ pub fn with_replication(
 ) -> Result<Vec<Replication>, AllocError>
     ensures { IfOk result (λ rs. rs.items ≡ version.now.replications ++ record { number = number; seed = seed } ∷ []) }
 {
-    let mut made = replications_of(alloc, version)?;
+    let mut made = Vec::from_slice(alloc, version.replications())?;
     made.push(Replication { number, seed })?;
     Ok(made)
 }

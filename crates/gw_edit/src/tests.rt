@@ -1,6 +1,7 @@
-use crate::{Edit, EditFault, Touch, apply, rebase, touched};
+use crate::touch::{Probe, Touch, touch_of};
+use crate::{Edit, EditFault, apply, rebase, touched};
 use gw_lines::read_model;
-use gw_meaning::{Replication, Row};
+use gw_meaning::{Item, Replication, Row};
 use gw_model::Version;
 use gw_names::Name;
 use gw_record::Recorded;
@@ -27,6 +28,21 @@ fn number_at(version: &Version, index: usize) -> Option<u64> {
     }
 }
 
+fn has(touch: &Touch, probe: &Probe) -> bool {
+    has_one(&touch.first, probe) || has_one(&touch.rest, probe)
+}
+
+fn has_one(probes: &[Option<Probe>], probe: &Probe) -> bool {
+    for other in probes {
+        if let Some(other) = other {
+            if other == probe {
+                return true;
+            }
+        }
+    }
+    false
+}
+
 fn fault(alloc: Global, version: &Version, edit: &Edit) -> Option<EditFault> {
     match apply(alloc, version, edit) {
         Ok(_) => None,
@@ -46,11 +62,11 @@ fn lines_are_edited(rt: HostRuntime) -> Result<(), Fail> {
     assert_eq!(rt; new.statements(), 5);
     assert_eq!(rt; number_at(&new, 1), Some(5));
     assert_eq!(rt; number_at(&new, 2), Some(2));
-    let touch = Touch::of_edit(&old, &insert, &new, 1);
-    assert_eq!(rt; touch.front, Some(1));
-    assert_eq!(rt; touch.block, Some(5));
-    assert_eq!(rt; touch.own, Some(5));
-    assert_eq!(rt; touch.commands, None);
+    let touch = touch_of(&old, &insert, &new, 1);
+    assert!(rt; has(&touch, &Probe::One(Item::After(1))));
+    assert!(rt; has(&touch, &Probe::One(Item::Block(5))));
+    assert!(rt; has(&touch, &Probe::One(Item::After(5))));
+    assert!(rt; !has(&touch, &Probe::One(Item::Generates)));
     let change = Edit::Change {
         place: 1,
         text: row(alloc, b"start 2")?,
@@ -58,9 +74,9 @@ fn lines_are_edited(rt: HostRuntime) -> Result<(), Fail> {
     let changed = apply(alloc, &new, &change.copy(alloc)?)?;
     assert_eq!(rt; number_at(&changed, 0), Some(1));
     assert_eq!(rt; changed.starts(), 2);
-    let touch = Touch::of_edit(&new, &change, &changed, 1);
-    assert_eq!(rt; touch.commands, Some(1));
-    assert!(rt; touch.generates);
+    let touch = touch_of(&new, &change, &changed, 1);
+    assert!(rt; has(&touch, &Probe::CommandsFrom(1)));
+    assert!(rt; has(&touch, &Probe::One(Item::Generates)));
     let deleted = apply(alloc, &changed, &Edit::Delete { place: 5 })?;
     assert_eq!(rt; deleted.statements(), 4);
     Ok(())
@@ -82,8 +98,9 @@ fn the_rest_is_edited(rt: HostRuntime) -> Result<(), Fail> {
     };
     let reseeded = apply(alloc, &two, &reseed)?;
     assert_eq!(rt; reseeded.seed(2), Some(8));
-    assert!(rt; Touch::of_edit(&two, &reseed, &reseeded, 2).seed);
-    assert!(rt; !Touch::of_edit(&two, &reseed, &reseeded, 1).seed);
+    let seed = Probe::One(Item::Seed);
+    assert!(rt; has(&touch_of(&two, &reseed, &reseeded, 2), &seed));
+    assert!(rt; !has(&touch_of(&two, &reseed, &reseeded, 1), &seed));
     let one = apply(alloc, &reseeded, &Edit::Drop { replication: 1 })?;
     assert_eq!(rt;
         one.replication(1),

@@ -1,160 +1,176 @@
-ghost use Rattle.std.specs.Prelude.{◌≡◌, option_copied};
-ghost use Rattle.gw_meaning.specs.Listing.{nth};
-ghost use Rattle.gw_edit.specs.Touching.{nothing, touch_of, named_in, block_before, command_from, line_touch, line_touched, block_touch, kind_touch, change_touch, change_touched, same_seed};
+ghost use Rattle.std.specs.Prelude.{◌≡◌, ◌++◌, [], ◌∷◌, if◌then◌else◌, Some, None, option_copied};
+ghost use Rattle.gw_meaning.specs.declared.item.Item.TheVariants as items;
+ghost use Rattle.gw_meaning.specs.Listing.{is_generate};
+ghost use Rattle.gw_edit.specs.declared.touch.Probe.TheVariants.{One};
+ghost use Rattle.gw_edit.specs.Touching.{touch_of, given, behind, generates_if, block_before, command_from, line_probes, probes_of, splice_probes, block_change, same_seed};
 
 use crate::edit::Edit;
 use crate::lines::{count_commands, is_block, is_generate, last_block, line_at, lines_before};
 use crate::same::same_statement;
-use gw_meaning::Numbered;
+use gw_meaning::{Item, Numbered};
 use gw_model::Version;
 use gw_nums::Time;
+use std::marker::Model;
 
-/// What an edit touches, by the questions that a run may ask. Blocks go by the numbers of their statements.
-#[derive(Clone, Copy, Debug, PartialEq, Eq)]
-pub struct Touch {
-    /// The block that is not what it was: its item Block.
-    pub block: Option<u64>,
-    /// The block in front, behind which another block comes now: its item After.
-    pub front: Option<u64>,
-    /// The block that comes in or goes out itself: its item After.
-    pub own: Option<u64>,
-    /// The item Generates.
-    pub generates: bool,
-    /// The first command that is touched: the items Cmd of it and of all behind it.
-    pub commands: Option<u64>,
-    /// The item Seed.
-    pub seed: bool,
-    /// The items Within of the moments later than this one.
-    pub beyond: Option<Time>,
+/// Items that a run may have asked for. Blocks go by the numbers of their statements.
+#[derive(Debug, Drop, PartialEq, Eq)]
+pub enum Probe {
+    /// This item.
+    One(Item),
+    /// This command and all behind it, by their positions from 1.
+    CommandsFrom(u64),
+    /// The clock steps beyond this moment.
+    Beyond(Time),
 }
 
-impl Touch {
-    /// What the edit of a version to a new one touches in the replication with this number.
-    pub fn of_edit(old: &Version, edit: &Edit, new: &Version, replication: u64) -> Touch
-        ensures { result ≡ touch_of old.now edit.now new.now replication }
-    {
-        match edit {
-            Edit::Insert { place, .. } => {
-                line_touched(old, new, *place, line_at(new.lines(), *place))
-            }
-            Edit::Delete { place } => line_touched(old, new, *place, line_at(old.lines(), *place)),
-            Edit::Change { place, .. } => change_touched(old, new, *place),
-            Edit::Seed { .. } => Touch {
-                seed: !same_seed(old.seed(replication), new.seed(replication)),
-                ..nothing()
-            },
-            Edit::Horizon { .. } => Touch {
-                beyond: Some(old.horizon().min(new.horizon())),
-                ..nothing()
-            },
-            Edit::Capacity { .. } | Edit::Replicate { .. } | Edit::Drop { .. } => nothing(),
-        }
+/// What an edit touches: at most eight probes, so that it takes no memory.
+#[derive(Debug, Drop)]
+pub struct Touch {
+    /// Those of the statement that goes, or of an edit of no statement.
+    pub first: Probes,
+    /// Those of the statement that comes in.
+    pub rest: Probes,
+}
+
+/// At most four probes.
+pub type Probes = [Option<Probe>; 4];
+
+impl Model for Touch {
+    ghost use Rattle.std.specs.Prelude.{List, ◌++◌};
+    ghost use Rattle.gw_edit.specs.declared.touch.Probe.{Probe};
+    ghost use Rattle.gw_edit.specs.Touching.{given};
+
+    ghost Value = { List Probe };
+
+    ghost view = { λ t. given t.first ++ given t.rest };
+}
+
+/// What the edit of a version to a new one touches in the replication with this number.
+pub fn touch_of(old: &Version, edit: &Edit, new: &Version, replication: u64) -> Touch
+    ensures { result ≡ touch_of old.now edit.now new.now replication }
+{
+    match edit {
+        Edit::Insert { place, .. } => splice_touch(old, *place, None, line_at(new.lines(), *place)),
+        Edit::Delete { place } => splice_touch(old, *place, line_at(old.lines(), *place), None),
+        Edit::Change { place, .. } => splice_touch(
+            old,
+            *place,
+            line_at(old.lines(), *place),
+            line_at(new.lines(), *place),
+        ),
+        Edit::Seed { .. } => seed_touched(old.seed(replication), new.seed(replication)),
+        Edit::Horizon { .. } => alone(Some(Probe::Beyond(old.horizon().min(new.horizon())))),
+        Edit::Capacity { .. } | Edit::Replicate { .. } | Edit::Drop { .. } => alone(None),
     }
 }
 
-fn nothing() -> Touch
-    ensures { result ≡ nothing }
+// At most one probe.
+fn alone(probe: Option<Probe>) -> Touch
+    ensures { result ≡ given (probe ∷ []) }
 {
     Touch {
-        block: None,
-        front: None,
-        own: None,
-        generates: false,
-        commands: None,
-        seed: false,
-        beyond: None,
+        first: [probe, None, None, None],
+        rest: [None, None, None, None],
     }
 }
 
-// A line that comes in or goes out at a place.
-fn line_touched(old: &Version, new: &Version, place: u64, line: Option<&Numbered>) -> Touch
-    ensures { result ≡ line_touched old.now new.now place (option_copied line.entry) }
+fn seed_touched(old: Option<u64>, new: Option<u64>) -> Touch
+    ensures { result ≡ (if same_seed old new then [] else One items.Seed ∷ []) }
+{
+    if same_seed(old, new) {
+        alone(None)
+    } else {
+        alone(Some(Probe::One(Item::Seed)))
+    }
+}
+
+// A line that goes at a place, if any, and one that comes in, if any.
+fn splice_touch(
+    version: &Version,
+    place: u64,
+    goes: Option<&Numbered>,
+    comes: Option<&Numbered>,
+) -> Touch
+    ensures { result ≡ splice_probes version.now place (option_copied goes.entry) (option_copied comes.entry) }
+{
+    match (goes, comes) {
+        (Some(old), Some(new)) => change_touch(version, place, old, new),
+        _ => Touch {
+            first: probes_of(version, place, goes),
+            rest: probes_of(version, place, comes),
+        },
+    }
+}
+
+fn probes_of(version: &Version, place: u64, line: Option<&Numbered>) -> Probes
+    ensures { given result ≡ probes_of version.now place (option_copied line.entry) }
 {
     match line {
-        Some(line) => line_touch(old, new, place, line),
-        None => nothing(),
+        Some(line) => line_probes(version, place, line),
+        None => [None, None, None, None],
     }
 }
 
-fn line_touch(old: &Version, new: &Version, place: u64, line: &Numbered) -> Touch
-    ensures { result ≡ line_touch old.now new.now place line.now }
+fn line_probes(version: &Version, place: u64, line: &Numbered) -> Probes
+    ensures { given result ≡ line_probes version.now place line.now }
 {
-    let own = named_in(old, new, line.number);
-    let touch = Touch {
-        block: own,
-        own,
-        generates: is_generate(line),
-        ..nothing()
-    };
     if is_block(line) {
-        let front = block_before(old, place);
-        Touch { front, ..touch }
+        block_probes(block_before(version, place), line)
     } else {
-        let commands = Some(command_from(old, place));
-        Touch { commands, ..touch }
+        let commands = Probe::CommandsFrom(command_from(version, place));
+        [Some(commands), None, None, None]
     }
 }
 
-// A line that has another statement at a place.
-fn change_touched(old: &Version, new: &Version, place: u64) -> Touch
-    ensures { result ≡ change_touched old.now place (nth old.now.lines place) (nth new.now.lines place) }
+// A block that comes in or goes out behind the block in front of it.
+fn block_probes(front: Option<u64>, line: &Numbered) -> Probes
+    ensures { given result ≡ behind front ++ (One (items.Block line.now.number) ∷ One (items.After line.now.number) ∷ generates_if (is_generate line.now)) }
 {
-    match (line_at(old.lines(), place), line_at(new.lines(), place)) {
-        (Some(line), Some(new_line)) => change_touch(old, place, line, new_line),
-        _ => nothing(),
+    [
+        front.map(|number| Probe::One(Item::After(number))),
+        Some(Probe::One(Item::Block(line.number))),
+        Some(Probe::One(Item::After(line.number))),
+        generates_if(is_generate(line)),
+    ]
+}
+
+fn generates_if(other: bool) -> Option<Probe>
+    ensures { given (result ∷ []) ≡ generates_if other }
+{
+    if other {
+        Some(Probe::One(Item::Generates))
+    } else {
+        None
     }
 }
 
+// A line that has another statement.
 fn change_touch(version: &Version, place: u64, old: &Numbered, new: &Numbered) -> Touch
-    ensures { result ≡ change_touch version.now place old.now new.now }
+    ensures { result ≡ splice_probes version.now place (Some old.now) (Some new.now) }
 {
-    match (is_block(old), is_block(new)) {
-        (true, true) => block_touch(old, new),
-        (false, false) => Touch {
-            commands: Some(command_from(version, place)),
-            ..nothing()
-        },
-        _ => kind_touch(version, place, old, new),
+    if is_block(old) && is_block(new) {
+        block_change(old, new)
+    } else {
+        Touch {
+            first: line_probes(version, place, old),
+            rest: line_probes(version, place, new),
+        }
     }
 }
 
 // A block for a block.
-fn block_touch(old: &Numbered, new: &Numbered) -> Touch
-    ensures { result ≡ block_touch old.now new.now }
+fn block_change(old: &Numbered, new: &Numbered) -> Touch
+    ensures { result ≡ block_change old.now new.now }
 {
     if same_statement(&old.statement, &new.statement) {
-        nothing()
+        alone(None)
     } else {
+        let block = Probe::One(Item::Block(old.number));
+        let generates = generates_if(is_generate(old) || is_generate(new));
         Touch {
-            block: Some(old.number),
-            generates: is_generate(old) || is_generate(new),
-            ..nothing()
+            first: [Some(block), generates, None, None],
+            rest: [None, None, None, None],
         }
-    }
-}
-
-// A block for a command, or a command for a block.
-fn kind_touch(version: &Version, place: u64, old: &Numbered, new: &Numbered) -> Touch
-    ensures { result ≡ kind_touch version.now place old.now new.now }
-{
-    Touch {
-        block: Some(old.number),
-        front: block_before(version, place),
-        own: Some(old.number),
-        generates: is_generate(old) || is_generate(new),
-        commands: Some(command_from(version, place)),
-        ..nothing()
-    }
-}
-
-// The number, where it is a block's in one of the versions.
-fn named_in(old: &Version, new: &Version, number: u64) -> Option<u64>
-    ensures { result ≡ named_in old.now new.now number }
-{
-    if old.block(number).is_some() || new.block(number).is_some() {
-        Some(number)
-    } else {
-        None
     }
 }
 

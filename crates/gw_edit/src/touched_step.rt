@@ -1,14 +1,13 @@
 // The first step of a recorded run that read something that an edit touches.
-ghost use Rattle.std.specs.Prelude.{◌≡◌, ℕ};
+ghost use Rattle.std.specs.Prelude.{◌≡◌, ◌∷◌, [], ℕ};
 ghost use Rattle.gw_meaning.specs.Listing.{Listing};
 ghost use Rattle.gw_meaning.specs.Reads.{first_reading};
 ghost use Rattle.gw_record.specs.Tape.{Records};
-ghost use Rattle.gw_edit.specs.Touching.{touch_of};
-ghost use Rattle.gw_edit.specs.Touched.{earlier, touched_step, uses, uses_commands};
+ghost use Rattle.gw_edit.specs.Touching.{touch_of, given, is_probed};
+ghost use Rattle.gw_edit.specs.Touched.{earlier, touched_step};
 
 use crate::edit::Edit;
-use crate::touch::Touch;
-use gw_meaning::Item;
+use crate::touch::{Probe, Touch, touch_of};
 use gw_model::Version;
 use gw_record::Recorded;
 
@@ -24,41 +23,45 @@ pub fn touched(
     ensures { (seed : ℕ) → Records old.now seed run.now →
         result ≡ touched_step (touch_of old.now edit.now new.now replication) old.now seed run.now }
 {
-    first_touched(run, &Touch::of_edit(old, edit, new, replication))
+    first_touched(run, &touch_of(old, edit, new, replication))
 }
 
 fn first_touched(run: &Recorded, touch: &Touch) -> Option<u64>
     ensures { (t : Listing) (seed : ℕ) → Records t seed run.now → result ≡ touched_step touch.now t seed run.now }
 {
-    let block = first_use(run, touch.block.map(Item::Block));
-    let front = first_use(run, touch.front.map(Item::After));
-    let own = first_use(run, touch.own.map(Item::After));
-    let generates = first_use(run, touch.generates.then_some(Item::Generates));
-    let commands = first_command(run, touch.commands);
-    let seed = first_use(run, touch.seed.then_some(Item::Seed));
-    let beyond = first_use(run, touch.beyond.map(Item::Within));
-    let places = earlier(block, earlier(front, own));
     earlier(
-        places,
-        earlier(generates, earlier(commands, earlier(seed, beyond))),
+        first_of_probes(run, &touch.first),
+        first_of_probes(run, &touch.rest),
     )
 }
 
-fn first_use(run: &Recorded, item: Option<Item>) -> Option<u64>
-    ensures { (t : Listing) (seed : ℕ) → Records t seed run.now → result ≡ first_reading (uses item) t seed run.now.moment }
+fn first_of_probes(run: &Recorded, probes: &[Option<Probe>]) -> Option<u64>
+    ensures { (t : Listing) (seed : ℕ) → Records t seed run.now → result ≡ touched_step (given probes.now) t seed run.now }
 {
-    match item {
-        Some(item) => run.first_use(&item),
+    let mut first = None;
+    for probe in probes {
+        first = earlier(first, first_of(run, probe));
+    }
+    first
+}
+
+fn first_of(run: &Recorded, probe: &Option<Probe>) -> Option<u64>
+    ensures { (t : Listing) (seed : ℕ) → Records t seed run.now → result ≡ touched_step (given (probe.now ∷ [])) t seed run.now }
+{
+    match probe {
+        Some(probe) => first_probed(run, probe),
         None => None,
     }
 }
 
-fn first_command(run: &Recorded, commands: Option<u64>) -> Option<u64>
-    ensures { (t : Listing) (seed : ℕ) → Records t seed run.now → result ≡ first_reading (uses_commands commands) t seed run.now.moment }
+fn first_probed(run: &Recorded, probe: &Probe) -> Option<u64>
+    ensures { (t : Listing) (seed : ℕ) → Records t seed run.now →
+        result ≡ first_reading (is_probed probe.now) t seed run.now.moment }
 {
-    match commands {
-        Some(i) => run.first_command(i),
-        None => None,
+    match probe {
+        Probe::One(item) => run.first_use(item),
+        Probe::CommandsFrom(first) => run.first_command(*first),
+        Probe::Beyond(last) => run.first_clock(*last),
     }
 }
 

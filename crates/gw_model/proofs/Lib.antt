@@ -1,4 +1,5 @@
 pub mod Numbering
+pub mod Numbers
 pub mod Twice
 pub mod Wellness
 pub mod Apart

@@ -1,4 +1,5 @@
 pub mod Listed
+pub mod Spliced
 pub mod Faults
 pub mod Well
 pub mod Tables

@@ -5,6 +5,7 @@ use Rattle.std.specs.List.{filter_map}
 use Rattle.std.specs.BTreeMap as tree
 use Rattle.std.specs.Ordering.{nat_cmp}
 use Rattle.std.specs.Cmp.Lexicographic.{slice_cmp}
+use Rattle.gw_meaning.specs.Numbers.{AreNumbered}
 use Rattle.gw_model.specs.Well.{Well}
 use Rattle.gw_meaning.specs.Listing.{Listing, is_block, first_block, generates_in, labelled_in, command_of, is_start}
 use Rattle.gw_meaning.specs.declared.statement.Numbered.{Numbered}
@@ -28,7 +29,8 @@ pub record AreTablesOf (lines : List Numbered) (tables : Tables) : Type 0 where
   pub generates : tables.generates.items ≡ generates_in lines
   pub labels : (name : List ℕ) → tree.get (slice_cmp nat_cmp) tables.labels name ≡ labelled_in name lines
 
--- a version that is well-formed and has its tables
+-- a version that is well-formed, whose statements have numbers of their own, and that has its tables
 pub record IsKept (t : Listing) (tables : Tables) : Type 0 where
   pub well : Well t
+  pub numbered : AreNumbered t.lines
   pub answers : AreTablesOf t.lines tables

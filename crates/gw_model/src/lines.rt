@@ -1,7 +1,9 @@
-ghost use Rattle.std.specs.Prelude.{◌≡◌, IfOk, option_copied};
-ghost use Rattle.gw_meaning.specs.Listing.{is_block, block_of, command_of, is_generate};
+ghost use Rattle.std.specs.Prelude.{◌≡◌, ◌≤◌, ◌+◌, ◌++◌, if◌then◌else◌, length, IsTrue, IfOk, IfSome, OnOk, None, option_copied};
+ghost use Rattle.gw_meaning.specs.Listing.{is_block, block_of, command_of, is_generate, nth};
 ghost use Rattle.gw_model.specs.Listed.{numbered, block_label};
+ghost use Rattle.gw_model.specs.Spliced.{greatest_number, number_in, spliced};
 
+use crate::lists::nth;
 use gw_meaning::{Block, Body, Command, Numbered, Statement};
 use gw_names::Name;
 use std::alloc::{AllocError, Global};
@@ -18,17 +20,77 @@ pub fn number(alloc: Global, statements: Vec<Statement>) -> Result<Vec<Numbered>
     Ok(lines)
 }
 
+/// The lines with one splice at a position, from 1: the line there goes, or stays, and a statement comes in, or none.
+/// It keeps the number of the one that goes, and else gets the number above all of theirs.
+pub fn spliced(
+    alloc: Global,
+    lines: &[Numbered],
+    position: u64,
+    goes: bool,
+    comes: Option<Statement>,
+) -> Result<Vec<Numbered>, AllocError>
+    requires first { 1 ≤ position }
+    requires last { position ≤ length lines.now + 1 }
+    requires there { IsTrue goes → position ≤ length lines.now }
+    ensures { IfOk result (λ made. made.items ≡ spliced lines.now position goes comes) }
+{
+    let index = position as usize - 1;
+    let end = if goes { index + 1 } else { index };
+    let mut made = Vec::new(alloc);
+    copy_behind(alloc, &mut made, &lines[..index])?;
+    if let Some(statement) = comes {
+        let number = number_in(lines, position, goes).ok_or(AllocError)?;
+        made.push(Numbered { number, statement })?;
+    }
+    copy_behind(alloc, &mut made, &lines[end..])?;
+    Ok(made)
+}
+
+// The number of the statement that comes in at a position, if there is a number for it.
+fn number_in(lines: &[Numbered], position: u64, goes: bool) -> Option<u64>
+    ensures { IfSome result (λ n. n ≡ number_in lines.now (if goes then nth lines.now position else None)) }
+{
+    let gone = if goes { nth(lines, position) } else { None };
+    match gone {
+        Some(line) => Some(line.number),
+        None => greatest_number(lines).checked_add(1),
+    }
+}
+
+// The greatest number, 0 where there is no line.
+fn greatest_number(lines: &[Numbered]) -> u64
+    ensures { result ≡ greatest_number lines.now }
+{
+    let mut greatest = 0;
+    for line in lines {
+        greatest = line.number.max(greatest);
+    }
+    greatest
+}
+
 /// Equal lines.
 pub fn copy_lines(alloc: Global, lines: &[Numbered]) -> Result<Vec<Numbered>, AllocError>
     ensures { IfOk result (λ copies. copies.items ≡ lines.now) }
 {
     let mut copies = Vec::new(alloc);
+    copy_behind(alloc, &mut copies, lines)?;
+    Ok(copies)
+}
+
+// Puts equal lines behind those that are made.
+fn copy_behind(
+    alloc: Global,
+    made: &mut Vec<Numbered>,
+    lines: &[Numbered],
+) -> Result<(), AllocError>
+    ensures { OnOk result (made.new.items ≡ made.old.items ++ lines.now) }
+{
     for line in lines {
         let number = line.number;
         let statement = line.statement.copy(alloc)?;
-        copies.push(Numbered { number, statement })?;
+        made.push(Numbered { number, statement })?;
     }
-    Ok(copies)
+    Ok(())
 }
 
 /// Whether the statement is a block.

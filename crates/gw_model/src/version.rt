@@ -3,7 +3,7 @@ ghost use Rattle.gw_meaning.specs.Listing.{block_at, after_at, position_at, labe
 
 use crate::fault::ModelFault;
 use crate::limits::{is_bad_horizon, is_too_long};
-use crate::lines::{block_of, copy_lines, number};
+use crate::lines::{block_of, copy_lines, number, spliced};
 use crate::lists::nth;
 use crate::places::{after_of, line_of, position_of};
 use crate::replications::{has_bad_replication, seed_of};
@@ -14,8 +14,8 @@ use gw_nums::Time;
 use std::alloc::{AllocError, Global};
 use std::marker::Model;
 
-/// A version of a model: at most 2,000 statements with the numbers of their own, a horizon, at most 32
-/// replications with their seeds, and a step limit. Each version has no model fault.
+/// A version of a model: at most 2,000 statements with the numbers of their own, from 1, of which no two are one; a
+/// horizon; at most 32 replications with their seeds; and a step limit. Each version has no model fault.
 #[derive(Debug, Drop)]
 pub struct Version {
     lines: Vec<Numbered>,
@@ -38,11 +38,13 @@ impl Model for Version {
 }
 
 impl Version {
-    ghost use Rattle.std.specs.Prelude.{◌≡◌, ◌⊎◌, ◌≤◌, IfOk, OnOk, IfErr, IsOk, Ok, Err, Some, None};
+    ghost use Rattle.std.specs.Prelude.{◌≡◌, ◌⊎◌, ◌≤◌, ◌+◌, length, IsTrue, IfOk, OnOk, IfErr, IsOk, Ok, Err, Some, None};
+    ghost use Rattle.gw_meaning.specs.Numbers.{AreNumbered};
     ghost use Rattle.gw_model.specs.Faults.{fault_of, IsFault};
     ghost use Rattle.gw_model.specs.Well.{Well};
     ghost use Rattle.gw_model.specs.declared.fault.ModelFault.TheVariants.{Memory};
     ghost use Rattle.gw_model.specs.Listed.{listed, listing_of, blocks};
+    ghost use Rattle.gw_model.specs.Spliced.{with_splice};
 
     /// The version with these statements, which get the numbers 1, 2, 3 and so on, and these replications in
     /// the order of adding; or the first fault, in the order M5, M6, M7, M1. M8 may come in place of any.
@@ -63,15 +65,68 @@ impl Version {
         Version::from_lines(alloc, lines, horizon, replications, limit)
     }
 
-    /// The version with these statements, which have the numbers of their own, and these replications in the
-    /// order of adding; or the first fault, in the order M5, M6, M7, M1. M8 may come in place of any.
-    pub fn from_lines(
+    /// The version with one splice of its statements at a position, from 1: the statement there goes, or stays, and
+    /// another one comes in, or none. That keeps the number of the one that goes, and else gets the number above all
+    /// that are there. The faults are those of `new`. The version itself stays as it is.
+    pub fn with_splice(
+        &self,
+        alloc: Global,
+        position: u64,
+        goes: bool,
+        comes: Option<Statement>,
+    ) -> Result<Version, ModelFault>
+        requires first { 1 ≤ position }
+        requires last { position ≤ length self.now.lines + 1 }
+        requires there { IsTrue goes → position ≤ length self.now.lines }
+        ensures value { IfOk result (λ v. v ≡ with_splice self.now position goes comes) }
+        ensures found { IfOk result (λ v. Well v) }
+        ensures none { OnOk result (fault_of (with_splice self.now position goes comes) ≡ None) }
+        ensures fault { IfErr result (λ f. IsFault (fault_of (with_splice self.now position goes comes)) f) }
+        ensures only { Well (with_splice self.now position goes comes) → IfErr result (λ f. f ≡ Memory) }
+    {
+        let lines = spliced(alloc, self.lines.as_slice(), position, goes, comes)?;
+        let replications = Vec::from_slice(alloc, self.replications.as_slice())?;
+        Version::from_lines(alloc, lines, self.horizon.ticks(), replications, self.limit)
+    }
+
+    /// The version with these replications in place of its own. The faults are those of `new`.
+    pub fn with_replications(
+        &self,
+        alloc: Global,
+        replications: Vec<Replication>,
+    ) -> Result<Version, ModelFault>
+        ensures value { IfOk result (λ v. v ≡ record self.now { replications = replications.items }) }
+        ensures found { IfOk result (λ v. Well v) }
+        ensures none { OnOk result (fault_of (record self.now { replications = replications.items }) ≡ None) }
+        ensures fault { IfErr result (λ f. IsFault (fault_of (record self.now { replications = replications.items })) f) }
+        ensures only { Well (record self.now { replications = replications.items }) → IfErr result (λ f. f ≡ Memory) }
+    {
+        let lines = copy_lines(alloc, self.lines.as_slice())?;
+        Version::from_lines(alloc, lines, self.horizon.ticks(), replications, self.limit)
+    }
+
+    /// The version with this horizon in place of its own. The faults are those of `new`.
+    pub fn with_horizon(&self, alloc: Global, horizon: u64) -> Result<Version, ModelFault>
+        ensures value { IfOk result (λ v. v ≡ record self.now { horizon = horizon }) }
+        ensures found { IfOk result (λ v. Well v) }
+        ensures none { OnOk result (fault_of (record self.now { horizon = horizon }) ≡ None) }
+        ensures fault { IfErr result (λ f. IsFault (fault_of (record self.now { horizon = horizon })) f) }
+        ensures only { Well (record self.now { horizon = horizon }) → IfErr result (λ f. f ≡ Memory) }
+    {
+        let lines = copy_lines(alloc, self.lines.as_slice())?;
+        let replications = Vec::from_slice(alloc, self.replications.as_slice())?;
+        Version::from_lines(alloc, lines, horizon, replications, self.limit)
+    }
+
+    // The version with these lines, or the first fault.
+    fn from_lines(
         alloc: Global,
         lines: Vec<Numbered>,
         horizon: u64,
         replications: Vec<Replication>,
         limit: u64,
     ) -> Result<Version, ModelFault>
+        requires { AreNumbered lines.items }
         ensures value { IfOk result (λ v. v ≡ listing_of lines.items horizon replications.items limit) }
         ensures found { IfOk result (λ v. Well v) }
         ensures none { OnOk result (fault_of (listing_of lines.items horizon replications.items limit) ≡ None) }
@@ -180,6 +235,14 @@ impl Version {
         ensures well { Well self.now }
     {
         self.lines.as_slice()
+    }
+
+    /// Each statement has a number of its own, from 1.
+    pub fn numbered(&self)
+        ensures { AreNumbered self.now.lines }
+    {
+        // A version is made so.
+        let _ = &self.lines;
     }
 
     /// How many blocks there are.

@@ -20,4 +20,4 @@ returns c =
           subst (WentBack t e u n r) (sym w.run-is)
           (record { records = λ a h. h; kept = λ a h. subst (λ o. IsKeptOf t a r o r.moment) (w.in_default.ensures a h) refl; every = refl })
     ] in
-    is_rebased t e u n r c.match-touched.run c.carry.ensures back
+    is_rebased t e u n r c.match-touched.run c.numbered.ensures c.carry.ensures back

@@ -15,7 +15,7 @@ invariant_of-result c =
     let given : is_bad_horizon c.args.horizon c.args.limit ≡ false = search rules in
     let limits : is_bad_horizon t.horizon t.limit ≡ false = subst (λ (n : ℕ). is_bad_horizon n c.args.limit ≡ false) same given in
     let twice : has_label_twice t.lines ≡ false = search rules in
-    record { well = well_from t long bad limits twice; answers = search rules }
+    record { well = well_from t long bad limits twice; numbered = c.requires; answers = search rules }
 
 pub returns-clause-found : goal.returns-clause-found
 returns-clause-found c =
