@@ -55,7 +55,7 @@ few_generates (line ∷ lines) =
     let rest = few_generates lines in
     cond_both (is_generate line) (line.number ∷ generates_in lines) (generates_in lines) (λ ns. length ns ≤ suc (length lines)) (λ _. omega arith) (λ _. omega arith)
 
-all_and_one : {X : Type 0} (P : X → Type 0) (xs : List X) (x : X) → AllByRecursion P xs → P x → AllByRecursion P (xs ++ x ∷ [])
+pub all_and_one : {X : Type 0} (P : X → Type 0) (xs : List X) (x : X) → AllByRecursion P xs → P x → AllByRecursion P (xs ++ x ∷ [])
 all_and_one P [] x h here = (here, tt)
 all_and_one P (y ∷ ys) x h here = (h.0, all_and_one P ys x h.1 here)
 
@@ -93,7 +93,7 @@ module _ (t : Listing) (seed : ℕ) (s : Machine) where
       record { ahead = all_and_one (IsAhead s) made a h.ahead here; few = omega (arith, h.few) }
 
   arrivals_get : (places : List ℕ) (made : List Arrival) (most : ℕ) → AreFirst s most made → Gets t seed (AreFirst s (most + length places)) (arrivals_prog s places made)
-  arrivals_get [] made most h = gets_gives t seed _ made h
+  arrivals_get [] made most h = gets_gives t seed (AreFirst s (most + length {A = ℕ} [])) made (record { ahead = h.ahead; few = omega (arith, h.few) })
   arrivals_get (place ∷ places) made most h =
       gets_bind t seed (IsMaybeAhead s) _ (prime_prog s place) _ (gets_asks t seed _ (items.Block place) _ (first_arrival_gets place _))
       (λ a here.
