@@ -81,7 +81,7 @@ moved_on_time t s (moves.Clock time) decided h = (least_is_ahead s.clock s.futur
 
 -- over a run
 pub all_ahead : (t : Listing) (seed n : ℕ) (s : Machine) → run t seed n ≡ Ok s → AreAhead s.clock s.future
-all_ahead t seed = over_run t seed (λ n s. AreAhead s.clock s.future) tt (λ n s m decided h. (moved_on_time t s m decided h).1)
+all_ahead t seed = over_run t seed (λ n s. AreAhead s.clock s.future) tt (λ n s m there decided h. (moved_on_time t s m decided h).1)
 
 pub nothing_is_overdue : NothingIsOverdue
 nothing_is_overdue t seed n s is = All-from_recursion (λ (e : Event). s.clock ≤ e.time) s.future (all_ahead t seed n s is)

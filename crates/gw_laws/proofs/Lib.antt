@@ -6,3 +6,5 @@ pub mod ClockLaws
 pub mod Crowd
 pub mod Counts
 pub mod Room
+pub mod ContentLaws
+pub mod NumberLaws

@@ -7,10 +7,10 @@ use Rattle.gw_meaning.specs.declared.moves.Move.{Move}
 use Rattle.gw_meaning.specs.declared.moves.Move.TheVariants as moves
 use Rattle.gw_meaning.specs.Listing.{Listing}
 use Rattle.gw_meaning.specs.Machine.{Machine}
-use Rattle.gw_meaning.specs.Changes.{Making, made, all_made, making_of, with_making, newcomer, placed, left, entered, started, arrived, generated, moved_on, delayed, terminated, moved}
+use Rattle.gw_meaning.specs.Changes.{Making, made, all_made, making_of, with_making, newcomer, placed, started, arrived, generated, moved_on, delayed, terminated, moved}
 use Rattle.gw_meaning.specs.Step.{run}
 use Rattle.gw_model.specs.Well.{Well}
-use Rattle.gw_laws.proofs.Active.{with_active_has, picked_has}
+use Rattle.gw_laws.proofs.Active.{with_active_has, picked_has, in_generate}
 use Rattle.gw_laws.proofs.Crowd.{many, future_many, crowd, active_crowd, future_push, picked_crowd, advanced_crowd}
 use Rattle.gw_laws.proofs.Decided.{IsDecided}
 use Rattle.gw_laws.proofs.Running.{over_run}
@@ -55,7 +55,7 @@ moved_within t s (moves.Generate place next) most few decided h =
     with_active_has (IsWithin (most + 2000)) s.active (λ x. generated s x place next) s (within_more most (most + 2000) s (omega arith) h)
     (λ x is.
         let was = active_crowd anyone s x is in
-        let there : Machine = record s { active = Some (record (placed x place) { mark = s.clock }); counts = entered (left s.counts x.current) place } in
+        let there = in_generate s x place in
         within_more (most + 1) (most + 2000) (generated s x place next) (omega arith) (arrived_within most next there (same_within most s there refl (omega arith) h)))
 moved_within t s (moves.Pass place) most few decided h =
     with_active_has (IsWithin (most + 2000)) s.active (λ x. moved_on s x place) s (within_more most (most + 2000) s (omega arith) h)
@@ -86,5 +86,5 @@ moved_within t s (moves.Clock time) most few decided h =
 pub all_within : (t : Listing) (seed n : ℕ) (s : Machine) → Well t → run t seed n ≡ Ok s → IsWithin (2000 * n) s
 all_within t seed n s well is =
     over_run t seed (λ n s. IsWithin (2000 * n) s) (record { next = omega arith; crowd = omega arith })
-    (λ n s m decided h. within_more (2000 * n + 2000) (2000 * suc n) _ (omega arith) (moved_within t s m (2000 * n) well.statements decided h))
+    (λ n s m there decided h. within_more (2000 * n + 2000) (2000 * suc n) _ (omega arith) (moved_within t s m (2000 * n) well.statements decided h))
     n s is
