@@ -8,3 +8,4 @@ pub mod Counts
 pub mod Room
 pub mod ContentLaws
 pub mod NumberLaws
+pub mod ChainLaws
