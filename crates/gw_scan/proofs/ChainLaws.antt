@@ -16,8 +16,8 @@ item_drop xs i x h is = drop_more xs i x h ∙ ap (λ y. y ∷ drop (i + 1) xs) 
 pub lined_up_in_order : (x : Transaction) (xs : List Transaction) → AreInOrder xs → AreInOrder (lined_up x xs)
 lined_up_in_order x xs h = in_order (lined_up x xs) (ordered_lined x xs (ordered xs h))
 
-pub rest_in_order : (x : Transaction) (xs : List Transaction) → AreInOrder (x ∷ xs) → AreInOrder xs
-rest_in_order x xs h = in_order xs (ordered (x ∷ xs) h).1
+pub rest_in_order : (x : Transaction) (xs whole : List Transaction) → whole ≡ x ∷ xs → AreInOrder whole → AreInOrder xs
+rest_in_order x xs whole is h = in_order xs (ordered (x ∷ xs) (subst AreInOrder is h)).1
 
 -- behind the item at i of a chain in order, where it is not of lower priority and those after it are
 pub lined_up_at : (x : Transaction) (xs : List Transaction) (i : ℕ) (y : Transaction) → AreInOrder xs → i < length xs → y ≡ get_or xs i y → is_below y.priority x.priority ≡ false → lined_up x (drop (i + 1) xs) ≡ x ∷ drop (i + 1) xs → lined_up x xs ≡ insert xs (i + 1) x
