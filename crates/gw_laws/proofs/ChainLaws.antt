@@ -1,26 +1,23 @@
 -- The current chain, move by move and over a run: in order of priority, and first in first out within.
-use Rattle.std.proofs.Common.{◌≡◌, ℕ, zero, suc, ◌+◌, ◌≤◌, ℤ, nat_eq, Bool, true, false, not, ◌||◌, List, [], ◌∷◌, ◌++◌, map, filter, Option, Some, None, Ok, refl, sym, ap, ap₂, subst, ◌∙◌, append-nil, append_assoc, arith, inl, inr}
-use Rattle.std.specs.List.{list_any, AllByRecursion}
+use Rattle.std.proofs.Common.{◌≡◌, ℕ, ◌+◌, ◌≤◌, ℤ, nat_eq, Bool, true, false, not, ◌||◌, List, [], ◌∷◌, ◌++◌, filter, Ok, refl, sym, ap, ap₂, subst, ◌∙◌, append-nil, append_assoc, arith, inl, inr}
+use Rattle.std.specs.List.{AllByRecursion}
 use Rattle.std.specs.Ordering.{int_eq}
 use Rattle.std.proofs.lemmas.Bool.{cases_Bool, eq-eqb, false≢true}
 use Rattle.std.proofs.lemmas.Bool.Decides.{Decides-int_eq}
 use Rattle.std.proofs.lemmas.List.Elements.{filter-append}
 use Rattle.gw_nums.specs.Range.{is_below}
 use Rattle.gw_meaning.specs.declared.transaction.Transaction.{Transaction}
-use Rattle.gw_meaning.specs.declared.transaction.Event.{Event}
-use Rattle.gw_meaning.specs.declared.moves.Arrival.{Arrival}
 use Rattle.gw_meaning.specs.declared.moves.Move.{Move}
 use Rattle.gw_meaning.specs.declared.moves.Move.TheVariants as moves
 use Rattle.gw_meaning.specs.Listing.{Listing}
 use Rattle.gw_meaning.specs.Machine.{Machine}
-use Rattle.gw_meaning.specs.Changes.{lined_up, all_lined_up, is_due, due, arrived, generated, moved_on, delayed, terminated, moved}
+use Rattle.gw_meaning.specs.Changes.{lined_up, all_lined_up, due, generated, moved_on, delayed, terminated, moved}
 use Rattle.gw_meaning.specs.Step.{run}
 use Rattle.gw_meaning.proofs.Programs.{run_on}
 use Rattle.gw_meaning.proofs.Chains.{IsOrdered, AreNotAbove, in_order, ordered_lined, ordered_all_lined, below_one_way}
-use Rattle.gw_model.specs.Well.{Well}
 use Rattle.gw_laws.specs.Chain.{ChainIsInOrder, ChainIsFirstInFirstOut, IsFirstInFirstOut, numbers_of, is_in}
-use Rattle.gw_laws.proofs.Active.{with_active_has, picked_has, in_generate}
-use Rattle.gw_laws.proofs.Crowd.{one, many, future_many, active_many, crowd, future_parts}
+use Rattle.gw_laws.proofs.Active.{with_active_has, picked_has}
+use Rattle.gw_laws.proofs.Crowd.{one, many, future_parts}
 use Rattle.gw_laws.proofs.Decided.{step_moves}
 use Rattle.gw_laws.proofs.NumberLaws.{has_number, IsNumbered, all_numbered}
 use Rattle.gw_laws.proofs.Running.{over_run}
@@ -122,16 +119,16 @@ module _ (priority : ℤ) where
   lined_numbers x (y ∷ ys) h =
       elim (cases_Bool (is_below y.priority x.priority)) [
         | inl below ↦ rw below (elim (cases_Bool (has_priority x)) [
-            | inl has ↦
-                let same : x.priority ≡ priority = (Decides-int_eq x.priority priority).0 has in
-                let none : numbers_of priority (y ∷ ys) ≡ [] = none_further y (y ∷ ys) (rw same at below) (never_below_itself y.priority, h.0) in
-                first_has x (y ∷ ys) has ∙ (ap (λ ks. x.number ∷ ks) none ∙ sym (ap₂ ◌++◌ none (first_has x [] has)))
-            | inr other ↦ first_other x (y ∷ ys) other ∙ sym (ap (λ ks. numbers_of priority (y ∷ ys) ++ ks) (first_other x [] other) ∙ append-nil (numbers_of priority (y ∷ ys)))
-          ])
+          | inl has ↦
+              let same : x.priority ≡ priority = (Decides-int_eq x.priority priority).0 has in
+              let none : numbers_of priority (y ∷ ys) ≡ [] = none_further y (y ∷ ys) (rw same at below) (never_below_itself y.priority, h.0) in
+              first_has x (y ∷ ys) has ∙ (ap (λ ks. x.number ∷ ks) none ∙ sym (ap₂ ◌++◌ none (first_has x [] has)))
+          | inr other ↦ first_other x (y ∷ ys) other ∙ sym (ap (λ ks. numbers_of priority (y ∷ ys) ++ ks) (first_other x [] other) ∙ append-nil (numbers_of priority (y ∷ ys)))
+        ])
         | inr above ↦ rw above (elim (cases_Bool (has_priority y)) [
-            | inl has ↦ rw has (ap (λ ks. y.number ∷ ks) (lined_numbers x ys h.1))
-            | inr other ↦ rw other (lined_numbers x ys h.1)
-          ])
+          | inl has ↦ rw has (ap (λ ks. y.number ∷ ks) (lined_numbers x ys h.1))
+          | inr other ↦ rw other (lined_numbers x ys h.1)
+        ])
       ]
 
   numbers_parts : (x : Transaction) (xs : List Transaction) → numbers_of priority (x ∷ xs) ≡ numbers_of priority (x ∷ []) ++ numbers_of priority xs

@@ -1,19 +1,18 @@
 -- Each block's content is the number of the transactions that stand in it, move by move and over a run.
-use Rattle.std.proofs.Common.{◌≡◌, ◌≢◌, ℕ, zero, suc, ◌+◌, ◌-◌, ◌*◌, ◌<◌, ◌≤◌, ◌^◌, nat_eq, Bool, true, false, List, [], ◌∷◌, length, Option, Some, None, Ok, refl, sym, ◌∙◌, arith, inl, inr}
-use Rattle.std.proofs.lemmas.Bool.{ne_eqb, cases_Bool}
+use Rattle.std.proofs.Common.{◌≡◌, ℕ, ◌+◌, ◌-◌, ◌<◌, ◌≤◌, ◌^◌, nat_eq, Bool, true, false, List, [], ◌∷◌, Option, Some, None, Ok, refl, sym, ◌∙◌, arith}
+use Rattle.std.proofs.lemmas.Bool.{ne_eqb}
 use Rattle.gw_meaning.specs.declared.transaction.Transaction.{Transaction}
-use Rattle.gw_meaning.specs.declared.transaction.Event.{Event}
 use Rattle.gw_meaning.specs.declared.transaction.Count.{Count}
 use Rattle.gw_meaning.specs.declared.moves.Arrival.{Arrival}
 use Rattle.gw_meaning.specs.declared.moves.Move.{Move}
 use Rattle.gw_meaning.specs.declared.moves.Move.TheVariants as moves
 use Rattle.gw_meaning.specs.Listing.{Listing}
 use Rattle.gw_meaning.specs.Machine.{Machine}
-use Rattle.gw_meaning.specs.Changes.{Making, made, all_made, making_of, with_making, newcomer, placed, left, entered, passed_through, started, arrived, generated, moved_on, delayed, terminated, picked, moved}
+use Rattle.gw_meaning.specs.Changes.{Making, made, all_made, making_of, with_making, newcomer, placed, left, entered, passed_through, started, arrived, generated, moved_on, delayed, terminated, moved}
 use Rattle.gw_meaning.specs.Step.{run}
 use Rattle.gw_model.specs.Well.{Well}
 use Rattle.gw_laws.specs.Living.{living}
-use Rattle.gw_laws.specs.Contents.{standing_in, ContentsAreCounts}
+use Rattle.gw_laws.specs.Contents.{ContentsAreCounts}
 use Rattle.gw_laws.proofs.Active.{with_active_has, picked_has, in_generate}
 use Rattle.gw_laws.proofs.Counts.{content, content_left, content_entered, content_passed, content_made}
 use Rattle.gw_laws.proofs.Crowd.{one, many, future_many, crowd, many_living, many_is, active_crowd, future_push, picked_crowd, advanced_crowd}
@@ -95,10 +94,10 @@ moved_counted t s (moves.Delay place until) room decided h =
 moved_counted t s (moves.Terminate place count) room decided h =
     with_active_has IsCounted s.active (λ x. terminated s x place count) s h
     (λ x is p some.
-        let was = active_crowd (stands_in p) s x is in
-        let before = h p some in
-        let whole = gone s.counts x.current place p (many (stands_in p) s.current + future_many (stands_in p) s.future) (omega arith) in
-        omega arith)
+    let was = active_crowd (stands_in p) s x is in
+    let before = h p some in
+    let whole = gone s.counts x.current place p (many (stands_in p) s.current + future_many (stands_in p) s.future) (omega arith) in
+    omega arith)
 moved_counted t s moves.Pick room decided h =
     picked_has IsCounted s s.current h (λ x xs is p some. h p some ∙ sym (picked_crowd (stands_in p) s x xs decided is))
 moved_counted t s (moves.Clock time) room decided h = λ p some. h p some ∙ sym (advanced_crowd (stands_in p) s time)
@@ -108,8 +107,8 @@ all_counted : (t : Listing) (seed : ℕ) → Well t → (n : ℕ) (s : Machine) 
 all_counted t seed well =
     over_run t seed (λ n s. n ≤ t.limit → IsCounted s) (λ within p some. refl)
     (λ n s m there decided h within.
-        let room = all_within t seed n s well there in
-        moved_counted t s m (omega (arith, room.crowd, well.greatest_limit)) decided (h (omega arith)))
+    let room = all_within t seed n s well there in
+    moved_counted t s m (omega (arith, room.crowd, well.greatest_limit)) decided (h (omega arith)))
 
 pub contents_are_counts : ContentsAreCounts
 contents_are_counts t seed n s well within is place some =

@@ -1,12 +1,11 @@
 -- What is known of a move in the state in which it is decided: one line for each choice, and no law asks further.
-use Rattle.std.proofs.Common.{◌≡◌, ℕ, zero, suc, ◌+◌, ◌≤◌, Bool, true, false, nat_le, nat_eq, List, [], ◌∷◌, ◌++◌, length, Option, Some, None, ℤ, Result, Ok, Err, refl, sym, ◌∙◌, arith, if◌then◌else◌}
+use Rattle.std.proofs.Common.{◌≡◌, ℕ, zero, suc, ◌+◌, ◌≤◌, Bool, true, false, nat_le, nat_eq, List, [], ◌∷◌, ◌++◌, length, Option, Some, None, ℤ, Result, Ok, Err, refl, sym, ◌∙◌, arith}
 use Rattle.std.specs.List.{AllByRecursion}
 use Rattle.std.proofs.lemmas.Bool.{cond_both}
 use Rattle.gw_nums.specs.Range.{is_negative, magnitude}
 use Rattle.gw_expr.specs.Term.{Term}
 use Rattle.gw_expr.specs.declared.stop.Stop.TheVariants.{NegativeTime, TooManyTransactions, BadCount}
 use Rattle.gw_meaning.specs.declared.item.Item.TheVariants as items
-use Rattle.gw_meaning.specs.declared.item.End.TheVariants as ends
 use Rattle.gw_meaning.specs.declared.item.End.{End}
 use Rattle.gw_meaning.specs.declared.statement.Block.{Block}
 use Rattle.gw_meaning.specs.declared.statement.Block.TheVariants as blocks
@@ -18,10 +17,10 @@ use Rattle.gw_meaning.specs.declared.moves.Arrival.{Arrival}
 use Rattle.gw_meaning.specs.declared.moves.Move.{Move}
 use Rattle.gw_meaning.specs.declared.moves.Move.TheVariants as moves
 use Rattle.gw_meaning.specs.Listing.{Listing, generates_in, is_generate}
-use Rattle.gw_meaning.specs.Machine.{Machine, live, count_at, raised}
-use Rattle.gw_meaning.specs.Questions.{Prog, Gives, ask, result_of}
+use Rattle.gw_meaning.specs.Machine.{Machine, live, raised}
+use Rattle.gw_meaning.specs.Questions.{Gives, result_of}
 use Rattle.gw_meaning.specs.Changes.{moved}
-use Rattle.gw_meaning.specs.Step.{value_or_zero, value_prog, arrival_at, arrival_in_time, arrival_within, arrival_prog, first_time, first_arrival, with_arrival, prime_prog, arrivals_prog, first_arrivals_prog, start_prog, command_prog, generate_prog, delay_of, advance_prog, terminate_prog, enter_prog, try_prog, attempt_prog, least_time, within_prog, clock_prog, pick_prog, scan_prog, move_prog, decide, step}
+use Rattle.gw_meaning.specs.Step.{value_or_zero, value_prog, arrival_at, arrival_in_time, arrival_prog, first_time, first_arrival, with_arrival, prime_prog, arrivals_prog, first_arrivals_prog, start_prog, command_prog, generate_prog, delay_of, advance_prog, terminate_prog, enter_prog, try_prog, attempt_prog, least_time, within_prog, clock_prog, pick_prog, scan_prog, move_prog, decide, step}
 use Rattle.gw_meaning.proofs.Programs.{bind_gives, bind_ends}
 use Rattle.gw_laws.proofs.Results.{Gets, gets_gives, gets_ends, gets_asks, gets_cond, gets_stops, gets_bind, gets_any, Any}
 
@@ -97,8 +96,8 @@ module _ (t : Listing) (seed : ℕ) (s : Machine) where
   arrivals_get (place ∷ places) made most h =
       gets_bind t seed (IsMaybeAhead s) _ (prime_prog s place) _ (gets_asks t seed _ (items.Block place) _ (first_arrival_gets place _))
       (λ a here.
-          let more : suc most + length places ≡ most + suc (length places) = omega arith in
-          rw (← more) (arrivals_get places (with_arrival a made) (suc most) (with_arrival_first a made most here h)))
+      let more : suc most + length places ≡ most + suc (length places) = omega arith in
+      rw (← more) (arrivals_get places (with_arrival a made) (suc most) (with_arrival_first a made most here h)))
 
   first_arrivals_get : Gets t seed (AreFirst s (length t.lines)) (first_arrivals_prog s)
   first_arrivals_get =

@@ -1,24 +1,23 @@
 -- The numbers of transactions, move by move and over a run: none lives twice, and none lives that was not given yet.
-use Rattle.std.proofs.Common.{◌≡◌, ◌≢◌, ℕ, zero, suc, ◌+◌, ◌-◌, ◌*◌, ◌<◌, ◌≤◌, ◌^◌, nat_eq, Bool, true, false, List, [], ◌∷◌, length, Option, Some, None, Ok, refl, sym, ◌∙◌, arith, inl, inr}
+use Rattle.std.proofs.Common.{◌≡◌, ◌≢◌, ℕ, ◌+◌, ◌-◌, ◌<◌, ◌≤◌, ◌^◌, nat_eq, Bool, List, [], ◌∷◌, length, Option, Some, None, Ok, refl, sym, ◌∙◌, arith, inl, inr}
 use Rattle.std.specs.Prelude.{AllPairs}
 use Rattle.std.specs.List.{AllByRecursion}
 use Rattle.std.proofs.lemmas.Bool.{eq-eqb, ne_eqb, cases_eq, cases_lt}
 use Rattle.std.proofs.lemmas.List.Elements.{All-from_recursion}
 use Rattle.std.proofs.lemmas.List.Kept.{AllPairs-cons}
 use Rattle.gw_meaning.specs.declared.transaction.Transaction.{Transaction}
-use Rattle.gw_meaning.specs.declared.transaction.Event.{Event}
 use Rattle.gw_meaning.specs.declared.moves.Arrival.{Arrival}
 use Rattle.gw_meaning.specs.declared.moves.Move.{Move}
 use Rattle.gw_meaning.specs.declared.moves.Move.TheVariants as moves
 use Rattle.gw_meaning.specs.Listing.{Listing}
-use Rattle.gw_meaning.specs.Machine.{Machine, raised}
+use Rattle.gw_meaning.specs.Machine.{Machine}
 use Rattle.gw_meaning.specs.Changes.{Making, made, all_made, making_of, with_making, newcomer, placed, started, arrived, generated, moved_on, delayed, terminated, moved}
 use Rattle.gw_meaning.specs.Step.{run}
 use Rattle.gw_model.specs.Well.{Well}
 use Rattle.gw_laws.specs.Living.{living}
 use Rattle.gw_laws.specs.Numbering.{NumbersAreApart, NumbersAreGiven}
 use Rattle.gw_laws.proofs.Active.{with_active_has, picked_has, in_generate}
-use Rattle.gw_laws.proofs.Crowd.{one, many, future_many, crowd, many_living, active_crowd, future_push, picked_crowd, advanced_crowd}
+use Rattle.gw_laws.proofs.Crowd.{one, many, crowd, many_living, active_crowd, future_push, picked_crowd, advanced_crowd}
 use Rattle.gw_laws.proofs.Decided.{IsDecided}
 use Rattle.gw_laws.proofs.Room.{all_within}
 use Rattle.gw_laws.proofs.Running.{over_run}
@@ -76,12 +75,12 @@ moved_numbered t s (moves.Pass place) room decided h =
 moved_numbered t s (moves.Delay place until) room decided h =
     with_active_has IsNumbered s.active (λ x. delayed s x place until) s h
     (λ x is.
-        same_numbered s (delayed s x place until) refl
-        (λ k.
-            let was = active_crowd (has_number k) s x is in
-            let push = future_push (has_number k) s.future (record { time = until; transaction = placed x place }) in
-            omega arith)
-        h)
+    same_numbered s (delayed s x place until) refl
+    (λ k.
+    let was = active_crowd (has_number k) s x is in
+    let push = future_push (has_number k) s.future (record { time = until; transaction = placed x place }) in
+    omega arith)
+    h)
 moved_numbered t s (moves.Terminate place count) room decided h =
     with_active_has IsNumbered s.active (λ x. terminated s x place count) s h
     (λ x is. same_numbered s (terminated s x place count) refl (λ k. let was = active_crowd (has_number k) s x is in omega arith) h)
@@ -101,8 +100,8 @@ pub all_numbered : (t : Listing) (seed : ℕ) → Well t → (n : ℕ) (s : Mach
 all_numbered t seed well =
     over_run t seed (λ n s. n ≤ t.limit → IsNumbered s) (λ within. record { apart = λ k. omega arith; given = λ k above. refl })
     (λ n s m there decided h within.
-        let room = all_within t seed n s well there in
-        moved_numbered t s m (omega (arith, room.next, well.greatest_limit, well.statements)) decided (h (omega arith)))
+    let room = all_within t seed n s well there in
+    moved_numbered t s m (omega (arith, room.next, well.greatest_limit, well.statements)) decided (h (omega arith)))
 
 -- what that says of the list of the living
 none_has : (k : ℕ) (xs : List Transaction) → many (has_number k) xs ≡ 0 → AllByRecursion (λ (y : Transaction). k ≢ y.number) xs

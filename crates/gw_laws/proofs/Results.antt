@@ -1,5 +1,5 @@
 -- What is known of the result of a program of questions, if it comes to one. Each way to build programs keeps this.
-use Rattle.std.proofs.Common.{◌≡◌, ℕ, Bool, true, false, cond, Result, Ok, Err, refl, subst}
+use Rattle.std.proofs.Common.{◌≡◌, ℕ, Bool, true, false, cond, Ok, refl, subst}
 use Rattle.gw_expr.specs.declared.stop.Stop.{Stop}
 use Rattle.gw_meaning.specs.declared.item.Item.{Item}
 use Rattle.gw_meaning.specs.declared.item.End.{End}

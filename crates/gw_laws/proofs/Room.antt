@@ -1,7 +1,6 @@
 -- How far a run comes in so many steps: how many transactions live, and what the next number is.
-use Rattle.std.proofs.Common.{◌≡◌, ℕ, zero, suc, ◌+◌, ◌*◌, ◌≤◌, Bool, true, false, List, [], ◌∷◌, length, Option, Some, None, Ok, refl, arith}
+use Rattle.std.proofs.Common.{◌≡◌, ℕ, suc, ◌+◌, ◌*◌, ◌≤◌, Bool, true, List, [], ◌∷◌, length, Option, Some, None, Ok, refl, arith}
 use Rattle.gw_meaning.specs.declared.transaction.Transaction.{Transaction}
-use Rattle.gw_meaning.specs.declared.transaction.Event.{Event}
 use Rattle.gw_meaning.specs.declared.moves.Arrival.{Arrival}
 use Rattle.gw_meaning.specs.declared.moves.Move.{Move}
 use Rattle.gw_meaning.specs.declared.moves.Move.TheVariants as moves
@@ -11,7 +10,7 @@ use Rattle.gw_meaning.specs.Changes.{Making, made, all_made, making_of, with_mak
 use Rattle.gw_meaning.specs.Step.{run}
 use Rattle.gw_model.specs.Well.{Well}
 use Rattle.gw_laws.proofs.Active.{with_active_has, picked_has, in_generate}
-use Rattle.gw_laws.proofs.Crowd.{many, future_many, crowd, active_crowd, future_push, picked_crowd, advanced_crowd}
+use Rattle.gw_laws.proofs.Crowd.{crowd, active_crowd, future_push, picked_crowd, advanced_crowd}
 use Rattle.gw_laws.proofs.Decided.{IsDecided}
 use Rattle.gw_laws.proofs.Running.{over_run}
 
@@ -54,30 +53,30 @@ moved_within t s (moves.Start count arrivals) most few decided h =
 moved_within t s (moves.Generate place next) most few decided h =
     with_active_has (IsWithin (most + 2000)) s.active (λ x. generated s x place next) s (within_more most (most + 2000) s (omega arith) h)
     (λ x is.
-        let was = active_crowd anyone s x is in
-        let there = in_generate s x place in
-        within_more (most + 1) (most + 2000) (generated s x place next) (omega arith) (arrived_within most next there (same_within most s there refl (omega arith) h)))
+    let was = active_crowd anyone s x is in
+    let there = in_generate s x place in
+    within_more (most + 1) (most + 2000) (generated s x place next) (omega arith) (arrived_within most next there (same_within most s there refl (omega arith) h)))
 moved_within t s (moves.Pass place) most few decided h =
     with_active_has (IsWithin (most + 2000)) s.active (λ x. moved_on s x place) s (within_more most (most + 2000) s (omega arith) h)
     (λ x is.
-        let was = active_crowd anyone s x is in
-        within_more most (most + 2000) (moved_on s x place) (omega arith) (same_within most s (moved_on s x place) refl (omega arith) h))
+    let was = active_crowd anyone s x is in
+    within_more most (most + 2000) (moved_on s x place) (omega arith) (same_within most s (moved_on s x place) refl (omega arith) h))
 moved_within t s (moves.Delay place until) most few decided h =
     with_active_has (IsWithin (most + 2000)) s.active (λ x. delayed s x place until) s (within_more most (most + 2000) s (omega arith) h)
     (λ x is.
-        let was = active_crowd anyone s x is in
-        let push = future_push anyone s.future (record { time = until; transaction = placed x place }) in
-        within_more most (most + 2000) (delayed s x place until) (omega arith) (same_within most s (delayed s x place until) refl (omega arith) h))
+    let was = active_crowd anyone s x is in
+    let push = future_push anyone s.future (record { time = until; transaction = placed x place }) in
+    within_more most (most + 2000) (delayed s x place until) (omega arith) (same_within most s (delayed s x place until) refl (omega arith) h))
 moved_within t s (moves.Terminate place count) most few decided h =
     with_active_has (IsWithin (most + 2000)) s.active (λ x. terminated s x place count) s (within_more most (most + 2000) s (omega arith) h)
     (λ x is.
-        let was = active_crowd anyone s x is in
-        within_more most (most + 2000) (terminated s x place count) (omega arith) (same_within most s (terminated s x place count) refl (omega arith) h))
+    let was = active_crowd anyone s x is in
+    within_more most (most + 2000) (terminated s x place count) (omega arith) (same_within most s (terminated s x place count) refl (omega arith) h))
 moved_within t s moves.Pick most few decided h =
     picked_has (IsWithin (most + 2000)) s s.current (within_more most (most + 2000) s (omega arith) h)
     (λ x xs is.
-        let same = picked_crowd anyone s x xs decided is in
-        record { next = omega (arith, h.next); crowd = omega (arith, h.crowd) })
+    let same = picked_crowd anyone s x xs decided is in
+    record { next = omega (arith, h.next); crowd = omega (arith, h.crowd) })
 moved_within t s (moves.Clock time) most few decided h =
     let same = advanced_crowd anyone s time in
     record { next = omega (arith, h.next); crowd = omega (arith, h.crowd) }

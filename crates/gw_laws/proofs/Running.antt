@@ -5,7 +5,7 @@ use Rattle.gw_meaning.specs.declared.moves.Move.{Move}
 use Rattle.gw_meaning.specs.Listing.{Listing}
 use Rattle.gw_meaning.specs.Machine.{Machine, zero_state}
 use Rattle.gw_meaning.specs.Changes.{moved}
-use Rattle.gw_meaning.specs.Step.{step, step_prog, run, run_prog}
+use Rattle.gw_meaning.specs.Step.{step_prog, run, run_prog}
 use Rattle.gw_meaning.proofs.Programs.{bind_ends, run_on}
 use Rattle.gw_laws.proofs.Decided.{IsDecided, step_moves}
 

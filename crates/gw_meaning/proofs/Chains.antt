@@ -1,6 +1,6 @@
 -- A chain in order of priority stays in order, whoever lines up on it.
 use Rattle.std.proofs.Common.{◌≡◌, suc, ℤ, pos, negsuc, true, false, List, [], ◌∷◌, ◌++◌, refl, ap, arith}
-use Rattle.std.specs.List.{AllPairs, AllByRecursion}
+use Rattle.std.specs.List.{AllByRecursion}
 use Rattle.std.proofs.lemmas.Bool.{cond_both}
 use Rattle.std.proofs.lemmas.Bool.Decides.{nat_tests}
 use Rattle.std.proofs.lemmas.List.Elements.{All-from_recursion, recursion_from_All}
@@ -35,7 +35,6 @@ AreNotAbove x = AllByRecursion (λ (y : Transaction). is_below x.priority y.prio
 abbrev pub IsOrdered : List Transaction → Type 0
 IsOrdered [] = Unit {0}
 IsOrdered (x ∷ xs) = AreNotAbove x xs × IsOrdered xs
-
 
 tail_in_order : (x : Transaction) (xs : List Transaction) → AreInOrder (x ∷ xs) → AreInOrder xs
 tail_in_order x xs h = λ i j d before within. h (suc i) (suc j) d (omega arith) (omega arith)
