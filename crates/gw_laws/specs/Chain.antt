@@ -1,4 +1,4 @@
--- The current chain, over every run from zero: in order of priority, and first in first out within a priority. (Manual.)
+-- The current chain over every run from zero: by priority, and first in first out within a priority. (Manual.)
 use Rattle.std.specs.Prelude.{◌≡◌, ℕ, suc, ◌≤◌, ◌==◌, ℤ, Bool, not, List, ◌++◌, Ok, filter, map}
 use Rattle.std.specs.List.{list_any}
 use Rattle.std.specs.Ordering.{int_eq}
@@ -14,7 +14,8 @@ ChainIsInOrder = (t : Listing) (seed n : ℕ) (s : Machine) → run t seed n ≡
 
 -- the numbers of the transactions of a priority, in the order of the chain
 abbrev pub numbers_of : ℤ → List Transaction → List ℕ
-numbers_of priority chain = map (λ (x : Transaction). x.number) (filter (λ (x : Transaction). int_eq x.priority priority) chain)
+numbers_of priority chain =
+    map (λ (x : Transaction). x.number) (filter (λ (x : Transaction). int_eq x.priority priority) chain)
 
 -- whether a number is among these
 abbrev pub is_in : List ℕ → ℕ → Bool
@@ -22,10 +23,13 @@ is_in numbers number = list_any (λ other. other == number) numbers
 
 -- first in first out: those that stay keep their order, and those that come stand behind them
 abbrev pub IsFirstInFirstOut : List ℕ → List ℕ → Type 0
-IsFirstInFirstOut before after = after ≡ filter (is_in after) before ++ filter (λ number. not (is_in before number)) after
+IsFirstInFirstOut before after =
+    after ≡ filter (is_in after) before ++ filter (λ number. not (is_in before number)) after
 
--- so each step leaves each priority's part of the chain. (Numbers tell transactions apart within the step limit.)
+-- so it is, for each priority, of the chain before and after each step. (Within the step limit, since numbers tell
+-- transactions apart there.)
 abbrev pub ChainIsFirstInFirstOut : Type 0
 ChainIsFirstInFirstOut =
-    (t : Listing) (seed n : ℕ) (s v : Machine) → Well t → n ≤ t.limit → run t seed n ≡ Ok s → run t seed (suc n) ≡ Ok v →
+    (t : Listing) (seed n : ℕ) (s v : Machine) → Well t → n ≤ t.limit →
+    run t seed n ≡ Ok s → run t seed (suc n) ≡ Ok v →
     (priority : ℤ) → IsFirstInFirstOut (numbers_of priority s.current) (numbers_of priority v.current)

@@ -12,4 +12,5 @@ ClockNeverGoesBack =
 
 -- no time on the future chain lies before it
 abbrev pub NothingIsOverdue : Type 0
-NothingIsOverdue = (t : Listing) (seed n : ℕ) (s : Machine) → run t seed n ≡ Ok s → All (λ (e : Event). s.clock ≤ e.time) s.future
+NothingIsOverdue =
+    (t : Listing) (seed n : ℕ) (s : Machine) → run t seed n ≡ Ok s → All (λ (e : Event). s.clock ≤ e.time) s.future
