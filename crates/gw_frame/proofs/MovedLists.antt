@@ -1,6 +1,5 @@
 -- The lists of a state under a move: the counts of blocks and the chains.
 use Rattle.std.proofs.Common.{◌≡◌, ℕ, nat_eq, Bool, true, false, cond, not, List, [], ◌∷◌, map, filter, Option, Some, None, refl, ap, subst, ◌∙◌}
-use Rattle.std.specs.List.{list_any}
 use Rattle.std.proofs.lemmas.Bool.Decides.{same_from_decides, Decides-like, Decides-eqb}
 use Rattle.gw_nums.specs.Range.{is_below}
 use Rattle.gw_meaning.specs.declared.transaction.Transaction.{Transaction}
@@ -59,15 +58,10 @@ module _ (move : ℕ → ℕ) (is : IsMove move) where
   gone_moved cs from to = rw (left_moved cs from) (passed_through_moved (left cs from) to)
 
 module _ (move : ℕ → ℕ) where
-  any_moved : (test : Transaction → Bool) → ((z : Transaction) → test (moved_transaction move z) ≡ test z) → (xs : List Transaction) → list_any test (map (moved_transaction move) xs) ≡ list_any test xs
-  any_moved test each [] = refl
-  any_moved test each (x ∷ xs) = rw (each x, any_moved test each xs) refl
-
   pub lined_up_moved : (x : Transaction) (ys : List Transaction) → lined_up (moved_transaction move x) (map (moved_transaction move) ys) ≡ map (moved_transaction move) (lined_up x ys)
   lined_up_moved x [] = refl
   lined_up_moved x (y ∷ ys) =
-      rw (any_moved (λ z. not (is_below z.priority x.priority)) (λ z. refl) ys)
-      (cond_under (map (moved_transaction move)) _ _ _ _ _ (ap (λ zs. moved_transaction move y ∷ zs) (lined_up_moved x ys)) refl)
+      cond_under (map (moved_transaction move)) (is_below y.priority x.priority) _ _ _ _ refl (ap (λ zs. moved_transaction move y ∷ zs) (lined_up_moved x ys))
 
   pub all_lined_up_moved : (xs chain : List Transaction) → all_lined_up (map (moved_transaction move) xs) (map (moved_transaction move) chain) ≡ map (moved_transaction move) (all_lined_up xs chain)
   all_lined_up_moved [] chain = refl

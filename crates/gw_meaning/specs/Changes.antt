@@ -1,7 +1,6 @@
 -- What a move does to a state. (Manual: the chains and the counts of blocks. Our own: that an ADVANCE of 0 leaves the
 -- transaction active, and that a time is fixed when the transaction comes onto the future chain.)
 use Rattle.std.specs.Prelude.{ℕ, ◌-◌, Bool, true, not, ◌==◌, List, [], ◌∷◌, ◌++◌, Option, Some, None, if◌then◌else◌, filter, nat_lt}
-use Rattle.std.specs.List.{list_any}
 use Rattle.gw_nums.specs.Range.{is_below}
 use Rattle.gw_meaning.specs.declared.transaction.Transaction.{Transaction}
 use Rattle.gw_meaning.specs.declared.transaction.Event.{Event}
@@ -11,10 +10,10 @@ use Rattle.gw_meaning.specs.declared.moves.Move.{Move}
 use Rattle.gw_meaning.specs.declared.moves.Move.TheVariants as moves
 use Rattle.gw_meaning.specs.Machine.{Machine, raised, count_in, count_at, with_count}
 
--- the current chain with one more transaction: behind the last whose priority is not below its own
+-- the current chain with one more transaction: behind its equals, in front of the first of lower priority
 abbrev pub lined_up : Transaction → List Transaction → List Transaction
 lined_up x [] = x ∷ []
-lined_up x (y ∷ ys) = if list_any (λ (z : Transaction). not (is_below z.priority x.priority)) (y ∷ ys) then y ∷ lined_up x ys else x ∷ y ∷ ys
+lined_up x (y ∷ ys) = if is_below y.priority x.priority then x ∷ y ∷ ys else y ∷ lined_up x ys
 
 -- the same, of one transaction after another
 abbrev pub all_lined_up : List Transaction → List Transaction → List Transaction

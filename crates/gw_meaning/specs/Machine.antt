@@ -1,6 +1,7 @@
 -- The state of a run: both clocks, the termination count, what is done, the chains and the counts of the blocks.
 -- (Manual; that RESET's clock is kept as a moment is our own.)
-use Rattle.std.specs.Prelude.{ℕ, ◌+◌, ◌-◌, ◌^◌, Bool, false, ◌==◌, List, [], ◌∷◌, Option, Some, None, if◌then◌else◌, min, length}
+use Rattle.std.specs.Prelude.{◌≡◌, ℕ, ◌+◌, ◌-◌, ◌^◌, Bool, false, ◌==◌, List, [], ◌∷◌, Option, Some, None, if◌then◌else◌, min, length, AllPairs}
+use Rattle.gw_nums.specs.Range.{is_below}
 use Rattle.gw_meaning.specs.declared.transaction.Transaction.{Transaction}
 use Rattle.gw_meaning.specs.declared.transaction.Event.{Event}
 use Rattle.gw_meaning.specs.declared.transaction.Count.{Count}
@@ -26,6 +27,10 @@ pub record Machine : Type 0 where
   pub future : List Event
   -- what is counted at each block, in the order of first use
   pub counts : List (ℕ × Count)
+
+-- a chain in order of priority: no transaction stands behind one of lower priority
+abbrev pub AreInOrder : List Transaction → Type 0
+AreInOrder chain = AllPairs (λ (x y : Transaction). is_below x.priority y.priority ≡ false) chain
 
 -- the state before the first step
 abbrev pub zero_state : Machine

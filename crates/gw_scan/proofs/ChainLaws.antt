@@ -1,45 +1,31 @@
 -- Laws of the lists behind the chains.
-use Rattle.std.proofs.Common.{◌≡◌, ℕ, suc, ◌+◌, ◌<◌, Bool, true, false, not, ◌||◌, List, [], ◌∷◌, ◌++◌, length, get_or, take, drop, insert, refl, sym, ap, ◌∙◌, filter, append_assoc, if◌then◌else◌}
-use Rattle.std.specs.List.{list_any}
+use Rattle.std.proofs.Common.{◌≡◌, ℕ, suc, ◌+◌, ◌<◌, true, false, not, List, [], ◌∷◌, ◌++◌, length, get_or, take, drop, insert, refl, sym, ap, subst, ◌∙◌, filter, append_assoc, if◌then◌else◌}
 use Rattle.std.proofs.lemmas.List.{drop_more, take_more, take-append-drop}
 use Rattle.gw_nums.specs.Range.{is_below}
 use Rattle.gw_meaning.specs.declared.transaction.Transaction.{Transaction}
 use Rattle.gw_meaning.specs.declared.transaction.Event.{Event}
+use Rattle.gw_meaning.specs.Machine.{AreInOrder}
 use Rattle.gw_meaning.specs.Changes.{lined_up, all_lined_up, due, is_due}
+use Rattle.gw_meaning.proofs.Chains.{IsOrdered, ordered, in_order, ordered_lined, lined_up_behind}
 
 -- what is left of a list begins with the item there
 pub item_drop : {X : Type 0} (xs : List X) (i : ℕ) (x : X) → i < length xs → x ≡ get_or xs i x → drop i xs ≡ x ∷ drop (i + 1) xs
 item_drop xs i x h is = drop_more xs i x h ∙ ap (λ y. y ∷ drop (i + 1) xs) (sym is)
 
--- a test of each transaction whether its priority is not below this one's
-abbrev stands_before : Transaction → Transaction → Bool
-stands_before x z = not (is_below z.priority x.priority)
+-- a chain in order stays in order when one lines up, and when its first one goes
+pub lined_up_in_order : (x : Transaction) (xs : List Transaction) → AreInOrder xs → AreInOrder (lined_up x xs)
+lined_up_in_order x xs h = in_order (lined_up x xs) (ordered_lined x xs (ordered xs h))
 
--- behind no one
-lined_up_first : (x : Transaction) (ys : List Transaction) → list_any (stands_before x) ys ≡ false → lined_up x ys ≡ x ∷ ys
-lined_up_first x [] none = refl
-lined_up_first x (y ∷ ys) none = rw none refl
+pub rest_in_order : (x : Transaction) (xs whole : List Transaction) → whole ≡ x ∷ xs → AreInOrder whole → AreInOrder xs
+rest_in_order x xs whole is h = in_order xs (ordered (x ∷ xs) (subst AreInOrder is h)).1
 
-any_behind : {X : Type 0} (f : X → Bool) (front : List X) (y : X) (back : List X) → f y ≡ true → list_any f (front ++ y ∷ back) ≡ true
-any_behind f [] y back h = rw h refl
-any_behind f (z ∷ zs) y back h = rw (any_behind f zs y back h) (elim (f z) as (λ b. (b || true) ≡ true) [ true ↦ refl | false ↦ refl ])
-
--- behind y, the last of those that stand before
-lined_up_behind : (x : Transaction) (front : List Transaction) (y : Transaction) (back : List Transaction) → stands_before x y ≡ true → list_any (stands_before x) back ≡ false → lined_up x (front ++ y ∷ back) ≡ front ++ y ∷ x ∷ back
-lined_up_behind x [] y back before none = rw before (ap (λ zs. y ∷ zs) (lined_up_first x back none))
-lined_up_behind x (z ∷ zs) y back before none = rw (any_behind (stands_before x) (z ∷ zs) y back before) (ap (λ ws. z ∷ ws) (lined_up_behind x zs y back before none))
-
--- behind the item at i, where it stands before and those after it do not
-pub lined_up_at : (x : Transaction) (xs : List Transaction) (i : ℕ) (y : Transaction) → i < length xs → y ≡ get_or xs i y → is_below y.priority x.priority ≡ false → list_any (λ (z : Transaction). not (is_below z.priority x.priority)) (drop (i + 1) xs) ≡ false → lined_up x xs ≡ insert xs (i + 1) x
-lined_up_at x xs i y h is above none =
+-- behind the item at i of a chain in order, where it is not of lower priority and those after it are
+pub lined_up_at : (x : Transaction) (xs : List Transaction) (i : ℕ) (y : Transaction) → AreInOrder xs → i < length xs → y ≡ get_or xs i y → is_below y.priority x.priority ≡ false → lined_up x (drop (i + 1) xs) ≡ x ∷ drop (i + 1) xs → lined_up x xs ≡ insert xs (i + 1) x
+lined_up_at x xs i y order h is above rest =
     let whole : xs ≡ take i xs ++ y ∷ drop (i + 1) xs = sym (take-append-drop i xs) ∙ ap (λ zs. take i xs ++ zs) (item_drop xs i y h is) in
-    let before : stands_before x y ≡ true = rw above refl in
     let front : take (i + 1) xs ≡ take i xs ++ y ∷ [] = take_more xs i y h ∙ ap (λ z. take i xs ++ z ∷ []) (sym is) in
     let split : take (i + 1) xs ++ x ∷ drop (i + 1) xs ≡ take i xs ++ y ∷ x ∷ drop (i + 1) xs = ap (λ zs. zs ++ x ∷ drop (i + 1) xs) front ∙ append_assoc (take i xs) (y ∷ []) (x ∷ drop (i + 1) xs) in
-    ap (lined_up x) whole ∙ (lined_up_behind x (take i xs) y (drop (i + 1) xs) before none ∙ (sym split ∙ ap (λ n. take (i + 1) xs ++ x ∷ drop n xs) (refl)))
-
-pub lined_up_none : (x : Transaction) (xs : List Transaction) → list_any (λ (z : Transaction). not (is_below z.priority x.priority)) xs ≡ false → lined_up x xs ≡ x ∷ xs
-lined_up_none x xs none = lined_up_first x xs none
+    ap (lined_up x) whole ∙ (lined_up_behind x (take i xs) y (drop (i + 1) xs) (subst IsOrdered whole (ordered xs order)) above rest ∙ sym split)
 
 -- After i of the events of F have gone round: those that are not due stand behind the rest, those that are due on the chain.
 pub record Sorting (time : ℕ) (F : List Event) (C : List Transaction) (i : ℕ) (future : List Event) (current : List Transaction) : Type 0 where

@@ -1,6 +1,7 @@
 // The chains of a run, as lists.
 ghost use Rattle.std.specs.Prelude.{◌≡◌, ◌+◌, ◌<◌, ◌≤◌, length, filter, not, insert, Some};
 ghost use Rattle.std.specs.VecDeque.{deque_len, deque_capacity};
+ghost use Rattle.gw_meaning.specs.Machine.{AreInOrder};
 ghost use Rattle.gw_meaning.specs.Changes.{lined_up, all_lined_up, due, is_due};
 ghost use Rattle.gw_meaning.specs.Step.{least_time, sooner};
 
@@ -8,10 +9,13 @@ use gw_meaning::{Event, Transaction};
 use gw_nums::Time;
 use std::collections::VecDeque;
 
-// Puts a transaction behind its equals in priority.
+// Puts a transaction on a chain in order: behind its equals, in front of the first of lower priority.
+#[tactic(auto, using(crate::proofs::ChainLaws::lined_up_in_order))]
 pub fn line_up(chain: &mut VecDeque<Transaction>, x: Transaction)
-    requires { deque_len chain.old < deque_capacity chain.old }
+    requires room { deque_len chain.old < deque_capacity chain.old }
+    requires order { AreInOrder chain.old.items }
     ensures items { chain.new.items ≡ lined_up x chain.old.items }
+    ensures order { AreInOrder chain.new.items }
     ensures len { deque_len chain.new ≡ deque_len chain.old + 1 }
     ensures room { deque_capacity chain.old ≤ deque_capacity chain.new }
 {
@@ -22,9 +26,10 @@ pub fn line_up(chain: &mut VecDeque<Transaction>, x: Transaction)
     }
 }
 
-// Where a transaction goes: behind the last whose priority is not below its own.
+// Where a transaction goes on a chain in order. Most go far back, so the search begins at the back.
 #[tactic(auto, using(crate::proofs::ChainLaws::item_drop))]
 fn place_behind(chain: &VecDeque<Transaction>, x: &Transaction) -> usize
+    requires { AreInOrder chain.now.items }
     ensures within { result ≤ deque_len chain.now }
     ensures place { lined_up x.now chain.now.items ≡ insert chain.now.items result x.now }
 {
@@ -73,8 +78,10 @@ pub fn count_due(future: &VecDeque<Event>, time: Time) -> usize
 
 // Moves the transactions of a moment to the current chain, in the order in which they came.
 pub fn take_due(current: &mut VecDeque<Transaction>, future: &mut VecDeque<Event>, time: Time)
-    requires { deque_len current.old + length (due time future.old.items) ≤ deque_capacity current.old }
+    requires room { deque_len current.old + length (due time future.old.items) ≤ deque_capacity current.old }
+    requires order { AreInOrder current.old.items }
     ensures current { current.new.items ≡ all_lined_up (due time future.old.items) current.old.items }
+    ensures order { AreInOrder current.new.items }
     ensures future { future.new.items ≡ filter (λ e. not (is_due time e)) future.old.items }
 {
     for _ in 0..future.len() {

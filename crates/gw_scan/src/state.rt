@@ -27,7 +27,7 @@ pub struct State {
 
 impl Model for State {
     ghost use Rattle.std.specs.Prelude.{◌≤◌};
-    ghost use Rattle.gw_meaning.specs.Machine.{Machine};
+    ghost use Rattle.gw_meaning.specs.Machine.{Machine, AreInOrder};
 
     ghost Value = { Machine };
 
@@ -45,7 +45,7 @@ impl Model for State {
       counts = s.counts.entries;
     } };
 
-    ghost invariant = { λ s. s.clock ≤ 1000000000000 };
+    ghost invariant = { λ s. (s.clock ≤ 1000000000000) × AreInOrder s.current.items };
 }
 
 impl State {

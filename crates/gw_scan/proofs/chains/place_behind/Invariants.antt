@@ -1,8 +1,7 @@
-use Rattle.std.proofs.Common.{◌≡◌, drop, false, not}
-use Rattle.std.specs.List.{list_any}
-use Rattle.gw_nums.specs.Range.{is_below}
-use Rattle.gw_meaning.specs.declared.transaction.Transaction.{Transaction}
+use Rattle.std.proofs.Common.{◌≡◌, ◌∷◌, drop}
+use Rattle.gw_meaning.specs.Changes.{lined_up}
 use Rattle.gw_scan.proofs.chains.place_behind.Given as goal
 
+-- before those that are passed, x would come first
 abbrev pub invariant-loop-index : goal.invariant-loop-index
-invariant-loop-index l = list_any (λ (z : Transaction). not (is_below z.priority l.x.priority)) (drop l.index l.chain.items) ≡ false
+invariant-loop-index l = lined_up l.x (drop l.index l.chain.items) ≡ l.x ∷ drop l.index l.chain.items

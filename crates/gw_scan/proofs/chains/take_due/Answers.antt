@@ -25,6 +25,7 @@ loop-preserved c =
           record {
             sorting = rw (w.current-is, w.future-is, w.line_up.ensures.items) (sorted_due t F c.args.current.now.items i e rest c.loop.current.items h now s);
             room = rw w.current-is (omega (arith, fewer, room, w.line_up.ensures.len, w.line_up.ensures.room));
+            order = rw w.current-is w.line_up.ensures.order;
             left = rw w.future-is (omega (arith, popped, c.loop.invariant.left));
           }
       | else-eq w ↦
@@ -33,6 +34,7 @@ loop-preserved c =
           record {
             sorting = rw (w.current-is, w.future-is, w.push_back_reserved.ensures.items) (sorted_kept t F c.args.current.now.items i e rest c.loop.current.items h later s);
             room = rw w.current-is (omega (arith, same, room));
+            order = rw w.current-is c.loop.invariant.order;
             left = rw w.future-is (omega (arith, popped, c.loop.invariant.left, w.push_back_reserved.ensures.len));
           }
     ]

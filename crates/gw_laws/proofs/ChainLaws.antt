@@ -1,0 +1,201 @@
+-- The current chain, move by move and over a run: in order of priority, and first in first out within.
+use Rattle.std.proofs.Common.{◌≡◌, ℕ, ◌+◌, ◌≤◌, ℤ, nat_eq, Bool, true, false, not, ◌||◌, List, [], ◌∷◌, ◌++◌, filter, Ok, refl, sym, ap, ap₂, subst, ◌∙◌, append-nil, append_assoc, arith, inl, inr}
+use Rattle.std.specs.List.{AllByRecursion}
+use Rattle.std.specs.Ordering.{int_eq}
+use Rattle.std.proofs.lemmas.Bool.{cases_Bool, eq-eqb, false≢true}
+use Rattle.std.proofs.lemmas.Bool.Decides.{Decides-int_eq}
+use Rattle.std.proofs.lemmas.List.Elements.{filter-append}
+use Rattle.gw_nums.specs.Range.{is_below}
+use Rattle.gw_meaning.specs.declared.transaction.Transaction.{Transaction}
+use Rattle.gw_meaning.specs.declared.moves.Move.{Move}
+use Rattle.gw_meaning.specs.declared.moves.Move.TheVariants as moves
+use Rattle.gw_meaning.specs.Listing.{Listing}
+use Rattle.gw_meaning.specs.Machine.{Machine}
+use Rattle.gw_meaning.specs.Changes.{lined_up, all_lined_up, due, generated, moved_on, delayed, terminated, moved}
+use Rattle.gw_meaning.specs.Step.{run}
+use Rattle.gw_meaning.proofs.Programs.{run_on}
+use Rattle.gw_meaning.proofs.Chains.{IsOrdered, AreNotAbove, in_order, ordered_lined, ordered_all_lined, below_one_way}
+use Rattle.gw_laws.specs.Chain.{ChainIsInOrder, ChainIsFirstInFirstOut, IsFirstInFirstOut, numbers_of, is_in}
+use Rattle.gw_laws.proofs.Active.{with_active_has, picked_has}
+use Rattle.gw_laws.proofs.Crowd.{one, many, future_parts}
+use Rattle.gw_laws.proofs.Decided.{step_moves}
+use Rattle.gw_laws.proofs.NumberLaws.{has_number, IsNumbered, all_numbered}
+use Rattle.gw_laws.proofs.Running.{over_run}
+
+-- in order of priority
+abbrev IsChained : Machine → Type 0
+IsChained s = IsOrdered s.current
+
+moved_ordered : (s : Machine) (m : Move) → IsChained s → IsChained (moved s m)
+moved_ordered s (moves.Start count arrivals) h = h
+moved_ordered s (moves.Generate place next) h = with_active_has IsChained s.active (λ x. generated s x place next) s h (λ x is. h)
+moved_ordered s (moves.Pass place) h = with_active_has IsChained s.active (λ x. moved_on s x place) s h (λ x is. h)
+moved_ordered s (moves.Delay place until) h = with_active_has IsChained s.active (λ x. delayed s x place until) s h (λ x is. h)
+moved_ordered s (moves.Terminate place count) h = with_active_has IsChained s.active (λ x. terminated s x place count) s h (λ x is. h)
+moved_ordered s moves.Pick h = picked_has IsChained s s.current h (λ x xs is. (subst IsOrdered is h).1)
+moved_ordered s (moves.Clock time) h = ordered_all_lined (due time s.future) s.current h
+
+all_ordered : (t : Listing) (seed n : ℕ) (s : Machine) → run t seed n ≡ Ok s → IsOrdered s.current
+all_ordered t seed = over_run t seed (λ n s. IsOrdered s.current) tt (λ n s m there decided h. moved_ordered s m h)
+
+pub chain_is_in_order : ChainIsInOrder
+chain_is_in_order t seed n s is = in_order s.current (all_ordered t seed n s is)
+
+-- Lists of numbers: what a test keeps of them.
+keeps_all : (test : ℕ → Bool) (ks : List ℕ) → AllByRecursion (λ k. test k ≡ true) ks → filter test ks ≡ ks
+keeps_all test [] h = refl
+keeps_all test (k ∷ ks) h = rw h.0 (ap (λ ms. k ∷ ms) (keeps_all test ks h.1))
+
+keeps_none : (test : ℕ → Bool) (ks : List ℕ) → AllByRecursion (λ k. test k ≡ false) ks → filter test ks ≡ []
+keeps_none test [] h = refl
+keeps_none test (k ∷ ks) h = rw h.0 (keeps_none test ks h.1)
+
+each : {X : Type 0} (P Q : X → Type 0) → ((x : X) → P x → Q x) → (xs : List X) → AllByRecursion P xs → AllByRecursion Q xs
+each P Q on [] h = tt
+each P Q on (x ∷ xs) h = (on x h.0, each P Q on xs h.1)
+
+-- each of these numbers is among them, and then among more
+in_longer : (front : List ℕ) (ks : List ℕ) (k : ℕ) → is_in ks k ≡ true → is_in (front ++ ks) k ≡ true
+in_longer [] ks k h = h
+in_longer (f ∷ fs) ks k h = rw (in_longer fs ks k h) (elim (nat_eq f k) as (λ b. (b || true) ≡ true) [ true ↦ refl | false ↦ refl ])
+
+in_front : (ks back : List ℕ) (k : ℕ) → is_in ks k ≡ true → is_in (ks ++ back) k ≡ true
+in_front [] back k h = absurd (false≢true h)
+in_front (f ∷ fs) back k h =
+    elim (cases_Bool (nat_eq f k)) [
+      | inl here ↦ rw here refl
+      | inr other ↦ rw other (in_front fs back k (rw other at h))
+    ]
+
+all_in : (ks : List ℕ) → AllByRecursion (λ k. is_in ks k ≡ true) ks
+all_in [] = tt
+all_in (k ∷ ks) = (rw (eq-eqb k k refl) refl, each (λ j. is_in ks j ≡ true) (λ j. is_in (k ∷ ks) j ≡ true) (λ j h. in_longer (k ∷ []) ks j h) ks (all_in ks))
+
+-- those that were there stay, and others come behind them
+joined : (ks more : List ℕ) → AllByRecursion (λ k. is_in ks k ≡ false) more → IsFirstInFirstOut ks (ks ++ more)
+joined ks more new =
+    let stay = keeps_all (is_in (ks ++ more)) ks (each (λ k. is_in ks k ≡ true) (λ k. is_in (ks ++ more) k ≡ true) (in_front ks more) ks (all_in ks)) in
+    let none = keeps_none (λ k. not (is_in ks k)) ks (each (λ k. is_in ks k ≡ true) (λ k. not (is_in ks k) ≡ false) (λ k h. ap not h) ks (all_in ks)) in
+    let come = keeps_all (λ k. not (is_in ks k)) more (each (λ k. is_in ks k ≡ false) (λ k. not (is_in ks k) ≡ true) (λ k h. ap not h) more new) in
+    let both : filter (λ k. not (is_in ks k)) (ks ++ more) ≡ more = filter-append (λ k. not (is_in ks k)) ks more ∙ ap₂ ◌++◌ none come in
+    sym (ap₂ ◌++◌ stay both)
+
+unchanged : (ks : List ℕ) → IsFirstInFirstOut ks ks
+unchanged ks = let h = joined ks [] tt in rw append-nil at h
+
+-- the first goes, whose number no other has
+first_gone : (k : ℕ) (ks : List ℕ) → is_in ks k ≡ false → IsFirstInFirstOut (k ∷ ks) ks
+first_gone k ks alone =
+    let stay = keeps_all (is_in ks) ks (all_in ks) in
+    let none = keeps_none (λ j. not (is_in (k ∷ ks) j)) ks (each (λ j. is_in ks j ≡ true) (λ j. not (is_in (k ∷ ks) j) ≡ false) (λ j h. ap not (in_longer (k ∷ []) ks j h)) ks (all_in ks)) in
+    let whole : filter (is_in ks) (k ∷ ks) ++ filter (λ j. not (is_in (k ∷ ks) j)) ks ≡ ks ++ [] = rw alone (ap₂ ◌++◌ stay none) in
+    sym (whole ∙ append-nil ks)
+
+never_below_itself : (a : ℤ) → is_below a a ≡ false
+never_below_itself a = elim (cases_Bool (is_below a a)) [ inl below ↦ below_one_way a a below | inr not' ↦ not' ]
+
+-- One more on a chain in order stands behind those of its priority that are there.
+module _ (priority : ℤ) where
+  abbrev has_priority : Transaction → Bool
+  has_priority x = int_eq x.priority priority
+
+  first_has : (x : Transaction) (xs : List Transaction) → has_priority x ≡ true → numbers_of priority (x ∷ xs) ≡ x.number ∷ numbers_of priority xs
+  first_has x xs has = rw has refl
+
+  first_other : (x : Transaction) (xs : List Transaction) → has_priority x ≡ false → numbers_of priority (x ∷ xs) ≡ numbers_of priority xs
+  first_other x xs other = rw other refl
+
+  -- behind one of lower priority none has this one
+  none_further : (y : Transaction) (ys : List Transaction) → is_below y.priority priority ≡ true → AreNotAbove y ys → numbers_of priority ys ≡ []
+  none_further y [] below h = refl
+  none_further y (z ∷ zs) below h =
+      elim (cases_Bool (has_priority z)) [
+        | inl has ↦ absurd (let same : z.priority ≡ priority = (Decides-int_eq z.priority priority).0 has in let above : is_below y.priority priority ≡ false = rw same at h.0 in false≢true (sym above ∙ below))
+        | inr other ↦ rw other (none_further y zs below h.1)
+      ]
+
+  lined_numbers : (x : Transaction) (ys : List Transaction) → IsOrdered ys → numbers_of priority (lined_up x ys) ≡ numbers_of priority ys ++ numbers_of priority (x ∷ [])
+  lined_numbers x [] h = refl
+  lined_numbers x (y ∷ ys) h =
+      elim (cases_Bool (is_below y.priority x.priority)) [
+        | inl below ↦ rw below (elim (cases_Bool (has_priority x)) [
+          | inl has ↦
+              let same : x.priority ≡ priority = (Decides-int_eq x.priority priority).0 has in
+              let none : numbers_of priority (y ∷ ys) ≡ [] = none_further y (y ∷ ys) (rw same at below) (never_below_itself y.priority, h.0) in
+              first_has x (y ∷ ys) has ∙ (ap (λ ks. x.number ∷ ks) none ∙ sym (ap₂ ◌++◌ none (first_has x [] has)))
+          | inr other ↦ first_other x (y ∷ ys) other ∙ sym (ap (λ ks. numbers_of priority (y ∷ ys) ++ ks) (first_other x [] other) ∙ append-nil (numbers_of priority (y ∷ ys)))
+        ])
+        | inr above ↦ rw above (elim (cases_Bool (has_priority y)) [
+          | inl has ↦ rw has (ap (λ ks. y.number ∷ ks) (lined_numbers x ys h.1))
+          | inr other ↦ rw other (lined_numbers x ys h.1)
+        ])
+      ]
+
+  numbers_parts : (x : Transaction) (xs : List Transaction) → numbers_of priority (x ∷ xs) ≡ numbers_of priority (x ∷ []) ++ numbers_of priority xs
+  numbers_parts x xs = elim (cases_Bool (has_priority x)) [ inl has ↦ rw has refl | inr other ↦ rw other refl ]
+
+  all_lined_numbers : (xs ys : List Transaction) → IsOrdered ys → numbers_of priority (all_lined_up xs ys) ≡ numbers_of priority ys ++ numbers_of priority xs
+  all_lined_numbers [] ys h = sym (append-nil (numbers_of priority ys))
+  all_lined_numbers (x ∷ xs) ys h =
+      all_lined_numbers xs (lined_up x ys) (ordered_lined x ys h)
+      ∙ (ap (λ ks. ks ++ numbers_of priority xs) (lined_numbers x ys h)
+      ∙ (append_assoc (numbers_of priority ys) (numbers_of priority (x ∷ [])) (numbers_of priority xs)
+      ∙ ap (λ ks. numbers_of priority ys ++ ks) (sym (numbers_parts x xs))))
+
+  -- a number that no transaction has
+  not_there : (k : ℕ) (xs : List Transaction) → many (has_number k) xs ≡ 0 → is_in (numbers_of priority xs) k ≡ false
+  not_there k [] none = refl
+  not_there k (x ∷ xs) none =
+      let rest = not_there k xs (omega arith) in
+      elim (cases_Bool (nat_eq x.number k)) [
+        | inl is ↦ absurd (let here : one (has_number k x) ≡ 1 = rw is refl in omega arith)
+        | inr not' ↦ elim (cases_Bool (has_priority x)) [ inl has ↦ rw has (rw not' rest) | inr other ↦ rw other rest ]
+      ]
+
+  -- those that come were not there
+  come_new : (chain come : List Transaction) → ((k : ℕ) → many (has_number k) come + many (has_number k) chain ≤ 1) → AllByRecursion (λ k. is_in (numbers_of priority chain) k ≡ false) (numbers_of priority come)
+  come_new chain [] once = tt
+  come_new chain (x ∷ xs) once =
+      let rest = come_new chain xs (λ k. let all = once k in omega arith) in
+      let here = eq-eqb x.number x.number refl in
+      let is : one (has_number x.number x) ≡ 1 = rw here refl in
+      let first = once x.number in
+      let new = not_there x.number chain (omega arith) in
+      elim (cases_Bool (has_priority x)) [ inl has ↦ rw has (new, rest) | inr other ↦ rw other rest ]
+
+  -- the first of a chain goes
+  picked_turn : (x : Transaction) (xs : List Transaction) → ((k : ℕ) → many (has_number k) (x ∷ xs) ≤ 1) → IsFirstInFirstOut (numbers_of priority (x ∷ xs)) (numbers_of priority xs)
+  picked_turn x xs once =
+      let here = eq-eqb x.number x.number refl in
+      let is : one (has_number x.number x) ≡ 1 = rw here refl in
+      let first = once x.number in
+      elim (cases_Bool (has_priority x)) [
+        | inl has ↦ rw (first_has x xs has) (first_gone x.number (numbers_of priority xs) (not_there x.number xs (omega arith)))
+        | inr other ↦ rw (first_other x xs other) (unchanged (numbers_of priority xs))
+      ]
+
+  abbrev TakesTurns : Machine → Machine → Type 0
+  TakesTurns s v = IsFirstInFirstOut (numbers_of priority s.current) (numbers_of priority v.current)
+
+  same_turn : (s : Machine) → TakesTurns s s
+  same_turn s = unchanged (numbers_of priority s.current)
+
+  moved_turn : (s : Machine) (m : Move) → IsNumbered s → IsOrdered s.current → TakesTurns s (moved s m)
+  moved_turn s (moves.Start count arrivals) h order = same_turn s
+  moved_turn s (moves.Generate place next) h order = with_active_has (TakesTurns s) s.active (λ x. generated s x place next) s (same_turn s) (λ x is. same_turn s)
+  moved_turn s (moves.Pass place) h order = with_active_has (TakesTurns s) s.active (λ x. moved_on s x place) s (same_turn s) (λ x is. same_turn s)
+  moved_turn s (moves.Delay place until) h order = with_active_has (TakesTurns s) s.active (λ x. delayed s x place until) s (same_turn s) (λ x is. same_turn s)
+  moved_turn s (moves.Terminate place count) h order = with_active_has (TakesTurns s) s.active (λ x. terminated s x place count) s (same_turn s) (λ x is. same_turn s)
+  moved_turn s moves.Pick h order =
+      picked_has (TakesTurns s) s s.current (same_turn s)
+      (λ x xs is. rw is (picked_turn x xs (λ k. let chain = ap (many (has_number k)) is in let once = h.apart k in omega arith)))
+  moved_turn s (moves.Clock time) h order =
+      rw (all_lined_numbers (due time s.future) s.current order)
+      (joined (numbers_of priority s.current) (numbers_of priority (due time s.future))
+      (come_new s.current (due time s.future) (λ k. let parts = future_parts (has_number k) time s.future in let once = h.apart k in omega arith)))
+
+pub chain_is_first_in_first_out : ChainIsFirstInFirstOut
+chain_is_first_in_first_out t seed n s v well within there is priority =
+    let last = step_moves t seed s v (sym (run_on t seed n s there) ∙ is) in
+    let P : Machine → Type 0 = λ w. IsFirstInFirstOut (numbers_of priority s.current) (numbers_of priority w.current) in
+    subst P (sym last.2) (moved_turn priority s last.0 (all_numbered t seed well n s there within) (all_ordered t seed n s there))

@@ -1,0 +1,72 @@
+-- What leaving and entering does to the content of each block.
+use Rattle.std.proofs.Common.{◌≡◌, ℕ, ◌+◌, ◌-◌, ◌<◌, ◌^◌, nat_eq, cond, List, [], ◌∷◌, Option, Some, None, refl, ap, sym, ◌∙◌, arith, inl, inr}
+use Rattle.std.proofs.lemmas.Bool.{cases_eq, eq-eqb, ne_eqb}
+use Rattle.gw_meaning.specs.declared.transaction.Count.{Count}
+use Rattle.gw_meaning.specs.Machine.{count_in, count_at, or_no_count, with_count, raised}
+use Rattle.gw_meaning.specs.Changes.{left_at, left, entered, passed_through, made_one}
+use Rattle.gw_laws.proofs.Crowd.{one}
+
+-- the count that was set, and the others
+set_here : (cs : List (ℕ × Count)) (q : ℕ) (c : Count) → count_in (with_count cs q c) q ≡ Some c
+set_here [] q c = rw (eq-eqb q q refl) refl
+set_here (d ∷ ds) q c =
+    elim (cases_eq q d.0) [
+      | inl same ↦ let e = eq-eqb q d.0 same in rw e (rw e refl)
+      | inr apart ↦ let e = ne_eqb q d.0 apart in rw e (rw e (set_here ds q c))
+    ]
+
+set_there : (cs : List (ℕ × Count)) (q p : ℕ) (c : Count) → (q ≡ p → ⊥) → count_in (with_count cs q c) p ≡ count_in cs p
+set_there [] q p c apart = rw (ne_eqb p q (λ same. apart (sym same))) refl
+set_there (d ∷ ds) q p c apart =
+    elim (cases_eq q d.0) [
+      | inl same ↦ rw (eq-eqb q d.0 same, ne_eqb p d.0 (λ is. apart (same ∙ sym is))) refl
+      | inr other ↦ rw (ne_eqb q d.0 other) (ap (λ o. cond (nat_eq p d.0) (Some d.1) o) (set_there ds q p c apart))
+    ]
+
+abbrev pub content : List (ℕ × Count) → ℕ → ℕ
+content cs p = (count_at cs p).content
+
+content_here : (cs : List (ℕ × Count)) (q : ℕ) (c : Count) → content (with_count cs q c) q ≡ c.content
+content_here cs q c = ap (λ o. (or_no_count o).content) (set_here cs q c)
+
+content_there : (cs : List (ℕ × Count)) (q p : ℕ) (c : Count) → (q ≡ p → ⊥) → content (with_count cs q c) p ≡ content cs p
+content_there cs q p c apart = ap (λ o. (or_no_count o).content) (set_there cs q p c apart)
+
+-- a count set to one of the same content
+content_same : (cs : List (ℕ × Count)) (q p : ℕ) (c : Count) → c.content ≡ content cs q → content (with_count cs q c) p ≡ content cs p
+content_same cs q p c same =
+    elim (cases_eq q p) [
+      | inl here ↦ rw (← here) (content_here cs q c ∙ same)
+      | inr apart ↦ content_there cs q p c apart
+    ]
+
+left_here : (o : Option Count) (cs : List (ℕ × Count)) (q : ℕ) → count_in cs q ≡ o → content (left_at o cs q) q ≡ content cs q - 1
+left_here None cs q is = let none : content cs q ≡ 0 = ap (λ o. (or_no_count o).content) is in omega arith
+left_here (Some c) cs q is = content_here cs q (record c { content = c.content - 1 }) ∙ sym (ap (λ o. (or_no_count o).content - 1) is)
+
+left_there : (o : Option Count) (cs : List (ℕ × Count)) (q p : ℕ) → (q ≡ p → ⊥) → content (left_at o cs q) p ≡ content cs p
+left_there None cs q p apart = refl
+left_there (Some c) cs q p apart = content_there cs q p (record c { content = c.content - 1 }) apart
+
+pub content_left : (cs : List (ℕ × Count)) (q p : ℕ) → content (left cs q) p ≡ content cs p - one (nat_eq q p)
+content_left cs q p =
+    elim (cases_eq q p) [
+      | inl here ↦ rw (eq-eqb q p here) (rw (← here) (left_here (count_in cs q) cs q refl))
+      | inr apart ↦ let same = left_there (count_in cs q) cs q p apart in rw (ne_eqb q p apart) (omega arith)
+    ]
+
+pub content_entered : (cs : List (ℕ × Count)) (q p : ℕ) → content cs p < 2 ^ 64 - 1 → content (entered cs q) p ≡ content cs p + one (nat_eq q p)
+content_entered cs q p room =
+    elim (cases_eq q p) [
+      | inl here ↦
+          let fits : content cs q < 2 ^ 64 - 1 = rw here room in
+          let set = content_here cs q (record (count_at cs q) { entries = raised (count_at cs q).entries; content = raised (content cs q) }) in
+          rw (eq-eqb q p here) (rw (← here) (omega arith))
+      | inr apart ↦ let same = content_there cs q p (record (count_at cs q) { entries = raised (count_at cs q).entries; content = raised (content cs q) }) apart in rw (ne_eqb q p apart) (omega arith)
+    ]
+
+pub content_passed : (cs : List (ℕ × Count)) (q p : ℕ) → content (passed_through cs q) p ≡ content cs p
+content_passed cs q p = content_same cs q p _ refl
+
+pub content_made : (cs : List (ℕ × Count)) (q p : ℕ) → content (made_one cs q) p ≡ content cs p
+content_made cs q p = content_same cs q p _ refl

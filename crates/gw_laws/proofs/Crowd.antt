@@ -1,0 +1,99 @@
+-- How many of the living transactions pass a test: what a move does to the chains, it does not do to their number.
+use Rattle.std.proofs.Common.{◌≡◌, ℕ, ◌+◌, Bool, true, false, cond, not, List, [], ◌∷◌, ◌++◌, map, filter, Option, Some, None, refl, ap, inl, inr, arith}
+use Rattle.std.specs.Prelude.{option_to_list, count_by}
+use Rattle.std.proofs.lemmas.Bool.{cond_both, cases_Bool}
+use Rattle.std.proofs.lemmas.List.Recursion.{is_count_by}
+use Rattle.gw_nums.specs.Range.{is_below}
+use Rattle.gw_meaning.specs.declared.transaction.Transaction.{Transaction}
+use Rattle.gw_meaning.specs.declared.transaction.Event.{Event}
+use Rattle.gw_meaning.specs.Machine.{Machine}
+use Rattle.gw_meaning.specs.Changes.{lined_up, all_lined_up, is_due, due, picked, advanced}
+use Rattle.gw_laws.specs.Living.{living}
+
+-- 1 where a test is passed
+abbrev pub one : Bool → ℕ
+one b = cond b 1 0
+
+module _ (test : Transaction → Bool) where
+  -- of a list
+  abbrev pub many : List Transaction → ℕ
+  many [] = 0
+  many (x ∷ xs) = one (test x) + many xs
+
+  -- of the active one, where there is one
+  abbrev pub active_many : Option Transaction → ℕ
+  active_many None = 0
+  active_many (Some x) = one (test x)
+
+  -- of the future chain
+  abbrev pub future_many : List Event → ℕ
+  future_many [] = 0
+  future_many (e ∷ es) = one (test e.transaction) + future_many es
+
+  -- of all the living
+  abbrev pub crowd : Machine → ℕ
+  crowd s = active_many s.active + many s.current + future_many s.future
+
+  -- where there is an active one
+  pub active_crowd : (s : Machine) (x : Transaction) → s.active ≡ Some x → crowd s ≡ one (test x) + (many s.current + future_many s.future)
+  active_crowd s x is = let here = ap active_many is in omega arith
+
+  many_append : (xs ys : List Transaction) → many (xs ++ ys) ≡ many xs + many ys
+  many_append [] ys = omega arith
+  many_append (x ∷ xs) ys = let rest = many_append xs ys in omega arith
+
+  many_active : (o : Option Transaction) → many (option_to_list o) ≡ active_many o
+  many_active None = refl
+  many_active (Some x) = omega arith
+
+  many_future : (es : List Event) → many (map (λ (e : Event). e.transaction) es) ≡ future_many es
+  many_future [] = refl
+  many_future (e ∷ es) = let rest = many_future es in omega arith
+
+  pub many_living : (s : Machine) → many (living s) ≡ crowd s
+  many_living s =
+      let whole = many_append (option_to_list s.active) (s.current ++ map (λ (e : Event). e.transaction) s.future) in
+      let chains = many_append s.current (map (λ (e : Event). e.transaction) s.future) in
+      let one' = many_active s.active in
+      let future = many_future s.future in
+      omega arith
+
+  one_or_not : (b : Bool) (n : ℕ) → one b + n ≡ cond b (1 + n) n
+  one_or_not true n = refl
+  one_or_not false n = omega arith
+
+  pub many_is : (xs : List Transaction) → many xs ≡ count_by test xs
+  many_is = is_count_by many test refl (λ x xs. one_or_not (test x) (many xs))
+
+  pub many_lined : (x : Transaction) (ys : List Transaction) → many (lined_up x ys) ≡ one (test x) + many ys
+  many_lined x [] = refl
+  many_lined x (y ∷ ys) =
+      let rest = many_lined x ys in
+      cond_both (is_below y.priority x.priority) (x ∷ y ∷ ys) (y ∷ lined_up x ys) (λ zs. many zs ≡ one (test x) + (one (test y) + many ys)) (λ _. refl) (λ _. omega arith)
+
+  pub many_all_lined : (xs ys : List Transaction) → many (all_lined_up xs ys) ≡ many xs + many ys
+  many_all_lined [] ys = omega arith
+  many_all_lined (x ∷ xs) ys =
+      let first = many_lined x ys in
+      let rest = many_all_lined xs (lined_up x ys) in
+      omega arith
+
+  pub future_push : (es : List Event) (e : Event) → future_many (es ++ e ∷ []) ≡ future_many es + one (test e.transaction)
+  future_push [] e = omega arith
+  future_push (d ∷ ds) e = let rest = future_push ds e in omega arith
+
+  pub future_parts : (time : ℕ) (es : List Event) → many (due time es) + future_many (filter (λ e. not (is_due time e)) es) ≡ future_many es
+  future_parts time [] = refl
+  future_parts time (e ∷ es) =
+      let rest = future_parts time es in
+      elim (cases_Bool (is_due time e)) [ inl now ↦ rw now (omega arith) | inr later ↦ rw later (omega arith) ]
+
+  -- picking and the clock move transactions about
+  pub picked_crowd : (s : Machine) (x : Transaction) (xs : List Transaction) → s.active ≡ None → s.current ≡ x ∷ xs → crowd (picked s (x ∷ xs)) ≡ crowd s
+  picked_crowd s x xs none is = rw (none, is) (omega arith)
+
+  pub advanced_crowd : (s : Machine) (time : ℕ) → crowd (advanced s time) ≡ crowd s
+  advanced_crowd s time =
+      let chains = many_all_lined (due time s.future) s.current in
+      let parts = future_parts time s.future in
+      omega arith

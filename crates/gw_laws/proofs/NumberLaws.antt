@@ -1,0 +1,139 @@
+-- The numbers of transactions, move by move and over a run: none lives twice, and none lives that was not given yet.
+use Rattle.std.proofs.Common.{◌≡◌, ◌≢◌, ℕ, ◌+◌, ◌-◌, ◌<◌, ◌≤◌, ◌^◌, nat_eq, Bool, List, [], ◌∷◌, length, Option, Some, None, Ok, refl, sym, ◌∙◌, arith, inl, inr}
+use Rattle.std.specs.Prelude.{AllPairs}
+use Rattle.std.specs.List.{AllByRecursion}
+use Rattle.std.proofs.lemmas.Bool.{eq-eqb, ne_eqb, cases_eq, cases_lt}
+use Rattle.std.proofs.lemmas.List.Elements.{All-from_recursion}
+use Rattle.std.proofs.lemmas.List.Kept.{AllPairs-cons}
+use Rattle.gw_meaning.specs.declared.transaction.Transaction.{Transaction}
+use Rattle.gw_meaning.specs.declared.moves.Arrival.{Arrival}
+use Rattle.gw_meaning.specs.declared.moves.Move.{Move}
+use Rattle.gw_meaning.specs.declared.moves.Move.TheVariants as moves
+use Rattle.gw_meaning.specs.Listing.{Listing}
+use Rattle.gw_meaning.specs.Machine.{Machine}
+use Rattle.gw_meaning.specs.Changes.{Making, made, all_made, making_of, with_making, newcomer, placed, started, arrived, generated, moved_on, delayed, terminated, moved}
+use Rattle.gw_meaning.specs.Step.{run}
+use Rattle.gw_model.specs.Well.{Well}
+use Rattle.gw_laws.specs.Living.{living}
+use Rattle.gw_laws.specs.Numbering.{NumbersAreApart, NumbersAreGiven}
+use Rattle.gw_laws.proofs.Active.{with_active_has, picked_has, in_generate}
+use Rattle.gw_laws.proofs.Crowd.{one, many, crowd, many_living, active_crowd, future_push, picked_crowd, advanced_crowd}
+use Rattle.gw_laws.proofs.Decided.{IsDecided}
+use Rattle.gw_laws.proofs.Room.{all_within}
+use Rattle.gw_laws.proofs.Running.{over_run}
+
+abbrev pub has_number : ℕ → Transaction → Bool
+has_number k x = nat_eq x.number k
+
+-- of each number at most one lives, and none that is still to be given
+pub record IsNumbered (s : Machine) : Type 0 where
+  pub apart : (k : ℕ) → crowd (has_number k) s ≤ 1
+  pub given : (k : ℕ) → s.next ≤ k → crowd (has_number k) s ≡ 0
+
+-- a state where no more of each number live, with the same next number
+same_numbered : (s v : Machine) → v.next ≡ s.next → ((k : ℕ) → crowd (has_number k) v ≤ crowd (has_number k) s) → IsNumbered s → IsNumbered v
+same_numbered s v next fewer h = record {
+  apart = λ k. let less = fewer k in let once = h.apart k in omega arith;
+  given = λ k above. let less = fewer k in let none = h.given k (omega arith) in omega arith;
+}
+
+-- a new transaction has the next number
+made_numbered : (a : Arrival) (w : Making) (s : Machine) → w.next < 2 ^ 64 - 1 → IsNumbered (with_making w s) → IsNumbered (with_making (made a w) s)
+made_numbered a w s room h = record {
+  apart = λ k.
+      let push = future_push (has_number k) w.future (newcomer w.next a) in
+      elim (cases_eq w.next k) [
+        | inl same ↦ let new = eq-eqb w.next k same in let is : one (has_number k (newcomer w.next a).transaction) ≡ 1 = rw new refl in let none = h.given k (omega arith) in omega arith
+        | inr other ↦ let old = ne_eqb w.next k other in let is : one (has_number k (newcomer w.next a).transaction) ≡ 0 = rw old refl in let once = h.apart k in omega arith
+      ];
+  given = λ k above.
+      let push = future_push (has_number k) w.future (newcomer w.next a) in
+      let old = ne_eqb w.next k (λ same. omega arith) in
+      let is : one (has_number k (newcomer w.next a).transaction) ≡ 0 = rw old refl in
+      let none = h.given k (omega arith) in
+      omega arith;
+}
+
+all_made_numbered : (arrivals : List Arrival) (w : Making) (s : Machine) → w.next + length arrivals < 2 ^ 64 - 1 → IsNumbered (with_making w s) → IsNumbered (with_making (all_made arrivals w) s)
+all_made_numbered [] w s room h = h
+all_made_numbered (a ∷ rest) w s room h = all_made_numbered rest (made a w) s (omega arith) (made_numbered a w s (omega arith) h)
+
+arrived_numbered : (next : Option Arrival) (s : Machine) → s.next < 2 ^ 64 - 1 → IsNumbered s → IsNumbered (arrived next s)
+arrived_numbered None s room h = h
+arrived_numbered (Some a) s room h = made_numbered a (making_of s) s room h
+
+-- each move
+moved_numbered : (t : Listing) (s : Machine) (m : Move) → s.next + length t.lines < 2 ^ 64 - 1 → IsDecided t s m → IsNumbered s → IsNumbered (moved s m)
+moved_numbered t s (moves.Start count arrivals) room decided h =
+    all_made_numbered arrivals (making_of s) (started count s) (omega (arith, decided.few)) (record { apart = h.apart; given = h.given })
+moved_numbered t s (moves.Generate place next) room decided h =
+    with_active_has IsNumbered s.active (λ x. generated s x place next) s h
+    (λ x is. arrived_numbered next (in_generate s x place) (omega arith) (same_numbered s (in_generate s x place) refl (λ k. let was = active_crowd (has_number k) s x is in omega arith) h))
+moved_numbered t s (moves.Pass place) room decided h =
+    with_active_has IsNumbered s.active (λ x. moved_on s x place) s h
+    (λ x is. same_numbered s (moved_on s x place) refl (λ k. let was = active_crowd (has_number k) s x is in omega arith) h)
+moved_numbered t s (moves.Delay place until) room decided h =
+    with_active_has IsNumbered s.active (λ x. delayed s x place until) s h
+    (λ x is.
+    same_numbered s (delayed s x place until) refl
+    (λ k.
+    let was = active_crowd (has_number k) s x is in
+    let push = future_push (has_number k) s.future (record { time = until; transaction = placed x place }) in
+    omega arith)
+    h)
+moved_numbered t s (moves.Terminate place count) room decided h =
+    with_active_has IsNumbered s.active (λ x. terminated s x place count) s h
+    (λ x is. same_numbered s (terminated s x place count) refl (λ k. let was = active_crowd (has_number k) s x is in omega arith) h)
+moved_numbered t s moves.Pick room decided h =
+    picked_has IsNumbered s s.current h
+    (λ x xs is. record {
+      apart = λ k. let same = picked_crowd (has_number k) s x xs decided is in let once = h.apart k in omega arith;
+      given = λ k above. let same = picked_crowd (has_number k) s x xs decided is in let none = h.given k above in omega arith;
+    })
+moved_numbered t s (moves.Clock time) room decided h = record {
+  apart = λ k. let same = advanced_crowd (has_number k) s time in let once = h.apart k in omega arith;
+  given = λ k above. let same = advanced_crowd (has_number k) s time in let none = h.given k above in omega arith;
+}
+
+-- over a run
+pub all_numbered : (t : Listing) (seed : ℕ) → Well t → (n : ℕ) (s : Machine) → run t seed n ≡ Ok s → n ≤ t.limit → IsNumbered s
+all_numbered t seed well =
+    over_run t seed (λ n s. n ≤ t.limit → IsNumbered s) (λ within. record { apart = λ k. omega arith; given = λ k above. refl })
+    (λ n s m there decided h within.
+    let room = all_within t seed n s well there in
+    moved_numbered t s m (omega (arith, room.next, well.greatest_limit, well.statements)) decided (h (omega arith)))
+
+-- what that says of the list of the living
+none_has : (k : ℕ) (xs : List Transaction) → many (has_number k) xs ≡ 0 → AllByRecursion (λ (y : Transaction). k ≢ y.number) xs
+none_has k [] none = tt
+none_has k (y ∷ ys) none =
+    ((λ same. let here = eq-eqb y.number k (sym same) in let is : one (has_number k y) ≡ 1 = rw here refl in omega arith), none_has k ys (omega arith))
+
+apart_in : (xs : List Transaction) → ((k : ℕ) → many (has_number k) xs ≤ 1) → AllPairs (λ (x y : Transaction). x.number ≢ y.number) xs
+apart_in [] once = λ i j d before within. absurd (omega arith)
+apart_in (x ∷ xs) once =
+    let here = eq-eqb x.number x.number refl in
+    let is : one (has_number x.number x) ≡ 1 = rw here refl in
+    let first = once x.number in
+    AllPairs-cons (λ (x y : Transaction). x.number ≢ y.number) x xs
+    (All-from_recursion (λ (y : Transaction). x.number ≢ y.number) xs (none_has x.number xs (omega arith)))
+    (apart_in xs (λ k. let all = once k in omega arith))
+
+given_in : (next : ℕ) (xs : List Transaction) → ((k : ℕ) → next ≤ k → many (has_number k) xs ≡ 0) → AllByRecursion (λ (x : Transaction). x.number < next) xs
+given_in next [] none = tt
+given_in next (x ∷ xs) none =
+    let rest = given_in next xs (λ k above. let all = none k above in omega arith) in
+    elim (cases_lt x.number next) [
+      | inl below ↦ (below, rest)
+      | inr above ↦ absurd (let here = eq-eqb x.number x.number refl in let is : one (has_number x.number x) ≡ 1 = rw here refl in let all = none x.number above in omega arith)
+    ]
+
+pub numbers_are_apart : NumbersAreApart
+numbers_are_apart t seed n s well within is =
+    let h = all_numbered t seed well n s is within in
+    apart_in (living s) (λ k. let same = many_living (has_number k) s in let once = h.apart k in omega arith)
+
+pub numbers_are_given : NumbersAreGiven
+numbers_are_given t seed n s well within is =
+    let h = all_numbered t seed well n s is within in
+    All-from_recursion (λ (x : Transaction). x.number < s.next) (living s) (given_in s.next (living s) (λ k above. many_living (has_number k) s ∙ h.given k above))

@@ -1,0 +1,5 @@
+use Rattle.gw_laws.proofs.ChainLaws.{chain_is_in_order, chain_is_first_in_first_out}
+use Rattle.gw_laws.proofs.laws.chain_in_order.Goals as goal
+
+pub returns : goal.returns
+returns c = record { order = chain_is_in_order; turn = chain_is_first_in_first_out }

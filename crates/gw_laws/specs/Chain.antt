@@ -1,0 +1,35 @@
+-- The current chain over every run from zero: by priority, and first in first out within a priority. (Manual.)
+use Rattle.std.specs.Prelude.{◌≡◌, ℕ, suc, ◌≤◌, ◌==◌, ℤ, Bool, not, List, ◌++◌, Ok, filter, map}
+use Rattle.std.specs.List.{list_any}
+use Rattle.std.specs.Ordering.{int_eq}
+use Rattle.gw_meaning.specs.declared.transaction.Transaction.{Transaction}
+use Rattle.gw_meaning.specs.Listing.{Listing}
+use Rattle.gw_meaning.specs.Machine.{Machine, AreInOrder}
+use Rattle.gw_meaning.specs.Step.{run}
+use Rattle.gw_model.specs.Well.{Well}
+
+-- no transaction stands behind one of lower priority
+abbrev pub ChainIsInOrder : Type 0
+ChainIsInOrder = (t : Listing) (seed n : ℕ) (s : Machine) → run t seed n ≡ Ok s → AreInOrder s.current
+
+-- the numbers of the transactions of a priority, in the order of the chain
+abbrev pub numbers_of : ℤ → List Transaction → List ℕ
+numbers_of priority chain =
+    map (λ (x : Transaction). x.number) (filter (λ (x : Transaction). int_eq x.priority priority) chain)
+
+-- whether a number is among these
+abbrev pub is_in : List ℕ → ℕ → Bool
+is_in numbers number = list_any (λ other. other == number) numbers
+
+-- first in first out: those that stay keep their order, and those that come stand behind them
+abbrev pub IsFirstInFirstOut : List ℕ → List ℕ → Type 0
+IsFirstInFirstOut before after =
+    after ≡ filter (is_in after) before ++ filter (λ number. not (is_in before number)) after
+
+-- so it is, for each priority, of the chain before and after each step. (Within the step limit, since numbers tell
+-- transactions apart there.)
+abbrev pub ChainIsFirstInFirstOut : Type 0
+ChainIsFirstInFirstOut =
+    (t : Listing) (seed n : ℕ) (s v : Machine) → Well t → n ≤ t.limit →
+    run t seed n ≡ Ok s → run t seed (suc n) ≡ Ok v →
+    (priority : ℤ) → IsFirstInFirstOut (numbers_of priority s.current) (numbers_of priority v.current)

@@ -1,0 +1,9 @@
+-- The transactions of a state, wherever they are. (Manual.)
+use Rattle.std.specs.Prelude.{List, ◌++◌, map, option_to_list}
+use Rattle.gw_meaning.specs.declared.transaction.Transaction.{Transaction}
+use Rattle.gw_meaning.specs.declared.transaction.Event.{Event}
+use Rattle.gw_meaning.specs.Machine.{Machine}
+
+-- the active one, those on the current chain and those on the future chain
+abbrev pub living : Machine → List Transaction
+living s = option_to_list s.active ++ (s.current ++ map (λ (e : Event). e.transaction) s.future)

@@ -1,0 +1,21 @@
+-- The numbers of transactions over every run from zero. (Our own. The next number stays at 2^64 - 1 once it is there:
+-- hence the step limit, within which no run comes so far.)
+use Rattle.std.specs.Prelude.{◌≡◌, ◌≢◌, ℕ, ◌≤◌, ◌<◌, Ok, All, AllPairs}
+use Rattle.gw_meaning.specs.declared.transaction.Transaction.{Transaction}
+use Rattle.gw_meaning.specs.Listing.{Listing}
+use Rattle.gw_meaning.specs.Machine.{Machine}
+use Rattle.gw_meaning.specs.Step.{run}
+use Rattle.gw_model.specs.Well.{Well}
+use Rattle.gw_laws.specs.Living.{living}
+
+-- no two transactions have one number
+abbrev pub NumbersAreApart : Type 0
+NumbersAreApart =
+    (t : Listing) (seed n : ℕ) (s : Machine) → Well t → n ≤ t.limit → run t seed n ≡ Ok s →
+    AllPairs (λ (x y : Transaction). x.number ≢ y.number) (living s)
+
+-- each number is below that of the next transaction
+abbrev pub NumbersAreGiven : Type 0
+NumbersAreGiven =
+    (t : Listing) (seed n : ℕ) (s : Machine) →
+    Well t → n ≤ t.limit → run t seed n ≡ Ok s → All (λ (x : Transaction). x.number < s.next) (living s)

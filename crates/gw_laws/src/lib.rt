@@ -1,0 +1,9 @@
+//! What holds of every run from zero, whatever its version: laws above the definition of a step.
+//!
+//! The current chain is in order of priority, and first in first out within. No two transactions have one number.
+//! A block's content is the number of the transactions that stand in it. The clock never goes back.
+#![tactic(auto)]
+
+mod laws;
+
+pub use laws::{chain_in_order, clock_goes_on, contents_are_counts, numbers_apart};
