@@ -1,7 +1,7 @@
 -- What a move makes of a state names only blocks of the version, where the state and the move do; and so does every state of
 -- a run, and every item that it reads.
 use Rattle.std.proofs.Common.{◌≡◌, ℕ, zero, suc, nat_eq, Bool, true, false, cond, not, List, [], ◌∷◌, filter, Option, Some, None, Ok, inl, refl, sym, subst, ◌∙◌}
-use Rattle.std.specs.List.{AllByRecursion, list_any}
+use Rattle.std.specs.List.{AllByRecursion}
 use Rattle.gw_nums.specs.Range.{is_below}
 use Rattle.gw_meaning.specs.declared.item.Item.{Item}
 use Rattle.gw_meaning.specs.declared.transaction.Transaction.{Transaction}
@@ -44,8 +44,9 @@ module _ (t : Listing) where
   lined_up_names : (x : Transaction) (ys : List Transaction) → TransactionNames t x → AllByRecursion (TransactionNames t) ys →
       AllByRecursion (TransactionNames t) (lined_up x ys)
   lined_up_names x [] named all = (named, tt)
-  lined_up_names x (y ∷ ys) named all = all_cond (TransactionNames t) (list_any (λ (z : Transaction). not (is_below z.priority x.priority)) (y ∷ ys))
-      (y ∷ lined_up x ys) (x ∷ y ∷ ys) (all.0, lined_up_names x ys named all.1) (named, all)
+  lined_up_names x (y ∷ ys) named all =
+      all_cond (TransactionNames t) (is_below y.priority x.priority) (x ∷ y ∷ ys) (y ∷ lined_up x ys) (named, all)
+      (all.0, lined_up_names x ys named all.1)
 
   all_lined_up_names : (xs chain : List Transaction) → AllByRecursion (TransactionNames t) xs → AllByRecursion (TransactionNames t) chain →
       AllByRecursion (TransactionNames t) (all_lined_up xs chain)
