@@ -9,3 +9,4 @@ pub mod Seeds
 pub mod Untouching
 pub mod TouchLaws
 pub mod RebaseLaws
+pub mod PositionLaws

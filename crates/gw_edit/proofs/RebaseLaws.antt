@@ -52,7 +52,7 @@ limit_stays t (edits.Horizon time) u made =
     let v : Listing = record t { horizon = time } in
     limit_of v u (checked_gives v u made)
 
-none_touched : (p : Item → Bool) (P : Item → Type 0) → ((i : Item) → p i ≡ false → P i) → (is : List Item) → list_any p is ≡ false → AllByRecursion P is
+pub none_touched : (p : Item → Bool) (P : Item → Type 0) → ((i : Item) → p i ≡ false → P i) → (is : List Item) → list_any p is ≡ false → AllByRecursion P is
 none_touched p P f [] h = tt
 none_touched p P f (i ∷ is) h = go (p i) refl h (none_touched p P f is) where
   go : (b : Bool) → p i ≡ b → (b || list_any p is) ≡ false → (list_any p is ≡ false → AllByRecursion P is) → P i × AllByRecursion P is

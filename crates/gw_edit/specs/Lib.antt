@@ -5,5 +5,6 @@ pub mod Touching
 pub mod Touched
 pub mod Rebasing
 pub mod Untouched
+pub mod InPositions
 pub use Rattle.gw_meaning.specs.Listing
 pub use Rattle.gw_frame.specs.Alike

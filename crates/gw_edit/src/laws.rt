@@ -1,8 +1,15 @@
-// The law above the definition of what an edit touches.
+// The laws above the definitions of what an edit makes and touches.
+ghost use Rattle.gw_edit.specs.InPositions.{EditInPositions};
 ghost use Rattle.gw_edit.specs.Untouched.{UntouchedAlike};
 
 /// What an edit does not touch, a version and its edited version answer alike, in each replication that both
 /// have.
 pub fn untouched()
     ensures { UntouchedAlike }
+{}
+
+/// The frame law in positions: behind an edit that touches no step below n, the run of n steps is the same; told in positions,
+/// it is the old one with its positions moved, and its steps read the old items moved.
+pub fn edit_in_positions()
+    ensures { EditInPositions }
 {}

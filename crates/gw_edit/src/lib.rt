@@ -21,7 +21,7 @@ mod touched_step;
 
 pub use edit::Edit;
 pub use fault::EditFault;
-pub use laws::untouched;
+pub use laws::{edit_in_positions, untouched};
 pub use making::apply;
 pub use rebasing::rebase;
 pub use touched_step::touched;
