@@ -63,7 +63,7 @@ pub untold_replies : {D : Type 0} (version : D → Listing) (does : D → Event 
 untold_replies version does d after n request text is untold = rw is at untold
 
 -- an answer broke off where a growth was refused for telling it
-pub broken_refused : {D K : Type 0} (wrote : K → List ℕ → K → Type 0) (writes_of : K → ℕ) (wrote_none : (a : K) → wrote a [] a) (version : D → Listing) (does : D → Event → Reply → D → Type 0) (in_vain : (d : D) (event : Event) → does d event (wants_memory event) d) (d after : D) (n : ℕ) (request : Request) (old new : K) (fault : Fault) → Untold version does d n request after → BreaksRefused wrote writes_of request old new fault → BreaksOff wrote writes_of (Replies version does d n request) old new after fault
+pub broken_refused : {D K : Type 0} (wrote : K → List ℕ → K → Type 0) (writes_of : K → ℕ) (wrote_none : (a : K) → wrote a [] a) (version : D → Listing) (does : D → Event → Reply → D → Type 0) (in_vain : (d : D) (event : Event) → does d event (wants_memory event) d) (d after : D) (n : ℕ) (request : Request) (old new : K) (fault : Fault) → Untold version does d n request after → BreaksRefused wrote writes_of (untold_of request) old new fault → BreaksOff wrote writes_of (Replies version does d n request) old new after fault
 broken_refused {D} {K} wrote writes_of wrote_none version does in_vain d after n request old new fault untold (not_begun other memory same) =
     let W : K → Type 0 = λ k. wrote old [] k in
     let C : Fault → Type 0 = λ f. BreaksBy f (writes_of old) (writes_of new) in

@@ -15,20 +15,20 @@ pub fn answer<D: Keeper>(
     alloc: Global,
     keeper: &mut D,
     n: u64,
-    request: &Request,
+    request: Request,
 ) -> Result<Vec<u8>, AllocError>
-    ensures ok { IfOk result (λ v. Replies D.version D.does keeper.old n request.now v.items keeper.new) }
-    ensures err { OnErr result (Untold D.version D.does keeper.old n request.now keeper.new) }
+    ensures ok { IfOk result (λ v. Replies D.version D.does keeper.old n request v.items keeper.new) }
+    ensures err { OnErr result (Untold D.version D.does keeper.old n request keeper.new) }
 {
     match request {
         Request::Nothing => Ok(Vec::new(alloc)),
         Request::Edit(change) => edit(alloc, keeper, change),
-        Request::Report { rep, k } => report(alloc, keeper, *rep, *k),
-        Request::Peek { rep, k } => peek(alloc, keeper, *rep, *k),
-        Request::All { k } => report_all(alloc, keeper, *k),
+        Request::Report { rep, k } => report(alloc, keeper, rep, k),
+        Request::Peek { rep, k } => peek(alloc, keeper, rep, k),
+        Request::All { k } => report_all(alloc, keeper, k),
         Request::List => list(alloc, keeper.list()),
         Request::Quit => Vec::from_slice(alloc, b"bye\n"),
-        Request::Bad(reason) => refusal(alloc, n, *reason),
+        Request::Bad(reason) => refusal(alloc, n, reason),
     }
 }
 
