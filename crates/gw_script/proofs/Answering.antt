@@ -1,5 +1,5 @@
 -- One line, answered: something may be answered to any line, and an answer that broke off is the front of one.
-use Rattle.std.proofs.Common.{◌≡◌, inr, ℕ, ◌<◌, List, [], ◌++◌, Some, refl, sym, subst, ◌∙◌, ap, Result, Ok, Err, IfErr, OnErr, arith}
+use Rattle.std.proofs.Common.{◌≡◌, inr, ℕ, ◌<◌, List, [], ◌++◌, Option, Some, refl, sym, subst, ◌∙◌, ap, Result, Ok, Err, IfErr, OnErr, arith}
 use Rattle.std.specs.Prelude.{codes}
 use Rattle.std.proofs.lemmas.Fmt.{decimal_digit}
 use Rattle.gw_meaning.specs.Listing.{Listing}
@@ -79,3 +79,8 @@ broken_refused {D} {K} wrote writes_of wrote_none version does in_vain d after n
 pub broken_if : {A D K : Type 0} (r : Result A Fault) (wrote : K → List ℕ → K → Type 0) (writes_of : K → ℕ) (Says : List ℕ → D → Type 0) (old new : K) (text : List ℕ) (after : D) → Says text after → IfErr r (λ f. f ≡ faults.Write) → OnErr r (WritesPart wrote old text new) → OnErr r (writes_of new ≡ one_more (writes_of old)) → IfErr r (λ f. BreaksOff wrote writes_of Says old new after f)
 broken_if (Ok x) wrote writes_of Says old new text after is failed part counted = failed
 broken_if (Err f) wrote writes_of Says old new text after is failed part counted = broken_sending wrote writes_of Says old new text after f is part failed counted
+
+-- saying that a growth was refused broke off, where that may be said
+pub refused_if : {A K : Type 0} (r : Result A Fault) (wrote : K → List ℕ → K → Type 0) (writes_of : K → ℕ) (untold : Option (List ℕ)) (old new : K) (text : List ℕ) → untold ≡ Some text → IfErr r (λ f. f ≡ faults.Write) → OnErr r (WritesPart wrote old text new) → OnErr r (writes_of new ≡ one_more (writes_of old)) → IfErr r (λ f. BreaksRefused wrote writes_of untold old new f)
+refused_if (Ok x) wrote writes_of untold old new text is failed part counted = failed
+refused_if (Err f) wrote writes_of untold old new text is failed part counted = begun part.front part.left (is ∙ ap (λ t. Some t) part.parts) part.written failed counted

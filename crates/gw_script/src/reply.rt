@@ -1,5 +1,5 @@
 // What a script line is answered.
-ghost use Rattle.std.specs.Prelude.{◌≡◌, ◌++◌, codes, decimal, option_map, IfOk, OnErr};
+ghost use Rattle.std.specs.Prelude.{◌≡◌, ◌++◌, codes, decimal, option_copied, IfOk, OnErr};
 ghost use Rattle.gw_script.specs.Replying.{Replies, Untold, word_of, is_quit, untold_of};
 
 use crate::edits::edit;
@@ -62,7 +62,7 @@ pub fn is_quit(request: &Request) -> bool
 
 /// What a line may be answered where a growth is refused for telling its answer, if it may.
 pub fn untold(request: &Request) -> Option<&'static [u8]>
-    ensures { option_map (λ text. text.now) result ≡ untold_of request.now }
+    ensures { option_copied result ≡ untold_of request.now }
 {
     match request {
         Request::Edit(_) => Some(b"refused E7\n"),

@@ -1,5 +1,5 @@
 // A session: the script's lines, answered one after another.
-ghost use Rattle.std.specs.Prelude.{◌≡◌, ◌≤◌, ◌⊎◌, ℕ, List, Some, true, false, codes, option_map, IfOk, IfErr, OnOk, OnErr};
+ghost use Rattle.std.specs.Prelude.{◌≡◌, ◌≤◌, ◌⊎◌, ℕ, List, Some, true, false, codes, option_copied, IfOk, IfErr, OnOk, OnErr};
 ghost use Rattle.gw_io.specs.Failures.{one_more, WritesPart};
 ghost use Rattle.gw_desk.specs.Book.{Book};
 ghost use Rattle.gw_request.specs.Requests.{request_of};
@@ -132,9 +132,9 @@ fn fulfil<D: Keeper, K: Sink>(
 
 // Says that a growth was refused, where a line may be answered so; at any other the session ends.
 fn send_refused<K: Sink>(sink: &mut K, untold: Option<&[u8]>) -> Result<(), Fault>
-    ensures ok { OnOk result ((text : List ℕ) × (option_map (λ text. text.now) untold ≡ Some text) × K.wrote sink.old text sink.new) }
+    ensures ok { OnOk result ((text : List ℕ) × (option_copied untold.entry ≡ Some text) × K.wrote sink.old text sink.new) }
     ensures same { OnOk result (K.failures sink.new ≡ K.failures sink.old) }
-    ensures err { IfErr result (λ f. BreaksRefused K.wrote K.failures (option_map (λ text. text.now) untold) sink.old sink.new f) }
+    ensures err { IfErr result (λ f. BreaksRefused K.wrote K.failures (option_copied untold.entry) sink.old sink.new f) }
 {
     match untold {
         Some(text) => send(sink, text),
