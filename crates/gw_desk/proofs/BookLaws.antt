@@ -1,12 +1,12 @@
 -- The recorded runs of a version's replications.
-use Rattle.std.proofs.Common.{◌≡◌, ℕ, ◌==◌, Bool, true, false, cond, List, [], ◌∷◌, Some, None, refl, arith}
+use Rattle.std.proofs.Common.{◌≡◌, ℕ, ◌≤◌, ◌==◌, Bool, true, false, cond, List, [], ◌∷◌, Some, None, refl, arith}
 use Rattle.gw_meaning.specs.declared.item.Item.{Item}
 use Rattle.gw_meaning.specs.declared.item.Item.TheVariants as items
 use Rattle.gw_meaning.specs.declared.statement.Replication.{Replication}
 use Rattle.gw_meaning.specs.Listing.{Listing, seed_in}
 use Rattle.gw_record.specs.Uses.{first_in, nothing_used}
 use Rattle.gw_record.specs.Tape.{Records, blank}
-use Rattle.gw_desk.specs.Book.{run_in, IsRunOf, blank_runs}
+use Rattle.gw_desk.specs.Book.{Book, IsBook, run_in, IsRunOf, blank_runs}
 
 nothing_in : (item : Item) → first_in nothing_used item ≡ None
 nothing_in (items.Block place) = refl
@@ -38,3 +38,7 @@ blank_are_runs t every (r ∷ rs) number = go (r.number == number) (blank_are_ru
   go : (b : Bool) → IsRunOf t every (seed_in rs number) (run_in (blank_runs every rs) number) → IsRunOf t every (cond b (Some r.seed) (seed_in rs number)) (cond b (Some (blank every)) (run_in (blank_runs every rs) number))
   go true h = (blank_records t r.seed every, refl)
   go false h = h
+
+-- a version with runs of no steps makes a desk
+pub blank_book : (t : Listing) (every : ℕ) → 1 ≤ every → IsBook (record { version = t; every = every; edits = []; runs = blank_runs every t.replications; made = 0 })
+blank_book t every some = record { some = some; few = omega arith; runs = blank_are_runs t every t.replications }

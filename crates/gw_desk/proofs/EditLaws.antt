@@ -1,5 +1,5 @@
 -- The recorded runs behind an edit are runs of the edited version.
-use Rattle.std.proofs.Common.{◌≡◌, ℕ, ◌<◌, Bool, true, false, cond, List, [], ◌∷◌, ◌++◌, ◌+◌, length, filter, is_some, Option, Some, None, Result, Ok, Err, refl, sym, ap, subst, ◌∙◌}
+use Rattle.std.proofs.Common.{◌≡◌, ℕ, ◌<◌, Bool, true, false, cond, List, [], ◌∷◌, ◌++◌, ◌+◌, length, filter, is_some, Option, Some, None, Result, Ok, Err, refl, sym, ap, subst, ◌∙◌, length-append, arith}
 use Rattle.gw_meaning.specs.declared.statement.Statement.{Statement}
 use Rattle.gw_meaning.specs.Listing.{Listing, seed_at}
 use Rattle.gw_model.specs.Faults.{is_outside, fault_of}
@@ -46,26 +46,22 @@ module _ (every : ℕ) (t : Listing) (e : Edit) (u : Listing) (old cut : List Re
         (h.records a b made was is k.0, h.every ∙ k.1)
 
   -- the run of a replication that both versions have
-  pub kept_run : (n a b : ℕ) (r : Tape) → seed_at t n ≡ Some a → seed_at u n ≡ Some b → run_in old n ≡ Some r → (s : Tape) × (run_in (runs_behind every u cut) n ≡ Some s) × IsKeptOf t a r (touched_step (touch_of t e u n) t a r) s.moment
+  pub kept_run : (n a b : ℕ) (r : Tape) → seed_at t n ≡ Some a → seed_at u n ≡ Some b → run_in old n ≡ Some r → (s : Tape) × (run_in (runs_behind every u cut) n ≡ Some s) × (s.every ≡ r.every) × IsKeptOf t a r (touched_step (touch_of t e u n) t a r) s.moment
   kept_run n a b r was is there = go (run_in cut n) refl (subst (λ o. IsRebasedOf t e u n o (run_in cut n)) there (rebased_in t e u old cut rebased n)) where
     records : Records t a r
     records = (subst (λ o. IsRunOf t every (Some a) o) there (subst (λ o. IsRunOf t every o (run_in old n)) was (runs n))).0
 
-    go : (s : Option Tape) → run_in cut n ≡ s → IsRebasedOf t e u n (Some r) s → (s : Tape) × (run_in (runs_behind every u cut) n ≡ Some s) × IsKeptOf t a r (touched_step (touch_of t e u n) t a r) s.moment
+    go : (s : Option Tape) → run_in cut n ≡ s → IsRebasedOf t e u n (Some r) s → (s : Tape) × (run_in (runs_behind every u cut) n ≡ Some s) × (s.every ≡ r.every) × IsKeptOf t a r (touched_step (touch_of t e u n) t a r) s.moment
     go None found h = absurd h
-    go (Some s) found h = (s, behind_in n ∙ (rw (is, found) refl), h.kept a records)
+    go (Some s) found h = (s, behind_in n ∙ (rw (is, found) refl), h.every, h.kept a records)
 
   -- the run of a replication that comes in
-  pub fresh_run : (n b : ℕ) (r : Tape) → seed_at t n ≡ None → seed_at u n ≡ Some b → run_in (runs_behind every u cut) n ≡ Some r → r.moment ≡ 0
-  fresh_run n b r was is there = go (run_in old n) refl (run_in cut n) refl (rebased_in t e u old cut rebased n) (subst (λ o. IsRunOf t every o (run_in old n)) was (runs n)) where
-    go : (x : Option Tape) → run_in old n ≡ x → (s : Option Tape) → run_in cut n ≡ s → IsRebasedOf t e u n x s → IsRunOf t every None x → r.moment ≡ 0
+  pub fresh_run : (n b : ℕ) → seed_at t n ≡ None → seed_at u n ≡ Some b → run_in (runs_behind every u cut) n ≡ Some (blank every)
+  fresh_run n b was is = go (run_in old n) refl (run_in cut n) refl (rebased_in t e u old cut rebased n) (subst (λ o. IsRunOf t every o (run_in old n)) was (runs n)) where
+    go : (x : Option Tape) → run_in old n ≡ x → (s : Option Tape) → run_in cut n ≡ s → IsRebasedOf t e u n x s → IsRunOf t every None x → run_in (runs_behind every u cut) n ≡ Some (blank every)
     go (Some x) old_is s cut_is h k = absurd k
     go None old_is (Some s) cut_is h k = absurd h
-    go None old_is None cut_is h k =
-        let found : run_in (runs_behind every u cut) n ≡ Some (blank every) = behind_in n ∙ (rw (is, cut_is) refl) in
-        let both : Some r ≡ Some (blank every) = sym there ∙ found in
-        let same : r ≡ blank every = cc in
-        ap (λ (x : Tape). x.moment) same
+    go None old_is None cut_is h k = behind_in n ∙ (rw (is, cut_is) refl)
 
 -- no edit is refused for the desk's history
 line_refused : (fault : LineFault) → of_line fault ≡ faults.HistoryFull → ⊥
@@ -123,7 +119,7 @@ never_full t (edits.Drop number) is =
 never_full t (edits.Horizon time) is = checked_refused (record t { horizon = time }) is
 
 -- the edit's own refusal is the desk's
-pub refuses : (b : Book) (e : Edit) (fault : EditFault) → b.edits < 4096 → Gives {X = Listing} (Err fault) (applied b.version e) → Refuses b e fault
+pub refuses : (b : Book) (e : Edit) (fault : EditFault) → length b.edits < 4096 → Gives {X = Listing} (Err fault) (applied b.version e) → Refuses b e fault
 refuses b e faults.HistoryFull room h = absurd (never_full b.version e h)
 refuses b e faults.Memory room h = tt
 refuses b e faults.NoSuchPlace room h = (room, h)
@@ -133,18 +129,30 @@ refuses b e faults.NoSuchReplication room h = (room, h)
 refuses b e faults.ReplicationTwice room h = (room, h)
 refuses b e faults.NoSuchStorage room h = (room, h)
 
--- an edit that is made is accepted
-pub accepts_all : (b : Book) (e : Edit) (u : Listing) (cut : List Recording) → b.edits < 4096 → applied b.version e ≡ Ok u → IsBook b → AreRebased b.version e u b.runs cut → Accepts b e (record b { version = u; edits = b.edits + 1; runs = runs_behind b.every u cut }) (b.edits + 1)
-accepts_all b e u cut room made h rebased =
-    record {
-      room = room;
-      version = made;
-      edits = refl;
-      number = refl;
-      every = refl;
-      made = refl;
-      kept = λ rep a x r was is there.
-          let (s, found, kept) = kept_run b.every b.version e u b.runs cut made h.runs rebased rep a x r was is there in
-          record { run = s; there = found; kept = kept };
-      fresh = λ rep x r none is there. fresh_run b.every b.version e u b.runs cut made h.runs rebased rep x r none is there;
-    }
+-- an edit that is made is accepted, and leaves a desk
+module _ (b : Book) (e : Edit) (u : Listing) (cut runs : List Recording) (all : List Edit) (room : length b.edits < 4096) (made : applied b.version e ≡ Ok u) (h : IsBook b) (rebased : AreRebased b.version e u b.runs cut) (behind : runs ≡ runs_behind b.every u cut) (more : all ≡ b.edits ++ e ∷ []) where
+  abbrev pub edited : Book
+  edited = record b { version = u; edits = all; runs = runs }
+
+  pub accepts : (n : ℕ) → n ≡ length all → Accepts b e edited n
+  accepts n number = rw behind (record {
+    room = room;
+    version = made;
+    edits = more;
+    number = number;
+    every = refl;
+    made = refl;
+    kept = λ rep a x r was is there.
+        let (s, found, every, kept) = kept_run b.every b.version e u b.runs cut made h.runs rebased rep a x r was is there in
+        record { run = s; there = found; every = every; kept = kept };
+    fresh = λ rep x none is. fresh_run b.every b.version e u b.runs cut made h.runs rebased rep x none is;
+  })
+
+  pub still_desk : IsBook edited
+  still_desk =
+      let one_more : length all ≡ length b.edits + 1 = ap length more ∙ length-append b.edits (e ∷ []) in
+      record {
+        some = h.some;
+        few = omega (arith, room, one_more);
+        runs = subst (λ xs. AreRuns u b.every xs) (sym behind) (new_runs b.every b.version e u b.runs cut made h.runs rebased);
+      }

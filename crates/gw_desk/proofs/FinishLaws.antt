@@ -79,8 +79,8 @@ module _ (b : Book) (rep seed place : ℕ) (d : Recording) (new : Tape) (h : IsB
   pub still_book : (made : ℕ) → Records b.version seed new → new.every ≡ d.run.every → IsBook (record b { runs = changed; made = made })
   still_book made records every = record { some = h.some; few = h.few; runs = new_runs records (every ∙ old_records.1) }
 
-  pub finishes : (k made : ℕ) → d.run.moment ≤ new.moment → AreWanted b.version seed k d.run.moment new.moment → made ≡ tallied b.made (new.moment - d.run.moment) → Finishes b rep k (record b { runs = changed; made = made })
-  finishes k made grows wanted counted =
+  pub finishes : (k made : ℕ) → new.every ≡ d.run.every → d.run.moment ≤ new.moment → AreWanted b.version seed k d.run.moment new.moment → made ≡ tallied b.made (new.moment - d.run.moment) → Finishes b rep k (record b { runs = changed; made = made })
+  finishes k made every grows wanted counted =
       record {
         version = refl;
         every = refl;
@@ -92,7 +92,7 @@ module _ (b : Book) (rep seed place : ℕ) (d : Recording) (new : Tape) (h : IsB
             let runs : Some a ≡ Some d.run = sym recorded ∙ old_run in
             let same_run : a ≡ d.run = cc in
             let P : ℕ → Tape → Type 0 = λ s a. GoesOn b rep k s a (record b { runs = changed; made = made }) in
-            subst (λ s. P s a) (sym same_seed) (subst (λ a. P seed a) (sym same_run) (record { run = new; there = new_run; grows = grows; wanted = wanted; made = counted }));
+            subst (λ s. P s a) (sym same_seed) (subst (λ a. P seed a) (sym same_run) (record { run = new; there = new_run; every = every; grows = grows; wanted = wanted; made = counted }));
       }
 
   pub shut : (k : ℕ) (reach : Reach) → Records b.version seed new → 1 ≤ k → Reaches b.version seed k new reach → (r : Tape) → run_in changed rep ≡ Some r → IsOpen b.version seed k r.moment → ⊥

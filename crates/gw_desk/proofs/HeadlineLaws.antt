@@ -1,5 +1,5 @@
 -- Each report handed out is that of a run from zero.
-use Rattle.std.proofs.Common.{ℕ, [], ◌∷◌, ⊎_elim, subst, ◌∙◌}
+use Rattle.std.proofs.Common.{◌≡◌, ℕ, ◌+◌, [], ◌∷◌, length, ⊎_elim, ap, subst, ◌∙◌, length-append}
 use Rattle.gw_meaning.specs.Listing.{Listing}
 use Rattle.gw_desk.specs.declared.answer.Answer.{Answer}
 use Rattle.gw_desk.specs.declared.answer.Answer.TheVariants as answers
@@ -10,7 +10,7 @@ use Rattle.gw_desk.specs.Replies.{answer_of}
 use Rattle.gw_desk.specs.Peeking.{Peeks, IsAnswer}
 use Rattle.gw_desk.specs.Headline.{IsRight, AreRight, ReportsAreRight}
 
-peek_right : (b : Book) (rep k : ℕ) (answer : Answer) → Peeks b rep k answer → IsRight b.version b.edits rep k answer
+peek_right : (b : Book) (rep k : ℕ) (answer : Answer) → Peeks b rep k answer → IsRight b.version (length b.edits) rep k answer
 peek_right b rep k (answers.Ready report) h = h.0
 peek_right b rep k (answers.Unfinished n) h = tt
 peek_right b rep k answers.NoStart h = tt
@@ -29,18 +29,19 @@ finish_right t n rep k answers.Memory h = tt
 pub reports_are_right : ReportsAreRight
 reports_are_right b c [] others h = tt
 reports_are_right b c (event ∷ more) [] h = absurd h
-reports_are_right b c (events.Edit e ∷ more) (replies.Edited m ∷ others) (x, does, rest) =
+reports_are_right b c (events.Edit e ∷ more) (replies.Edited m ∷ others) (x, (desk, does), rest) =
     let after = reports_are_right x c more others rest in
-    (x.version, does.version, does.number ∙ does.edits, subst (λ n. AreRight x.version n more others) does.edits after)
-reports_are_right b c (events.Edit e ∷ more) (replies.Refused fault ∷ others) (x, does, rest) =
-    subst (λ (a : Book). AreRight a.version a.edits more others) does.0 (reports_are_right x c more others rest)
-reports_are_right b c (events.Edit e ∷ more) (replies.Answered answer ∷ others) (x, does, rest) = absurd does
-reports_are_right b c (events.Peek rep k ∷ more) (replies.Answered answer ∷ others) (x, does, rest) =
-    (peek_right b rep k answer does.1, subst (λ (a : Book). AreRight a.version a.edits more others) does.0 (reports_are_right x c more others rest))
-reports_are_right b c (events.Peek rep k ∷ more) (replies.Edited m ∷ others) (x, does, rest) = absurd does
-reports_are_right b c (events.Peek rep k ∷ more) (replies.Refused fault ∷ others) (x, does, rest) = absurd does
-reports_are_right b c (events.Finish rep k ∷ more) (replies.Answered answer ∷ others) (x, does, rest) =
+    let one_more : length x.edits ≡ length b.edits + 1 = ap length does.edits ∙ length-append b.edits (e ∷ []) in
+    (x.version, does.version, does.number ∙ one_more, subst (λ n. AreRight x.version n more others) one_more after)
+reports_are_right b c (events.Edit e ∷ more) (replies.Refused fault ∷ others) (x, (desk, does), rest) =
+    subst (λ (a : Book). AreRight a.version (length a.edits) more others) does.0 (reports_are_right x c more others rest)
+reports_are_right b c (events.Edit e ∷ more) (replies.Answered answer ∷ others) (x, (desk, does), rest) = absurd does
+reports_are_right b c (events.Peek rep k ∷ more) (replies.Answered answer ∷ others) (x, (desk, does), rest) =
+    (peek_right b rep k answer does.1, subst (λ (a : Book). AreRight a.version (length a.edits) more others) does.0 (reports_are_right x c more others rest))
+reports_are_right b c (events.Peek rep k ∷ more) (replies.Edited m ∷ others) (x, (desk, does), rest) = absurd does
+reports_are_right b c (events.Peek rep k ∷ more) (replies.Refused fault ∷ others) (x, (desk, does), rest) = absurd does
+reports_are_right b c (events.Finish rep k ∷ more) (replies.Answered answer ∷ others) (x, (desk, does), rest) =
     let steps = does.1 in
-    (finish_right b.version b.edits rep k answer does.0, rw (steps.version, steps.edits) at (reports_are_right x c more others rest))
-reports_are_right b c (events.Finish rep k ∷ more) (replies.Edited m ∷ others) (x, does, rest) = absurd does
-reports_are_right b c (events.Finish rep k ∷ more) (replies.Refused fault ∷ others) (x, does, rest) = absurd does
+    (finish_right b.version (length b.edits) rep k answer does.0, rw (steps.version, steps.edits) at (reports_are_right x c more others rest))
+reports_are_right b c (events.Finish rep k ∷ more) (replies.Edited m ∷ others) (x, (desk, does), rest) = absurd does
+reports_are_right b c (events.Finish rep k ∷ more) (replies.Refused fault ∷ others) (x, (desk, does), rest) = absurd does

@@ -1,5 +1,5 @@
 -- What the recorded steps answer is the answer of the run from zero.
-use Rattle.std.proofs.Common.{◌≡◌, ℕ, ◌≤◌, ◌==◌, nat_lt, false, Some, inl, inr, ⊎_elim, refl, sym, ap, subst, ◌∙◌, arith}
+use Rattle.std.proofs.Common.{◌≡◌, ℕ, ◌≤◌, ◌==◌, nat_lt, false, length, Some, inl, inr, ⊎_elim, refl, sym, ap, subst, ◌∙◌, arith}
 use Rattle.std.proofs.lemmas.Bool.Decides.{nat_tests}
 use Rattle.gw_meaning.specs.declared.item.Outcome.{Outcome}
 use Rattle.gw_meaning.specs.Listing.{Listing, seed_at, starts}
@@ -32,14 +32,14 @@ not_unfinished b rep k seed r is recorded shut n u =
     shut (subst (λ m. IsOpen b.version seed k m) at (subst (λ s. IsOpen b.version s k n) same_seed u.undecided))
 
 -- a report that was printed
-pub peeks_ready : (b : Book) (rep k seed : ℕ) (r : Tape) (s : Machine) (o : Outcome) (answer : Answer) → 1 ≤ k → k ≤ starts b.version → seed_at b.version rep ≡ Some seed → run_in b.runs rep ≡ Some r → verdict b.version seed k ≡ Point s o → (IsOpen b.version seed k r.moment → ⊥) → IsAnswer (answers.Ready (record { edits = b.edits; replication = rep; start = k; text = text_of b.version rep k s o })) answer → Peeks b rep k answer
+pub peeks_ready : (b : Book) (rep k seed : ℕ) (r : Tape) (s : Machine) (o : Outcome) (answer : Answer) → 1 ≤ k → k ≤ starts b.version → seed_at b.version rep ≡ Some seed → run_in b.runs rep ≡ Some r → verdict b.version seed k ≡ Point s o → (IsOpen b.version seed k r.moment → ⊥) → IsAnswer (answers.Ready (record { edits = length b.edits; replication = rep; start = k; text = text_of b.version rep k s o })) answer → Peeks b rep k answer
 peeks_ready b rep k seed r s o answer some there is recorded found shut given = ⊎_elim
-    (λ ready. subst (λ a. Peeks b rep k a) (sym ready) (sym (answer_is b.version b.edits rep k seed is some there ∙ ap (λ v. told b.version b.edits rep k v) found), not_unfinished b rep k seed r is recorded shut))
+    (λ ready. subst (λ a. Peeks b rep k a) (sym ready) (sym (answer_is b.version (length b.edits) rep k seed is some there ∙ ap (λ v. told b.version (length b.edits) rep k v) found), not_unfinished b rep k seed r is recorded shut))
     (λ memory. subst (λ a. Peeks b rep k a) (sym memory) tt)
     given
 
 -- where the recorded steps decide the answer is that of the run from zero, or want of memory
-pub peeks_answer : (b : Book) (rep k : ℕ) (answer : Answer) → Peeks b rep k answer → ((n : ℕ) → IsUnfinished b rep k n → ⊥) → IsAnswer (answer_of b.version b.edits rep k) answer
+pub peeks_answer : (b : Book) (rep k : ℕ) (answer : Answer) → Peeks b rep k answer → ((n : ℕ) → IsUnfinished b rep k n → ⊥) → IsAnswer (answer_of b.version (length b.edits) rep k) answer
 peeks_answer b rep k (answers.Unfinished n) h shut = absurd (shut n h)
 peeks_answer b rep k answers.Memory h shut = inr refl
 peeks_answer b rep k (answers.Ready report) h shut = inl h.0

@@ -1,5 +1,5 @@
 -- One more event at the end of those that were played.
-use Rattle.std.proofs.Common.{List, [], ◌∷◌, ◌++◌, refl, subst}
+use Rattle.std.proofs.Common.{◌≡◌, List, [], ◌∷◌, ◌++◌, length, refl, subst, arith}
 use Rattle.gw_desk.specs.declared.play.Event.{Event}
 use Rattle.gw_desk.specs.declared.play.Reply.{Reply}
 use Rattle.gw_desk.specs.Book.{Book}
@@ -10,3 +10,7 @@ plays_more b c d [] [] e r none does = (d, subst (λ x. Does x e r d) none does,
 plays_more b c d [] (s ∷ rs) e r none does = absurd none
 plays_more b c d (f ∷ es) [] e r none does = absurd none
 plays_more b c d (f ∷ es) (s ∷ rs) e r (x, first, rest) does = (x, first, plays_more x c d es rs e r rest does)
+
+pub none_of : {A : Type 0} (xs : List A) → length xs ≡ 0 → xs ≡ []
+none_of [] is = refl
+none_of (x ∷ xs) is = absurd (omega (arith, is))

@@ -1,14 +1,17 @@
--- What the desk holds: a version behind so many accepted edits, and the recorded run of each of its replications. (Our own.)
-use Rattle.std.specs.Prelude.{◌≡◌, ℕ, ◌≤◌, ◌==◌, List, [], ◌∷◌, Option, Some, None, if◌then◌else◌, position}
+-- What the desk holds: a version, the edits that were accepted on the way to it, and the recorded run of each of its
+-- replications. (Our own.)
+use Rattle.std.specs.Prelude.{◌≡◌, ℕ, ◌≤◌, ◌==◌, List, [], ◌∷◌, Option, Some, None, if◌then◌else◌, length, position}
 use Rattle.gw_meaning.specs.declared.statement.Replication.{Replication}
 use Rattle.gw_meaning.specs.Listing.{Listing, seed_at}
 use Rattle.gw_record.specs.Tape.{Tape, Records, blank}
+use Rattle.gw_edit.specs.declared.edit.Edit.{Edit}
 use Rattle.gw_desk.specs.declared.recording.Recording.{Recording}
 
 pub record Book : Type 0 where
   pub version : Listing
   pub every : ℕ
-  pub edits : ℕ
+  -- the accepted ones, in order
+  pub edits : List Edit
   pub runs : List Recording
   -- the steps that were made
   pub made : ℕ
@@ -22,7 +25,7 @@ run_in (r ∷ rs) number = if r.number == number then Some r.run else run_in rs 
 abbrev pub place_in : List Recording → ℕ → Option ℕ
 place_in runs number = position (λ (r : Recording). r.number == number) runs
 
--- the run of each replication that there is, and of no other
+-- the run from zero of each replication that there is, with its seed, and of no other
 abbrev pub IsRunOf : Listing → ℕ → Option ℕ → Option Tape → Type 0
 IsRunOf t every None None = Unit {0}
 IsRunOf t every None (Some r) = ⊥
@@ -32,9 +35,10 @@ IsRunOf t every (Some seed) (Some r) = Records t seed r × (r.every ≡ every)
 abbrev pub AreRuns : Listing → ℕ → List Recording → Type 0
 AreRuns t every runs = (number : ℕ) → IsRunOf t every (seed_at t number) (run_in runs number)
 
+-- what every desk keeps
 pub record IsBook (b : Book) : Type 0 where
   pub some : 1 ≤ b.every
-  pub few : b.edits ≤ 4096
+  pub few : length b.edits ≤ 4096
   pub runs : AreRuns b.version b.every b.runs
 
 -- runs of no steps, of these replications

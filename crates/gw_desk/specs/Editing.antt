@@ -1,8 +1,8 @@
--- What an edit of the desk leaves: the edited version, and of each recorded run what lies at or before the last kept moment
--- at or before the first step that read something touched. (Our own.)
-use Rattle.std.specs.Prelude.{◌≡◌, ℕ, ◌+◌, ◌<◌, ◌≤◌, Some, None, Ok, Err}
+-- When the desk accepts an edit and what that leaves of it, for all replications at once: the runs of those that stay, of those
+-- that come in, and all else that it holds; and when it refuses. (Our own.)
+use Rattle.std.specs.Prelude.{◌≡◌, ℕ, ◌<◌, ◌≤◌, [], ◌∷◌, ◌++◌, length, Some, None, Ok, Err}
 use Rattle.gw_meaning.specs.Listing.{seed_at}
-use Rattle.gw_record.specs.Tape.{Tape}
+use Rattle.gw_record.specs.Tape.{Tape, blank}
 use Rattle.gw_edit.specs.declared.edit.Edit.{Edit}
 use Rattle.gw_edit.specs.declared.fault.EditFault.{EditFault}
 use Rattle.gw_edit.specs.declared.fault.EditFault.TheVariants as faults
@@ -12,25 +12,27 @@ use Rattle.gw_edit.specs.Touched.{touched_step}
 use Rattle.gw_edit.specs.Rebasing.{IsKeptOf}
 use Rattle.gw_desk.specs.Book.{Book, run_in}
 
--- the run of a replication after an edit
+-- the run of a replication that stays: of its steps those are kept that the edit allows
 pub record IsCut (old : Book) (e : Edit) (new : Book) (rep seed : ℕ) (r : Tape) : Type 0 where
   pub run : Tape
   pub there : run_in new.runs rep ≡ Some run
+  pub every : run.every ≡ r.every
   pub kept : IsKeptOf old.version seed r (touched_step (touch_of old.version e new.version rep) old.version seed r) run.moment
 
--- an accepted edit, which is the n-th
+-- an accepted edit, which is the n-th: it is put behind those before it
 pub record Accepts (old : Book) (e : Edit) (new : Book) (n : ℕ) : Type 0 where
-  pub room : old.edits < 4096
+  pub room : length old.edits < 4096
   pub version : applied old.version e ≡ Ok new.version
-  pub edits : new.edits ≡ old.edits + 1
-  pub number : n ≡ new.edits
+  pub edits : new.edits ≡ old.edits ++ e ∷ []
+  pub number : n ≡ length new.edits
   pub every : new.every ≡ old.every
   pub made : new.made ≡ old.made
   pub kept : (rep a b : ℕ) (r : Tape) → seed_at old.version rep ≡ Some a → seed_at new.version rep ≡ Some b → run_in old.runs rep ≡ Some r → IsCut old e new rep a r
-  pub fresh : (rep b : ℕ) (r : Tape) → seed_at old.version rep ≡ None → seed_at new.version rep ≡ Some b → run_in new.runs rep ≡ Some r → r.moment ≡ 0
+  -- a replication that comes in has a run, of no steps
+  pub fresh : (rep b : ℕ) → seed_at old.version rep ≡ None → seed_at new.version rep ≡ Some b → run_in new.runs rep ≡ Some (blank new.every)
 
 -- a refusal is the edit's own, or the desk has 4,096 edits, or memory was refused
 abbrev pub Refuses : Book → Edit → EditFault → Type 0
-Refuses b e faults.HistoryFull = 4096 ≤ b.edits
+Refuses b e faults.HistoryFull = 4096 ≤ length b.edits
 Refuses b e faults.Memory = Unit {0}
-Refuses b e fault = (b.edits < 4096) × (applied b.version e ≡ Err fault)
+Refuses b e fault = (length b.edits < 4096) × (applied b.version e ≡ Err fault)

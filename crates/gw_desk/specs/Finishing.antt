@@ -1,6 +1,6 @@
--- What the making of missing steps leaves. (Our own.)
-use Rattle.std.specs.Prelude.{◌≡◌, ◌≢◌, ℕ, ◌-◌, ◌≤◌, Some}
-use Rattle.gw_meaning.specs.Listing.{seed_at}
+-- What the making of missing steps leaves, and where none are made. (Our own.)
+use Rattle.std.specs.Prelude.{◌≡◌, ◌≢◌, ◌⊎◌, ℕ, ◌-◌, ◌<◌, ◌≤◌, Some, None}
+use Rattle.gw_meaning.specs.Listing.{Listing, seed_at, starts}
 use Rattle.gw_record.specs.Tape.{Tape}
 use Rattle.gw_record.specs.Extending.{tallied}
 use Rattle.gw_record.specs.Reaching.{AreWanted}
@@ -10,6 +10,7 @@ use Rattle.gw_desk.specs.Book.{Book, run_in}
 pub record GoesOn (old : Book) (rep k seed : ℕ) (a : Tape) (new : Book) : Type 0 where
   pub run : Tape
   pub there : run_in new.runs rep ≡ Some run
+  pub every : run.every ≡ a.every
   pub grows : a.moment ≤ run.moment
   pub wanted : AreWanted old.version seed k a.moment run.moment
   pub made : new.made ≡ tallied old.made (run.moment - a.moment)
@@ -21,3 +22,7 @@ pub record Finishes (old : Book) (rep k : ℕ) (new : Book) : Type 0 where
   pub edits : new.edits ≡ old.edits
   pub others : (number : ℕ) → number ≢ rep → run_in new.runs number ≡ run_in old.runs number
   pub steps : (seed : ℕ) (a : Tape) → seed_at old.version rep ≡ Some seed → run_in old.runs rep ≡ Some a → GoesOn old rep k seed a new
+
+-- a START that a version has not: its replication is not there, or there are not so many STARTs
+abbrev pub IsMissing : Listing → ℕ → ℕ → Type 0
+IsMissing t rep k = (seed_at t rep ≡ None) ⊎ ((k < 1) ⊎ (starts t < k))

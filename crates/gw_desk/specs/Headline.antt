@@ -1,6 +1,6 @@
 -- The headline: after any list of edits and queries each report handed out is, byte for byte, the report of a run from zero of
 -- the version of the edits accepted so far. (Our own.)
-use Rattle.std.specs.Prelude.{◌≡◌, ℕ, ◌+◌, List, [], ◌∷◌, Ok}
+use Rattle.std.specs.Prelude.{◌≡◌, ℕ, ◌+◌, List, [], ◌∷◌, Ok, length}
 use Rattle.gw_meaning.specs.Listing.{Listing}
 use Rattle.gw_edit.specs.Applied.{applied}
 use Rattle.gw_desk.specs.declared.answer.Answer.{Answer}
@@ -32,4 +32,4 @@ AreRight t n (events.Finish rep k ∷ more) (reply ∷ others) = ⊥
 
 -- whatever was played
 abbrev pub ReportsAreRight : Type 0
-ReportsAreRight = (b c : Book) (more : List Event) (others : List Reply) → Plays b more others c → AreRight b.version b.edits more others
+ReportsAreRight = (b c : Book) (more : List Event) (others : List Reply) → Plays b more others c → AreRight b.version (length b.edits) more others

@@ -11,5 +11,6 @@ pub mod Editing
 pub mod Rebasing
 pub mod Playing
 pub mod Keeping
+pub mod Lost
 pub mod Headline
 pub use Rattle.gw_record.specs.Tape

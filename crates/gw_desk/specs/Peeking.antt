@@ -1,5 +1,5 @@
--- What `peek` may answer, and what `finish` leaves. (Our own.)
-use Rattle.std.specs.Prelude.{◌≡◌, ◌⊎◌, ℕ, ◌≤◌, Some}
+-- What a query may be answered. (Our own.)
+use Rattle.std.specs.Prelude.{◌≡◌, ◌⊎◌, ℕ, ◌≤◌, Some, length}
 use Rattle.gw_meaning.specs.Listing.{seed_at, starts}
 use Rattle.gw_record.specs.Tape.{Tape}
 use Rattle.gw_desk.specs.declared.answer.Answer.{Answer}
@@ -21,7 +21,7 @@ pub record IsUnfinished (b : Book) (rep k n : ℕ) : Type 0 where
 
 -- the answer of the run from zero, where the recorded steps decide; else that they do not
 abbrev pub Decided : Book → ℕ → ℕ → Answer → Type 0
-Decided b rep k answer = (answer ≡ answer_of b.version b.edits rep k) × ((n : ℕ) → IsUnfinished b rep k n → ⊥)
+Decided b rep k answer = (answer ≡ answer_of b.version (length b.edits) rep k) × ((n : ℕ) → IsUnfinished b rep k n → ⊥)
 
 abbrev pub Peeks : Book → ℕ → ℕ → Answer → Type 0
 Peeks b rep k (answers.Unfinished n) = IsUnfinished b rep k n

@@ -1,26 +1,29 @@
 -- What lists of events come to. (Our own.)
-use Rattle.std.specs.Prelude.{◌≡◌, ◌≢◌, ◌⊎◌, ℕ, ◌<◌, List, [], ◌∷◌}
-use Rattle.gw_meaning.specs.Listing.{starts}
+use Rattle.std.specs.Prelude.{◌≡◌, ◌≢◌, ℕ, List, [], ◌∷◌, length}
 use Rattle.gw_desk.specs.declared.answer.Answer.TheVariants as answers
 use Rattle.gw_desk.specs.declared.play.Event.{Event}
 use Rattle.gw_desk.specs.declared.play.Event.TheVariants as events
 use Rattle.gw_desk.specs.declared.play.Reply.{Reply}
 use Rattle.gw_desk.specs.declared.play.Reply.TheVariants as replies
-use Rattle.gw_desk.specs.Book.{Book}
+use Rattle.gw_desk.specs.Book.{Book, IsBook}
 use Rattle.gw_desk.specs.Replies.{answer_of}
 use Rattle.gw_desk.specs.Peeking.{IsUnfinished, Peeks, IsAnswer}
-use Rattle.gw_desk.specs.Finishing.{Finishes}
+use Rattle.gw_desk.specs.Finishing.{Finishes, IsMissing}
 use Rattle.gw_desk.specs.Editing.{Accepts, Refuses}
 
--- one event: an edit is accepted, or refused, which changes nothing; a query is answered, from the recorded steps or with
--- those that are missing, which are none where there is no such START
+-- the case of each event: an edit is accepted, or refused, which changes nothing; a query is answered, from the recorded steps
+-- or with those that are missing, which are none where there is no such START
+abbrev pub Tells : Book → Event → Reply → Book → Type 0
+Tells b (events.Edit e) (replies.Edited n) c = Accepts b e c n
+Tells b (events.Edit e) (replies.Refused fault) c = (c ≡ b) × Refuses b e fault
+Tells b (events.Peek rep k) (replies.Answered answer) c = (c ≡ b) × Peeks b rep k answer
+Tells b (events.Finish rep k) (replies.Answered answer) c =
+    IsAnswer (answer_of b.version (length b.edits) rep k) answer × Finishes b rep k c × (answer ≢ answers.Memory → (n : ℕ) → IsUnfinished c rep k n → ⊥) × (IsMissing b.version rep k → c ≡ b)
+Tells b event reply c = ⊥
+
+-- one event: of a desk it leaves a desk
 abbrev pub Does : Book → Event → Reply → Book → Type 0
-Does b (events.Edit e) (replies.Edited n) c = Accepts b e c n
-Does b (events.Edit e) (replies.Refused fault) c = (c ≡ b) × Refuses b e fault
-Does b (events.Peek rep k) (replies.Answered answer) c = (c ≡ b) × Peeks b rep k answer
-Does b (events.Finish rep k) (replies.Answered answer) c =
-    IsAnswer (answer_of b.version b.edits rep k) answer × Finishes b rep k c × (answer ≢ answers.Memory → (n : ℕ) → IsUnfinished c rep k n → ⊥) × ((k < 1) ⊎ (starts b.version < k) → c ≡ b)
-Does b event reply c = ⊥
+Does b event reply c = (IsBook b → IsBook c) × Tells b event reply c
 
 -- one after another
 abbrev pub Plays : Book → List Event → List Reply → Book → Type 0

@@ -7,7 +7,7 @@ use Rattle.gw_meaning.specs.Step.{step, run}
 use Rattle.gw_meaning.specs.Point.{IsPoint, IsFirst, outcome_of}
 use Rattle.gw_desk.specs.Finding.{Verdict, Point, NoStart, TooLong, verdict}
 
--- the run ends within the limit before START k, or behind the last command
+-- the run ends within the limit before START k, or behind the last command; up to its end k STARTs were never complete
 pub record EndsBefore (t : Listing) (seed k : ℕ) : Type 0 where
   pub n : ℕ
   pub s : Machine
@@ -15,6 +15,7 @@ pub record EndsBefore (t : Listing) (seed k : ℕ) : Type 0 where
   pub within : n ≤ t.limit
   pub there : run t seed n ≡ Ok s
   pub ends : step t seed s ≡ Err end
+  pub incomplete : s.complete ≡ k → ⊥
   pub before : (s.complete + 1 ≡ k → ⊥) ⊎ (outcome_of end ≡ None)
   pub first : IsFirst t seed k n
 
@@ -33,6 +34,6 @@ Means t seed k (Point s o) = (n : ℕ) × IsPoint t seed k n o s
 Means t seed k NoStart = EndsBefore t seed k
 Means t seed k TooLong = GoesOn t seed k
 
--- every search for a point finds what a point is
+-- every search for the point of a START, of which the first is 1, finds what a point is
 abbrev pub FindsPoints : Type 0
-FindsPoints = (t : Listing) (seed k : ℕ) → Means t seed k (verdict t seed k)
+FindsPoints = (t : Listing) (seed k : ℕ) → 1 ≤ k → Means t seed k (verdict t seed k)

@@ -1,20 +1,23 @@
-ghost use Rattle.std.specs.Prelude.{◌≡◌, ◌≤◌, IfOk, option_copied, option_map};
+ghost use Rattle.std.specs.Prelude.{◌≡◌, ◌≤◌, ◌↔◌, [], IfOk, IsSome, option_copied, option_map};
+ghost use Rattle.gw_meaning.specs.Listing.{seed_at};
 ghost use Rattle.gw_record.specs.Tape.{Tape};
-ghost use Rattle.gw_desk.specs.Book.{run_in, blank_runs};
+ghost use Rattle.gw_desk.specs.Book.{IsBook, IsRunOf, run_in, blank_runs};
 
 use crate::recording::{Recording, blank_runs, run_of};
+use gw_edit::Edit;
 use gw_model::Version;
 use gw_record::Recorded;
 use gw_scan::Tally;
 use std::alloc::{AllocError, Global};
 use std::marker::Model;
 
-/// A version of a model kept open, with the recorded run of each of its replications.
+/// A version of a model kept open, with the edits that were accepted on the way to it and the recorded run of each of its
+/// replications.
 #[derive(Drop)]
 pub struct Desk {
     pub(crate) version: Version,
     pub(crate) every: u64,
-    pub(crate) edits: u64,
+    pub(crate) edits: Vec<Edit>,
     pub(crate) runs: Vec<Recording>,
     pub(crate) tally: Tally,
 }
@@ -24,9 +27,9 @@ impl Model for Desk {
 
     ghost Value = { Book };
 
-    ghost view = { λ d. record { version = d.version; every = d.every; edits = d.edits; runs = d.runs.items; made = d.tally } };
+    ghost view = { λ d. record { version = d.version; every = d.every; edits = d.edits.items; runs = d.runs.items; made = d.tally } };
 
-    ghost invariant = { λ d. IsBook (record { version = d.version; every = d.every; edits = d.edits; runs = d.runs.items; made = d.tally }) };
+    ghost invariant = { λ d. IsBook (record { version = d.version; every = d.every; edits = d.edits.items; runs = d.runs.items; made = d.tally }) };
 }
 
 impl Desk {
@@ -34,13 +37,14 @@ impl Desk {
     /// 1,000,000.
     pub fn new(alloc: Global, version: Version, every: u64) -> Result<Desk, AllocError>
         requires { 1 ≤ every }
-        ensures { IfOk result (λ d. d ≡ record { version = version; every = every; edits = 0; runs = blank_runs every version.replications; made = 0 }) }
+        ensures value { IfOk result (λ d. d ≡ record { version = version; every = every; edits = []; runs = blank_runs every version.replications; made = 0 }) }
+        ensures desk { IfOk result IsBook }
     {
         let runs = blank_runs(alloc, version.replications(), every)?;
         Ok(Desk {
             version,
             every,
-            edits: 0,
+            edits: Vec::new(alloc),
             runs,
             tally: Tally::new(),
         })
@@ -53,23 +57,25 @@ impl Desk {
         &self.version
     }
 
-    /// How many edits were accepted, at most 4,096.
-    pub fn edits(&self) -> u64
-        ensures { result ≡ self.now.edits }
+    /// The edits that were accepted, in order, at most 4,096.
+    pub fn edits(&self) -> &[Edit]
+        ensures { result.now ≡ self.now.edits }
     {
-        self.edits
+        self.edits.as_slice()
     }
 
-    /// The recorded run of a replication; none where there is no such replication.
+    /// The recorded run of a replication, from zero, of the version that is open; none where there is no such replication.
     pub fn run(&self, rep: u64) -> Option<&Recorded>
-        ensures { option_copied result ≡ run_in self.now.runs rep }
+        ensures value { option_copied result ≡ run_in self.now.runs rep }
+        ensures run { IsRunOf self.now.version self.now.every (seed_at self.now.version rep) (option_copied result) }
     {
         run_of(self.runs.as_slice(), rep)
     }
 
-    /// How many steps are recorded of a replication; none where there is no such replication.
+    /// How many steps its recorded run has; none where there is no such replication.
     pub fn recorded(&self, rep: u64) -> Option<u64>
-        ensures { result ≡ option_map (λ (r : Tape). r.moment) (run_in self.now.runs rep) }
+        ensures value { result ≡ option_map (λ (r : Tape). r.moment) (run_in self.now.runs rep) }
+        ensures there { IsSome result ↔ IsSome (seed_at self.now.version rep) }
     {
         match self.run(rep) {
             Some(run) => Some(run.tip()),

@@ -1,5 +1,6 @@
 // Edits of the version that is open.
 ghost use Rattle.std.specs.Prelude.{◌≡◌, IfOk, IfErr, OnErr};
+ghost use Rattle.gw_desk.specs.Book.{IsBook};
 ghost use Rattle.gw_desk.specs.Editing.{Accepts, Refuses};
 
 use crate::desk::Desk;
@@ -8,30 +9,32 @@ use gw_edit::{Edit, EditFault, apply};
 use std::alloc::Global;
 
 /// How many edits a desk accepts.
-const HISTORY: u64 = 4_096;
+const HISTORY: usize = 4_096;
 
 impl Desk {
-    /// Edits the version, and answers the number of accepted edits; or refuses, and changes nothing. Of each recorded
+    /// Edits the version, keeps the edit, and answers the number of accepted edits; or refuses, and changes nothing. Of each recorded
     /// run that stays it throws away only what lies after its last kept moment at or before the first step that read
     /// something touched. E8 comes before all else, at 4,096 accepted edits; E7 may come in place of any.
-    pub fn edit(&mut self, alloc: Global, edit: &Edit) -> Result<u64, EditFault>
-        ensures accepted { IfOk result (Accepts self.old edit.now self.new) }
-        ensures refused { IfErr result (Refuses self.old edit.now) }
+    pub fn edit(&mut self, alloc: Global, edit: Edit) -> Result<u64, EditFault>
+        ensures accepted { IfOk result (Accepts self.old edit self.new) }
+        ensures refused { IfErr result (Refuses self.old edit) }
         ensures err { OnErr result (self.new ≡ self.old) }
+        ensures desk { IsBook self.new }
     {
-        if self.edits >= HISTORY {
+        if self.edits.len() >= HISTORY {
             return Err(EditFault::HistoryFull);
         }
-        let new = match apply(alloc, &self.version, edit) {
+        let new = match apply(alloc, &self.version, &edit) {
             Ok(new) => new,
             Err(fault) => return Err(fault),
         };
         self.runs.reserve(new.replications().len())?;
-        rebase_all(&mut self.runs, &self.version, edit, &new);
+        self.edits.reserve(1)?;
+        rebase_all(&mut self.runs, &self.version, &edit, &new);
         add_missing(&mut self.runs, alloc, new.replications(), self.every);
         keep_those_of(&mut self.runs, &new);
         self.version = new;
-        self.edits += 1;
-        Ok(self.edits)
+        self.edits.push_reserved(edit);
+        Ok(self.edits.len() as u64)
     }
 }

@@ -1,13 +1,13 @@
 // Queries with the steps that are missing.
-ghost use Rattle.std.specs.Prelude.{◌≡◌, ◌≢◌, ◌⊎◌, ◌<◌, ◌≤◌, ℕ, Some, OnOk};
-ghost use Rattle.gw_meaning.specs.Listing.{seed_at, starts};
+ghost use Rattle.std.specs.Prelude.{◌≡◌, ◌≢◌, ◌≤◌, ℕ, length, Some, OnOk};
+ghost use Rattle.gw_meaning.specs.Listing.{seed_at};
 ghost use Rattle.gw_record.specs.Tape.{Tape};
 ghost use Rattle.gw_desk.specs.declared.answer.Answer.TheVariants as answers;
-ghost use Rattle.gw_desk.specs.Book.{run_in};
+ghost use Rattle.gw_desk.specs.Book.{IsBook, run_in};
 ghost use Rattle.gw_desk.specs.Looking.{IsOpen};
 ghost use Rattle.gw_desk.specs.Replies.{answer_of};
 ghost use Rattle.gw_desk.specs.Peeking.{IsUnfinished, IsAnswer};
-ghost use Rattle.gw_desk.specs.Finishing.{Finishes};
+ghost use Rattle.gw_desk.specs.Finishing.{Finishes, IsMissing};
 
 use crate::answer::Answer;
 use crate::desk::Desk;
@@ -19,10 +19,11 @@ impl Desk {
     /// The report of START `k` of a replication, or that there is no such START or replication, or that the step limit
     /// decides nothing. It makes just the steps that are missing for that; where memory is refused, the steps made stay.
     pub fn finish(&mut self, alloc: Global, rep: u64, k: u64) -> Answer
-        ensures answer { IsAnswer (answer_of self.old.version self.old.edits rep k) result }
+        ensures answer { IsAnswer (answer_of self.old.version (length self.old.edits) rep k) result }
         ensures steps { Finishes self.old rep k self.new }
         ensures decided { result ≢ answers.Memory → (n : ℕ) → IsUnfinished self.new rep k n → ⊥ }
-        ensures idle { (k < 1) ⊎ (starts self.old.version < k) → self.new ≡ self.old }
+        ensures idle { IsMissing self.old.version rep k → self.new ≡ self.old }
+        ensures desk { IsBook self.new }
     {
         let Some(seed) = self.version.seed(rep) else {
             return Answer::NoReplication;
@@ -47,6 +48,7 @@ impl Desk {
         requires seed { seed_at self.old.version rep ≡ Some seed }
         requires some { 1 ≤ k }
         ensures steps { Finishes self.old rep k self.new }
+        ensures desk { IsBook self.new }
         ensures shut { OnOk result ((r : Tape) → run_in self.new.runs rep ≡ Some r → IsOpen self.new.version seed k r.moment → ⊥) }
     {
         match place_of(self.runs.as_slice(), rep) {

@@ -4,7 +4,8 @@ ghost use Rattle.gw_meaning.specs.Listing.{Listing};
 ghost use Rattle.gw_desk.specs.declared.answer.Answer.TheVariants as answers;
 ghost use Rattle.gw_desk.specs.declared.play.Event.TheVariants as events;
 ghost use Rattle.gw_desk.specs.declared.play.Reply.TheVariants as replies;
-ghost use Rattle.gw_desk.specs.Keeping.{wants_memory, does_nothing, loses};
+ghost use Rattle.gw_desk.specs.Keeping.{wants_memory};
+ghost use Rattle.gw_desk.specs.Lost.{does_nothing, loses};
 ghost use Rattle.gw_desk.specs.Playing.{Does};
 
 use crate::answer::Answer;
@@ -39,9 +40,9 @@ pub trait Keeper {
     /// # Errors
     ///
     /// Why the edit is refused: as of a [`Desk::edit`].
-    fn edit(&mut self, alloc: Global, edit: &Edit) -> Result<u64, EditFault>
-        ensures accepted { IfOk result (λ n. does self.old (events.Edit edit.now) (replies.Edited n) self.new) }
-        ensures refused { IfErr result (λ fault. does self.old (events.Edit edit.now) (replies.Refused fault) self.new) };
+    fn edit(&mut self, alloc: Global, edit: Edit) -> Result<u64, EditFault>
+        ensures accepted { IfOk result (λ n. does self.old (events.Edit edit) (replies.Edited n) self.new) }
+        ensures refused { IfErr result (λ fault. does self.old (events.Edit edit) (replies.Refused fault) self.new) };
 
     /// The report of START `k` of a replication, from the recorded steps alone: as of a [`Desk::peek`].
     fn peek(&mut self, alloc: Global, rep: u64, k: u64) -> Answer
@@ -75,7 +76,7 @@ impl Keeper for Desk {
         self.version.replications()
     }
 
-    fn edit(&mut self, alloc: Global, edit: &Edit) -> Result<u64, EditFault> {
+    fn edit(&mut self, alloc: Global, edit: Edit) -> Result<u64, EditFault> {
         Desk::edit(self, alloc, edit)
     }
 

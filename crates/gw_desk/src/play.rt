@@ -29,8 +29,8 @@ pub enum Reply {
 impl Desk {
     /// Makes the calls of these events, in order, and answers one reply for each. Where memory is refused for the list
     /// of replies, nothing is done.
-    pub fn play(&mut self, alloc: Global, events: &[Event]) -> Result<Vec<Reply>, AllocError>
-        ensures plays { IfOk result (λ replies. Plays self.old events.now replies.items self.new) }
+    pub fn play(&mut self, alloc: Global, events: Vec<Event>) -> Result<Vec<Reply>, AllocError>
+        ensures plays { IfOk result (λ replies. Plays self.old events.items replies.items self.new) }
         ensures err { OnErr result (self.new ≡ self.old) }
     {
         let mut replies = Vec::with_capacity(alloc, events.len())?;
@@ -44,16 +44,16 @@ impl Desk {
         Ok(replies)
     }
 
-    fn play_one(&mut self, alloc: Global, event: &Event) -> Reply
-        ensures { Does self.old event.now result self.new }
+    fn play_one(&mut self, alloc: Global, event: Event) -> Reply
+        ensures { Does self.old event result self.new }
     {
         match event {
             Event::Edit(edit) => match self.edit(alloc, edit) {
                 Ok(number) => Reply::Edited(number),
                 Err(fault) => Reply::Refused(fault),
             },
-            Event::Peek { rep, k } => Reply::Answered(self.peek(alloc, *rep, *k)),
-            Event::Finish { rep, k } => Reply::Answered(self.finish(alloc, *rep, *k)),
+            Event::Peek { rep, k } => Reply::Answered(self.peek(alloc, rep, k)),
+            Event::Finish { rep, k } => Reply::Answered(self.finish(alloc, rep, k)),
         }
     }
 }

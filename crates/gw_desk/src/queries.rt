@@ -1,5 +1,5 @@
 // Queries: with the recorded steps alone, or with those that are missing.
-ghost use Rattle.std.specs.Prelude.{◌≡◌, ◌≤◌, Some, Ok};
+ghost use Rattle.std.specs.Prelude.{◌≡◌, ◌≤◌, length, Some, Ok};
 ghost use Rattle.gw_meaning.specs.Listing.{seed_at, starts};
 ghost use Rattle.gw_meaning.specs.Machine.{Machine};
 ghost use Rattle.gw_meaning.specs.Step.{run};
@@ -72,14 +72,14 @@ impl Desk {
         requires seed { seed_at self.now.version rep ≡ Some seed }
         requires records { Records self.now.version seed recorded.now }
         requires kept { IsKept self.now.version seed recorded.now moment }
-        ensures { (s : Machine) → run self.now.version seed moment ≡ Ok s → IsAnswer (answers.Ready (record { edits = self.now.edits; replication = rep; start = k; text = text_of self.now.version rep k s outcome })) result }
+        ensures { (s : Machine) → run self.now.version seed moment ≡ Ok s → IsAnswer (answers.Ready (record { edits = length self.now.edits; replication = rep; start = k; text = text_of self.now.version rep k s outcome })) result }
     {
         let Some(state) = recorded.state_at(moment) else {
             unreachable!()
         };
         match print(alloc, &self.version, rep, k, state, outcome) {
             Ok(text) => Answer::Ready(Report {
-                edits: self.edits,
+                edits: self.edits.len() as u64,
                 replication: rep,
                 start: k,
                 text: Row::from_vec(text),

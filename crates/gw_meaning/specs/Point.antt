@@ -20,8 +20,8 @@ outcome_of (ends.Error stop) = Some (outcomes.Error stop)
 abbrev pub IsFirst : Listing → ℕ → ℕ → ℕ → Type 0
 IsFirst t seed k n = (m : ℕ) (u : Machine) → m < n → run t seed m ≡ Ok u → u.complete ≡ k → ⊥
 
--- n is the point of START k, with this outcome and in this state: the first moment at which k STARTs are complete, or the
--- moment at which the run ends with one fewer complete, during the k-th
+-- n is the point of START k, counted from 1, with this outcome and in this state: the first moment at which k STARTs are
+-- complete, or the moment at which the run ends with one fewer complete, during the k-th
 pub data IsPoint (t : Listing) (seed k n : ℕ) (o : Outcome) (s : Machine) : Type 0 where
-  complete : n ≤ t.limit → run t seed n ≡ Ok s → s.complete ≡ k → IsFirst t seed k n → o ≡ outcomes.Complete → IsPoint t seed k n o s
+  complete : 1 ≤ k → n ≤ t.limit → run t seed n ≡ Ok s → s.complete ≡ k → IsFirst t seed k n → o ≡ outcomes.Complete → IsPoint t seed k n o s
   ended : (end : End) → n ≤ t.limit → run t seed n ≡ Ok s → s.complete + 1 ≡ k → step t seed s ≡ Err end → outcome_of end ≡ Some o → IsPoint t seed k n o s

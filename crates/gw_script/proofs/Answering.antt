@@ -1,5 +1,5 @@
 -- One line, answered: something may be answered to any line, and an answer that broke off is the front of one.
-use Rattle.std.proofs.Common.{◌≡◌, inr, ℕ, ◌<◌, List, [], ◌++◌, Some, refl, sym, subst, ◌∙◌, ap, Result, Ok, Err, IfErr, OnErr, arith}
+use Rattle.std.proofs.Common.{◌≡◌, inr, ℕ, ◌<◌, List, [], ◌++◌, Option, Some, refl, sym, subst, ◌∙◌, ap, Result, Ok, Err, IfErr, OnErr, arith}
 use Rattle.std.specs.Prelude.{codes}
 use Rattle.std.proofs.lemmas.Fmt.{decimal_digit}
 use Rattle.gw_meaning.specs.Listing.{Listing}
@@ -63,7 +63,7 @@ pub untold_replies : {D : Type 0} (version : D → Listing) (does : D → Event 
 untold_replies version does d after n request text is untold = rw is at untold
 
 -- an answer broke off where a growth was refused for telling it
-pub broken_refused : {D K : Type 0} (wrote : K → List ℕ → K → Type 0) (writes_of : K → ℕ) (wrote_none : (a : K) → wrote a [] a) (version : D → Listing) (does : D → Event → Reply → D → Type 0) (in_vain : (d : D) (event : Event) → does d event (wants_memory event) d) (d after : D) (n : ℕ) (request : Request) (old new : K) (fault : Fault) → Untold version does d n request after → BreaksRefused wrote writes_of request old new fault → BreaksOff wrote writes_of (Replies version does d n request) old new after fault
+pub broken_refused : {D K : Type 0} (wrote : K → List ℕ → K → Type 0) (writes_of : K → ℕ) (wrote_none : (a : K) → wrote a [] a) (version : D → Listing) (does : D → Event → Reply → D → Type 0) (in_vain : (d : D) (event : Event) → does d event (wants_memory event) d) (d after : D) (n : ℕ) (request : Request) (old new : K) (fault : Fault) → Untold version does d n request after → BreaksRefused wrote writes_of (untold_of request) old new fault → BreaksOff wrote writes_of (Replies version does d n request) old new after fault
 broken_refused {D} {K} wrote writes_of wrote_none version does in_vain d after n request old new fault untold (not_begun other memory same) =
     let W : K → Type 0 = λ k. wrote old [] k in
     let C : Fault → Type 0 = λ f. BreaksBy f (writes_of old) (writes_of new) in
@@ -79,3 +79,8 @@ broken_refused {D} {K} wrote writes_of wrote_none version does in_vain d after n
 pub broken_if : {A D K : Type 0} (r : Result A Fault) (wrote : K → List ℕ → K → Type 0) (writes_of : K → ℕ) (Says : List ℕ → D → Type 0) (old new : K) (text : List ℕ) (after : D) → Says text after → IfErr r (λ f. f ≡ faults.Write) → OnErr r (WritesPart wrote old text new) → OnErr r (writes_of new ≡ one_more (writes_of old)) → IfErr r (λ f. BreaksOff wrote writes_of Says old new after f)
 broken_if (Ok x) wrote writes_of Says old new text after is failed part counted = failed
 broken_if (Err f) wrote writes_of Says old new text after is failed part counted = broken_sending wrote writes_of Says old new text after f is part failed counted
+
+-- saying that a growth was refused broke off, where that may be said
+pub refused_if : {A K : Type 0} (r : Result A Fault) (wrote : K → List ℕ → K → Type 0) (writes_of : K → ℕ) (untold : Option (List ℕ)) (old new : K) (text : List ℕ) → untold ≡ Some text → IfErr r (λ f. f ≡ faults.Write) → OnErr r (WritesPart wrote old text new) → OnErr r (writes_of new ≡ one_more (writes_of old)) → IfErr r (λ f. BreaksRefused wrote writes_of untold old new f)
+refused_if (Ok x) wrote writes_of untold old new text is failed part counted = failed
+refused_if (Err f) wrote writes_of untold old new text is failed part counted = begun part.front part.left (is ∙ ap (λ t. Some t) part.parts) part.written failed counted

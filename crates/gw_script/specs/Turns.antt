@@ -1,14 +1,12 @@
 -- What answering one line leaves.
-use Rattle.std.specs.Prelude.{◌≡◌, ℕ, Bool, true, false, List, ◌++◌, Some, None}
+use Rattle.std.specs.Prelude.{◌≡◌, ℕ, Bool, true, false, List, ◌++◌, Option, Some, None}
 use Rattle.gw_io.specs.declared.budget.ReadFault.{ReadFault}
 use Rattle.gw_io.specs.declared.budget.ReadFault.TheVariants as reads
 use Rattle.gw_io.specs.Failures.{one_more}
-use Rattle.gw_request.specs.declared.request.Request.{Request}
 use Rattle.gw_script.specs.declared.fault.Fault.{Fault}
 use Rattle.gw_script.specs.declared.fault.Fault.TheVariants as faults
 use Rattle.gw_script.specs.declared.fault.Over.{Over}
 use Rattle.gw_script.specs.declared.fault.Over.TheVariants as overs
-use Rattle.gw_script.specs.Replying.{untold_of}
 
 -- the fault of a session that a fault of reading is
 abbrev pub stopped_by : ReadFault → Fault
@@ -39,10 +37,10 @@ pub record BreaksOff {D K : Type 0} (wrote : K → List ℕ → K → Type 0) (w
   pub written : wrote old front new
   pub cause : BreaksBy fault (writes old) (writes new)
 
--- saying that a growth was refused broke off: where a line may not be answered so, it was not begun
-pub data BreaksRefused {K : Type 0} (wrote : K → List ℕ → K → Type 0) (writes : K → ℕ) (request : Request) (old new : K) (fault : Fault) : Type 0 where
-  not_begun : untold_of request ≡ None → fault ≡ faults.Memory → new ≡ old → BreaksRefused wrote writes request old new fault
-  begun : (front left : List ℕ) → untold_of request ≡ Some (front ++ left) → wrote old front new → fault ≡ faults.Write → writes new ≡ one_more (writes old) → BreaksRefused wrote writes request old new fault
+-- saying that a growth was refused broke off: where a line may not be answered so, there is nothing to say, and it was not begun
+pub data BreaksRefused {K : Type 0} (wrote : K → List ℕ → K → Type 0) (writes : K → ℕ) (untold : Option (List ℕ)) (old new : K) (fault : Fault) : Type 0 where
+  not_begun : untold ≡ None → fault ≡ faults.Memory → new ≡ old → BreaksRefused wrote writes untold old new fault
+  begun : (front left : List ℕ) → untold ≡ Some (front ++ left) → wrote old front new → fault ≡ faults.Write → writes new ≡ one_more (writes old) → BreaksRefused wrote writes untold old new fault
 
 -- how a session ends behind its last line
 abbrev pub over_if : Bool → Over

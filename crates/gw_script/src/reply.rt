@@ -1,5 +1,5 @@
 // What a script line is answered.
-ghost use Rattle.std.specs.Prelude.{◌≡◌, ◌++◌, codes, decimal, option_map, IfOk, OnErr};
+ghost use Rattle.std.specs.Prelude.{◌≡◌, ◌++◌, codes, decimal, option_copied, IfOk, OnErr};
 ghost use Rattle.gw_script.specs.Replying.{Replies, Untold, word_of, is_quit, untold_of};
 
 use crate::edits::edit;
@@ -15,20 +15,20 @@ pub fn answer<D: Keeper>(
     alloc: Global,
     keeper: &mut D,
     n: u64,
-    request: &Request,
+    request: Request,
 ) -> Result<Vec<u8>, AllocError>
-    ensures ok { IfOk result (λ v. Replies D.version D.does keeper.old n request.now v.items keeper.new) }
-    ensures err { OnErr result (Untold D.version D.does keeper.old n request.now keeper.new) }
+    ensures ok { IfOk result (λ v. Replies D.version D.does keeper.old n request v.items keeper.new) }
+    ensures err { OnErr result (Untold D.version D.does keeper.old n request keeper.new) }
 {
     match request {
         Request::Nothing => Ok(Vec::new(alloc)),
         Request::Edit(change) => edit(alloc, keeper, change),
-        Request::Report { rep, k } => report(alloc, keeper, *rep, *k),
-        Request::Peek { rep, k } => peek(alloc, keeper, *rep, *k),
-        Request::All { k } => report_all(alloc, keeper, *k),
+        Request::Report { rep, k } => report(alloc, keeper, rep, k),
+        Request::Peek { rep, k } => peek(alloc, keeper, rep, k),
+        Request::All { k } => report_all(alloc, keeper, k),
         Request::List => list(alloc, keeper.list()),
         Request::Quit => Vec::from_slice(alloc, b"bye\n"),
-        Request::Bad(reason) => refusal(alloc, n, *reason),
+        Request::Bad(reason) => refusal(alloc, n, reason),
     }
 }
 
@@ -62,7 +62,7 @@ pub fn is_quit(request: &Request) -> bool
 
 /// What a line may be answered where a growth is refused for telling its answer, if it may.
 pub fn untold(request: &Request) -> Option<&'static [u8]>
-    ensures { option_map (λ text. text.now) result ≡ untold_of request.now }
+    ensures { option_copied result ≡ untold_of request.now }
 {
     match request {
         Request::Edit(_) => Some(b"refused E7\n"),

@@ -1,10 +1,10 @@
 // A session: the script's lines, answered one after another.
-ghost use Rattle.std.specs.Prelude.{◌≡◌, ◌≤◌, ◌⊎◌, ℕ, List, Some, true, false, codes, IfOk, IfErr, OnOk, OnErr};
+ghost use Rattle.std.specs.Prelude.{◌≡◌, ◌≤◌, ◌⊎◌, ℕ, List, Some, true, false, codes, option_copied, IfOk, IfErr, OnOk, OnErr};
 ghost use Rattle.gw_io.specs.Failures.{one_more, WritesPart};
 ghost use Rattle.gw_desk.specs.Book.{Book};
 ghost use Rattle.gw_request.specs.Requests.{request_of};
 ghost use Rattle.gw_script.specs.Opening.{Opens, Refuses};
-ghost use Rattle.gw_script.specs.Replying.{Answers, DeskAnswers, Replies, is_quit, untold_of};
+ghost use Rattle.gw_script.specs.Replying.{Answers, DeskAnswers, Replies, is_quit};
 ghost use Rattle.gw_script.specs.Sessions.{Serves, Stops};
 ghost use Rattle.gw_script.specs.Turns.{Writes, BreaksOff, BreaksRefused, over_if};
 
@@ -89,7 +89,7 @@ fn reply<D: Keeper, K: Sink>(
     ensures err { IfErr result (λ f. BreaksOff K.wrote K.failures (Answers D.version D.does keeper.old n line.now) sink.old sink.new keeper.new f) }
 {
     match request_of(alloc, line) {
-        Ok(request) => fulfil(alloc, keeper, n, &request, sink),
+        Ok(request) => fulfil(alloc, keeper, n, request, sink),
         Err(_) => refuse_unread(sink),
     }
 }
@@ -113,35 +113,33 @@ fn fulfil<D: Keeper, K: Sink>(
     alloc: Global,
     keeper: &mut D,
     n: u64,
-    request: &Request,
+    request: Request,
     sink: &mut K,
 ) -> Result<bool, Fault>
-    ensures quit { IfOk result (λ quit. quit ≡ is_quit request.now) }
-    ensures ok { OnOk result (Writes K.wrote (Replies D.version D.does keeper.old n request.now) sink.old sink.new keeper.new) }
+    ensures quit { IfOk result (λ quit. quit ≡ is_quit request) }
+    ensures ok { OnOk result (Writes K.wrote (Replies D.version D.does keeper.old n request) sink.old sink.new keeper.new) }
     ensures same { OnOk result (K.failures sink.new ≡ K.failures sink.old) }
-    ensures err { IfErr result (λ f. BreaksOff K.wrote K.failures (Replies D.version D.does keeper.old n request.now) sink.old sink.new keeper.new f) }
+    ensures err { IfErr result (λ f. BreaksOff K.wrote K.failures (Replies D.version D.does keeper.old n request) sink.old sink.new keeper.new f) }
 {
+    let quit = is_quit(&request);
+    let untold = untold(&request);
     match answer(alloc, keeper, n, request) {
-        Ok(text) => {
-            send(sink, &text)?;
-            Ok(is_quit(request))
-        }
-        Err(_) => fulfil_refused(request, sink),
+        Ok(text) => send(sink, &text)?,
+        Err(_) => send_refused(sink, untold)?,
     }
+    Ok(quit)
 }
 
 // Says that a growth was refused, where a line may be answered so; at any other the session ends.
-fn fulfil_refused<K: Sink>(request: &Request, sink: &mut K) -> Result<bool, Fault>
-    ensures quit { IfOk result (λ quit. quit ≡ is_quit request.now) }
-    ensures ok { OnOk result ((text : List ℕ) × (untold_of request.now ≡ Some text) × K.wrote sink.old text sink.new) }
+fn send_refused<K: Sink>(sink: &mut K, untold: Option<&[u8]>) -> Result<(), Fault>
+    ensures ok { OnOk result ((text : List ℕ) × (option_copied untold.entry ≡ Some text) × K.wrote sink.old text sink.new) }
     ensures same { OnOk result (K.failures sink.new ≡ K.failures sink.old) }
-    ensures err { IfErr result (λ f. BreaksRefused K.wrote K.failures request.now sink.old sink.new f) }
+    ensures err { IfErr result (λ f. BreaksRefused K.wrote K.failures (option_copied untold.entry) sink.old sink.new f) }
 {
-    let Some(text) = untold(request) else {
-        return Err(Fault::Memory);
-    };
-    send(sink, text)?;
-    Ok(false)
+    match untold {
+        Some(text) => send(sink, text),
+        None => Err(Fault::Memory),
+    }
 }
 
 fn send<K: Sink>(sink: &mut K, text: &[u8]) -> Result<(), Fault>

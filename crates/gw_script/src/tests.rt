@@ -30,15 +30,20 @@ fn a_history_ends_at_4096_edits(rt: HostRuntime) -> Result<(), Fail> {
     let mut desk = open(alloc, MODEL, Options::USUAL)?;
     assert!(rt; matches!(desk.finish(alloc, 1, 1), Answer::Ready(_)));
     let text = Row::from_vec(Vec::from_slice(alloc, b"ADVANCE 5")?);
-    let (insert, delete) = (Edit::Insert { place: 1, text }, Edit::Delete { place: 1 });
+    let insert = Edit::Insert { place: 1, text };
     for number in 1..=4_096u64 {
-        let edit = if number % 2 == 1 { &insert } else { &delete };
+        let edit = if number % 2 == 1 {
+            insert.copy(alloc)?
+        } else {
+            Edit::Delete { place: 1 }
+        };
         assert_eq!(rt; desk.edit(alloc, edit), Ok(number));
         assert!(rt;
             matches!(desk.peek(alloc, 1, 1), Answer::Ready(_)),
             "{number}"
         );
     }
-    assert_eq!(rt; desk.edit(alloc, &insert), Err(EditFault::HistoryFull));
+    assert_eq!(rt; desk.edit(alloc, insert), Err(EditFault::HistoryFull));
+    assert_eq!(rt; desk.edits().len(), 4_096);
     Ok(())
 }

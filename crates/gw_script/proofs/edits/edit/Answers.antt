@@ -6,7 +6,7 @@ use Rattle.gw_script.proofs.edits.edit.Goals as goal
 pub returns-clause-ok : goal.returns-clause-ok
 returns-clause-ok g c =
     let items : Vec ℕ Global → List ℕ = λ v. v.items in
-    elim c.match-edit.branch [
+    elim c.match-edit-2.branch [
       | in-Ok w ↦
           let n = w.in-Ok.edits in
           let put = rw (sym w.told-is ∙ c.in-Ok-told.is) at w.put_accepted-told.ensures.ok in

@@ -1,13 +1,17 @@
-use Rattle.std.proofs.lemmas.Result.{IfErr-weaker}
+use Rattle.std.proofs.lemmas.Result.{err_from_is_err_and}
 use Rattle.gw_script.specs.Replying.{Replies}
-use Rattle.gw_script.specs.Turns.{BreaksRefused, BreaksOff}
-use Rattle.gw_script.proofs.Answering.{broken_refused}
+use Rattle.gw_script.specs.Turns.{BreaksOff}
+use Rattle.gw_script.proofs.Answering.{broken_refused, if_err_at}
 use Rattle.gw_script.proofs.sessions.fulfil.Goals as goal
 
-pub returns-in-Err-clause-err : goal.returns-in-Err-clause-err
-returns-in-Err-clause-err g c =
-    let request = c.args.request.now in
+pub returns-in_err-send_refused-in-Err-clause-err : goal.returns-in_err-send_refused-in-Err-clause-err
+returns-in_err-send_refused-in-Err-clause-err g c =
+    let exit = c.from_residual-in_err-send_refused-in-Err in
+    let p = err_from_is_err_and exit.result exit.ensures.1 in
+    let fault = c.in_err-send_refused-in-Err.field-0.0 in
+    let refused = rw c.untold-untold.ensures at c.in_err-send_refused-in-Err.ensures.err in
     let old = c.args.sink.now in
-    let new = c.fulfil_refused.new.sink in
-    let replies = Replies g.D.Keeper.version g.D.Keeper.does c.args.keeper.now c.args.n request in
-    IfErr-weaker c.fulfil_refused.result (BreaksRefused g.K.Sink.wrote g.K.Sink.failures request old new) (BreaksOff g.K.Sink.wrote g.K.Sink.failures replies old new c.answer.new.keeper) (λ f h. broken_refused g.K.Sink.wrote g.K.Sink.failures g.met.K.Sink.nothing g.D.Keeper.version g.D.Keeper.does g.met.D.Keeper.in_vain c.args.keeper.now c.answer.new.keeper c.args.n request old new f c.in-Err.ensures.err h) c.fulfil_refused.ensures.err
+    let new = c.send_refused.new.sink in
+    let replies = Replies g.D.Keeper.version g.D.Keeper.does c.args.keeper.now c.args.n c.args.request in
+    if_err_at exit.result (BreaksOff g.K.Sink.wrote g.K.Sink.failures replies old new c.answer.new.keeper) p.0 fault p.1 p.2
+    (broken_refused g.K.Sink.wrote g.K.Sink.failures g.met.K.Sink.nothing g.D.Keeper.version g.D.Keeper.does g.met.D.Keeper.in_vain c.args.keeper.now c.answer.new.keeper c.args.n c.args.request old new fault c.in-Err.ensures.err refused)
