@@ -41,9 +41,11 @@ gone_at lines place comes least within =
     let next : suc i ≡ place = omega arith in
     let cut = cut_at lines i (omega arith) in
     let line = cut.0 in
-    let found = nth_get lines place line least cut.1.found in
-    (line, record {
-      found = found;
-      old = subst (λ (p : ℕ). lines ≡ take i lines ++ line ∷ drop p lines) next cut.1.parts;
-      new = ap (λ (o : Option Numbered). take i lines ++ come (number_in lines o) comes ++ drop place lines) found ∙ append_assoc (take i lines) (come line.number comes) (drop place lines);
-    })
+    let found = nth_get lines place line least cut.1.found in (
+      line,
+      record {
+        found = found;
+        old = subst (λ (p : ℕ). lines ≡ take i lines ++ line ∷ drop p lines) next cut.1.parts;
+        new = ap (λ (o : Option Numbered). take i lines ++ come (number_in lines o) comes ++ drop place lines) found ∙ append_assoc (take i lines) (come line.number comes) (drop place lines);
+      },
+    )

@@ -1,5 +1,5 @@
--- What an edit touches: a list of probes, each of items that the edited version may answer in another way than the version
--- before. (Our own.)
+-- What an edit touches: a list of probes, each of items that the edited version may answer in another way than the
+-- version before. (Our own.)
 use Rattle.std.specs.Prelude.{ℕ, ◌+◌, ◌-◌, Bool, ◌==◌, true, false, ◌&&◌, ◌||◌, List, [], ◌∷◌, ◌++◌, Option, Some, None, not, if◌then◌else◌, length, filter, take, min}
 use Rattle.std.specs.List.{list_any, filter_map}
 use Rattle.gw_meaning.specs.declared.item.Item.{Item}
@@ -47,32 +47,37 @@ behind (Some number) = One (After number) ∷ []
 abbrev pub generates_if : Bool → List Probe
 generates_if other = if other then One Generates ∷ [] else []
 
--- a block that comes in or goes out: what comes after the block in front of it, itself and what comes after itself, and the
--- list of GENERATEs where it is one. (Where it comes in, the version before had no block with its number, so that no step of a
--- recorded run can have read the two of its own; they stand here since the two versions answer them in two ways.)
+-- a block that comes in or goes out: what comes after the block in front of it, itself and what comes after itself, and
+-- the list of GENERATEs where it is one. (Where it comes in, the version before had no block with its number, so that no
+-- step of a recorded run can have read the two of its own; they stand here since the versions answer them in two ways.)
 abbrev pub block_probes : Listing → ℕ → Numbered → List Probe
 block_probes t place line =
-    behind (block_before t place) ++ (One (items.Block line.number) ∷ One (After line.number) ∷ generates_if (is_generate line))
+    behind (block_before t place)
+    ++ (One (items.Block line.number) ∷ One (After line.number) ∷ generates_if (is_generate line))
 
 -- a statement that comes in or goes out; a command touches all commands from it on
 abbrev pub line_probes : Listing → ℕ → Numbered → List Probe
-line_probes t place line = if is_block line then block_probes t place line else CommandsFrom (command_from t place) ∷ []
+line_probes t place line =
+    if is_block line then block_probes t place line else CommandsFrom (command_from t place) ∷ []
 
--- a block that is another block: itself where the verb or the operands differ, and then the list of GENERATEs where one of
--- the two is one
+-- a block that is another block: itself where the verb or the operands differ, and then the list of GENERATEs where one
+-- of the two is one
 abbrev pub block_change : Numbered → Numbered → List Probe
 block_change old new =
-    if same_statement old.statement new.statement then [] else (One (items.Block old.number) ∷ generates_if (is_generate old || is_generate new))
+    if same_statement old.statement new.statement
+    then []
+    else (One (items.Block old.number) ∷ generates_if (is_generate old || is_generate new))
 
 -- of a statement, where there is one
 abbrev pub probes_of : Listing → ℕ → Option Numbered → List Probe
 probes_of t place None = []
 probes_of t place (Some line) = line_probes t place line
 
--- a splice at a place, by the statement that goes, if any, and the one that comes in, if any: what a block for a block
--- touches, and else what the one touches that goes and the one that comes in
+-- a splice at a place, by the statement that goes, if any, and the one that comes in, if any: of a block for a block as
+-- above; else what the one touches that goes, and what the one that comes in
 abbrev pub splice_probes : Listing → ℕ → Option Numbered → Option Numbered → List Probe
-splice_probes t place (Some old) (Some new) = if is_block old && is_block new then block_change old new else line_probes t place old ++ line_probes t place new
+splice_probes t place (Some old) (Some new) =
+    if is_block old && is_block new then block_change old new else line_probes t place old ++ line_probes t place new
 splice_probes t place goes comes = probes_of t place goes ++ probes_of t place comes
 
 -- two seeds, of which either may be none
@@ -82,14 +87,15 @@ same_seed None (Some b) = false
 same_seed (Some a) None = false
 same_seed (Some a) (Some b) = a == b
 
--- what an edit of a version to another touches in a replication: the seed where it differs, and the first clock step beyond
+-- what an edit of a version to another touches in a replication: the seed where it differs, and the clock steps beyond
 -- the lesser horizon. A capacity touches nothing yet, nor does a replication that comes in or goes out touch another one
 abbrev pub touch_of : Listing → Edit → Listing → ℕ → List Probe
 touch_of t (edits.Insert place text) u replication = splice_probes t place None (nth u.lines place)
 touch_of t (edits.Delete place) u replication = splice_probes t place (nth t.lines place) None
 touch_of t (edits.Change place text) u replication = splice_probes t place (nth t.lines place) (nth u.lines place)
 touch_of t (edits.Capacity name amount) u replication = []
-touch_of t (edits.Seed number seed) u replication = if same_seed (seed_at t replication) (seed_at u replication) then [] else One Seed ∷ []
+touch_of t (edits.Seed number seed) u replication =
+    if same_seed (seed_at t replication) (seed_at u replication) then [] else One Seed ∷ []
 touch_of t (edits.Replicate number seed) u replication = []
 touch_of t (edits.Drop number) u replication = []
 touch_of t (edits.Horizon time) u replication = Beyond (min t.horizon u.horizon) ∷ []

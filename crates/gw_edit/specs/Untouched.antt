@@ -8,9 +8,10 @@ use Rattle.gw_edit.specs.declared.edit.Edit.{Edit}
 use Rattle.gw_edit.specs.Applied.{applied}
 use Rattle.gw_edit.specs.Touching.{touch_of, is_touched}
 
--- where each statement has a number of its own, as in every version: in each replication that both have, with its seeds, each
--- question that is not touched is answered alike
+-- where each statement has a number of its own, as in every version: in each replication that both have, with its seeds,
+-- each question that is not touched is answered alike
 abbrev pub UntouchedAlike : Type 0
 UntouchedAlike =
-    (t : Listing) (e : Edit) (u : Listing) (r a b : ℕ) → AreNumbered t.lines → applied t e ≡ Ok u → seed_at t r ≡ Some a → seed_at u r ≡ Some b →
+    (t : Listing) (e : Edit) (u : Listing) (r a b : ℕ) → AreNumbered t.lines → applied t e ≡ Ok u →
+    seed_at t r ≡ Some a → seed_at u r ≡ Some b →
     (i : Item) → is_touched (touch_of t e u r) i ≡ false → SameAnswer t a u b i

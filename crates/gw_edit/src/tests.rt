@@ -1,4 +1,4 @@
-use crate::touch::{Probe, Touch, touch_of};
+use crate::touch::{Probe, touch_of};
 use crate::{Edit, EditFault, apply, rebase, touched};
 use gw_lines::read_model;
 use gw_meaning::{Item, Replication, Row};
@@ -28,11 +28,12 @@ fn number_at(version: &Version, index: usize) -> Option<u64> {
     }
 }
 
-fn has(touch: &Touch, probe: &Probe) -> bool {
-    has_one(&touch.first, probe) || has_one(&touch.rest, probe)
+fn touches(old: &Version, edit: &Edit, new: &Version, replication: u64, probe: Probe) -> bool {
+    let touch = touch_of(old, edit, new, replication);
+    has(&touch.first, &probe) || has(&touch.rest, &probe)
 }
 
-fn has_one(probes: &[Option<Probe>], probe: &Probe) -> bool {
+fn has(probes: &[Option<Probe>], probe: &Probe) -> bool {
     for other in probes {
         if let Some(other) = other {
             if other == probe {
@@ -43,6 +44,16 @@ fn has_one(probes: &[Option<Probe>], probe: &Probe) -> bool {
     false
 }
 
+fn edited(alloc: Global, version: &Version, edit: &Edit) -> Result<Version, Fail> {
+    Ok(apply(alloc, version, edit)?)
+}
+
+fn rebased(run: &mut Recorded, old: &Version, edit: &Edit, new: &Version) -> Option<u64> {
+    let step = touched(run, old, edit, new, 1);
+    rebase(run, old, edit, new, 1);
+    step
+}
+
 fn fault(alloc: Global, version: &Version, edit: &Edit) -> Option<EditFault> {
     match apply(alloc, version, edit) {
         Ok(_) => None,
@@ -51,34 +62,38 @@ fn fault(alloc: Global, version: &Version, edit: &Edit) -> Option<EditFault> {
 }
 
 #[test]
-fn lines_are_edited(rt: HostRuntime) -> Result<(), Fail> {
+fn a_line_comes_in(rt: HostRuntime) -> Result<(), Fail> {
     let alloc = rt.alloc();
     let old = version(alloc)?;
     let insert = Edit::Insert {
         place: 2,
         text: row(alloc, b"wait advance 12")?,
     };
-    let new = apply(alloc, &old, &insert)?;
+    let new = edited(alloc, &old, &insert)?;
     assert_eq!(rt; new.statements(), 5);
     assert_eq!(rt; number_at(&new, 1), Some(5));
     assert_eq!(rt; number_at(&new, 2), Some(2));
-    let touch = touch_of(&old, &insert, &new, 1);
-    assert!(rt; has(&touch, &Probe::One(Item::After(1))));
-    assert!(rt; has(&touch, &Probe::One(Item::Block(5))));
-    assert!(rt; has(&touch, &Probe::One(Item::After(5))));
-    assert!(rt; !has(&touch, &Probe::One(Item::Generates)));
+    let front = Probe::One(Item::After(1));
+    assert!(rt; touches(&old, &insert, &new, 1, front));
+    assert!(rt; !touches(&old, &insert, &new, 1, Probe::One(Item::Generates)));
+    Ok(())
+}
+
+#[test]
+fn a_line_is_changed(rt: HostRuntime) -> Result<(), Fail> {
+    let alloc = rt.alloc();
+    let old = version(alloc)?;
     let change = Edit::Change {
         place: 1,
         text: row(alloc, b"start 2")?,
     };
-    let changed = apply(alloc, &new, &change.copy(alloc)?)?;
-    assert_eq!(rt; number_at(&changed, 0), Some(1));
-    assert_eq!(rt; changed.starts(), 2);
-    let touch = touch_of(&new, &change, &changed, 1);
-    assert!(rt; has(&touch, &Probe::CommandsFrom(1)));
-    assert!(rt; has(&touch, &Probe::One(Item::Generates)));
-    let deleted = apply(alloc, &changed, &Edit::Delete { place: 5 })?;
-    assert_eq!(rt; deleted.statements(), 4);
+    let new = edited(alloc, &old, &change)?;
+    assert_eq!(rt; number_at(&new, 0), Some(1));
+    assert_eq!(rt; new.starts(), 2);
+    assert!(rt; touches(&old, &change, &new, 1, Probe::CommandsFrom(1)));
+    assert!(rt; touches(&old, &change, &new, 1, Probe::One(Item::Generates)));
+    let deleted = edited(alloc, &new, &Edit::Delete { place: 4 })?;
+    assert_eq!(rt; deleted.statements(), 3);
     Ok(())
 }
 
@@ -90,23 +105,22 @@ fn the_rest_is_edited(rt: HostRuntime) -> Result<(), Fail> {
         replication: 2,
         seed: 9,
     };
-    let two = apply(alloc, &old, &replicate)?;
+    let two = edited(alloc, &old, &replicate)?;
     assert_eq!(rt; two.seed(2), Some(9));
     let reseed = Edit::Seed {
         replication: 2,
         seed: 8,
     };
-    let reseeded = apply(alloc, &two, &reseed)?;
+    let reseeded = edited(alloc, &two, &reseed)?;
     assert_eq!(rt; reseeded.seed(2), Some(8));
-    let seed = Probe::One(Item::Seed);
-    assert!(rt; has(&touch_of(&two, &reseed, &reseeded, 2), &seed));
-    assert!(rt; !has(&touch_of(&two, &reseed, &reseeded, 1), &seed));
-    let one = apply(alloc, &reseeded, &Edit::Drop { replication: 1 })?;
+    assert!(rt; touches(&two, &reseed, &reseeded, 2, Probe::One(Item::Seed)));
+    assert!(rt; !touches(&two, &reseed, &reseeded, 1, Probe::One(Item::Seed)));
+    let one = edited(alloc, &reseeded, &Edit::Drop { replication: 1 })?;
     assert_eq!(rt;
         one.replication(1),
         Some(Replication { number: 2, seed: 8 })
     );
-    let later = apply(alloc, &one, &Edit::Horizon { time: 5000 })?;
+    let later = edited(alloc, &one, &Edit::Horizon { time: 5000 })?;
     assert_eq!(rt; later.horizon().ticks(), 5000);
     Ok(())
 }
@@ -147,14 +161,12 @@ fn recorded_runs_are_rebased(rt: HostRuntime) -> Result<(), Fail> {
     let mut run = Recorded::new(alloc, 4);
     assert_eq!(rt; run.extend(alloc, &old, 7, 100, &mut Tally::new())?, 12);
     let later = Edit::Horizon { time: 30 };
-    let new = apply(alloc, &old, &later)?;
-    assert_eq!(rt; touched(&run, &old, &later, &new, 1), None);
-    rebase(&mut run, &old, &later, &new, 1);
+    let new = edited(alloc, &old, &later)?;
+    assert_eq!(rt; rebased(&mut run, &old, &later, &new), None);
     assert_eq!(rt; run.tip(), 12);
     let earlier = Edit::Horizon { time: 12 };
-    let new = apply(alloc, &old, &earlier)?;
-    assert_eq!(rt; touched(&run, &old, &earlier, &new, 1), Some(5));
-    rebase(&mut run, &old, &earlier, &new, 1);
+    let new = edited(alloc, &old, &earlier)?;
+    assert_eq!(rt; rebased(&mut run, &old, &earlier, &new), Some(5));
     assert_eq!(rt; run.tip(), 4);
     Ok(())
 }

@@ -27,7 +27,8 @@ pub fn touched(
 }
 
 fn first_touched(run: &Recorded, touch: &Touch) -> Option<u64>
-    ensures { (t : Listing) (seed : ℕ) → Records t seed run.now → result ≡ touched_step touch.now t seed run.now }
+    ensures { (t : Listing) (seed : ℕ) → Records t seed run.now →
+        result ≡ touched_step touch.now t seed run.now }
 {
     earlier(
         first_of_probes(run, &touch.first),
@@ -36,7 +37,8 @@ fn first_touched(run: &Recorded, touch: &Touch) -> Option<u64>
 }
 
 fn first_of_probes(run: &Recorded, probes: &[Option<Probe>]) -> Option<u64>
-    ensures { (t : Listing) (seed : ℕ) → Records t seed run.now → result ≡ touched_step (given probes.now) t seed run.now }
+    ensures { (t : Listing) (seed : ℕ) → Records t seed run.now →
+        result ≡ touched_step (given probes.now) t seed run.now }
 {
     let mut first = None;
     for probe in probes {
@@ -46,7 +48,8 @@ fn first_of_probes(run: &Recorded, probes: &[Option<Probe>]) -> Option<u64>
 }
 
 fn first_of(run: &Recorded, probe: &Option<Probe>) -> Option<u64>
-    ensures { (t : Listing) (seed : ℕ) → Records t seed run.now → result ≡ touched_step (given (probe.now ∷ [])) t seed run.now }
+    ensures { (t : Listing) (seed : ℕ) → Records t seed run.now →
+        result ≡ touched_step (given (probe.now ∷ [])) t seed run.now }
 {
     match probe {
         Some(probe) => first_probed(run, probe),

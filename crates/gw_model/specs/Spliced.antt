@@ -1,5 +1,5 @@
--- The one way in which a version's statements become others: at a position the statement there goes, or stays, and another
--- one comes in, or none. (Our own.)
+-- The one way in which a version's statements become others: at a position the statement there goes, or stays, and
+-- another one comes in, or none. (Our own.)
 use Rattle.std.specs.Prelude.{ℕ, ◌+◌, ◌-◌, Bool, List, [], ◌∷◌, ◌++◌, Option, Some, None, if◌then◌else◌, take, drop, max}
 use Rattle.gw_meaning.specs.declared.statement.Statement.{Statement}
 use Rattle.gw_meaning.specs.declared.statement.Numbered.{Numbered}
@@ -23,7 +23,9 @@ come number (Some statement) = record { number = number; statement = statement }
 -- the statements after a splice at a position, from 1
 abbrev pub spliced : List Numbered → ℕ → Bool → Option Statement → List Numbered
 spliced lines position goes comes =
-    take (position - 1) lines ++ come (number_in lines (if goes then nth lines position else None)) comes ++ drop (if goes then position else position - 1) lines
+    take (position - 1) lines
+    ++ come (number_in lines (if goes then nth lines position else None)) comes
+    ++ drop (if goes then position else position - 1) lines
 
 -- the version with them
 abbrev pub with_splice : Listing → ℕ → Bool → Option Statement → Listing
