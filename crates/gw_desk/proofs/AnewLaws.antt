@@ -11,6 +11,7 @@ use Rattle.gw_meaning.specs.Machine.{Machine, zero_state}
 use Rattle.gw_meaning.specs.Step.{step}
 use Rattle.gw_meaning.specs.Point.{outcome_of}
 use Rattle.gw_model.specs.Listed.{numbered}
+use Rattle.gw_model.proofs.Numbers.{numbered_listed}
 use Rattle.gw_frame.specs.Moved.{moved_machine, moved_result}
 use Rattle.gw_frame.specs.Renamed.{statements_of, IsSameModel, IsRenamed}
 use Rattle.gw_frame.proofs.Renaming.{commands_renamed}
@@ -79,16 +80,7 @@ pub same_answers : SameAnswers
 same_answers t u same first second edits rep k =
     let found = has_renaming t u same first second in renamed_answers found.0 t u found.1 edits rep k
 
--- statements that are numbered one after another are numbered, and stay what they are
-absent : (first : ℕ) (statements : List Statement) (n : ℕ) → n < first → line_in (numbered first statements) n ≡ None
-absent first [] n less = refl
-absent first (s ∷ ss) n less =
-    subst (λ b. cond b (Some (record { number = first; statement = s })) (line_in (numbered (first + 1) ss) n) ≡ None) (sym (ne_eqb first n (λ e. absurd (omega arith)))) (absent (first + 1) ss n (omega arith))
-
-are_numbered : (first : ℕ) (statements : List Statement) → 0 < first → AreNumbered (numbered first statements)
-are_numbered first [] some = tt
-are_numbered first (s ∷ ss) some = (omega arith, absent (first + 1) ss first (omega arith), are_numbered (first + 1) ss (omega arith))
-
+-- statements that are numbered stay what they are
 same_statements : (first : ℕ) (statements : List Statement) → statements_of (numbered first statements) ≡ statements
 same_statements first [] = refl
 same_statements first (s ∷ ss) = ap (λ rest. s ∷ rest) (same_statements (first + 1) ss)
@@ -97,4 +89,4 @@ pub answered_anew : AnsweredAnew
 answered_anew t are =
     let statements = statements_of t.lines in
     let same : IsSameModel t (anew t) = record { statements = same_statements 1 statements; horizon = refl; replications = refl; limit = refl } in
-    same_answers t (anew t) same are (are_numbered 1 statements (omega arith))
+    same_answers t (anew t) same are (numbered_listed 1 statements (omega arith))

@@ -3,6 +3,7 @@ use Rattle.std.proofs.Common.{◌≡◌, ℕ, ◌≤◌, ◌==◌, Bool, true, f
 use Rattle.gw_meaning.specs.declared.item.Item.{Item}
 use Rattle.gw_meaning.specs.declared.item.Item.TheVariants as items
 use Rattle.gw_meaning.specs.declared.statement.Replication.{Replication}
+use Rattle.gw_meaning.specs.Numbers.{AreNumbered}
 use Rattle.gw_meaning.specs.Listing.{Listing, seed_in}
 use Rattle.gw_record.specs.Uses.{first_in, nothing_used}
 use Rattle.gw_record.specs.Tape.{Records, blank}
@@ -40,5 +41,5 @@ blank_are_runs t every (r ∷ rs) number = go (r.number == number) (blank_are_ru
   go false h = h
 
 -- a version with runs of no steps makes a desk
-pub blank_book : (t : Listing) (every : ℕ) → 1 ≤ every → IsBook (record { version = t; every = every; edits = []; runs = blank_runs every t.replications; made = 0 })
-blank_book t every some = record { some = some; few = omega arith; runs = blank_are_runs t every t.replications }
+pub blank_book : (t : Listing) (every : ℕ) → 1 ≤ every → AreNumbered t.lines → IsBook (record { version = t; every = every; edits = []; runs = blank_runs every t.replications; made = 0 })
+blank_book t every some numbered = record { some = some; few = omega arith; numbered = numbered; runs = blank_are_runs t every t.replications }

@@ -1,6 +1,7 @@
 -- The recorded runs behind an edit are runs of the edited version.
 use Rattle.std.proofs.Common.{◌≡◌, ℕ, ◌<◌, Bool, true, false, cond, List, [], ◌∷◌, ◌++◌, ◌+◌, length, filter, is_some, Option, Some, None, Result, Ok, Err, refl, sym, ap, subst, ◌∙◌, length-append, arith}
 use Rattle.gw_meaning.specs.declared.statement.Statement.{Statement}
+use Rattle.gw_meaning.specs.Numbers.{AreNumbered}
 use Rattle.gw_meaning.specs.Listing.{Listing, seed_at}
 use Rattle.gw_model.specs.Faults.{is_outside, fault_of}
 use Rattle.gw_model.specs.Spliced.{with_splice}
@@ -148,11 +149,12 @@ module _ (b : Book) (e : Edit) (u : Listing) (cut runs : List Recording) (all : 
     fresh = λ rep x none is. fresh_run b.every b.version e u b.runs cut made h.runs rebased rep x none is;
   })
 
-  pub still_desk : IsBook edited
-  still_desk =
+  pub still_desk : AreNumbered u.lines → IsBook edited
+  still_desk numbered =
       let one_more : length all ≡ length b.edits + 1 = ap length more ∙ length-append b.edits (e ∷ []) in
       record {
         some = h.some;
         few = omega (arith, room, one_more);
+        numbered = numbered;
         runs = subst (λ xs. AreRuns u b.every xs) (sym behind) (new_runs b.every b.version e u b.runs cut made h.runs rebased);
       }

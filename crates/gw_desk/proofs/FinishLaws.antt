@@ -77,7 +77,7 @@ module _ (b : Book) (rep seed place : ℕ) (d : Recording) (new : Tape) (h : IsB
     go false e = h.runs n
 
   pub still_book : (made : ℕ) → Records b.version seed new → new.every ≡ d.run.every → IsBook (record b { runs = changed; made = made })
-  still_book made records every = record { some = h.some; few = h.few; runs = new_runs records (every ∙ old_records.1) }
+  still_book made records every = record { some = h.some; few = h.few; numbered = h.numbered; runs = new_runs records (every ∙ old_records.1) }
 
   pub finishes : (k made : ℕ) → new.every ≡ d.run.every → d.run.moment ≤ new.moment → AreWanted b.version seed k d.run.moment new.moment → made ≡ tallied b.made (new.moment - d.run.moment) → Finishes b rep k (record b { runs = changed; made = made })
   finishes k made every grows wanted counted =

@@ -2,6 +2,7 @@
 -- replications. (Our own.)
 use Rattle.std.specs.Prelude.{◌≡◌, ℕ, ◌≤◌, ◌==◌, List, [], ◌∷◌, Option, Some, None, if◌then◌else◌, length, position}
 use Rattle.gw_meaning.specs.declared.statement.Replication.{Replication}
+use Rattle.gw_meaning.specs.Numbers.{AreNumbered}
 use Rattle.gw_meaning.specs.Listing.{Listing, seed_at}
 use Rattle.gw_record.specs.Tape.{Tape, Records, blank}
 use Rattle.gw_edit.specs.declared.edit.Edit.{Edit}
@@ -39,6 +40,7 @@ AreRuns t every runs = (number : ℕ) → IsRunOf t every (seed_at t number) (ru
 pub record IsBook (b : Book) : Type 0 where
   pub some : 1 ≤ b.every
   pub few : length b.edits ≤ 4096
+  pub numbered : AreNumbered b.version.lines
   pub runs : AreRuns b.version b.every b.runs
 
 -- runs of no steps, of these replications

@@ -1,5 +1,5 @@
--- The headline: after any list of edits and queries each report handed out is, byte for byte, the report of a run from zero of
--- the version of the edits accepted so far. (Our own.)
+-- The headline: after any list of edits and queries each report handed out is, byte for byte, the report of a version made anew
+-- from the statements that `list` shows, run from zero. (Our own.)
 use Rattle.std.specs.Prelude.{◌≡◌, ℕ, ◌+◌, List, [], ◌∷◌, Ok, length}
 use Rattle.gw_meaning.specs.Listing.{Listing}
 use Rattle.gw_edit.specs.Applied.{applied}
@@ -9,13 +9,14 @@ use Rattle.gw_desk.specs.declared.play.Event.{Event}
 use Rattle.gw_desk.specs.declared.play.Event.TheVariants as events
 use Rattle.gw_desk.specs.declared.play.Reply.{Reply}
 use Rattle.gw_desk.specs.declared.play.Reply.TheVariants as replies
-use Rattle.gw_desk.specs.Book.{Book}
+use Rattle.gw_desk.specs.Book.{Book, IsBook}
 use Rattle.gw_desk.specs.Replies.{answer_of}
+use Rattle.gw_desk.specs.Anew.{anew}
 use Rattle.gw_desk.specs.Playing.{Plays}
 
--- an answer that hands out a report is the one of the run from zero
+-- a report handed out of a version behind n accepted edits is the one of the version made anew, run from zero
 abbrev pub IsRight : Listing → ℕ → ℕ → ℕ → Answer → Type 0
-IsRight t n rep k (answers.Ready report) = answers.Ready report ≡ answer_of t n rep k
+IsRight t n rep k (answers.Ready report) = answers.Ready report ≡ answer_of (anew t) n rep k
 IsRight t n rep k answer = Unit {0}
 
 -- the replies to events, from a version behind n accepted edits on: an accepted edit goes on to its version, a refused one leaves it
@@ -30,6 +31,8 @@ AreRight t n (events.Peek rep k ∷ more) (reply ∷ others) = ⊥
 AreRight t n (events.Finish rep k ∷ more) (replies.Answered answer ∷ others) = IsRight t n rep k answer × AreRight t n more others
 AreRight t n (events.Finish rep k ∷ more) (reply ∷ others) = ⊥
 
--- whatever was played
+-- whatever was played of a desk
 abbrev pub ReportsAreRight : Type 0
-ReportsAreRight = (b c : Book) (more : List Event) (others : List Reply) → Plays b more others c → AreRight b.version (length b.edits) more others
+ReportsAreRight =
+    (b c : Book) (more : List Event) (others : List Reply) → IsBook b → Plays b more others c →
+    AreRight b.version (length b.edits) more others

@@ -40,6 +40,7 @@ impl Desk {
         ensures value { IfOk result (λ d. d ≡ record { version = version; every = every; edits = []; runs = blank_runs every version.replications; made = 0 }) }
         ensures desk { IfOk result IsBook }
     {
+        version.numbered();
         let runs = blank_runs(alloc, version.replications(), every)?;
         Ok(Desk {
             version,

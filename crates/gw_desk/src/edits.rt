@@ -30,6 +30,7 @@ impl Desk {
         };
         self.runs.reserve(new.replications().len())?;
         self.edits.reserve(1)?;
+        new.numbered();
         rebase_all(&mut self.runs, &self.version, &edit, &new);
         add_missing(&mut self.runs, alloc, new.replications(), self.every);
         keep_those_of(&mut self.runs, &new);

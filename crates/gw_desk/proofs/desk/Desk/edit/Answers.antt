@@ -21,7 +21,7 @@ invariant_of-self-2 c =
     let added : c.add_missing.new.runs.items ≡ with_missing c.self.inside.every c.in-Ok.new.replications c.rebase_all.new.runs.items = rw c.replications-2.ensures at c.add_missing.ensures in
     let behind : c.keep_those_of.new.runs.items ≡ runs_behind c.self.inside.every c.in-Ok.new c.rebase_all.new.runs.items = c.keep_those_of.ensures ∙ ap (λ (xs : List Recording). filter (λ (r : Recording). is_some (seed_at c.in-Ok.new r.number)) xs) added in
     let more : c.push_reserved.new.self.items ≡ c.self.inside.edits.items ++ c.args.edit ∷ [] = c.push_reserved.ensures.items ∙ ap (λ (es : List Edit). es ++ c.args.edit ∷ []) c.in_ok-reserve-2.ensures.items in
-    still_desk b c.args.edit c.in-Ok.new c.rebase_all.new.runs.items c.keep_those_of.new.runs.items c.push_reserved.new.self.items room c.in-Ok.ensures c.self.invariant rebased behind more
+    still_desk b c.args.edit c.in-Ok.new c.rebase_all.new.runs.items c.keep_those_of.new.runs.items c.push_reserved.new.self.items room c.in-Ok.ensures c.self.invariant rebased behind more c.numbered.ensures
 
 pub returns-clause-accepted : goal.returns-clause-accepted
 returns-clause-accepted c =
@@ -41,4 +41,4 @@ returns-clause-desk c =
     let added : c.add_missing.new.runs.items ≡ with_missing c.self.inside.every c.in-Ok.new.replications c.rebase_all.new.runs.items = rw c.replications-2.ensures at c.add_missing.ensures in
     let behind : c.keep_those_of.new.runs.items ≡ runs_behind c.self.inside.every c.in-Ok.new c.rebase_all.new.runs.items = c.keep_those_of.ensures ∙ ap (λ (xs : List Recording). filter (λ (r : Recording). is_some (seed_at c.in-Ok.new r.number)) xs) added in
     let more : c.push_reserved.new.self.items ≡ c.self.inside.edits.items ++ c.args.edit ∷ [] = c.push_reserved.ensures.items ∙ ap (λ (es : List Edit). es ++ c.args.edit ∷ []) c.in_ok-reserve-2.ensures.items in
-    still_desk b c.args.edit c.in-Ok.new c.rebase_all.new.runs.items c.keep_those_of.new.runs.items c.push_reserved.new.self.items room c.in-Ok.ensures c.self.invariant rebased behind more
+    still_desk b c.args.edit c.in-Ok.new c.rebase_all.new.runs.items c.keep_those_of.new.runs.items c.push_reserved.new.self.items room c.in-Ok.ensures c.self.invariant rebased behind more c.numbered.ensures
