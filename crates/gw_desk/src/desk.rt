@@ -84,6 +84,13 @@ impl Desk {
         }
     }
 
+    // What a desk keeps by its type.
+    pub(crate) fn is_book(&self)
+        ensures { IsBook self.now }
+    {
+        let _ = &self.runs;
+    }
+
     /// How many steps were made.
     pub fn made(&self) -> u64
         ensures { result ≡ self.now.made }

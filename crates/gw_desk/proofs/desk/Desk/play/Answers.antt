@@ -2,6 +2,7 @@ use Rattle.std.proofs.Common.{◌≡◌, ◌++◌, ◌∷◌, ◌+◌, [], List,
 use Rattle.std.specs.Vec.Iter.{into_iter_items}
 use Rattle.gw_desk.specs.declared.play.Reply.{Reply}
 use Rattle.gw_desk.specs.Playing.{Plays}
+use Rattle.gw_desk.proofs.HeadlineLaws.{reports_are_right}
 use Rattle.gw_desk.proofs.PlayLaws.{plays_more, none_of}
 use Rattle.gw_desk.proofs.desk.Desk.play.Goals as goal
 
@@ -26,4 +27,9 @@ returns c =
     let known = at.invariant in
     let empty : into_iter_items at.event-iterator ≡ [] = none_of _ (sym known.left ∙ c.in-None.ensures.steps.0) in
     let all : at.yielded ≡ c.args.events.items = sym (append-nil at.yielded) ∙ rw empty at known.all in
-    record { plays = subst (λ es. Plays c.args.self.now es at.replies.items at.self) all known.plays; err = tt }
+    let plays = subst (λ es. Plays c.args.self.now es at.replies.items at.self) all known.plays in
+    record {
+      plays = plays;
+      right = reports_are_right c.args.self.now at.self c.args.events.items at.replies.items c.is_book.ensures plays;
+      err = tt;
+    }
