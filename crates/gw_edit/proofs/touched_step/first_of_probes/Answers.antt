@@ -1,8 +1,5 @@
-use Rattle.std.proofs.Common.{◌≡◌, ◌∙◌, ◌+◌, ◌++◌, ◌∷◌, [], take, ap, sym, add-one, length, subst, List}
-use Rattle.std.specs.Prelude.{Option}
-use Rattle.gw_edit.specs.declared.touch.Probe.{Probe}
+use Rattle.std.proofs.Common.{◌∷◌, [], take}
 use Rattle.gw_edit.specs.Touching.{given}
-use Rattle.gw_edit.specs.Touched.{touched_step}
 use Rattle.gw_edit.proofs.TouchLaws.{touched_none, joined, one_more}
 use Rattle.gw_edit.proofs.touched_step.first_of_probes.Goals as goal
 
