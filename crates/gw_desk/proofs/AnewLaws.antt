@@ -34,33 +34,39 @@ module _ (move : ℕ → ℕ) where
   outcome_renamed s None = refl
   outcome_renamed s (Some o) = refl
 
-  end_by : (b : Bool) (s : Machine) (o : Option Outcome) → cond b (with_outcome (moved_machine move s) o) NoStart ≡ moved_verdict move (cond b (with_outcome s o) NoStart)
+  end_by : (b : Bool) (s : Machine) (o : Option Outcome) →
+      cond b (with_outcome (moved_machine move s) o) NoStart ≡ moved_verdict move (cond b (with_outcome s o) NoStart)
   end_by true s o = outcome_renamed s o
   end_by false s o = refl
 
-  behind_renamed : (k : ℕ) (s : Machine) (on on' : Machine → Verdict) → ((x : Machine) → on' (moved_machine move x) ≡ moved_verdict move (on x)) → (r : Result Machine End) →
+  behind_renamed : (k : ℕ) (s : Machine) (on on' : Machine → Verdict) → ((x : Machine) → on' (moved_machine move x) ≡ moved_verdict move (on x)) →
+      (r : Result Machine End) →
       behind k (moved_machine move s) on' (moved_result move r) ≡ moved_verdict move (behind k s on r)
   behind_renamed k s on on' each (Ok x) = each x
   behind_renamed k s on on' each (Err end) = end_by (nat_eq (s.complete + 1) k) s (outcome_of end)
 
-  chosen : (b : Bool) (s : Machine) (o : Outcome) (v w : Verdict) → w ≡ moved_verdict move v → cond b (Point (moved_machine move s) o) w ≡ moved_verdict move (cond b (Point s o) v)
+  chosen : (b : Bool) (s : Machine) (o : Outcome) (v w : Verdict) → w ≡ moved_verdict move v →
+      cond b (Point (moved_machine move s) o) w ≡ moved_verdict move (cond b (Point s o) v)
   chosen true s o v w e = refl
   chosen false s o v w e = e
 
 module _ (move : ℕ → ℕ) (t u : Listing) (seed k : ℕ) (r : IsRenamed move t u) where
   search_renamed : (n : ℕ) (s : Machine) → search u seed k n (moved_machine move s) ≡ moved_verdict move (search t seed k n s)
   search_renamed zero s =
-      chosen move (nat_eq s.complete k) s _ _ _ (ap (behind k (moved_machine move s) (λ x. TooLong)) (renamed_step move t u seed s r) ∙ behind_renamed move k s (λ x. TooLong) (λ x. TooLong) (λ x. refl) (step t seed s))
+      chosen move (nat_eq s.complete k) s _ _ _ (ap (behind k (moved_machine move s) (λ x. TooLong)) (renamed_step move t u seed s r) ∙
+      behind_renamed move k s (λ x. TooLong) (λ x. TooLong) (λ x. refl) (step t seed s))
   search_renamed (suc n) s =
       chosen move (nat_eq s.complete k) s _ _ _
-      (ap (behind k (moved_machine move s) (search u seed k n)) (renamed_step move t u seed s r) ∙ behind_renamed move k s (search t seed k n) (search u seed k n) (search_renamed n) (step t seed s))
+      (ap (behind k (moved_machine move s) (search u seed k n)) (renamed_step move t u seed s r) ∙
+      behind_renamed move k s (search t seed k n) (search u seed k n) (search_renamed n) (step t seed s))
 
   verdict_renamed : verdict u seed k ≡ moved_verdict move (verdict t seed k)
   verdict_renamed = ap (λ n. search u seed k n zero_state) r.limit ∙ search_renamed t.limit zero_state
 
 module _ (move : ℕ → ℕ) (t u : Listing) (r : IsRenamed move t u) where
   told_renamed : (edits rep k : ℕ) (v : Verdict) → told u edits rep k (moved_verdict move v) ≡ told t edits rep k v
-  told_renamed edits rep k (Point s o) = ap (λ text. answers.Ready (record { edits = edits; replication = rep; start = k; text = text })) (renamed_text move t u rep k s o r)
+  told_renamed edits rep k (Point s o) =
+      ap (λ text. answers.Ready (record { edits = edits; replication = rep; start = k; text = text })) (renamed_text move t u rep k s o r)
   told_renamed edits rep k NoStart = refl
   told_renamed edits rep k TooLong = refl
 
@@ -71,7 +77,8 @@ module _ (move : ℕ → ℕ) (t u : Listing) (r : IsRenamed move t u) where
   seeded edits rep k None = refl
   seeded edits rep k (Some seed) =
       let same = ap (told u edits rep k) (verdict_renamed move t u seed k r) ∙ told_renamed edits rep k (verdict t seed k) in
-      ap (λ n. cond (nat_eq k 0 || nat_lt n k) answers.NoStart (told u edits rep k (verdict u seed k))) starts_renamed ∙ ap (λ a. cond (nat_eq k 0 || nat_lt (starts t) k) answers.NoStart a) same
+      ap (λ n. cond (nat_eq k 0 || nat_lt n k) answers.NoStart (told u edits rep k (verdict u seed k))) starts_renamed ∙
+      ap (λ a. cond (nat_eq k 0 || nat_lt (starts t) k) answers.NoStart a) same
 
   pub renamed_answers : (edits rep k : ℕ) → answer_of u edits rep k ≡ answer_of t edits rep k
   renamed_answers edits rep k = ap (λ rs. answer_with u edits rep k (seed_in rs rep)) r.replications ∙ seeded edits rep k (seed_at t rep)

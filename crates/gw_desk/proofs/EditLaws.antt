@@ -32,37 +32,44 @@ use Rattle.gw_desk.proofs.RebaseLaws.{IsRebasedOf, rebased_in, missing_or, missi
 abbrev pub runs_behind : ℕ → Listing → List Recording → List Recording
 runs_behind every u runs = filter (λ (r : Recording). is_some (seed_at u r.number)) (with_missing every u.replications runs)
 
-module _ (every : ℕ) (t : Listing) (e : Edit) (u : Listing) (old cut : List Recording) (made : applied t e ≡ Ok u) (runs : AreRuns t every old) (rebased : AreRebased t e u old cut) where
+module _ (every : ℕ) (t : Listing) (e : Edit) (u : Listing) (old cut : List Recording) (made : applied t e ≡ Ok u) (runs : AreRuns t every old)
+    (rebased : AreRebased t e u old cut) where
   behind_in : (n : ℕ) → run_in (runs_behind every u cut) n ≡ cond (is_some (seed_at u n)) (missing_or every (seed_at u n) (run_in cut n)) None
   behind_in n = left_in u (with_missing every u.replications cut) n ∙ ap (λ o. cond (is_some (seed_at u n)) o None) (missing_in every u.replications cut n)
 
   pub new_runs : AreRuns u every (runs_behind every u cut)
-  new_runs n = subst (λ o. IsRunOf u every (seed_at u n) o) (sym (behind_in n)) (go (seed_at u n) refl (run_in cut n) (run_in old n) (rebased_in t e u old cut rebased n) (seed_at t n) refl (runs n)) where
-    go : (b : Option ℕ) → seed_at u n ≡ b → (s : Option Tape) (r : Option Tape) → IsRebasedOf t e u n r s → (a : Option ℕ) → seed_at t n ≡ a → IsRunOf t every a r → IsRunOf u every b (cond (is_some b) (missing_or every b s) None)
-    go None is s r h a was k = tt
-    go (Some b) is None r h a was k = (blank_records u b every, refl)
-    go (Some b) is (Some s) None h a was k = absurd h
-    go (Some b) is (Some s) (Some r) h None was k = absurd k
-    go (Some b) is (Some s) (Some r) h (Some a) was k =
-        (h.records a b made was is k.0, h.every ∙ k.1)
+  new_runs n = subst (λ o. IsRunOf u every (seed_at u n) o) (sym (behind_in n))
+      (go (seed_at u n) refl (run_in cut n) (run_in old n) (rebased_in t e u old cut rebased n) (seed_at t n) refl (runs n)) where
+        go : (b : Option ℕ) → seed_at u n ≡ b → (s : Option Tape) (r : Option Tape) → IsRebasedOf t e u n r s → (a : Option ℕ) → seed_at t n ≡ a →
+            IsRunOf t every a r → IsRunOf u every b (cond (is_some b) (missing_or every b s) None)
+        go None is s r h a was k = tt
+        go (Some b) is None r h a was k = (blank_records u b every, refl)
+        go (Some b) is (Some s) None h a was k = absurd h
+        go (Some b) is (Some s) (Some r) h None was k = absurd k
+        go (Some b) is (Some s) (Some r) h (Some a) was k =
+            (h.records a b made was is k.0, h.every ∙ k.1)
 
   -- the run of a replication that both versions have
-  pub kept_run : (n a b : ℕ) (r : Tape) → seed_at t n ≡ Some a → seed_at u n ≡ Some b → run_in old n ≡ Some r → (s : Tape) × (run_in (runs_behind every u cut) n ≡ Some s) × (s.every ≡ r.every) × IsKeptOf t a r (touched_step (touch_of t e u n) t a r) s.moment
+  pub kept_run : (n a b : ℕ) (r : Tape) → seed_at t n ≡ Some a → seed_at u n ≡ Some b → run_in old n ≡ Some r → (s : Tape) ×
+      (run_in (runs_behind every u cut) n ≡ Some s) × (s.every ≡ r.every) × IsKeptOf t a r (touched_step (touch_of t e u n) t a r) s.moment
   kept_run n a b r was is there = go (run_in cut n) refl (subst (λ o. IsRebasedOf t e u n o (run_in cut n)) there (rebased_in t e u old cut rebased n)) where
     records : Records t a r
     records = (subst (λ o. IsRunOf t every (Some a) o) there (subst (λ o. IsRunOf t every o (run_in old n)) was (runs n))).0
 
-    go : (s : Option Tape) → run_in cut n ≡ s → IsRebasedOf t e u n (Some r) s → (s : Tape) × (run_in (runs_behind every u cut) n ≡ Some s) × (s.every ≡ r.every) × IsKeptOf t a r (touched_step (touch_of t e u n) t a r) s.moment
+    go : (s : Option Tape) → run_in cut n ≡ s → IsRebasedOf t e u n (Some r) s → (s : Tape) × (run_in (runs_behind every u cut) n ≡ Some s) ×
+        (s.every ≡ r.every) × IsKeptOf t a r (touched_step (touch_of t e u n) t a r) s.moment
     go None found h = absurd h
     go (Some s) found h = (s, behind_in n ∙ (rw (is, found) refl), h.every, h.kept a records)
 
   -- the run of a replication that comes in
   pub fresh_run : (n b : ℕ) → seed_at t n ≡ None → seed_at u n ≡ Some b → run_in (runs_behind every u cut) n ≡ Some (blank every)
-  fresh_run n b was is = go (run_in old n) refl (run_in cut n) refl (rebased_in t e u old cut rebased n) (subst (λ o. IsRunOf t every o (run_in old n)) was (runs n)) where
-    go : (x : Option Tape) → run_in old n ≡ x → (s : Option Tape) → run_in cut n ≡ s → IsRebasedOf t e u n x s → IsRunOf t every None x → run_in (runs_behind every u cut) n ≡ Some (blank every)
-    go (Some x) old_is s cut_is h k = absurd k
-    go None old_is (Some s) cut_is h k = absurd h
-    go None old_is None cut_is h k = behind_in n ∙ (rw (is, cut_is) refl)
+  fresh_run n b was is =
+      go (run_in old n) refl (run_in cut n) refl (rebased_in t e u old cut rebased n) (subst (λ o. IsRunOf t every o (run_in old n)) was (runs n)) where
+        go : (x : Option Tape) → run_in old n ≡ x → (s : Option Tape) → run_in cut n ≡ s → IsRebasedOf t e u n x s → IsRunOf t every None x →
+            run_in (runs_behind every u cut) n ≡ Some (blank every)
+        go (Some x) old_is s cut_is h k = absurd k
+        go None old_is (Some s) cut_is h k = absurd h
+        go None old_is None cut_is h k = behind_in n ∙ (rw (is, cut_is) refl)
 
 -- no edit is refused for the desk's history
 line_refused : (fault : LineFault) → of_line fault ≡ faults.HistoryFull → ⊥
@@ -95,18 +102,25 @@ spelled_refused : (o : Result Statement LineFault) (f : Statement → Listing) �
 spelled_refused (Ok s) f is = checked_refused (f s) is
 spelled_refused (Err fault) f is = line_refused fault cc
 
-one_or : (b : Bool) (fault : EditFault) (r : Result Listing EditFault) → (fault ≡ faults.HistoryFull → ⊥) → (r ≡ Err faults.HistoryFull → ⊥) → cond b (Err fault) r ≡ Err faults.HistoryFull → ⊥
+one_or : (b : Bool) (fault : EditFault) (r : Result Listing EditFault) → (fault ≡ faults.HistoryFull → ⊥) → (r ≡ Err faults.HistoryFull → ⊥) →
+    cond b (Err fault) r ≡ Err faults.HistoryFull → ⊥
 one_or true fault r h k is = h cc
 one_or false fault r h k is = k is
 
-other_or : (b : Bool) (fault : EditFault) (r : Result Listing EditFault) → (fault ≡ faults.HistoryFull → ⊥) → (r ≡ Err faults.HistoryFull → ⊥) → cond b r (Err fault) ≡ Err faults.HistoryFull → ⊥
+other_or : (b : Bool) (fault : EditFault) (r : Result Listing EditFault) → (fault ≡ faults.HistoryFull → ⊥) → (r ≡ Err faults.HistoryFull → ⊥) →
+    cond b r (Err fault) ≡ Err faults.HistoryFull → ⊥
 other_or true fault r h k is = k is
 other_or false fault r h k is = h cc
 
 pub never_full : (t : Listing) (e : Edit) → applied t e ≡ Err faults.HistoryFull → ⊥
-never_full t (edits.Insert place text) is = one_or (is_outside 1 (length t.lines + 1) place) faults.NoSuchPlace (spelled_by text >>= (λ s. checked (with_splice t place false (Some s)))) (λ e. absurd cc) (λ e. spelled_refused (edit_of text) (λ s. with_splice t place false (Some s)) e) is
-never_full t (edits.Delete place) is = one_or (is_outside 1 (length t.lines) place) faults.NoSuchPlace (checked (with_splice t place true None)) (λ e. absurd cc) (λ e. checked_refused (with_splice t place true None) e) is
-never_full t (edits.Change place text) is = one_or (is_outside 1 (length t.lines) place) faults.NoSuchPlace (spelled_by text >>= (λ s. checked (with_splice t place true (Some s)))) (λ e. absurd cc) (λ e. spelled_refused (edit_of text) (λ s. with_splice t place true (Some s)) e) is
+never_full t (edits.Insert place text) is = one_or (is_outside 1 (length t.lines + 1) place) faults.NoSuchPlace
+    (spelled_by text >>= (λ s. checked (with_splice t place false (Some s)))) (λ e. absurd cc)
+    (λ e. spelled_refused (edit_of text) (λ s. with_splice t place false (Some s)) e) is
+never_full t (edits.Delete place) is = one_or (is_outside 1 (length t.lines) place) faults.NoSuchPlace (checked (with_splice t place true None))
+    (λ e. absurd cc) (λ e. checked_refused (with_splice t place true None) e) is
+never_full t (edits.Change place text) is = one_or (is_outside 1 (length t.lines) place) faults.NoSuchPlace
+    (spelled_by text >>= (λ s. checked (with_splice t place true (Some s)))) (λ e. absurd cc)
+    (λ e. spelled_refused (edit_of text) (λ s. with_splice t place true (Some s)) e) is
 never_full t (edits.Capacity name amount) is = absurd cc
 never_full t (edits.Seed number seed) is =
     let v : Listing = record t { replications = reseeded number seed t.replications } in
@@ -131,7 +145,8 @@ refuses b e faults.ReplicationTwice room h = (room, h)
 refuses b e faults.NoSuchStorage room h = (room, h)
 
 -- an edit that is made is accepted, and leaves a desk
-module _ (b : Book) (e : Edit) (u : Listing) (cut runs : List Recording) (all : List Edit) (room : length b.edits < 4096) (made : applied b.version e ≡ Ok u) (h : IsBook b) (rebased : AreRebased b.version e u b.runs cut) (behind : runs ≡ runs_behind b.every u cut) (more : all ≡ b.edits ++ e ∷ []) where
+module _ (b : Book) (e : Edit) (u : Listing) (cut runs : List Recording) (all : List Edit) (room : length b.edits < 4096) (made : applied b.version e ≡ Ok u)
+    (h : IsBook b) (rebased : AreRebased b.version e u b.runs cut) (behind : runs ≡ runs_behind b.every u cut) (more : all ≡ b.edits ++ e ∷ []) where
   abbrev pub edited : Book
   edited = record b { version = u; edits = all; runs = runs }
 

@@ -42,7 +42,8 @@ reach_shuts t seed k r (reaches.Ended end) h some (fewer, ends) o =
     absurd cc
 reach_shuts t seed k r reaches.Limit h some (fewer, limit, goes) o = let b = o.below in omega (arith, b, limit)
 
-module _ (b : Book) (rep seed place : ℕ) (d : Recording) (new : Tape) (h : IsBook b) (is : seed_at b.version rep ≡ Some seed) (found : place_in b.runs rep ≡ Some place) (at : d ≡ get_or b.runs place d) where
+module _ (b : Book) (rep seed place : ℕ) (d : Recording) (new : Tape) (h : IsBook b) (is : seed_at b.version rep ≡ Some seed)
+    (found : place_in b.runs rep ≡ Some place) (at : d ≡ get_or b.runs place d) where
   first : (place < length b.runs) × (((get_or b.runs place d).number == rep) ≡ true) × ((k : ℕ) → k < place → ((get_or b.runs k d).number == rep) ≡ false)
   first = position-Some (λ (r : Recording). r.number == rep) b.runs place d found
 
@@ -79,7 +80,8 @@ module _ (b : Book) (rep seed place : ℕ) (d : Recording) (new : Tape) (h : IsB
   pub still_book : (made : ℕ) → Records b.version seed new → new.every ≡ d.run.every → IsBook (record b { runs = changed; made = made })
   still_book made records every = record { some = h.some; few = h.few; numbered = h.numbered; runs = new_runs records (every ∙ old_records.1) }
 
-  pub finishes : (k made : ℕ) → new.every ≡ d.run.every → d.run.moment ≤ new.moment → AreWanted b.version seed k d.run.moment new.moment → made ≡ tallied b.made (new.moment - d.run.moment) → Finishes b rep k (record b { runs = changed; made = made })
+  pub finishes : (k made : ℕ) → new.every ≡ d.run.every → d.run.moment ≤ new.moment → AreWanted b.version seed k d.run.moment new.moment →
+      made ≡ tallied b.made (new.moment - d.run.moment) → Finishes b rep k (record b { runs = changed; made = made })
   finishes k made every grows wanted counted =
       record {
         version = refl;
@@ -92,24 +94,29 @@ module _ (b : Book) (rep seed place : ℕ) (d : Recording) (new : Tape) (h : IsB
             let runs : Some a ≡ Some d.run = sym recorded ∙ old_run in
             let same_run : a ≡ d.run = cc in
             let P : ℕ → Tape → Type 0 = λ s a. GoesOn b rep k s a (record b { runs = changed; made = made }) in
-            subst (λ s. P s a) (sym same_seed) (subst (λ a. P seed a) (sym same_run) (record { run = new; there = new_run; every = every; grows = grows; wanted = wanted; made = counted }));
+            subst (λ s. P s a) (sym same_seed) (subst (λ a. P seed a) (sym same_run)
+            (record { run = new; there = new_run; every = every; grows = grows; wanted = wanted; made = counted }));
       }
 
-  pub shut : (k : ℕ) (reach : Reach) → Records b.version seed new → 1 ≤ k → Reaches b.version seed k new reach → (r : Tape) → run_in changed rep ≡ Some r → IsOpen b.version seed k r.moment → ⊥
+  pub shut : (k : ℕ) (reach : Reach) → Records b.version seed new → 1 ≤ k → Reaches b.version seed k new reach → (r : Tape) → run_in changed rep ≡ Some r →
+      IsOpen b.version seed k r.moment → ⊥
   shut k reach records some reached r there o =
       let runs : Some r ≡ Some new = sym there ∙ new_run in
       let same : r ≡ new = cc in
       reach_shuts b.version seed k new reach records some reached (subst (λ (a : Tape). IsOpen b.version seed k a.moment) same o)
 
 none_before : (rs : List Recording) (n : ℕ) → place_in rs n ≡ None → run_in rs n ≡ None
-none_before rs n none = go rs (λ k d less. fails_before_first (λ (r : Recording). r.number == n) rs k d (over (nat_lt (position_or_len (λ (r : Recording). r.number == n) rs) (length rs)) refl none k less)) where
-  over : (b : Bool) → nat_lt (position_or_len (λ (r : Recording). r.number == n) rs) (length rs) ≡ b → cond b (Some (position_or_len (λ (r : Recording). r.number == n) rs)) None ≡ None → (k : ℕ) → k < length rs → k < position_or_len (λ (r : Recording). r.number == n) rs
-  over true e is = absurd cc
-  over false e is = λ k less. grind (arith, nat_tests)
+none_before rs n none = go rs (λ k d less. fails_before_first (λ (r : Recording). r.number == n) rs k d
+    (over (nat_lt (position_or_len (λ (r : Recording). r.number == n) rs) (length rs)) refl none k less)) where
+      over : (b : Bool) → nat_lt (position_or_len (λ (r : Recording). r.number == n) rs) (length rs) ≡ b →
+          cond b (Some (position_or_len (λ (r : Recording). r.number == n) rs)) None ≡ None → (k : ℕ) → k < length rs →
+          k < position_or_len (λ (r : Recording). r.number == n) rs
+      over true e is = absurd cc
+      over false e is = λ k less. grind (arith, nat_tests)
 
-  go : (xs : List Recording) → ((k : ℕ) (d : Recording) → k < length xs → ((get_or xs k d).number == n) ≡ false) → run_in xs n ≡ None
-  go [] h = refl
-  go (x ∷ xs) h = let e : (x.number == n) ≡ false = h 0 x (omega arith) in rw e (go xs (λ k d less. h (suc k) d (omega (arith, less))))
+      go : (xs : List Recording) → ((k : ℕ) (d : Recording) → k < length xs → ((get_or xs k d).number == n) ≡ false) → run_in xs n ≡ None
+      go [] h = refl
+      go (x ∷ xs) h = let e : (x.number == n) ≡ false = h 0 x (omega arith) in rw e (go xs (λ k d less. h (suc k) d (omega (arith, less))))
 
 -- the run of each replication is there
 pub is_there : (b : Book) (rep seed : ℕ) → IsBook b → seed_at b.version rep ≡ Some seed → place_in b.runs rep ≡ None → ⊥

@@ -13,7 +13,8 @@ use Rattle.gw_desk.specs.Headline.{IsRight, AreRight, ReportsAreRight}
 
 -- a report that the definition answers is the one that it answers of the version made anew
 module _ (b : Book) (is : IsBook b) (rep k : ℕ) where
-  made_anew : (report : Report) → answers.Ready report ≡ answer_of b.version (length b.edits) rep k → IsRight b.version (length b.edits) rep k (answers.Ready report)
+  made_anew : (report : Report) → answers.Ready report ≡ answer_of b.version (length b.edits) rep k →
+      IsRight b.version (length b.edits) rep k (answers.Ready report)
   made_anew report h = h ∙ sym (answered_anew b.version is.numbered (length b.edits) rep k)
 
   peek_right : (answer : Answer) → Peeks b rep k answer → IsRight b.version (length b.edits) rep k answer

@@ -19,7 +19,8 @@ use Rattle.gw_desk.specs.Ending.{seen_with, seen_at_end}
 use Rattle.gw_desk.specs.Looking.{IsOpen, Sees}
 
 -- the search comes to each moment before which k STARTs were never complete
-pub search_from : (t : Listing) (seed k m f : ℕ) (s : Machine) → run t seed m ≡ Ok s → ((i : ℕ) (u : Machine) → i < m → run t seed i ≡ Ok u → u.complete ≡ k → ⊥) → m + f ≡ t.limit → verdict t seed k ≡ search t seed k f s
+pub search_from : (t : Listing) (seed k m f : ℕ) (s : Machine) → run t seed m ≡ Ok s →
+    ((i : ℕ) (u : Machine) → i < m → run t seed i ≡ Ok u → u.complete ≡ k → ⊥) → m + f ≡ t.limit → verdict t seed k ≡ search t seed k f s
 search_from t seed k zero f s is none sum =
     let start : Ok zero_state ≡ Ok s = is in
     let same : zero_state ≡ s = cc in
@@ -29,7 +30,8 @@ search_from t seed k (suc m) f s is none sum =
     let before = run_before t seed m s is in
     let p : Machine = before.0 in
     let goes : step t seed p ≡ Ok s = sym (run_on t seed m p before.1) ∙ is in
-    let earlier : verdict t seed k ≡ search t seed k (suc f) p = search_from t seed k m (suc f) p before.1 (λ i u less. none i u (omega (arith, less))) (omega (arith, sum)) in
+    let earlier : verdict t seed k ≡ search t seed k (suc f) p =
+    search_from t seed k m (suc f) p before.1 (λ i u less. none i u (omega (arith, less))) (omega (arith, sum)) in
     earlier ∙ go p (p.complete == k) refl (none m p (omega arith) before.1) goes where
       go : (p : Machine) (b : Bool) → (p.complete == k) ≡ b → (p.complete ≡ k → ⊥) → step t seed p ≡ Ok s → search t seed k (suc f) p ≡ search t seed k f s
       go p true e other goes = absurd (other (grind (arith, nat_tests)))
@@ -47,8 +49,11 @@ module _ (t : Listing) (seed k : ℕ) (r : Tape) (h : Records t seed r) where
   pub seen_complete : (m : ℕ) → m ≤ r.moment → IsStartEnd t seed k m → Sees t seed k r (looks.Point m outcomes.Complete)
   seen_complete m low e =
       let w = h.within in
-      let found = search_from t seed k m (t.limit - m) e.state e.there e.first (omega (arith, low, w)) in
-      (record { below = low; wanted = inr (inr (k, e)) }, (e.state, e.there, found ∙ complete_now (t.limit - m) e.state e.complete), λ o. o.none m e.state low e.there e.complete)
+      let found = search_from t seed k m (t.limit - m) e.state e.there e.first (omega (arith, low, w)) in (
+        record { below = low; wanted = inr (inr (k, e)) },
+        (e.state, e.there, found ∙ complete_now (t.limit - m) e.state e.complete),
+        λ o. o.none m e.state low e.there e.complete,
+      )
 
   module _ (some : 1 ≤ k) (none : IsEndOf t seed r k None) where
     found : verdict t seed k ≡ search t seed k (t.limit - r.moment) r.tip
@@ -75,7 +80,8 @@ module _ (t : Listing) (seed k : ℕ) (r : Tape) (h : Records t seed r) where
     -- the run ends at the tip
     pub seen_ended : (end : End) → step t seed r.tip ≡ Err end → Sees t seed k r (seen_at_end r.moment r.tip.complete k end)
     seen_ended end is = go (r.tip.complete + 1 == k) (outcome_of end) (found ∙ ended_now (t.limit - r.moment) end is) where
-      go : (b : Bool) (o : Option Outcome) → verdict t seed k ≡ cond b (with_outcome r.tip o) NoStart → Sees t seed k r (cond b (seen_with r.moment o) looks.NoStart)
+      go : (b : Bool) (o : Option Outcome) → verdict t seed k ≡ cond b (with_outcome r.tip o) NoStart →
+          Sees t seed k r (cond b (seen_with r.moment o) looks.NoStart)
       go false o e = (e, shut end is)
       go true None e = (e, shut end is)
       go true (Some o) e = (record { below = omega arith; wanted = inl refl }, (r.tip, h.tip, e), shut end is)

@@ -15,14 +15,16 @@ use Rattle.gw_desk.specs.Book.{Book, run_in}
 use Rattle.gw_desk.specs.Peeking.{IsUnfinished, Peeks, IsAnswer}
 
 -- the answer for a START that there is
-pub answer_is : (t : Listing) (edits rep k seed : ℕ) → seed_at t rep ≡ Some seed → 1 ≤ k → k ≤ starts t → answer_of t edits rep k ≡ told t edits rep k (verdict t seed k)
+pub answer_is : (t : Listing) (edits rep k seed : ℕ) → seed_at t rep ≡ Some seed → 1 ≤ k → k ≤ starts t →
+    answer_of t edits rep k ≡ told t edits rep k (verdict t seed k)
 answer_is t edits rep k seed is some there =
     let none : (k == 0) ≡ false = grind (arith, nat_tests) in
     let few : nat_lt (starts t) k ≡ false = grind (arith, nat_tests) in
     ap (λ o. answer_with t edits rep k o) is ∙ rw (none, few) refl
 
 -- what decides is not unfinished
-pub not_unfinished : (b : Book) (rep k seed : ℕ) (r : Tape) → seed_at b.version rep ≡ Some seed → run_in b.runs rep ≡ Some r → (IsOpen b.version seed k r.moment → ⊥) → (n : ℕ) → IsUnfinished b rep k n → ⊥
+pub not_unfinished : (b : Book) (rep k seed : ℕ) (r : Tape) → seed_at b.version rep ≡ Some seed → run_in b.runs rep ≡ Some r →
+    (IsOpen b.version seed k r.moment → ⊥) → (n : ℕ) → IsUnfinished b rep k n → ⊥
 not_unfinished b rep k seed r is recorded shut n u =
     let seeds : Some u.seed ≡ Some seed = sym u.with_seed ∙ is in
     let same_seed : u.seed ≡ seed = cc in
@@ -32,14 +34,22 @@ not_unfinished b rep k seed r is recorded shut n u =
     shut (subst (λ m. IsOpen b.version seed k m) at (subst (λ s. IsOpen b.version s k n) same_seed u.undecided))
 
 -- a report that was printed
-pub peeks_ready : (b : Book) (rep k seed : ℕ) (r : Tape) (s : Machine) (o : Outcome) (answer : Answer) → 1 ≤ k → k ≤ starts b.version → seed_at b.version rep ≡ Some seed → run_in b.runs rep ≡ Some r → verdict b.version seed k ≡ Point s o → (IsOpen b.version seed k r.moment → ⊥) → IsAnswer (answers.Ready (record { edits = length b.edits; replication = rep; start = k; text = text_of b.version rep k s o })) answer → Peeks b rep k answer
+pub peeks_ready : (b : Book) (rep k seed : ℕ) (r : Tape) (s : Machine) (o : Outcome) (answer : Answer) → 1 ≤ k → k ≤ starts b.version →
+    seed_at b.version rep ≡ Some seed → run_in b.runs rep ≡ Some r → verdict b.version seed k ≡ Point s o → (IsOpen b.version seed k r.moment → ⊥) →
+    IsAnswer (answers.Ready (record { edits = length b.edits; replication = rep; start = k; text = text_of b.version rep k s o })) answer → Peeks b rep k answer
 peeks_ready b rep k seed r s o answer some there is recorded found shut given = ⊎_elim
-    (λ ready. subst (λ a. Peeks b rep k a) (sym ready) (sym (answer_is b.version (length b.edits) rep k seed is some there ∙ ap (λ v. told b.version (length b.edits) rep k v) found), not_unfinished b rep k seed r is recorded shut))
+    (λ ready. subst (λ a. Peeks b rep k a) (sym ready) (
+      sym
+          (answer_is b.version (length b.edits) rep k seed is some there ∙ ap (λ v. told b.version (length b.edits) rep k v) found),
+      not_unfinished b rep k seed r
+          is recorded shut,
+    ))
     (λ memory. subst (λ a. Peeks b rep k a) (sym memory) tt)
     given
 
 -- where the recorded steps decide the answer is that of the run from zero, or want of memory
-pub peeks_answer : (b : Book) (rep k : ℕ) (answer : Answer) → Peeks b rep k answer → ((n : ℕ) → IsUnfinished b rep k n → ⊥) → IsAnswer (answer_of b.version (length b.edits) rep k) answer
+pub peeks_answer : (b : Book) (rep k : ℕ) (answer : Answer) → Peeks b rep k answer → ((n : ℕ) → IsUnfinished b rep k n → ⊥) →
+    IsAnswer (answer_of b.version (length b.edits) rep k) answer
 peeks_answer b rep k (answers.Unfinished n) h shut = absurd (shut n h)
 peeks_answer b rep k answers.Memory h shut = inr refl
 peeks_answer b rep k (answers.Ready report) h shut = inl h.0
@@ -48,5 +58,6 @@ peeks_answer b rep k answers.TooLong h shut = inl h.0
 peeks_answer b rep k answers.NoReplication h shut = inl h.0
 
 -- what is shut for the recorded run is not unfinished
-pub shut_is : (b : Book) (rep k seed : ℕ) → seed_at b.version rep ≡ Some seed → ((r : Tape) → run_in b.runs rep ≡ Some r → IsOpen b.version seed k r.moment → ⊥) → (n : ℕ) → IsUnfinished b rep k n → ⊥
+pub shut_is : (b : Book) (rep k seed : ℕ) → seed_at b.version rep ≡ Some seed →
+    ((r : Tape) → run_in b.runs rep ≡ Some r → IsOpen b.version seed k r.moment → ⊥) → (n : ℕ) → IsUnfinished b rep k n → ⊥
 shut_is b rep k seed is shut n u = not_unfinished b rep k seed u.run is u.recorded (shut u.run u.recorded) n u

@@ -5,7 +5,8 @@ use Rattle.gw_desk.specs.declared.play.Reply.{Reply}
 use Rattle.gw_desk.specs.Book.{Book}
 use Rattle.gw_desk.specs.Playing.{Does, Plays}
 
-pub plays_more : (b c d : Book) (es : List Event) (rs : List Reply) (e : Event) (r : Reply) → Plays b es rs c → Does c e r d → Plays b (es ++ e ∷ []) (rs ++ r ∷ []) d
+pub plays_more : (b c d : Book) (es : List Event) (rs : List Reply) (e : Event) (r : Reply) → Plays b es rs c → Does c e r d →
+    Plays b (es ++ e ∷ []) (rs ++ r ∷ []) d
 plays_more b c d [] [] e r none does = (d, subst (λ x. Does x e r d) none does, refl)
 plays_more b c d [] (s ∷ rs) e r none does = absurd none
 plays_more b c d (f ∷ es) [] e r none does = absurd none

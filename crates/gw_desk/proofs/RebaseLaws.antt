@@ -12,7 +12,9 @@ use Rattle.gw_desk.specs.declared.recording.Recording.{Recording}
 use Rattle.gw_desk.specs.Book.{run_in}
 use Rattle.gw_desk.specs.Rebasing.{IsRebasedRecording, AreRebased, with_run, with_missing}
 
-module _ (t : Listing) (e : Edit) (u : Listing) (old cur : List Recording) (i : ℕ) (x : Recording) (count : length cur ≡ length old) (within : i < length cur) (done : (k : ℕ) (d : Recording) → k < i → IsRebasedRecording t e u (get_or old k d) (get_or cur k d)) (rest : (k : ℕ) (d : Recording) → i ≤ k → get_or cur k d ≡ get_or old k d) (y : Recording) (now : IsRebasedRecording t e u (get_or cur i y) x) where
+module _ (t : Listing) (e : Edit) (u : Listing) (old cur : List Recording) (i : ℕ) (x : Recording) (count : length cur ≡ length old) (within : i < length cur)
+    (done : (k : ℕ) (d : Recording) → k < i → IsRebasedRecording t e u (get_or old k d) (get_or cur k d))
+    (rest : (k : ℕ) (d : Recording) → i ≤ k → get_or cur k d ≡ get_or old k d) (y : Recording) (now : IsRebasedRecording t e u (get_or cur i y) x) where
   here : (d : Recording) → IsRebasedRecording t e u (get_or cur i d) x
   here d = subst (λ r. IsRebasedRecording t e u r x) (get_or_default cur i y d within) now
 
@@ -38,7 +40,8 @@ IsRebasedOf t e u number None (Some s) = ⊥
 IsRebasedOf t e u number (Some r) None = ⊥
 IsRebasedOf t e u number (Some r) (Some s) = IsRebased t e u number r s
 
-pub rebased_in : (t : Listing) (e : Edit) (u : Listing) (old new : List Recording) → AreRebased t e u old new → (n : ℕ) → IsRebasedOf t e u n (run_in old n) (run_in new n)
+pub rebased_in : (t : Listing) (e : Edit) (u : Listing) (old new : List Recording) → AreRebased t e u old new → (n : ℕ) →
+    IsRebasedOf t e u n (run_in old n) (run_in new n)
 rebased_in t e u [] [] h n = tt
 rebased_in t e u [] (x ∷ new) h n = absurd (let c = h.count in omega (arith, c))
 rebased_in t e u (r ∷ old) [] h n = absurd (let c = h.count in omega (arith, c))
@@ -47,7 +50,8 @@ rebased_in t e u (r ∷ old) (x ∷ new) h n =
     let first : IsRebasedRecording t e u r x = h.each 0 r (omega arith) in
     let rest = rebased_in t e u old new (record { count = omega (arith, c); each = λ k d within. h.each (suc k) d (omega (arith, within)) }) n in
     go (r.number == n) refl (x.number == n) refl first rest where
-      go : (a : Bool) → (r.number == n) ≡ a → (b : Bool) → (x.number == n) ≡ b → IsRebasedRecording t e u r x → IsRebasedOf t e u n (run_in old n) (run_in new n) → IsRebasedOf t e u n (cond a (Some r.run) (run_in old n)) (cond b (Some x.run) (run_in new n))
+      go : (a : Bool) → (r.number == n) ≡ a → (b : Bool) → (x.number == n) ≡ b → IsRebasedRecording t e u r x →
+          IsRebasedOf t e u n (run_in old n) (run_in new n) → IsRebasedOf t e u n (cond a (Some r.run) (run_in old n)) (cond b (Some x.run) (run_in new n))
       go true is true was first rest =
           let at : r.number ≡ n = grind (arith, nat_tests) in
           subst (λ m. IsRebased t e u m r.run x.run) at first.run
@@ -59,7 +63,8 @@ rebased_in t e u (r ∷ old) (x ∷ new) h n =
 run_in_more : (runs : List Recording) (x : Recording) (n : ℕ) → run_in (runs ++ x ∷ []) n ≡ option_or (run_in runs n) (cond (x.number == n) (Some x.run) None)
 run_in_more [] x n = refl
 run_in_more (r ∷ runs) x n = go (r.number == n) (run_in_more runs x n) where
-  go : (b : Bool) → run_in (runs ++ x ∷ []) n ≡ option_or (run_in runs n) (cond (x.number == n) (Some x.run) None) → cond b (Some r.run) (run_in (runs ++ x ∷ []) n) ≡ option_or (cond b (Some r.run) (run_in runs n)) (cond (x.number == n) (Some x.run) None)
+  go : (b : Bool) → run_in (runs ++ x ∷ []) n ≡ option_or (run_in runs n) (cond (x.number == n) (Some x.run) None) →
+      cond b (Some r.run) (run_in (runs ++ x ∷ []) n) ≡ option_or (cond b (Some r.run) (run_in runs n)) (cond (x.number == n) (Some x.run) None)
   go true h = refl
   go false h = h
 
@@ -69,28 +74,34 @@ missing_or every seed (Some r) = Some r
 missing_or every None None = None
 missing_or every (Some seed) None = Some (blank every)
 
-pub missing_in : (every : ℕ) (rs : List Replication) (runs : List Recording) (n : ℕ) → run_in (with_missing every rs runs) n ≡ missing_or every (seed_in rs n) (run_in runs n)
+pub missing_in : (every : ℕ) (rs : List Replication) (runs : List Recording) (n : ℕ) →
+    run_in (with_missing every rs runs) n ≡ missing_or every (seed_in rs n) (run_in runs n)
 missing_in every [] runs n = go (run_in runs n) where
   go : (o : Option Tape) → o ≡ missing_or every None o
   go None = refl
   go (Some r) = refl
 missing_in every (r ∷ rs) runs n = missing_in every rs (with_run every r.number (run_in runs r.number) runs) n ∙ by (run_in runs r.number) refl where
-  by : (o : Option Tape) → run_in runs r.number ≡ o → missing_or every (seed_in rs n) (run_in (with_run every r.number o runs) n) ≡ missing_or every (cond (r.number == n) (Some r.seed) (seed_in rs n)) (run_in runs n)
+  by : (o : Option Tape) → run_in runs r.number ≡ o → missing_or every (seed_in rs n) (run_in (with_run every r.number o runs) n) ≡
+      missing_or every (cond (r.number == n) (Some r.seed) (seed_in rs n)) (run_in runs n)
   by (Some s) is = at (r.number == n) refl where
-    at : (b : Bool) → (r.number == n) ≡ b → missing_or every (seed_in rs n) (run_in runs n) ≡ missing_or every (cond b (Some r.seed) (seed_in rs n)) (run_in runs n)
+    at : (b : Bool) → (r.number == n) ≡ b → missing_or every (seed_in rs n) (run_in runs n) ≡
+        missing_or every (cond b (Some r.seed) (seed_in rs n)) (run_in runs n)
     at false e = refl
     at true e =
         let same : r.number ≡ n = grind (arith, nat_tests) in
         let found : run_in runs n ≡ Some s = ap (λ m. run_in runs m) (sym same) ∙ is in
         rw found refl
-  by None is = ap (λ o. missing_or every (seed_in rs n) o) (run_in_more runs (record { number = r.number; run = blank every }) n) ∙ at (r.number == n) refl (run_in runs n) refl where
-    at : (b : Bool) → (r.number == n) ≡ b → (o : Option Tape) → run_in runs n ≡ o → missing_or every (seed_in rs n) (option_or o (cond b (Some (blank every)) None)) ≡ missing_or every (cond b (Some r.seed) (seed_in rs n)) o
-    at b e (Some s) found = refl
-    at true e None found = refl
-    at false e None found = refl
+  by None is = ap (λ o. missing_or every (seed_in rs n) o) (run_in_more runs (record { number = r.number; run = blank every }) n) ∙
+      at (r.number == n) refl (run_in runs n) refl where
+        at : (b : Bool) → (r.number == n) ≡ b → (o : Option Tape) → run_in runs n ≡ o →
+            missing_or every (seed_in rs n) (option_or o (cond b (Some (blank every)) None)) ≡ missing_or every (cond b (Some r.seed) (seed_in rs n)) o
+        at b e (Some s) found = refl
+        at true e None found = refl
+        at false e None found = refl
 
 -- of the runs those are left whose replication is there
-pub left_in : (t : Listing) (runs : List Recording) (n : ℕ) → run_in (filter (λ (r : Recording). is_some (seed_at t r.number)) runs) n ≡ cond (is_some (seed_at t n)) (run_in runs n) None
+pub left_in : (t : Listing) (runs : List Recording) (n : ℕ) →
+    run_in (filter (λ (r : Recording). is_some (seed_at t r.number)) runs) n ≡ cond (is_some (seed_at t n)) (run_in runs n) None
 left_in t [] n = go (is_some (seed_at t n)) where
   go : (b : Bool) → ◌≡◌ {A = Option Tape} None (cond b None None)
   go true = refl
@@ -99,7 +110,10 @@ left_in t (r ∷ runs) n = at (r.number == n) refl (is_some (seed_at t r.number)
   left : List Recording
   left = filter (λ (r : Recording). is_some (seed_at t r.number)) runs
 
-  at : (b : Bool) → (r.number == n) ≡ b → (k : Bool) → is_some (seed_at t r.number) ≡ k → run_in (filter (λ (r : Recording). is_some (seed_at t r.number)) runs) n ≡ cond (is_some (seed_at t n)) (run_in runs n) None → run_in (cond k (r ∷ filter (λ (r : Recording). is_some (seed_at t r.number)) runs) (filter (λ (r : Recording). is_some (seed_at t r.number)) runs)) n ≡ cond (is_some (seed_at t n)) (cond b (Some r.run) (run_in runs n)) None
+  at : (b : Bool) → (r.number == n) ≡ b → (k : Bool) → is_some (seed_at t r.number) ≡ k →
+      run_in (filter (λ (r : Recording). is_some (seed_at t r.number)) runs) n ≡ cond (is_some (seed_at t n)) (run_in runs n) None →
+      run_in (cond k (r ∷ filter (λ (r : Recording). is_some (seed_at t r.number)) runs) (filter (λ (r : Recording). is_some (seed_at t r.number)) runs)) n ≡
+      cond (is_some (seed_at t n)) (cond b (Some r.run) (run_in runs n)) None
   at true e true k h =
       let same : r.number ≡ n = grind (arith, nat_tests) in
       let there : is_some (seed_at t n) ≡ true = ap (λ m. is_some (seed_at t m)) (sym same) ∙ k in

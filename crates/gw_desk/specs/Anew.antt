@@ -18,4 +18,5 @@ SameAnswers =
 
 -- so an edited version answers as the version made anew
 abbrev pub AnsweredAnew : Type 0
-AnsweredAnew = (t : Listing) → AreNumbered t.lines → (edits rep k : ℕ) → answer_of (anew t) edits rep k ≡ answer_of t edits rep k
+AnsweredAnew =
+    (t : Listing) → AreNumbered t.lines → (edits rep k : ℕ) → answer_of (anew t) edits rep k ≡ answer_of t edits rep k

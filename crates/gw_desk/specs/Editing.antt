@@ -1,5 +1,5 @@
--- When the desk accepts an edit and what that leaves of it, for all replications at once: the runs of those that stay, of those
--- that come in, and all else that it holds; and when it refuses. (Our own.)
+-- When the desk accepts an edit and what that leaves of it, for all replications at once: the runs of those that stay,
+-- of those that come in, and all else that it holds; and when it refuses. (Our own.)
 use Rattle.std.specs.Prelude.{◌≡◌, ℕ, ◌<◌, ◌≤◌, [], ◌∷◌, ◌++◌, length, Some, None, Ok, Err}
 use Rattle.gw_meaning.specs.Listing.{seed_at}
 use Rattle.gw_record.specs.Tape.{Tape, blank}
@@ -17,7 +17,8 @@ pub record IsCut (old : Book) (e : Edit) (new : Book) (rep seed : ℕ) (r : Tape
   pub run : Tape
   pub there : run_in new.runs rep ≡ Some run
   pub every : run.every ≡ r.every
-  pub kept : IsKeptOf old.version seed r (touched_step (touch_of old.version e new.version rep) old.version seed r) run.moment
+  pub kept : IsKeptOf old.version seed r (touched_step (touch_of old.version e new.version rep) old.version seed r)
+      run.moment
 
 -- an accepted edit, which is the n-th: it is put behind those before it
 pub record Accepts (old : Book) (e : Edit) (new : Book) (n : ℕ) : Type 0 where
@@ -27,9 +28,11 @@ pub record Accepts (old : Book) (e : Edit) (new : Book) (n : ℕ) : Type 0 where
   pub number : n ≡ length new.edits
   pub every : new.every ≡ old.every
   pub made : new.made ≡ old.made
-  pub kept : (rep a b : ℕ) (r : Tape) → seed_at old.version rep ≡ Some a → seed_at new.version rep ≡ Some b → run_in old.runs rep ≡ Some r → IsCut old e new rep a r
+  pub kept : (rep a b : ℕ) (r : Tape) → seed_at old.version rep ≡ Some a → seed_at new.version rep ≡ Some b →
+      run_in old.runs rep ≡ Some r → IsCut old e new rep a r
   -- a replication that comes in has a run, of no steps
-  pub fresh : (rep b : ℕ) → seed_at old.version rep ≡ None → seed_at new.version rep ≡ Some b → run_in new.runs rep ≡ Some (blank new.every)
+  pub fresh : (rep b : ℕ) → seed_at old.version rep ≡ None → seed_at new.version rep ≡ Some b →
+      run_in new.runs rep ≡ Some (blank new.every)
 
 -- a refusal is the edit's own, or the desk has 4,096 edits, or memory was refused
 abbrev pub Refuses : Book → Edit → EditFault → Type 0

@@ -28,8 +28,10 @@ behind k s on (Ok u) = on u
 behind k s on (Err end) = at_end k s end
 
 abbrev pub search : Listing → ℕ → ℕ → ℕ → Machine → Verdict
-search t seed k zero s = if s.complete == k then Point s outcomes.Complete else behind k s (λ u. TooLong) (step t seed s)
-search t seed k (suc n) s = if s.complete == k then Point s outcomes.Complete else behind k s (search t seed k n) (step t seed s)
+search t seed k zero s =
+    if s.complete == k then Point s outcomes.Complete else behind k s (λ u. TooLong) (step t seed s)
+search t seed k (suc n) s =
+    if s.complete == k then Point s outcomes.Complete else behind k s (search t seed k n) (step t seed s)
 
 -- the point of START k, or that there is none within the step limit
 abbrev pub verdict : Listing → ℕ → ℕ → Verdict

@@ -6,7 +6,8 @@ use Rattle.gw_record.specs.Extending.{tallied}
 use Rattle.gw_record.specs.Reaching.{AreWanted}
 use Rattle.gw_desk.specs.Book.{Book, run_in}
 
--- the run of one replication goes on, from moments only at which the START was not complete, and these steps are counted
+-- the run of one replication goes on, from moments only at which the START was not complete, and these steps are
+-- counted
 pub record GoesOn (old : Book) (rep k seed : ℕ) (a : Tape) (new : Book) : Type 0 where
   pub run : Tape
   pub there : run_in new.runs rep ≡ Some run
@@ -21,7 +22,8 @@ pub record Finishes (old : Book) (rep k : ℕ) (new : Book) : Type 0 where
   pub every : new.every ≡ old.every
   pub edits : new.edits ≡ old.edits
   pub others : (number : ℕ) → number ≢ rep → run_in new.runs number ≡ run_in old.runs number
-  pub steps : (seed : ℕ) (a : Tape) → seed_at old.version rep ≡ Some seed → run_in old.runs rep ≡ Some a → GoesOn old rep k seed a new
+  pub steps : (seed : ℕ) (a : Tape) → seed_at old.version rep ≡ Some seed → run_in old.runs rep ≡ Some a →
+      GoesOn old rep k seed a new
 
 -- a START that a version has not: its replication is not there, or there are not so many STARTs
 abbrev pub IsMissing : Listing → ℕ → ℕ → Type 0

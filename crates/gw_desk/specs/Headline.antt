@@ -1,5 +1,5 @@
--- The headline: after any list of edits and queries each report handed out is, byte for byte, the report of a version made anew
--- from the statements that `list` shows, run from zero. (Our own.)
+-- The headline: after any list of edits and queries each report handed out is, byte for byte, the report of a version
+-- made anew from the statements that `list` shows, run from zero. (Our own.)
 use Rattle.std.specs.Prelude.{◌≡◌, ℕ, ◌+◌, List, [], ◌∷◌, Ok, length}
 use Rattle.gw_meaning.specs.Listing.{Listing}
 use Rattle.gw_edit.specs.Applied.{applied}
@@ -19,16 +19,20 @@ abbrev pub IsRight : Listing → ℕ → ℕ → ℕ → Answer → Type 0
 IsRight t n rep k (answers.Ready report) = answers.Ready report ≡ answer_of (anew t) n rep k
 IsRight t n rep k answer = Unit {0}
 
--- the replies to events, from a version behind n accepted edits on: an accepted edit goes on to its version, a refused one leaves it
+-- the replies to events, from a version behind n accepted edits on: an accepted edit goes on to its version, a refused
+-- one leaves it
 abbrev pub AreRight : Listing → ℕ → List Event → List Reply → Type 0
 AreRight t n [] others = Unit {0}
 AreRight t n (event ∷ more) [] = Unit {0}
-AreRight t n (events.Edit e ∷ more) (replies.Edited m ∷ others) = (u : Listing) × (applied t e ≡ Ok u) × (m ≡ n + 1) × AreRight u (n + 1) more others
+AreRight t n (events.Edit e ∷ more) (replies.Edited m ∷ others) =
+    (u : Listing) × (applied t e ≡ Ok u) × (m ≡ n + 1) × AreRight u (n + 1) more others
 AreRight t n (events.Edit e ∷ more) (replies.Refused fault ∷ others) = AreRight t n more others
 AreRight t n (events.Edit e ∷ more) (replies.Answered answer ∷ others) = ⊥
-AreRight t n (events.Peek rep k ∷ more) (replies.Answered answer ∷ others) = IsRight t n rep k answer × AreRight t n more others
+AreRight t n (events.Peek rep k ∷ more) (replies.Answered answer ∷ others) =
+    IsRight t n rep k answer × AreRight t n more others
 AreRight t n (events.Peek rep k ∷ more) (reply ∷ others) = ⊥
-AreRight t n (events.Finish rep k ∷ more) (replies.Answered answer ∷ others) = IsRight t n rep k answer × AreRight t n more others
+AreRight t n (events.Finish rep k ∷ more) (replies.Answered answer ∷ others) =
+    IsRight t n rep k answer × AreRight t n more others
 AreRight t n (events.Finish rep k ∷ more) (reply ∷ others) = ⊥
 
 -- whatever was played of a desk

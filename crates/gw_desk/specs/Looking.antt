@@ -8,8 +8,8 @@ use Rattle.gw_desk.specs.declared.look.Look.{Look}
 use Rattle.gw_desk.specs.declared.look.Look.TheVariants as looks
 use Rattle.gw_desk.specs.Finding.{Point, NoStart, TooLong, verdict}
 
--- n steps decide nothing: they are fewer than the step limit, the run goes on behind them, and at none of their moments are
--- k STARTs complete
+-- n steps decide nothing: they are fewer than the step limit, the run goes on behind them, and at none of their moments
+-- are k STARTs complete
 pub record IsOpen (t : Listing) (seed k n : ℕ) : Type 0 where
   pub below : n < t.limit
   pub state : Machine
@@ -20,7 +20,9 @@ pub record IsOpen (t : Listing) (seed k n : ℕ) : Type 0 where
 
 -- what is seen is what the search from zero finds
 abbrev pub Sees : Listing → ℕ → ℕ → Tape → Look → Type 0
-Sees t seed k r (looks.Point moment outcome) = IsKept t seed r moment × ((s : Machine) × (run t seed moment ≡ Ok s) × (verdict t seed k ≡ Point s outcome)) × (IsOpen t seed k r.moment → ⊥)
+Sees t seed k r (looks.Point moment outcome) =
+    IsKept t seed r moment × ((s : Machine) × (run t seed moment ≡ Ok s) × (verdict t seed k ≡ Point s outcome)) ×
+    (IsOpen t seed k r.moment → ⊥)
 Sees t seed k r looks.NoStart = (verdict t seed k ≡ NoStart) × (IsOpen t seed k r.moment → ⊥)
 Sees t seed k r looks.TooLong = (verdict t seed k ≡ TooLong) × (IsOpen t seed k r.moment → ⊥)
 Sees t seed k r looks.Open = IsOpen t seed k r.moment

@@ -1,4 +1,5 @@
--- The laws of a keeper, at a desk: it may be asked in vain, and its answers may be lost. (Laws that an `impl` names stand here.)
+-- The laws of a keeper, at a desk: it may be asked in vain, and its answers may be lost. (Laws that an `impl` names
+-- stand here.)
 use Rattle.std.proofs.Common.{◌≡◌, ℕ, Some, inr, refl, sym, ap}
 use Rattle.std.proofs.Math.Nat.{le_refl, le_trans, not-suc-le_self, sub_self}
 use Rattle.gw_record.specs.Tape.{Tape}
@@ -37,10 +38,13 @@ finishes_none b rep k = record {
 pub does_nothing : (b : Book) (event : Event) → Does b event (wants_memory event) b
 does_nothing b (events.Edit e) = (λ desk. desk, (refl, tt))
 does_nothing b (events.Peek rep k) = (λ desk. desk, (refl, tt))
-does_nothing b (events.Finish rep k) = (λ desk. desk, (inr refl, finishes_none b rep k, λ other n undecided. other refl, λ missing. refl))
+does_nothing b (events.Finish rep k) =
+    (λ desk. desk, (inr refl, finishes_none b rep k, λ other n undecided. other refl, λ missing. refl))
 
 -- each answer may be lost
-pub loses : (b c : Book) (event : Event) (answer : Answer) → Does b event (replies.Answered answer) c → Does b event (replies.Answered answers.Memory) c
+pub loses : (b c : Book) (event : Event) (answer : Answer) → Does b event (replies.Answered answer) c →
+    Does b event (replies.Answered answers.Memory) c
 loses b c (events.Edit e) answer does = does
 loses b c (events.Peek rep k) answer (desk, does) = (desk, (does.0, tt))
-loses b c (events.Finish rep k) answer (desk, does) = (desk, (inr refl, does.1, λ other n undecided. other refl, does.3))
+loses b c (events.Finish rep k) answer (desk, does) =
+    (desk, (inr refl, does.1, λ other n undecided. other refl, does.3))

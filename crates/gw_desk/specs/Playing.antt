@@ -11,14 +11,15 @@ use Rattle.gw_desk.specs.Peeking.{IsUnfinished, Peeks, IsAnswer}
 use Rattle.gw_desk.specs.Finishing.{Finishes, IsMissing}
 use Rattle.gw_desk.specs.Editing.{Accepts, Refuses}
 
--- the case of each event: an edit is accepted, or refused, which changes nothing; a query is answered, from the recorded steps
--- or with those that are missing, which are none where there is no such START
+-- the case of each event: an edit is accepted, or refused, which changes nothing; a query is answered, from the
+-- recorded steps or with those that are missing, which are none where there is no such START
 abbrev pub Tells : Book → Event → Reply → Book → Type 0
 Tells b (events.Edit e) (replies.Edited n) c = Accepts b e c n
 Tells b (events.Edit e) (replies.Refused fault) c = (c ≡ b) × Refuses b e fault
 Tells b (events.Peek rep k) (replies.Answered answer) c = (c ≡ b) × Peeks b rep k answer
 Tells b (events.Finish rep k) (replies.Answered answer) c =
-    IsAnswer (answer_of b.version (length b.edits) rep k) answer × Finishes b rep k c × (answer ≢ answers.Memory → (n : ℕ) → IsUnfinished c rep k n → ⊥) × (IsMissing b.version rep k → c ≡ b)
+    IsAnswer (answer_of b.version (length b.edits) rep k) answer × Finishes b rep k c ×
+    (answer ≢ answers.Memory → (n : ℕ) → IsUnfinished c rep k n → ⊥) × (IsMissing b.version rep k → c ≡ b)
 Tells b event reply c = ⊥
 
 -- one event: of a desk it leaves a desk

@@ -16,7 +16,8 @@ pub record IsRebasedRecording (t : Listing) (e : Edit) (u : Listing) (old new : 
 -- each of the recordings
 pub record AreRebased (t : Listing) (e : Edit) (u : Listing) (old new : List Recording) : Type 0 where
   pub count : length new ≡ length old
-  pub each : (k : ℕ) (d : Recording) → k < length old → IsRebasedRecording t e u (slice_index_or old k d) (slice_index_or new k d)
+  pub each : (k : ℕ) (d : Recording) → k < length old →
+      IsRebasedRecording t e u (slice_index_or old k d) (slice_index_or new k d)
 
 -- a run of no steps for each of these replications that has none
 abbrev pub with_run : ℕ → ℕ → Option Tape → List Recording → List Recording

@@ -8,13 +8,15 @@ use Rattle.gw_desk.specs.Finding.{Verdict, Point, NoStart, TooLong, verdict}
 
 -- a verdict, told of a version behind so many accepted edits
 abbrev pub told : Listing → ℕ → ℕ → ℕ → Verdict → Answer
-told t edits rep k (Point s o) = answers.Ready (record { edits = edits; replication = rep; start = k; text = text_of t rep k s o })
+told t edits rep k (Point s o) =
+    answers.Ready (record { edits = edits; replication = rep; start = k; text = text_of t rep k s o })
 told t edits rep k NoStart = answers.NoStart
 told t edits rep k TooLong = answers.TooLong
 
 -- of a START that there is, what the run from zero comes to
 abbrev pub told_of : Listing → ℕ → ℕ → ℕ → ℕ → Answer
-told_of t edits rep k seed = if k == 0 || nat_lt (starts t) k then answers.NoStart else told t edits rep k (verdict t seed k)
+told_of t edits rep k seed =
+    if k == 0 || nat_lt (starts t) k then answers.NoStart else told t edits rep k (verdict t seed k)
 
 abbrev pub answer_with : Listing → ℕ → ℕ → ℕ → Option ℕ → Answer
 answer_with t edits rep k None = answers.NoReplication

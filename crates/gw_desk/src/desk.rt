@@ -11,8 +11,8 @@ use gw_scan::Tally;
 use std::alloc::{AllocError, Global};
 use std::marker::Model;
 
-/// A version of a model kept open, with the edits that were accepted on the way to it and the recorded run of each of its
-/// replications.
+/// A version of a model kept open, with the edits that were accepted on the way to it and the recorded run of each of
+/// its replications.
 #[derive(Drop)]
 pub struct Desk {
     pub(crate) version: Version,
@@ -27,9 +27,17 @@ impl Model for Desk {
 
     ghost Value = { Book };
 
-    ghost view = { λ d. record { version = d.version; every = d.every; edits = d.edits.items; runs = d.runs.items; made = d.tally } };
+    ghost view = { λ d. record {
+      version = d.version;
+      every = d.every;
+      edits = d.edits.items;
+      runs =
+          d.runs.items;
+      made = d.tally;
+    } };
 
-    ghost invariant = { λ d. IsBook (record { version = d.version; every = d.every; edits = d.edits.items; runs = d.runs.items; made = d.tally }) };
+    ghost invariant = { λ d. IsBook (record
+        { version = d.version; every = d.every; edits = d.edits.items; runs = d.runs.items; made = d.tally }) };
 }
 
 impl Desk {
@@ -37,7 +45,15 @@ impl Desk {
     /// 1,000,000.
     pub fn new(alloc: Global, version: Version, every: u64) -> Result<Desk, AllocError>
         requires { 1 ≤ every }
-        ensures value { IfOk result (λ d. d ≡ record { version = version; every = every; edits = []; runs = blank_runs every version.replications; made = 0 }) }
+        ensures value { IfOk result (λ d. d ≡
+            record {
+              version = version;
+              every = every;
+              edits = [];
+              runs = blank_runs every version.replications;
+              made =
+                  0;
+            }) }
         ensures desk { IfOk result IsBook }
     {
         version.numbered();
@@ -65,7 +81,8 @@ impl Desk {
         self.edits.as_slice()
     }
 
-    /// The recorded run of a replication, from zero, of the version that is open; none where there is no such replication.
+    /// The recorded run of a replication, from zero, of the version that is open; none where there is no such
+    /// replication.
     pub fn run(&self, rep: u64) -> Option<&Recorded>
         ensures value { option_copied result ≡ run_in self.now.runs rep }
         ensures run { IsRunOf self.now.version self.now.every (seed_at self.now.version rep) (option_copied result) }

@@ -12,9 +12,10 @@ use std::alloc::Global;
 const HISTORY: usize = 4_096;
 
 impl Desk {
-    /// Edits the version, keeps the edit, and answers the number of accepted edits; or refuses, and changes nothing. Of each recorded
-    /// run that stays it throws away only what lies after its last kept moment at or before the first step that read
-    /// something touched. E8 comes before all else, at 4,096 accepted edits; E7 may come in place of any.
+    /// Edits the version, keeps the edit, and answers the number of accepted edits; or refuses, and changes nothing. Of
+    /// each recorded run that stays it throws away only what lies after its last kept moment at or before the first
+    /// step that read something touched. E8 comes before all else, at 4,096 accepted edits; E7 may come in place of
+    /// any.
     pub fn edit(&mut self, alloc: Global, edit: Edit) -> Result<u64, EditFault>
         ensures accepted { IfOk result (Accepts self.old edit self.new) }
         ensures refused { IfErr result (Refuses self.old edit) }

@@ -17,7 +17,8 @@ use std::alloc::{AllocError, Global};
 
 impl Desk {
     /// The report of START `k` of a replication, or that there is no such START or replication, or that the step limit
-    /// decides nothing. It makes just the steps that are missing for that; where memory is refused, the steps made stay.
+    /// decides nothing. It makes just the steps that are missing for that; where memory is refused, the steps made
+    /// stay.
     pub fn finish(&mut self, alloc: Global, rep: u64, k: u64) -> Answer
         ensures answer { IsAnswer (answer_of self.old.version (length self.old.edits) rep k) result }
         ensures steps { Finishes self.old rep k self.new }
@@ -49,7 +50,8 @@ impl Desk {
         requires some { 1 ≤ k }
         ensures steps { Finishes self.old rep k self.new }
         ensures desk { IsBook self.new }
-        ensures shut { OnOk result ((r : Tape) → run_in self.new.runs rep ≡ Some r → IsOpen self.new.version seed k r.moment → ⊥) }
+        ensures shut { OnOk result ((r : Tape) → run_in self.new.runs rep ≡ Some r →
+            IsOpen self.new.version seed k r.moment → ⊥) }
     {
         match place_of(self.runs.as_slice(), rep) {
             Some(place) => {

@@ -16,8 +16,8 @@ use std::alloc::Global;
 
 /// Keeps a version of a model open, edits it and answers queries of it.
 ///
-/// `version a` is the version that is seen at the moment `a`, and `does a event reply b` says that an event may be answered
-/// so, and what that leaves. A [`Desk`] does what its own calls do, and no one else edits it.
+/// `version a` is the version that is seen at the moment `a`, and `does a event reply b` says that an event may be
+/// answered so, and what that leaves. A [`Desk`] does what its own calls do, and no one else edits it.
 pub trait Keeper {
     ghost use Rattle.gw_desk.specs.declared.answer.Answer.{Answer};
     ghost use Rattle.gw_desk.specs.declared.play.Event.{Event};
@@ -56,7 +56,8 @@ pub trait Keeper {
     ghost in_vain: { (a : Self) (event : Event) → does a event (wants_memory event) a };
 
     // An answer may be lost where memory is refused for telling it.
-    ghost lost: { (a b : Self) (event : Event) (answer : Answer) → does a event (replies.Answered answer) b → does a event (replies.Answered answers.Memory) b };
+    ghost lost: { (a b : Self) (event : Event) (answer : Answer) → does a event (replies.Answered answer) b →
+        does a event (replies.Answered answers.Memory) b };
 }
 
 impl Keeper for Desk {

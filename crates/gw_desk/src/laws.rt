@@ -9,8 +9,8 @@ pub fn points_are_found()
     ensures { FindsPoints }
 {}
 
-/// After any list of edits and queries that [`Desk::play`](crate::Desk::play) played, each report handed out is, byte for
-/// byte, the report of a run from zero of the version of the edits accepted so far; a refused edit changes nothing.
+/// After any list of edits and queries that [`Desk::play`](crate::Desk::play) played, each report handed out is, byte
+/// for byte, the report of a run from zero of the version of the edits accepted so far; a refused edit changes nothing.
 pub fn reports_are_right()
     ensures { ReportsAreRight }
 {}

@@ -29,11 +29,12 @@ pub enum Reply {
 
 impl Desk {
     /// Makes the calls of these events, in order, and answers one reply for each: each report handed out is that of the
-    /// version made anew from its statements, run from zero. Where memory is refused for the list of replies, nothing is
-    /// done.
+    /// version made anew from its statements, run from zero. Where memory is refused for the list of replies, nothing
+    /// is done.
     pub fn play(&mut self, alloc: Global, events: Vec<Event>) -> Result<Vec<Reply>, AllocError>
         ensures plays { IfOk result (λ replies. Plays self.old events.items replies.items self.new) }
-        ensures right { IfOk result (λ replies. AreRight self.old.version (length self.old.edits) events.items replies.items) }
+        ensures right { IfOk result (λ replies. AreRight self.old.version (length self.old.edits)
+            events.items replies.items) }
         ensures err { OnErr result (self.new ≡ self.old) }
     {
         self.is_book();

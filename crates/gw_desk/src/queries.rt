@@ -72,7 +72,14 @@ impl Desk {
         requires seed { seed_at self.now.version rep ≡ Some seed }
         requires records { Records self.now.version seed recorded.now }
         requires kept { IsKept self.now.version seed recorded.now moment }
-        ensures { (s : Machine) → run self.now.version seed moment ≡ Ok s → IsAnswer (answers.Ready (record { edits = length self.now.edits; replication = rep; start = k; text = text_of self.now.version rep k s outcome })) result }
+        ensures { (s : Machine) → run self.now.version seed moment ≡ Ok s →
+            IsAnswer (answers.Ready (record {
+              edits = length self.now.edits;
+              replication = rep;
+              start = k;
+              text =
+                  text_of self.now.version rep k s outcome;
+            })) result }
     {
         let Some(state) = recorded.state_at(moment) else {
             unreachable!()

@@ -24,11 +24,13 @@ changed_line line s = record line { statement = s }
 module _ (back : List Numbered) (line : Numbered) (s : Statement) where
   block_other : (k : ℕ) → (line.number == k) ≡ false → block_in (changed_line line s ∷ back) k ≡ block_in (line ∷ back) k
   block_other k other =
-      subst (λ (b : Bool). option_and_then block_of (cond b (Some (changed_line line s)) (line_in back k)) ≡ option_and_then block_of (cond b (Some line) (line_in back k))) (sym other) refl
+      subst (λ (b : Bool). option_and_then block_of (cond b (Some (changed_line line s)) (line_in back k)) ≡
+      option_and_then block_of (cond b (Some line) (line_in back k))) (sym other) refl
 
   block_here : (k : ℕ) → block_of (changed_line line s) ≡ block_of line → block_in (changed_line line s ∷ back) k ≡ block_in (line ∷ back) k
   block_here k same =
-      elim (line.number == k) as (λ b. option_and_then block_of (cond b (Some (changed_line line s)) (line_in back k)) ≡ option_and_then block_of (cond b (Some line) (line_in back k)))
+      elim (line.number == k) as (λ b. option_and_then block_of (cond b (Some (changed_line line s)) (line_in back k)) ≡
+      option_and_then block_of (cond b (Some line) (line_in back k)))
       [ true ↦ same | false ↦ refl ]
 
   after_here : (k : ℕ) → is_block (changed_line line s) ≡ is_block line → after_in (changed_line line s ∷ back) k ≡ after_in (line ∷ back) k
@@ -49,72 +51,84 @@ pub record IsChanged (t u : Listing) (place : ℕ) (line : Numbered) (s : Statem
   pub new : u.lines ≡ lines_before t place ++ changed_line line s ∷ back
   pub horizon : u.horizon ≡ t.horizon
 
-module _ (t u : Listing) (place : ℕ) (line : Numbered) (s : Statement) (back : List Numbered) (e : IsChanged t u place line s back) (a b : ℕ) (seeds : b ≡ a) where
-  -- what the lines answer alike, the versions do
-  between : {X : Type 0} (f : List Numbered → X) → f (lines_before t place ++ changed_line line s ∷ back) ≡ f (lines_before t place ++ line ∷ back) → f u.lines ≡ f t.lines
-  between f h = ap f e.new ∙ h ∙ sym (ap f e.old)
+module _ (t u : Listing) (place : ℕ) (line : Numbered) (s : Statement) (back : List Numbered) (e : IsChanged t u place line s back) (a b : ℕ) (seeds : b ≡ a)
+  where
+    -- what the lines answer alike, the versions do
+    between : {X : Type 0} (f : List Numbered → X) → f (lines_before t place ++ changed_line line s ∷ back) ≡ f (lines_before t place ++ line ∷ back) →
+        f u.lines ≡ f t.lines
+    between f h = ap f e.new ∙ h ∙ sym (ap f e.old)
 
-  block_alike : (k : ℕ) → block_in (changed_line line s ∷ back) k ≡ block_in (line ∷ back) k → block_in u.lines k ≡ block_in t.lines k
-  block_alike k h = between (λ ls. block_in ls k) (block_behind (lines_before t place) (changed_line line s ∷ back) (line ∷ back) k h)
+    block_alike : (k : ℕ) → block_in (changed_line line s ∷ back) k ≡ block_in (line ∷ back) k → block_in u.lines k ≡ block_in t.lines k
+    block_alike k h = between (λ ls. block_in ls k) (block_behind (lines_before t place) (changed_line line s ∷ back) (line ∷ back) k h)
 
-  after_alike : (k : ℕ) → is_block (changed_line line s) ≡ is_block line → after_in u.lines k ≡ after_in t.lines k
-  after_alike k same =
-      between (λ ls. after_in ls k) (after_behind (lines_before t place) (changed_line line s ∷ back) (line ∷ back) k (first_here back line s same) (after_here back line s k same))
+    after_alike : (k : ℕ) → is_block (changed_line line s) ≡ is_block line → after_in u.lines k ≡ after_in t.lines k
+    after_alike k same =
+        between (λ ls. after_in ls k) (after_behind (lines_before t place) (changed_line line s ∷ back) (line ∷ back) k (first_here back line s same)
+        (after_here back line s k same))
 
-  generates_alike : is_generate (changed_line line s) ≡ is_generate line → generates_in u.lines ≡ generates_in t.lines
-  generates_alike same = between generates_in (generates_behind (lines_before t place) (changed_line line s ∷ back) (line ∷ back) (generates_here back line s same))
+    generates_alike : is_generate (changed_line line s) ≡ is_generate line → generates_in u.lines ≡ generates_in t.lines
+    generates_alike same =
+        between generates_in (generates_behind (lines_before t place) (changed_line line s ∷ back) (line ∷ back) (generates_here back line s same))
 
-  commands_alike : (j : ℕ) → command_of (changed_line line s) ≡ command_of line → nth (filter_map command_of u.lines) j ≡ nth (filter_map command_of t.lines) j
-  commands_alike j same =
-      between (λ ls. nth (filter_map command_of ls) j) (ap (λ cs. nth cs j) (commands_behind (lines_before t place) (changed_line line s ∷ back) (line ∷ back) (commands_here back line s same)))
+    commands_alike : (j : ℕ) → command_of (changed_line line s) ≡ command_of line → nth (filter_map command_of u.lines) j ≡ nth (filter_map command_of t.lines) j
+    commands_alike j same =
+        between (λ ls. nth (filter_map command_of ls) j) (ap (λ cs. nth cs j)
+        (commands_behind (lines_before t place) (changed_line line s ∷ back) (line ∷ back) (commands_here back line s same)))
 
-  -- the same block
-  same_alike : line.statement.body ≡ s.body → (i : Item) → ask u b i ≡ ask t a i
-  same_alike same (items.Block k) = block_alike k (block_here back line s k (ap block_of_body (sym same)))
-  same_alike same (items.After k) = after_alike k (ap (λ body. is_some (block_of_body body)) (sym same))
-  same_alike same items.Generates = generates_alike (ap is_generate_body (sym same))
-  same_alike same (items.Cmd j) = commands_alike j (ap command_of_body (sym same))
-  same_alike same items.Seed = seeds
-  same_alike same (items.Within time) = ap (λ n. nat_le time n) e.horizon
+    -- the same block
+    same_alike : line.statement.body ≡ s.body → (i : Item) → ask u b i ≡ ask t a i
+    same_alike same (items.Block k) = block_alike k (block_here back line s k (ap block_of_body (sym same)))
+    same_alike same (items.After k) = after_alike k (ap (λ body. is_some (block_of_body body)) (sym same))
+    same_alike same items.Generates = generates_alike (ap is_generate_body (sym same))
+    same_alike same (items.Cmd j) = commands_alike j (ap command_of_body (sym same))
+    same_alike same items.Seed = seeds
+    same_alike same (items.Within time) = ap (λ n. nat_le time n) e.horizon
 
-  -- another block
-  other_alike : is_block line ≡ true → is_block (changed_line line s) ≡ true → (i : Item) →
-      is_touched (One (items.Block line.number) ∷ generates_if (is_generate line || is_generate (changed_line line s))) i ≡ false → ask u b i ≡ ask t a i
-  other_alike was is (items.Block k) h = block_alike k (block_other back line s k (other_way k line.number ((or_parts _ _ h).0)))
-  other_alike was is (items.After k) h = after_alike k (is ∙ sym was)
-  other_alike was is items.Generates h =
-      let none = not_generates (is_generate line || is_generate (changed_line line s)) h in
-      let parts = or_parts (is_generate line) (is_generate (changed_line line s)) none in
-      generates_alike (parts.1 ∙ sym parts.0)
-  other_alike was is (items.Cmd j) h = commands_alike j (command_none (changed_line line s) is ∙ sym (command_none line was))
-  other_alike was is items.Seed h = seeds
-  other_alike was is (items.Within time) h = ap (λ n. nat_le time n) e.horizon
+    -- another block
+    other_alike : is_block line ≡ true → is_block (changed_line line s) ≡ true → (i : Item) →
+        is_touched (One (items.Block line.number) ∷ generates_if (is_generate line || is_generate (changed_line line s))) i ≡ false → ask u b i ≡ ask t a i
+    other_alike was is (items.Block k) h = block_alike k (block_other back line s k (other_way k line.number ((or_parts _ _ h).0)))
+    other_alike was is (items.After k) h = after_alike k (is ∙ sym was)
+    other_alike was is items.Generates h =
+        let none = not_generates (is_generate line || is_generate (changed_line line s)) h in
+        let parts = or_parts (is_generate line) (is_generate (changed_line line s)) none in
+        generates_alike (parts.1 ∙ sym parts.0)
+    other_alike was is (items.Cmd j) h = commands_alike j (command_none (changed_line line s) is ∙ sym (command_none line was))
+    other_alike was is items.Seed h = seeds
+    other_alike was is (items.Within time) h = ap (λ n. nat_le time n) e.horizon
 
-  block_by_block : is_block line ≡ true → is_block (changed_line line s) ≡ true → (i : Item) → is_touched (block_change line (changed_line line s)) i ≡ false → ask u b i ≡ ask t a i
-  block_by_block was is i h =
-      ⊎_elim
-      (λ (same : same_statement line.statement s ≡ true). same_alike (statement_same line.statement s same) i)
-      (λ (other : same_statement line.statement s ≡ false).
-      let touched : List Probe = One (items.Block line.number) ∷ generates_if (is_generate line || is_generate (changed_line line s)) in
-      other_alike was is i (subst (λ (b : Bool). is_touched (cond b [] touched) i ≡ false) other h))
-      (cases_Bool (same_statement line.statement s))
+    block_by_block : is_block line ≡ true → is_block (changed_line line s) ≡ true → (i : Item) → is_touched (block_change line (changed_line line s)) i ≡ false →
+        ask u b i ≡ ask t a i
+    block_by_block was is i h =
+        ⊎_elim
+        (λ (same : same_statement line.statement s ≡ true). same_alike (statement_same line.statement s same) i)
+        (λ (other : same_statement line.statement s ≡ false).
+        let touched : List Probe = One (items.Block line.number) ∷ generates_if (is_generate line || is_generate (changed_line line s)) in
+        other_alike was is i (subst (λ (b : Bool). is_touched (cond b [] touched) i ≡ false) other h))
+        (cases_Bool (same_statement line.statement s))
 
-  -- a block for a command, or a command: as if the one went out and the other came in
-  kind_alike : line_in (lines_before t place ++ back) line.number ≡ None → (i : Item) → is_touched (line_probes t place line ++ line_probes t place (changed_line line s)) i ≡ false → ask u b i ≡ ask t a i
-  kind_alike absent i h =
-      let parts = untouched_both (line_probes t place line) (line_probes t place (changed_line line s)) i h in
-      let w : Listing = record t { lines = lines_before t place ++ back } in
-      let goes : ask t a i ≡ ask w a i = line_alike t place line back t w (record { has = e.old; lacks = refl; horizon = refl; absent = absent }) a a refl i parts.0 in
-      let comes : ask u b i ≡ ask w a i = line_alike t place (changed_line line s) back u w (record { has = e.new; lacks = refl; horizon = e.horizon; absent = absent }) a b seeds i parts.1 in
-      comes ∙ sym goes
+    -- a block for a command, or a command: as if the one went out and the other came in
+    kind_alike : line_in (lines_before t place ++ back) line.number ≡ None → (i : Item) →
+        is_touched (line_probes t place line ++ line_probes t place (changed_line line s)) i ≡ false → ask u b i ≡ ask t a i
+    kind_alike absent i h =
+        let parts = untouched_both (line_probes t place line) (line_probes t place (changed_line line s)) i h in
+        let w : Listing = record t { lines = lines_before t place ++ back } in
+        let goes : ask t a i ≡ ask w a i =
+        line_alike t place line back t w (record { has = e.old; lacks = refl; horizon = refl; absent = absent }) a a refl i parts.0 in
+        let comes : ask u b i ≡ ask w a i =
+        line_alike t place (changed_line line s) back u w (record { has = e.new; lacks = refl; horizon = e.horizon; absent = absent }) a b seeds i parts.1 in
+        comes ∙ sym goes
 
-  by_kinds : line_in (lines_before t place ++ back) line.number ≡ None → (was is : Bool) → is_block line ≡ was → is_block (changed_line line s) ≡ is → (i : Item) →
-      is_touched (cond (was && is) (block_change line (changed_line line s)) (line_probes t place line ++ line_probes t place (changed_line line s))) i ≡ false → ask u b i ≡ ask t a i
-  by_kinds absent true true was is i h = block_by_block was is i h
-  by_kinds absent true false was is i h = kind_alike absent i h
-  by_kinds absent false true was is i h = kind_alike absent i h
-  by_kinds absent false false was is i h = kind_alike absent i h
+    by_kinds : line_in (lines_before t place ++ back) line.number ≡ None → (was is : Bool) → is_block line ≡ was → is_block (changed_line line s) ≡ is →
+        (i : Item) →
+        is_touched (cond (was && is) (block_change line (changed_line line s)) (line_probes t place line ++ line_probes t place (changed_line line s))) i ≡
+        false → ask u b i ≡ ask t a i
+    by_kinds absent true true was is i h = block_by_block was is i h
+    by_kinds absent true false was is i h = kind_alike absent i h
+    by_kinds absent false true was is i h = kind_alike absent i h
+    by_kinds absent false false was is i h = kind_alike absent i h
 
-  -- another statement
-  pub change_alike : line_in (lines_before t place ++ back) line.number ≡ None → (i : Item) → is_touched (splice_probes t place (Some line) (Some (changed_line line s))) i ≡ false → ask u b i ≡ ask t a i
-  change_alike absent i h = by_kinds absent (is_block line) (is_block (changed_line line s)) refl refl i h
+    -- another statement
+    pub change_alike : line_in (lines_before t place ++ back) line.number ≡ None → (i : Item) →
+        is_touched (splice_probes t place (Some line) (Some (changed_line line s))) i ≡ false → ask u b i ≡ ask t a i
+    change_alike absent i h = by_kinds absent (is_block line) (is_block (changed_line line s)) refl refl i h

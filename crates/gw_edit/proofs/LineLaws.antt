@@ -71,7 +71,8 @@ module _ (front back : List Numbered) (line : Numbered) where
   generates_without none = generates_behind front (line ∷ back) back (ap (λ b. cond b (line.number ∷ generates_in back) (generates_in back)) none)
 
   commands_same : (j : ℕ) → is_block line ≡ true → nth (filter_map command_of (front ++ line ∷ back)) j ≡ nth (filter_map command_of (front ++ back)) j
-  commands_same j block = ap (λ cs. nth cs j) (commands_behind front (line ∷ back) back (ap (λ o. cons_option o (filter_map command_of back)) (command_none line block)))
+  commands_same j block =
+      ap (λ cs. nth cs j) (commands_behind front (line ∷ back) back (ap (λ o. cons_option o (filter_map command_of back)) (command_none line block)))
 
   -- a command, whose number no block has
   module _ (command : is_block line ≡ false) (absent : line_in (front ++ back) line.number ≡ None) where
@@ -79,7 +80,8 @@ module _ (front back : List Numbered) (line : Numbered) where
     block_hidden k =
         ⊎_elim
         (λ (same : (line.number == k) ≡ true).
-        let none : line_in back k ≡ None = subst (λ (n : ℕ). line_in back n ≡ None) (eqb-true line.number k same) (absent_behind front back line.number absent) in
+        let none : line_in back k ≡ None =
+        subst (λ (n : ℕ). line_in back n ≡ None) (eqb-true line.number k same) (absent_behind front back line.number absent) in
         subst (λ (b : Bool). option_and_then block_of (cond b (Some line) (line_in back k)) ≡ block_in back k) (sym same)
         (no_block line command ∙ sym (ap (λ o. option_and_then block_of o) none)))
         (λ (other : (line.number == k) ≡ false).
@@ -90,7 +92,8 @@ module _ (front back : List Numbered) (line : Numbered) where
     after_hidden k =
         ⊎_elim
         (λ (same : (line.number == k) ≡ true).
-        let none : line_in back k ≡ None = subst (λ (n : ℕ). line_in back n ≡ None) (eqb-true line.number k same) (absent_behind front back line.number absent) in
+        let none : line_in back k ≡ None =
+        subst (λ (n : ℕ). line_in back n ≡ None) (eqb-true line.number k same) (absent_behind front back line.number absent) in
         subst (λ (b : Bool). cond b (cond (is_block line) (first_block back) None) (after_in back k) ≡ after_in back k) (sym same)
         (ap (λ b. cond b (first_block back) None) command ∙ sym (after_none back k (ap (λ o. option_and_then block_of o) none))))
         (λ (other : (line.number == k) ≡ false).
@@ -110,21 +113,26 @@ pub record IsWith (t : Listing) (place : ℕ) (line : Numbered) (back : List Num
   pub horizon : with.horizon ≡ without.horizon
   pub absent : line_in (lines_before t place ++ back) line.number ≡ None
 
-module _ (t : Listing) (place : ℕ) (line : Numbered) (back : List Numbered) (with without : Listing) (e : IsWith t place line back with without) (a b : ℕ) (seeds : b ≡ a) where
+module _ (t : Listing) (place : ℕ) (line : Numbered) (back : List Numbered) (with without : Listing) (e : IsWith t place line back with without) (a b : ℕ)
+    (seeds : b ≡ a) where
   -- what the lines answer alike, the versions do
   between : {X : Type 0} (f : List Numbered → X) → f (lines_before t place ++ line ∷ back) ≡ f (lines_before t place ++ back) → f with.lines ≡ f without.lines
   between f h = ap f e.has ∙ h ∙ sym (ap f e.lacks)
 
   by_block : is_block line ≡ true → (i : Item) → is_touched (block_probes t place line) i ≡ false → ask with b i ≡ ask without a i
-  by_block block i h = go i (untouched_both (behind (block_before t place)) (One (items.Block line.number) ∷ One (items.After line.number) ∷ generates_if (is_generate line)) i h) where
-    go : (i : Item) → (is_touched (behind (block_before t place)) i ≡ false) × (is_touched (One (items.Block line.number) ∷ One (items.After line.number) ∷ generates_if (is_generate line)) i ≡ false) → ask with b i ≡ ask without a i
-    go (items.Block k) h = between (λ ls. block_in ls k) (block_other (lines_before t place) back line k (other_way k line.number ((or_parts _ _ h.1).0)))
-    go (items.After k) h =
-        between (λ ls. after_in ls k) (after_other (lines_before t place) back line k (other_way k line.number ((or_parts _ _ h.1).0)) (not_behind (block_before t place) k h.0))
-    go items.Generates h = between generates_in (generates_without (lines_before t place) back line (not_generates (is_generate line) h.1))
-    go (items.Cmd j) h = between (λ ls. nth (filter_map command_of ls) j) (commands_same (lines_before t place) back line j block)
-    go items.Seed h = seeds
-    go (items.Within time) h = ap (λ n. nat_le time n) e.horizon
+  by_block block i h = go i (untouched_both (behind (block_before t place))
+      (One (items.Block line.number) ∷ One (items.After line.number) ∷ generates_if (is_generate line)) i h) where
+        go : (i : Item) → (is_touched (behind (block_before t place)) i ≡ false) ×
+            (is_touched (One (items.Block line.number) ∷ One (items.After line.number) ∷ generates_if (is_generate line)) i ≡ false) →
+            ask with b i ≡ ask without a i
+        go (items.Block k) h = between (λ ls. block_in ls k) (block_other (lines_before t place) back line k (other_way k line.number ((or_parts _ _ h.1).0)))
+        go (items.After k) h =
+            between (λ ls. after_in ls k) (after_other (lines_before t place) back line k (other_way k line.number ((or_parts _ _ h.1).0))
+            (not_behind (block_before t place) k h.0))
+        go items.Generates h = between generates_in (generates_without (lines_before t place) back line (not_generates (is_generate line) h.1))
+        go (items.Cmd j) h = between (λ ls. nth (filter_map command_of ls) j) (commands_same (lines_before t place) back line j block)
+        go items.Seed h = seeds
+        go (items.Within time) h = ap (λ n. nat_le time n) e.horizon
 
   by_command : is_block line ≡ false → (i : Item) → is_touched (CommandsFrom (command_from t place) ∷ []) i ≡ false → ask with b i ≡ ask without a i
   by_command command (items.Block k) h = between (λ ls. block_in ls k) (block_same (lines_before t place) back line command e.absent k)
@@ -135,7 +143,8 @@ module _ (t : Listing) (place : ℕ) (line : Numbered) (back : List Numbered) (w
   by_command command items.Seed h = seeds
   by_command command (items.Within time) h = ap (λ n. nat_le time n) e.horizon
 
-  by_kind : (block : Bool) → is_block line ≡ block → (i : Item) → is_touched (cond block (block_probes t place line) (CommandsFrom (command_from t place) ∷ [])) i ≡ false → ask with b i ≡ ask without a i
+  by_kind : (block : Bool) → is_block line ≡ block → (i : Item) →
+      is_touched (cond block (block_probes t place line) (CommandsFrom (command_from t place) ∷ [])) i ≡ false → ask with b i ≡ ask without a i
   by_kind true block i h = by_block block i h
   by_kind false command i h = by_command command i h
 

@@ -7,4 +7,5 @@ few_commands p zero lines = omega arith
 few_commands p (suc n) [] = omega arith
 few_commands p (suc n) (line ∷ lines) =
     let h : length (filter p (take n lines)) ≤ length lines = few_commands p n lines in
-    elim (p line) as (λ b. length (cond b (line ∷ filter p (take n lines)) (filter p (take n lines))) ≤ suc (length lines)) [ true ↦ omega arith | false ↦ omega arith ]
+    elim (p line) as (λ b. length (cond b (line ∷ filter p (take n lines)) (filter p (take n lines))) ≤ suc (length lines))
+    [ true ↦ omega arith | false ↦ omega arith ]

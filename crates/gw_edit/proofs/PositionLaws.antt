@@ -49,63 +49,63 @@ is_edited t (edits.Insert place text) u numbered made =
     let spelled = spelled_gives (spelled_by text) (λ s. with_splice t place false (Some s)) u side.1 in
     let within = place_in (length t.lines + 1) place side.0 in
     subst (λ (v : Listing). IsEdited t (edits.Insert place text) v) spelled.1 (inserted spelled.0 within.0 within.1) where
-  inserted : (s : Statement) → 1 ≤ place → place ≤ length t.lines + 1 → IsEdited t (edits.Insert place text) (with_splice t place false (Some s))
-  inserted s least within =
-      let i = place - 1 in
-      let line = fresh_line t.lines s in
-      let parts = come_parts t.lines place s in
-      let there : nth (spliced t.lines place false (Some s)) place ≡ Some line =
-      ap (λ ls. nth ls place) parts ∙ nth_between t.lines (drop i t.lines) place line least within in
-      record {
-        back = drop i t.lines;
-        splice = record {
-          old = sym (take-append-drop i t.lines);
-          new = parts ∙ ap (λ o. take i t.lines ++ (option_to_list o ++ drop i t.lines)) (sym there);
-          one_goes = omega arith;
-          one_comes = at_most_one (nth (spliced t.lines place false (Some s)) place);
-        };
-        numbered = numbered_spliced t.lines place false (Some s) least (λ h. absurd cc) numbered;
-      }
+      inserted : (s : Statement) → 1 ≤ place → place ≤ length t.lines + 1 → IsEdited t (edits.Insert place text) (with_splice t place false (Some s))
+      inserted s least within =
+          let i = place - 1 in
+          let line = fresh_line t.lines s in
+          let parts = come_parts t.lines place s in
+          let there : nth (spliced t.lines place false (Some s)) place ≡ Some line =
+          ap (λ ls. nth ls place) parts ∙ nth_between t.lines (drop i t.lines) place line least within in
+          record {
+            back = drop i t.lines;
+            splice = record {
+              old = sym (take-append-drop i t.lines);
+              new = parts ∙ ap (λ o. take i t.lines ++ (option_to_list o ++ drop i t.lines)) (sym there);
+              one_goes = omega arith;
+              one_comes = at_most_one (nth (spliced t.lines place false (Some s)) place);
+            };
+            numbered = numbered_spliced t.lines place false (Some s) least (λ h. absurd cc) numbered;
+          }
 is_edited t (edits.Delete place) u numbered made =
     let side = other_side (is_outside 1 (length t.lines) place) _ _ u made in
     let within = place_in (length t.lines) place side.0 in
     subst (λ (v : Listing). IsEdited t (edits.Delete place) v) (checked_gives (with_splice t place true None) u side.1) (deleted within.0 within.1) where
-  deleted : 1 ≤ place → place ≤ length t.lines → IsEdited t (edits.Delete place) (with_splice t place true None)
-  deleted least within =
-      let gone = gone_at t.lines place None least within in
-      let i = place - 1 in
-      record {
-        back = drop place t.lines;
-        splice = record {
-          old = gone.1.old ∙ ap (λ o. take i t.lines ++ (option_to_list o ++ drop place t.lines)) (sym gone.1.found);
-          new = gone.1.new;
-          one_goes = at_most_one (nth t.lines place);
-          one_comes = omega arith;
-        };
-        numbered = numbered_spliced t.lines place true None least (λ h. within) numbered;
-      }
+      deleted : 1 ≤ place → place ≤ length t.lines → IsEdited t (edits.Delete place) (with_splice t place true None)
+      deleted least within =
+          let gone = gone_at t.lines place None least within in
+          let i = place - 1 in
+          record {
+            back = drop place t.lines;
+            splice = record {
+              old = gone.1.old ∙ ap (λ o. take i t.lines ++ (option_to_list o ++ drop place t.lines)) (sym gone.1.found);
+              new = gone.1.new;
+              one_goes = at_most_one (nth t.lines place);
+              one_comes = omega arith;
+            };
+            numbered = numbered_spliced t.lines place true None least (λ h. within) numbered;
+          }
 is_edited t (edits.Change place text) u numbered made =
     let side = other_side (is_outside 1 (length t.lines) place) _ _ u made in
     let spelled = spelled_gives (spelled_by text) (λ s. with_splice t place true (Some s)) u side.1 in
     let within = place_in (length t.lines) place side.0 in
     subst (λ (v : Listing). IsEdited t (edits.Change place text) v) spelled.1 (changed spelled.0 within.0 within.1) where
-  changed : (s : Statement) → 1 ≤ place → place ≤ length t.lines → IsEdited t (edits.Change place text) (with_splice t place true (Some s))
-  changed s least within =
-      let gone = gone_at t.lines place (Some s) least within in
-      let i = place - 1 in
-      let line : Numbered = record { number = gone.0.number; statement = s } in
-      let there : nth (spliced t.lines place true (Some s)) place ≡ Some line =
-      ap (λ ls. nth ls place) gone.1.new ∙ nth_between t.lines (drop place t.lines) place line least (omega arith) in
-      record {
-        back = drop place t.lines;
-        splice = record {
-          old = gone.1.old ∙ ap (λ o. take i t.lines ++ (option_to_list o ++ drop place t.lines)) (sym gone.1.found);
-          new = gone.1.new ∙ ap (λ o. take i t.lines ++ (option_to_list o ++ drop place t.lines)) (sym there);
-          one_goes = at_most_one (nth t.lines place);
-          one_comes = at_most_one (nth (spliced t.lines place true (Some s)) place);
-        };
-        numbered = numbered_spliced t.lines place true (Some s) least (λ h. within) numbered;
-      }
+      changed : (s : Statement) → 1 ≤ place → place ≤ length t.lines → IsEdited t (edits.Change place text) (with_splice t place true (Some s))
+      changed s least within =
+          let gone = gone_at t.lines place (Some s) least within in
+          let i = place - 1 in
+          let line : Numbered = record { number = gone.0.number; statement = s } in
+          let there : nth (spliced t.lines place true (Some s)) place ≡ Some line =
+          ap (λ ls. nth ls place) gone.1.new ∙ nth_between t.lines (drop place t.lines) place line least (omega arith) in
+          record {
+            back = drop place t.lines;
+            splice = record {
+              old = gone.1.old ∙ ap (λ o. take i t.lines ++ (option_to_list o ++ drop place t.lines)) (sym gone.1.found);
+              new = gone.1.new ∙ ap (λ o. take i t.lines ++ (option_to_list o ++ drop place t.lines)) (sym there);
+              one_goes = at_most_one (nth t.lines place);
+              one_comes = at_most_one (nth (spliced t.lines place true (Some s)) place);
+            };
+            numbered = numbered_spliced t.lines place true (Some s) least (λ h. within) numbered;
+          }
 is_edited t (edits.Capacity name amount) u numbered made = absurd cc
 is_edited t (edits.Seed number seed) u numbered made =
     let v : Listing = record t { replications = reseeded number seed t.replications } in

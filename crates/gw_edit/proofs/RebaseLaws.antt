@@ -60,7 +60,8 @@ none_touched p P f (i ∷ is) h = go (p i) refl h (none_touched p P f is) where
   go false e h rest = (f i e, rest h)
 
 -- the steps that are kept of a run read nothing touched
-unread : (touch : List Probe) (t : Listing) (seed : ℕ) (r : Tape) (n : ℕ) → n ≤ r.moment → IsKeptOf t seed r (touched_step touch t seed r) n → (j : ℕ) → j < n → list_any (is_touched touch) (reads t seed j) ≡ false
+unread : (touch : List Probe) (t : Listing) (seed : ℕ) (r : Tape) (n : ℕ) → n ≤ r.moment → IsKeptOf t seed r (touched_step touch t seed r) n → (j : ℕ) → j < n →
+    list_any (is_touched touch) (reads t seed j) ≡ false
 unread touch t seed r n low kept j less = go (first_reading (is_touched touch) t seed r.moment) (first_is (is_touched touch) t seed r.moment) kept where
   go : (o : Option ℕ) → IsFirstReading (is_touched touch) t seed r.moment o → IsKeptOf t seed r o n → list_any (is_touched touch) (reads t seed j) ≡ false
   go None h k = h j (omega (arith, less, low))
@@ -85,7 +86,8 @@ module _ (t : Listing) (e : Edit) (u : Listing) (n : ℕ) (r s : Tape) (numbered
       let low = shorter (touch_of t e u n) t a r s.moment (back.kept a h) in
       let unread_at = unread (touch_of t e u n) t a r s.moment low (back.kept a h) in
       let alike = none_touched (is_touched (touch_of t e u n)) (SameAnswer t a u b) (untouched_alike t e u n a b numbered made was is) in
-      carries t a u b (back.records a h) (limit_stays t e u made) (λ j less. All-from_recursion (SameAnswer t a u b) (reads t a j) (alike (reads t a j) (unread_at j less)))
+      carries t a u b (back.records a h) (limit_stays t e u made)
+      (λ j less. All-from_recursion (SameAnswer t a u b) (reads t a j) (alike (reads t a j) (unread_at j less)))
 
   pub is_rebased : IsRebased t e u n r s
   is_rebased = record { records = carried_over; kept = back.kept; every = back.every }

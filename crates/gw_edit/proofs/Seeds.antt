@@ -42,7 +42,8 @@ seed_without rs gone number a b was is =
     ⊎_elim
     (λ (same : (gone == number) ≡ true).
     let none : seed_in (without_number number rs) number ≡ None = seed_gone rs number in
-    let some : seed_in (without_number number rs) number ≡ Some b = subst (λ (n : ℕ). seed_in (without_number n rs) number ≡ Some b) (eqb-true gone number same) is in
+    let some : seed_in (without_number number rs) number ≡ Some b =
+    subst (λ (n : ℕ). seed_in (without_number n rs) number ≡ Some b) (eqb-true gone number same) is in
     absurd cc)
     (λ (other : (gone == number) ≡ false).
     let left : seed_in (without_number gone rs) number ≡ seed_in rs number = seed_left rs gone number other in

@@ -26,7 +26,8 @@ nth_between xs ys place x least within = nth_get (take (place - 1) xs ++ x ∷ y
 abbrev pub fresh_line : List Numbered → Statement → Numbered
 fresh_line lines s = record { number = greatest_number lines + 1; statement = s }
 
-pub come_parts : (lines : List Numbered) (place : ℕ) (s : Statement) → spliced lines place false (Some s) ≡ take (place - 1) lines ++ fresh_line lines s ∷ drop (place - 1) lines
+pub come_parts : (lines : List Numbered) (place : ℕ) (s : Statement) → spliced lines place false (Some s) ≡ take (place - 1) lines ++
+    fresh_line lines s ∷ drop (place - 1) lines
 come_parts lines place s = append_assoc (take (place - 1) lines) (fresh_line lines s ∷ []) (drop (place - 1) lines)
 
 -- a statement goes, and another one comes in, or none
@@ -35,7 +36,8 @@ pub record IsGone (lines : List Numbered) (place : ℕ) (comes : Option Statemen
   pub old : lines ≡ take (place - 1) lines ++ line ∷ drop place lines
   pub new : spliced lines place true comes ≡ take (place - 1) lines ++ (come line.number comes ++ drop place lines)
 
-pub gone_at : (lines : List Numbered) (place : ℕ) (comes : Option Statement) → 1 ≤ place → place ≤ length lines → (line : Numbered) × IsGone lines place comes line
+pub gone_at : (lines : List Numbered) (place : ℕ) (comes : Option Statement) → 1 ≤ place → place ≤ length lines → (line : Numbered) ×
+    IsGone lines place comes line
 gone_at lines place comes least within =
     let i = place - 1 in
     let next : suc i ≡ place = omega arith in
@@ -46,6 +48,7 @@ gone_at lines place comes least within =
       record {
         found = found;
         old = subst (λ (p : ℕ). lines ≡ take i lines ++ line ∷ drop p lines) next cut.1.parts;
-        new = ap (λ (o : Option Numbered). take i lines ++ come (number_in lines o) comes ++ drop place lines) found ∙ append_assoc (take i lines) (come line.number comes) (drop place lines);
+        new = ap (λ (o : Option Numbered). take i lines ++ come (number_in lines o) comes ++ drop place lines) found ∙
+            append_assoc (take i lines) (come line.number comes) (drop place lines);
       },
     )

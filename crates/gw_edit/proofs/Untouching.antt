@@ -79,12 +79,14 @@ insert_alike t place s r inside a b was is i h =
     let new : u.lines ≡ lines_before t place ++ line ∷ back = come_parts t.lines place s in
     let there : nth u.lines place ≡ Some line = ap (λ ls. nth ls place) new ∙ nth_between t.lines back place line within.0 within.1 in
     let old : t.lines ≡ lines_before t place ++ back = sym (take-append-drop (place - 1) t.lines) in
-    let absent : line_in (lines_before t place ++ back) line.number ≡ None = subst (λ (ls : List Numbered). line_in ls line.number ≡ None) old (new_absent t.lines) in
+    let absent : line_in (lines_before t place ++ back) line.number ≡ None =
+    subst (λ (ls : List Numbered). line_in ls line.number ≡ None) old (new_absent t.lines) in
     line_alike t place line back u t (record { has = new; lacks = old; horizon = refl; absent = absent }) a b (one_seed (seed_at t r) a b was is) i
     (subst (λ (o : Option Numbered). is_touched (splice_probes t place None o) i ≡ false) there h)
 
 -- a statement goes out
-delete_alike : (t : Listing) (place r : ℕ) → AreNumbered t.lines → is_outside 1 (length t.lines) place ≡ false → IsAlike t (with_splice t place true None) r (splice_probes t place (nth t.lines place) None)
+delete_alike : (t : Listing) (place r : ℕ) → AreNumbered t.lines → is_outside 1 (length t.lines) place ≡ false →
+    IsAlike t (with_splice t place true None) r (splice_probes t place (nth t.lines place) None)
 delete_alike t place r numbered inside a b was is i h =
     let within = place_in (length t.lines) place inside in
     let gone = gone_at t.lines place None within.0 within.1 in
@@ -92,7 +94,8 @@ delete_alike t place r numbered inside a b was is i h =
     let back = drop place t.lines in
     let u = with_splice t place true None in
     let absent = absent_gone (lines_before t place) back line (subst (λ (ls : List Numbered). AreNumbered ls) gone.1.old numbered) in
-    sym (line_alike t place line back t u (record { has = gone.1.old; lacks = gone.1.new; horizon = refl; absent = absent }) b a (sym (one_seed (seed_at t r) a b was is)) i
+    sym (line_alike t place line back t u (record { has = gone.1.old; lacks = gone.1.new; horizon = refl; absent = absent }) b a
+    (sym (one_seed (seed_at t r) a b was is)) i
     ((untouched_both (line_probes t place line) [] i (subst (λ (o : Option Numbered). is_touched (splice_probes t place o None) i ≡ false) gone.1.found h)).0))
 
 -- another one takes its place
@@ -104,7 +107,8 @@ change_made_alike t place s r numbered inside a b was is i h =
     let line = gone.0 in
     let back = drop place t.lines in
     let u = with_splice t place true (Some s) in
-    let here : nth u.lines place ≡ Some (changed_line line s) = ap (λ ls. nth ls place) gone.1.new ∙ nth_between t.lines back place (changed_line line s) within.0 (let w = within.1 in omega (arith, w)) in
+    let here : nth u.lines place ≡ Some (changed_line line s) =
+    ap (λ ls. nth ls place) gone.1.new ∙ nth_between t.lines back place (changed_line line s) within.0 (let w = within.1 in omega (arith, w)) in
     let absent = absent_gone (lines_before t place) back line (subst (λ (ls : List Numbered). AreNumbered ls) gone.1.old numbered) in
     change_alike t u place line s back (record { old = gone.1.old; new = gone.1.new; horizon = refl }) a b (one_seed (seed_at t r) a b was is) absent i
     (subst (λ (o : Option Numbered). is_touched (splice_probes t place (Some line) o) i ≡ false) here
@@ -136,7 +140,8 @@ within_both m n time h =
     let least : time ≤ min m n = ltb-false (min m n) time h in
     le-leb time n (omega arith) ∙ sym (le-leb time m (omega arith))
 
-horizon_alike : (t : Listing) (time a b : ℕ) → b ≡ a → (i : Item) → is_touched (Beyond (min t.horizon time) ∷ []) i ≡ false → ask (record t { horizon = time }) b i ≡ ask t a i
+horizon_alike : (t : Listing) (time a b : ℕ) → b ≡ a → (i : Item) → is_touched (Beyond (min t.horizon time) ∷ []) i ≡ false →
+    ask (record t { horizon = time }) b i ≡ ask t a i
 horizon_alike t time a b seeds (items.Block k) h = refl
 horizon_alike t time a b seeds (items.After k) h = refl
 horizon_alike t time a b seeds items.Generates h = refl
@@ -152,7 +157,8 @@ edit_alike t (edits.Insert place text) u r numbered made =
     subst (λ (v : Listing). IsAlike t v r (touch_of t (edits.Insert place text) v r)) spelled.1 (insert_alike t place spelled.0 r side.0)
 edit_alike t (edits.Delete place) u r numbered made =
     let side = other_side (is_outside 1 (length t.lines) place) _ _ u made in
-    subst (λ (v : Listing). IsAlike t v r (touch_of t (edits.Delete place) v r)) (checked_gives (with_splice t place true None) u side.1) (delete_alike t place r numbered side.0)
+    subst (λ (v : Listing). IsAlike t v r (touch_of t (edits.Delete place) v r)) (checked_gives (with_splice t place true None) u side.1)
+    (delete_alike t place r numbered side.0)
 edit_alike t (edits.Change place text) u r numbered made =
     let side = other_side (is_outside 1 (length t.lines) place) _ _ u made in
     let spelled = spelled_gives (spelled_by text) (λ s. with_splice t place true (Some s)) u side.1 in

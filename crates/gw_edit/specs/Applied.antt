@@ -48,26 +48,32 @@ has_replication t number = is_some (seed_at t number)
 -- what each edit makes
 abbrev pub insert_made : Listing → ℕ → List ℕ → Result Listing EditFault
 insert_made t place text =
-    if is_outside 1 (length t.lines + 1) place then Err NoSuchPlace else (spelled_by text >>= (λ statement. checked (with_splice t place false (Some statement))))
+    if is_outside 1 (length t.lines + 1) place then Err NoSuchPlace
+    else (spelled_by text >>= (λ statement. checked (with_splice t place false (Some statement))))
 
 abbrev pub delete_made : Listing → ℕ → Result Listing EditFault
-delete_made t place = if is_outside 1 (length t.lines) place then Err NoSuchPlace else checked (with_splice t place true None)
+delete_made t place =
+    if is_outside 1 (length t.lines) place then Err NoSuchPlace else checked (with_splice t place true None)
 
 abbrev pub change_made : Listing → ℕ → List ℕ → Result Listing EditFault
 change_made t place text =
-    if is_outside 1 (length t.lines) place then Err NoSuchPlace else (spelled_by text >>= (λ statement. checked (with_splice t place true (Some statement))))
+    if is_outside 1 (length t.lines) place then Err NoSuchPlace
+    else (spelled_by text >>= (λ statement. checked (with_splice t place true (Some statement))))
 
 abbrev pub seed_made : Listing → ℕ → ℕ → Result Listing EditFault
 seed_made t number seed =
-    if has_replication t number then checked (record t { replications = reseeded number seed t.replications }) else Err NoSuchReplication
+    if has_replication t number then checked (record t { replications = reseeded number seed t.replications })
+    else Err NoSuchReplication
 
 abbrev pub replicate_made : Listing → ℕ → ℕ → Result Listing EditFault
 replicate_made t number seed =
-    if has_replication t number then Err ReplicationTwice else checked (record t { replications = t.replications ++ record { number = number; seed = seed } ∷ [] })
+    if has_replication t number then Err ReplicationTwice
+    else checked (record t { replications = t.replications ++ record { number = number; seed = seed } ∷ [] })
 
 abbrev pub drop_made : Listing → ℕ → Result Listing EditFault
 drop_made t number =
-    if has_replication t number then checked (record t { replications = without_number number t.replications }) else Err NoSuchReplication
+    if has_replication t number then checked (record t { replications = without_number number t.replications })
+    else Err NoSuchReplication
 
 abbrev pub horizon_made : Listing → ℕ → Result Listing EditFault
 horizon_made t time = checked (record t { horizon = time })

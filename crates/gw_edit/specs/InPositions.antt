@@ -1,5 +1,5 @@
--- The frame law in positions, of an edit: behind one that touches no step of a run, the run is the old one with its positions
--- moved. (Our own.)
+-- The frame law in positions, of an edit: behind one that touches no step of a run, the run is the old one with its
+-- positions moved. (Our own.)
 use Rattle.std.specs.Prelude.{ℕ, ◌≡◌, ◌<◌, List, [], Some, None, Ok, map, option_to_list}
 use Rattle.gw_meaning.specs.declared.statement.Numbered.{Numbered}
 use Rattle.gw_meaning.specs.Listing.{Listing, nth, seed_at}
@@ -36,8 +36,8 @@ comes_of e u = []
 abbrev pub position_move : Listing → Edit → Listing → ℕ → ℕ
 position_move t e u = shifted (front_of t e) (goes_of t e) (comes_of e u)
 
--- an edit of t to u that touches no step below n leaves the run of n steps: it is the same state; told in positions it is the
--- old one with its positions moved, and its steps read the old items moved
+-- an edit of t to u that touches no step below n leaves the run of n steps: it is the same state; told in positions it
+-- is the old one with its positions moved, and its steps read the old items moved
 abbrev pub EditInPositions : Type 0
 EditInPositions =
     (t : Listing) (e : Edit) (u : Listing) (r a b n : ℕ) (s : Machine) →
@@ -46,5 +46,5 @@ EditInPositions =
     (run u b n ≡ Ok s)
     × (moved_machine (position_of u) s ≡ moved_machine (position_move t e u) (moved_machine (position_of t) s))
     × ((j : ℕ) → j < n →
-      map (moved_item (position_of u)) (reads u b j)
-      ≡ map (moved_item (position_move t e u)) (map (moved_item (position_of t)) (reads t a j)))
+    map (moved_item (position_of u)) (reads u b j)
+    ≡ map (moved_item (position_move t e u)) (map (moved_item (position_of t)) (reads t a j)))

@@ -15,6 +15,7 @@ IsKeptOf t seed r (Some step) n = IsLastKept t seed r step n
 
 -- the run of a replication behind an edit of t to u
 pub record IsRebased (t : Listing) (e : Edit) (u : Listing) (replication : ℕ) (old new : Tape) : Type 0 where
-  pub records : (a b : ℕ) → applied t e ≡ Ok u → seed_at t replication ≡ Some a → seed_at u replication ≡ Some b → Records t a old → Records u b new
+  pub records : (a b : ℕ) → applied t e ≡ Ok u → seed_at t replication ≡ Some a → seed_at u replication ≡ Some b →
+      Records t a old → Records u b new
   pub kept : (a : ℕ) → Records t a old → IsKeptOf t a old (touched_step (touch_of t e u replication) t a old) new.moment
   pub every : new.every ≡ old.every

@@ -48,8 +48,9 @@ abbrev pub generates_if : Bool → List Probe
 generates_if other = if other then One Generates ∷ [] else []
 
 -- a block that comes in or goes out: what comes after the block in front of it, itself and what comes after itself, and
--- the list of GENERATEs where it is one. (Where it comes in, the version before had no block with its number, so that no
--- step of a recorded run can have read the two of its own; they stand here since the versions answer them in two ways.)
+-- the list of GENERATEs where it is one. (Where it comes in, the version before had no block with its number, so that
+-- no step of a recorded run can have read the two of its own; they stand here since the versions answer them in two
+-- ways.)
 abbrev pub block_probes : Listing → ℕ → Numbered → List Probe
 block_probes t place line =
     behind (block_before t place)
@@ -88,7 +89,8 @@ same_seed (Some a) None = false
 same_seed (Some a) (Some b) = a == b
 
 -- what an edit of a version to another touches in a replication: the seed where it differs, and the clock steps beyond
--- the lesser horizon. A capacity touches nothing yet, nor does a replication that comes in or goes out touch another one
+-- the lesser horizon. A capacity touches nothing yet, nor does a replication that comes in or goes out touch another
+-- one
 abbrev pub touch_of : Listing → Edit → Listing → ℕ → List Probe
 touch_of t (edits.Insert place text) u replication = splice_probes t place None (nth u.lines place)
 touch_of t (edits.Delete place) u replication = splice_probes t place (nth t.lines place) None

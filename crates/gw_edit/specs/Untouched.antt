@@ -8,8 +8,8 @@ use Rattle.gw_edit.specs.declared.edit.Edit.{Edit}
 use Rattle.gw_edit.specs.Applied.{applied}
 use Rattle.gw_edit.specs.Touching.{touch_of, is_touched}
 
--- where each statement has a number of its own, as in every version: in each replication that both have, with its seeds,
--- each question that is not touched is answered alike
+-- where each statement has a number of its own, as in every version: in each replication that both have, with its
+-- seeds, each question that is not touched is answered alike
 abbrev pub UntouchedAlike : Type 0
 UntouchedAlike =
     (t : Listing) (e : Edit) (u : Listing) (r a b : ℕ) → AreNumbered t.lines → applied t e ≡ Ok u →

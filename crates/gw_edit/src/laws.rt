@@ -8,8 +8,8 @@ pub fn untouched()
     ensures { UntouchedAlike }
 {}
 
-/// The frame law in positions: behind an edit that touches no step below n, the run of n steps is the same; told in positions,
-/// it is the old one with its positions moved, and its steps read the old items moved.
+/// The frame law in positions: behind an edit that touches no step below n, the run of n steps is the same; told in
+/// positions, it is the old one with its positions moved, and its steps read the old items moved.
 pub fn edit_in_positions()
     ensures { EditInPositions }
 {}

@@ -17,7 +17,8 @@ cond_under f false x y v w yes' no' = no'
 module _ (move : ℕ → ℕ) (is : IsMove move) where
   -- moved places are equal where the places are
   pub eq_moved : (p q : ℕ) → nat_eq (move p) (move q) ≡ nat_eq p q
-  eq_moved p q = same_from_decides (nat_eq (move p) (move q)) (nat_eq p q) (Decides-like (nat_eq (move p) (move q)) (is.apart p q) (ap move) (Decides-eqb (move p) (move q))) (Decides-eqb p q)
+  eq_moved p q = same_from_decides (nat_eq (move p) (move q)) (nat_eq p q)
+      (Decides-like (nat_eq (move p) (move q)) (is.apart p q) (ap move) (Decides-eqb (move p) (move q))) (Decides-eqb p q)
 
   -- a moved place is no block where the place is none
   pub none_moved : (p : ℕ) → nat_eq (move p) 0 ≡ nat_eq p 0
@@ -30,11 +31,14 @@ module _ (move : ℕ → ℕ) (is : IsMove move) where
   pub count_at_moved : (cs : List (ℕ × Count)) (place : ℕ) → count_at (map (moved_count move) cs) (move place) ≡ count_at cs place
   count_at_moved cs place = ap or_no_count (count_in_moved cs place)
 
-  with_count_moved : (cs : List (ℕ × Count)) (place : ℕ) (c : Count) → with_count (map (moved_count move) cs) (move place) c ≡ map (moved_count move) (with_count cs place c)
+  with_count_moved : (cs : List (ℕ × Count)) (place : ℕ) (c : Count) →
+      with_count (map (moved_count move) cs) (move place) c ≡ map (moved_count move) (with_count cs place c)
   with_count_moved [] place c = refl
-  with_count_moved (d ∷ ds) place c = rw (eq_moved place d.0) (cond_under (map (moved_count move)) (nat_eq place d.0) _ _ _ _ refl (ap (λ cs. moved_count move d ∷ cs) (with_count_moved ds place c)))
+  with_count_moved (d ∷ ds) place c = rw (eq_moved place d.0)
+      (cond_under (map (moved_count move)) (nat_eq place d.0) _ _ _ _ refl (ap (λ cs. moved_count move d ∷ cs) (with_count_moved ds place c)))
 
-  left_at_moved : (o : Option Count) (cs : List (ℕ × Count)) (place : ℕ) → left_at o (map (moved_count move) cs) (move place) ≡ map (moved_count move) (left_at o cs place)
+  left_at_moved : (o : Option Count) (cs : List (ℕ × Count)) (place : ℕ) →
+      left_at o (map (moved_count move) cs) (move place) ≡ map (moved_count move) (left_at o cs place)
   left_at_moved None cs place = refl
   left_at_moved (Some c) cs place = with_count_moved cs place _
 
@@ -44,33 +48,41 @@ module _ (move : ℕ → ℕ) (is : IsMove move) where
   entered_moved : (cs : List (ℕ × Count)) (place : ℕ) → entered (map (moved_count move) cs) (move place) ≡ map (moved_count move) (entered cs place)
   entered_moved cs place = rw (count_at_moved cs place) (with_count_moved cs place _)
 
-  passed_through_moved : (cs : List (ℕ × Count)) (place : ℕ) → passed_through (map (moved_count move) cs) (move place) ≡ map (moved_count move) (passed_through cs place)
+  passed_through_moved : (cs : List (ℕ × Count)) (place : ℕ) →
+      passed_through (map (moved_count move) cs) (move place) ≡ map (moved_count move) (passed_through cs place)
   passed_through_moved cs place = rw (count_at_moved cs place) (with_count_moved cs place _)
 
   pub made_one_moved : (cs : List (ℕ × Count)) (place : ℕ) → made_one (map (moved_count move) cs) (move place) ≡ map (moved_count move) (made_one cs place)
   made_one_moved cs place = rw (count_at_moved cs place) (with_count_moved cs place _)
 
   -- from one block into another, and into one that it does not stay in
-  pub went_moved : (cs : List (ℕ × Count)) (from to : ℕ) → entered (left (map (moved_count move) cs) (move from)) (move to) ≡ map (moved_count move) (entered (left cs from) to)
+  pub went_moved : (cs : List (ℕ × Count)) (from to : ℕ) →
+      entered (left (map (moved_count move) cs) (move from)) (move to) ≡ map (moved_count move) (entered (left cs from) to)
   went_moved cs from to = rw (left_moved cs from) (entered_moved (left cs from) to)
 
-  pub gone_moved : (cs : List (ℕ × Count)) (from to : ℕ) → passed_through (left (map (moved_count move) cs) (move from)) (move to) ≡ map (moved_count move) (passed_through (left cs from) to)
+  pub gone_moved : (cs : List (ℕ × Count)) (from to : ℕ) →
+      passed_through (left (map (moved_count move) cs) (move from)) (move to) ≡ map (moved_count move) (passed_through (left cs from) to)
   gone_moved cs from to = rw (left_moved cs from) (passed_through_moved (left cs from) to)
 
 module _ (move : ℕ → ℕ) where
-  pub lined_up_moved : (x : Transaction) (ys : List Transaction) → lined_up (moved_transaction move x) (map (moved_transaction move) ys) ≡ map (moved_transaction move) (lined_up x ys)
+  pub lined_up_moved : (x : Transaction) (ys : List Transaction) →
+      lined_up (moved_transaction move x) (map (moved_transaction move) ys) ≡ map (moved_transaction move) (lined_up x ys)
   lined_up_moved x [] = refl
   lined_up_moved x (y ∷ ys) =
       cond_under (map (moved_transaction move)) (is_below y.priority x.priority) _ _ _ _ refl (ap (λ zs. moved_transaction move y ∷ zs) (lined_up_moved x ys))
 
-  pub all_lined_up_moved : (xs chain : List Transaction) → all_lined_up (map (moved_transaction move) xs) (map (moved_transaction move) chain) ≡ map (moved_transaction move) (all_lined_up xs chain)
+  pub all_lined_up_moved : (xs chain : List Transaction) →
+      all_lined_up (map (moved_transaction move) xs) (map (moved_transaction move) chain) ≡ map (moved_transaction move) (all_lined_up xs chain)
   all_lined_up_moved [] chain = refl
   all_lined_up_moved (x ∷ xs) chain = ap (all_lined_up (map (moved_transaction move) xs)) (lined_up_moved x chain) ∙ all_lined_up_moved xs (lined_up x chain)
 
   pub due_moved : (time : ℕ) (es : List Event) → due time (map (moved_event move) es) ≡ map (moved_transaction move) (due time es)
   due_moved time [] = refl
-  due_moved time (e ∷ es) = cond_under (map (moved_transaction move)) (is_due time e) _ _ _ _ (ap (λ xs. moved_transaction move e.transaction ∷ xs) (due_moved time es)) (due_moved time es)
+  due_moved time (e ∷ es) = cond_under (map (moved_transaction move)) (is_due time e) _ _ _ _
+      (ap (λ xs. moved_transaction move e.transaction ∷ xs) (due_moved time es)) (due_moved time es)
 
-  pub later_moved : (time : ℕ) (es : List Event) → filter (λ e. not (is_due time e)) (map (moved_event move) es) ≡ map (moved_event move) (filter (λ e. not (is_due time e)) es)
+  pub later_moved : (time : ℕ) (es : List Event) → filter (λ e. not (is_due time e)) (map (moved_event move) es) ≡
+      map (moved_event move) (filter (λ e. not (is_due time e)) es)
   later_moved time [] = refl
-  later_moved time (e ∷ es) = cond_under (map (moved_event move)) (not (is_due time e)) _ _ _ _ (ap (λ fs. moved_event move e ∷ fs) (later_moved time es)) (later_moved time es)
+  later_moved time (e ∷ es) =
+      cond_under (map (moved_event move)) (not (is_due time e)) _ _ _ _ (ap (λ fs. moved_event move e ∷ fs) (later_moved time es)) (later_moved time es)

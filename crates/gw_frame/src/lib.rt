@@ -1,8 +1,8 @@
 //! A run depends only on the questions that it asked.
 //!
-//! A version that answers those alike has the same run, state for state, and is asked the same. One whose statements have
-//! other numbers has the run with its places renamed. Told in positions, a run behind an edit that it did not see is the old
-//! one with its positions moved.
+//! A version that answers those alike has the same run, state for state, and is asked the same. One whose statements
+//! have other numbers has the run with its places renamed. Told in positions, a run behind an edit that it did not see
+//! is the old one with its positions moved.
 #![tactic(auto)]
 
 mod laws;

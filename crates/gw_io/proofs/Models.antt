@@ -30,7 +30,8 @@ whole_part text h = record { text = text; rest = []; others = h; unended = All-n
 pub calls : (x y : List ℕ) (k m n t : ℕ) → k ≡ m + length x → m ≡ n + (length y + t) → k ≡ n + (length (x ++ y) + t)
 calls x y k m n t p q = omega (arith, length-append x y)
 
-module _ {S : Type 0} (took : S → List ℕ → S → Type 0) (ended : S → Type 0) (onward : (a b c : S) (x y : List ℕ) → took a x b → took b y c → took a (x ++ y) c) (a b c : S) (text : List ℕ) (k m n : ℕ) (before : took a text b) (spent : k ≡ m + length text) (others : IsOtherLines text) where
+module _ {S : Type 0} (took : S → List ℕ → S → Type 0) (ended : S → Type 0) (onward : (a b c : S) (x y : List ℕ) → took a x b → took b y c → took a (x ++ y) c)
+    (a b c : S) (text : List ℕ) (k m n : ℕ) (before : took a text b) (spent : k ≡ m + length text) (others : IsOtherLines text) where
   -- the model ends before a line `end`
   pub at_end : (line : List ℕ) → IsUnended line → IsEnd line → took b (with_feed line) c → m ≡ n + length (with_feed line) → TakesModel took ended a c k n text
   at_end line u e t s = record {
@@ -54,7 +55,8 @@ module _ {S : Type 0} (took : S → List ℕ → S → Type 0) (ended : S → Ty
   }
 
   -- the model ends with the input, behind an unended line
-  pub at_last : (line : List ℕ) → IsUnended line → line ≢ codes "end" → took b line c → m ≡ n + (length line + 1) → ended c → TakesModel took ended a c k n (text ++ line)
+  pub at_last : (line : List ℕ) → IsUnended line → line ≢ codes "end" → took b line c → m ≡ n + (length line + 1) → ended c →
+      TakesModel took ended a c k n (text ++ line)
   at_last line u e t s h = record {
     input = text ++ line;
     is_all = true;

@@ -21,9 +21,11 @@ pub record IsOtherLines (text : List ℕ) : Type 0 where
 -- `model` is the model of an input: what stands before its first line `end`, or all of it where it has none.
 -- `is_all` says whether the whole input was needed to know that
 pub data IsModelOf (input model : List ℕ) (is_all : Bool) : Type 0 where
-  before_end : (line : List ℕ) → IsOtherLines model → IsUnended line → IsEnd line → input ≡ model ++ with_feed line → is_all ≡ false → IsModelOf input model is_all
+  before_end : (line : List ℕ) → IsOtherLines model → IsUnended line → IsEnd line → input ≡ model ++ with_feed line →
+      is_all ≡ false → IsModelOf input model is_all
   before_last_end : IsOtherLines model → input ≡ model ++ codes "end" → is_all ≡ true → IsModelOf input model is_all
-  without_end : (text rest : List ℕ) → IsOtherLines text → IsUnended rest → rest ≢ codes "end" → model ≡ text ++ rest → input ≡ model → is_all ≡ true → IsModelOf input model is_all
+  without_end : (text rest : List ℕ) → IsOtherLines text → IsUnended rest → rest ≢ codes "end" → model ≡ text ++ rest →
+      input ≡ model → is_all ≡ true → IsModelOf input model is_all
 
 -- a front part of an input: whole lines, none of which ends the model, and a part of the next line
 pub record IsModelPart (part : List ℕ) : Type 0 where
@@ -35,7 +37,8 @@ pub record IsModelPart (part : List ℕ) : Type 0 where
 
 -- reading a model took an input of which it is the model, by one call for each byte, and one that found
 -- the end of the input where all of it was needed
-pub record TakesModel {S : Type 0} (took : S → List ℕ → S → Type 0) (ended : S → Type 0) (old new : S) (calls calls' : ℕ) (model : List ℕ) : Type 0 where
+pub record TakesModel {S : Type 0} (took : S → List ℕ → S → Type 0) (ended : S → Type 0) (old new : S)
+    (calls calls' : ℕ) (model : List ℕ) : Type 0 where
   pub input : List ℕ
   pub is_all : Bool
   pub taken : took old input new

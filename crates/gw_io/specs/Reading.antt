@@ -29,7 +29,8 @@ AnyBytes bytes = Unit {0}
 
 -- a reading ended in a fault: bytes with the property P were taken, by one call each, and the calls and
 -- the failures are counted
-pub record Breaks {S : Type 0} (took : S → List ℕ → S → Type 0) (failures : S → ℕ) (P : List ℕ → Type 0) (old new : S) (calls calls' : ℕ) (fault : ReadFault) : Type 0 where
+pub record Breaks {S : Type 0} (took : S → List ℕ → S → Type 0) (failures : S → ℕ) (P : List ℕ → Type 0) (old new : S)
+    (calls calls' : ℕ) (fault : ReadFault) : Type 0 where
   pub bytes : List ℕ
   pub part : P bytes
   pub taken : took old bytes new

@@ -85,7 +85,8 @@ pub fn read_byte<S: Source>(source: &mut S, budget: &mut Budget) -> Result<Optio
     ensures end { IfOk result (λ next. next ≡ None → S.ended source.new) }
     ensures spent { OnOk result (budget.old ≡ budget.new + 1) }
     ensures uncounted { OnOk result (S.failures source.new ≡ S.failures source.old) }
-    ensures fault { IfErr result (Breaks S.took S.failures (λ bytes. bytes ≡ []) source.old source.new budget.old budget.new) }
+    ensures fault { IfErr result (Breaks S.took S.failures (λ bytes. bytes ≡ [])
+        source.old source.new budget.old budget.new) }
     ensures memory { IfErr result (λ fault. fault ≢ ReadFault.Memory) }
 {
     budget.spend()?;

@@ -23,7 +23,8 @@ pub fn split_model<S: Source>(
     source: &mut S,
     budget: &mut Budget,
 ) -> Result<Vec<u8>, ReadFault>
-    ensures model { IfOk result (λ model. TakesModel S.took S.ended source.old source.new budget.old budget.new model.items) }
+    ensures model { IfOk result (λ model. TakesModel S.took S.ended source.old source.new budget.old budget.new
+        model.items) }
     ensures uncounted { OnOk result (S.failures source.new ≡ S.failures source.old) }
     ensures fault { IfErr result (Breaks S.took S.failures IsModelPart source.old source.new budget.old budget.new) }
 {

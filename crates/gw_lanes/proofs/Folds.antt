@@ -22,7 +22,8 @@ abbrev pub lesser_lanes : List ℕ → List ℕ → List ℕ
 lesser_lanes xs ys = sel_l (map (top 63) (zip2 (λ a b. cond (ltb a b) (2 ^ 64 - 1) 0) xs ys)) xs ys
 
 chosen : (x y : ℕ) → cond (ltb x y) x y ≡ min x y
-chosen x y = elim (ltb x y) as (λ b. ltb x y ≡ b → cond b x y ≡ min x y) [ true ↦ λ e. omega (arith, ltb-true x y e) | false ↦ λ e. omega (arith, ltb-false x y e) ] refl
+chosen x y =
+    elim (ltb x y) as (λ b. ltb x y ≡ b → cond b x y ≡ min x y) [ true ↦ λ e. omega (arith, ltb-true x y e) | false ↦ λ e. omega (arith, ltb-false x y e) ] refl
 
 by_selection : (m : ℕ) (xs ys : List ℕ) → length xs ≡ length ys → fold min m (sel_l (zip2 ltb xs ys) xs ys) ≡ fold min (fold min m xs) ys
 by_selection m [] [] e = refl

@@ -87,7 +87,8 @@ unchanged ks = let h = joined ks [] tt in rw append-nil at h
 first_gone : (k : ℕ) (ks : List ℕ) → is_in ks k ≡ false → IsFirstInFirstOut (k ∷ ks) ks
 first_gone k ks alone =
     let stay = keeps_all (is_in ks) ks (all_in ks) in
-    let none = keeps_none (λ j. not (is_in (k ∷ ks) j)) ks (each (λ j. is_in ks j ≡ true) (λ j. not (is_in (k ∷ ks) j) ≡ false) (λ j h. ap not (in_longer (k ∷ []) ks j h)) ks (all_in ks)) in
+    let none = keeps_none (λ j. not (is_in (k ∷ ks) j)) ks
+    (each (λ j. is_in ks j ≡ true) (λ j. not (is_in (k ∷ ks) j) ≡ false) (λ j h. ap not (in_longer (k ∷ []) ks j h)) ks (all_in ks)) in
     let whole : filter (is_in ks) (k ∷ ks) ++ filter (λ j. not (is_in (k ∷ ks) j)) ks ≡ ks ++ [] = rw alone (ap₂ ◌++◌ stay none) in
     sym (whole ∙ append-nil ks)
 
@@ -110,11 +111,13 @@ module _ (priority : ℤ) where
   none_further y [] below h = refl
   none_further y (z ∷ zs) below h =
       elim (cases_Bool (has_priority z)) [
-        | inl has ↦ absurd (let same : z.priority ≡ priority = (Decides-int_eq z.priority priority).0 has in let above : is_below y.priority priority ≡ false = rw same at h.0 in false≢true (sym above ∙ below))
+        | inl has ↦ absurd (let same : z.priority ≡ priority = (Decides-int_eq z.priority priority).0 has in let above : is_below y.priority priority ≡ false =
+            rw same at h.0 in false≢true (sym above ∙ below))
         | inr other ↦ rw other (none_further y zs below h.1)
       ]
 
-  lined_numbers : (x : Transaction) (ys : List Transaction) → IsOrdered ys → numbers_of priority (lined_up x ys) ≡ numbers_of priority ys ++ numbers_of priority (x ∷ [])
+  lined_numbers : (x : Transaction) (ys : List Transaction) → IsOrdered ys → numbers_of priority (lined_up x ys) ≡ numbers_of priority ys ++
+      numbers_of priority (x ∷ [])
   lined_numbers x [] h = refl
   lined_numbers x (y ∷ ys) h =
       elim (cases_Bool (is_below y.priority x.priority)) [
@@ -123,7 +126,8 @@ module _ (priority : ℤ) where
               let same : x.priority ≡ priority = (Decides-int_eq x.priority priority).0 has in
               let none : numbers_of priority (y ∷ ys) ≡ [] = none_further y (y ∷ ys) (rw same at below) (never_below_itself y.priority, h.0) in
               first_has x (y ∷ ys) has ∙ (ap (λ ks. x.number ∷ ks) none ∙ sym (ap₂ ◌++◌ none (first_has x [] has)))
-          | inr other ↦ first_other x (y ∷ ys) other ∙ sym (ap (λ ks. numbers_of priority (y ∷ ys) ++ ks) (first_other x [] other) ∙ append-nil (numbers_of priority (y ∷ ys)))
+          | inr other ↦ first_other x (y ∷ ys) other ∙ sym (ap (λ ks. numbers_of priority (y ∷ ys) ++ ks) (first_other x [] other) ∙
+              append-nil (numbers_of priority (y ∷ ys)))
         ])
         | inr above ↦ rw above (elim (cases_Bool (has_priority y)) [
           | inl has ↦ rw has (ap (λ ks. y.number ∷ ks) (lined_numbers x ys h.1))
@@ -153,7 +157,8 @@ module _ (priority : ℤ) where
       ]
 
   -- those that come were not there
-  come_new : (chain come : List Transaction) → ((k : ℕ) → many (has_number k) come + many (has_number k) chain ≤ 1) → AllByRecursion (λ k. is_in (numbers_of priority chain) k ≡ false) (numbers_of priority come)
+  come_new : (chain come : List Transaction) → ((k : ℕ) → many (has_number k) come + many (has_number k) chain ≤ 1) →
+      AllByRecursion (λ k. is_in (numbers_of priority chain) k ≡ false) (numbers_of priority come)
   come_new chain [] once = tt
   come_new chain (x ∷ xs) once =
       let rest = come_new chain xs (λ k. let all = once k in omega arith) in
@@ -164,7 +169,8 @@ module _ (priority : ℤ) where
       elim (cases_Bool (has_priority x)) [ inl has ↦ rw has (new, rest) | inr other ↦ rw other rest ]
 
   -- the first of a chain goes
-  picked_turn : (x : Transaction) (xs : List Transaction) → ((k : ℕ) → many (has_number k) (x ∷ xs) ≤ 1) → IsFirstInFirstOut (numbers_of priority (x ∷ xs)) (numbers_of priority xs)
+  picked_turn : (x : Transaction) (xs : List Transaction) → ((k : ℕ) → many (has_number k) (x ∷ xs) ≤ 1) →
+      IsFirstInFirstOut (numbers_of priority (x ∷ xs)) (numbers_of priority xs)
   picked_turn x xs once =
       let here = eq-eqb x.number x.number refl in
       let is : one (has_number x.number x) ≡ 1 = rw here refl in
@@ -182,10 +188,12 @@ module _ (priority : ℤ) where
 
   moved_turn : (s : Machine) (m : Move) → IsNumbered s → IsOrdered s.current → TakesTurns s (moved s m)
   moved_turn s (moves.Start count arrivals) h order = same_turn s
-  moved_turn s (moves.Generate place next) h order = with_active_has (TakesTurns s) s.active (λ x. generated s x place next) s (same_turn s) (λ x is. same_turn s)
+  moved_turn s (moves.Generate place next) h order =
+      with_active_has (TakesTurns s) s.active (λ x. generated s x place next) s (same_turn s) (λ x is. same_turn s)
   moved_turn s (moves.Pass place) h order = with_active_has (TakesTurns s) s.active (λ x. moved_on s x place) s (same_turn s) (λ x is. same_turn s)
   moved_turn s (moves.Delay place until) h order = with_active_has (TakesTurns s) s.active (λ x. delayed s x place until) s (same_turn s) (λ x is. same_turn s)
-  moved_turn s (moves.Terminate place count) h order = with_active_has (TakesTurns s) s.active (λ x. terminated s x place count) s (same_turn s) (λ x is. same_turn s)
+  moved_turn s (moves.Terminate place count) h order =
+      with_active_has (TakesTurns s) s.active (λ x. terminated s x place count) s (same_turn s) (λ x is. same_turn s)
   moved_turn s moves.Pick h order =
       picked_has (TakesTurns s) s s.current (same_turn s)
       (λ x xs is. rw is (picked_turn x xs (λ k. let chain = ap (many (has_number k)) is in let once = h.apart k in omega arith)))

@@ -40,7 +40,8 @@ nothing_there clock (e ∷ es) is = absurd (never_none e.time (least_time es) is
 least_is_least : (es : List Event) (time : ℕ) → least_time es ≡ Some time → AreAhead time es
 least_is_least [] time is = tt
 least_is_least (e ∷ es) time is = go (least_time es) refl is (least_is_least es) where
-  go : (o : Option ℕ) → least_time es ≡ o → sooner e.time o ≡ Some time → ((other : ℕ) → least_time es ≡ Some other → AreAhead other es) → AreAhead time (e ∷ es)
+  go : (o : Option ℕ) → least_time es ≡ o → sooner e.time o ≡ Some time → ((other : ℕ) → least_time es ≡ Some other → AreAhead other es) →
+      AreAhead time (e ∷ es)
   go None rest is later = let same : e.time ≡ time = cc in (omega arith, nothing_there time es rest)
   go (Some other) rest is later =
       let same : min e.time other ≡ time = cc in
@@ -58,26 +59,34 @@ least_is_ahead clock (e ∷ es) time is h = go (least_time es) refl is (λ other
 rest_ahead : (clock time : ℕ) (es : List Event) → AreAhead clock es → AreAhead clock (filter (λ e. not (is_due time e)) es)
 rest_ahead clock time [] h = tt
 rest_ahead clock time (e ∷ es) h =
-    cond_both (not (is_due time e)) (e ∷ filter (λ e. not (is_due time e)) es) (filter (λ e. not (is_due time e)) es) (AreAhead clock) (λ _. (h.0, rest_ahead clock time es h.1)) (λ _. rest_ahead clock time es h.1)
+    cond_both (not (is_due time e)) (e ∷ filter (λ e. not (is_due time e)) es) (filter (λ e. not (is_due time e)) es) (AreAhead clock)
+    (λ _. (h.0, rest_ahead clock time es h.1)) (λ _. rest_ahead clock time es h.1)
 
-all_made_ahead : (clock : ℕ) (arrivals : List Arrival) (w : Making) → AllByRecursion (λ (a : Arrival). clock ≤ a.time) arrivals → AreAhead clock w.future → AreAhead clock (all_made arrivals w).future
+all_made_ahead : (clock : ℕ) (arrivals : List Arrival) (w : Making) → AllByRecursion (λ (a : Arrival). clock ≤ a.time) arrivals → AreAhead clock w.future →
+    AreAhead clock (all_made arrivals w).future
 all_made_ahead clock [] w ahead h = h
 all_made_ahead clock (a ∷ rest) w ahead h = all_made_ahead clock rest (made a w) ahead.1 (all_and_one (λ (e : Event). clock ≤ e.time) w.future _ h ahead.0)
 
-generated_on_time : (s : Machine) (x : Transaction) (place : ℕ) (next : Option Arrival) → IsMaybeAhead s next → AreAhead s.clock s.future → IsOnTime s.clock (generated s x place next)
+generated_on_time : (s : Machine) (x : Transaction) (place : ℕ) (next : Option Arrival) → IsMaybeAhead s next → AreAhead s.clock s.future →
+    IsOnTime s.clock (generated s x place next)
 generated_on_time s x place None ahead h = (omega arith, h)
 generated_on_time s x place (Some a) ahead h = (omega arith, all_and_one (λ (e : Event). s.clock ≤ e.time) s.future _ h ahead)
 
 -- each move
 moved_on_time : (t : Listing) (s : Machine) (m : Move) → IsDecided t s m → AreAhead s.clock s.future → IsOnTime s.clock (moved s m)
 moved_on_time t s (moves.Start count arrivals) decided h = (omega arith, all_made_ahead s.clock arrivals (making_of s) decided.ahead h)
-moved_on_time t s (moves.Generate place next) decided h = with_active_has (IsOnTime s.clock) s.active _ s (omega arith, h) (λ x _. generated_on_time s x place next decided h)
-moved_on_time t s (moves.Pass place) decided h = with_active_has (IsOnTime s.clock) s.active (λ x. moved_on s x place) s (omega arith, h) (λ x _. (omega arith, h))
+moved_on_time t s (moves.Generate place next) decided h =
+    with_active_has (IsOnTime s.clock) s.active _ s (omega arith, h) (λ x _. generated_on_time s x place next decided h)
+moved_on_time t s (moves.Pass place) decided h =
+    with_active_has (IsOnTime s.clock) s.active (λ x. moved_on s x place) s (omega arith, h) (λ x _. (omega arith, h))
 moved_on_time t s (moves.Delay place until) decided h =
-    with_active_has (IsOnTime s.clock) s.active (λ x. delayed s x place until) s (omega arith, h) (λ x _. (omega arith, all_and_one (λ (e : Event). s.clock ≤ e.time) s.future _ h decided))
-moved_on_time t s (moves.Terminate place count) decided h = with_active_has (IsOnTime s.clock) s.active (λ x. terminated s x place count) s (omega arith, h) (λ x _. (omega arith, h))
+    with_active_has (IsOnTime s.clock) s.active (λ x. delayed s x place until) s (omega arith, h)
+    (λ x _. (omega arith, all_and_one (λ (e : Event). s.clock ≤ e.time) s.future _ h decided))
+moved_on_time t s (moves.Terminate place count) decided h =
+    with_active_has (IsOnTime s.clock) s.active (λ x. terminated s x place count) s (omega arith, h) (λ x _. (omega arith, h))
 moved_on_time t s moves.Pick decided h = picked_has (IsOnTime s.clock) s s.current (omega arith, h) (λ x xs is. (omega arith, h))
-moved_on_time t s (moves.Clock time) decided h = (least_is_ahead s.clock s.future time decided h, rest_ahead time time s.future (least_is_least s.future time decided))
+moved_on_time t s (moves.Clock time) decided h =
+    (least_is_ahead s.clock s.future time decided h, rest_ahead time time s.future (least_is_least s.future time decided))
 
 -- over a run
 pub all_ahead : (t : Listing) (seed n : ℕ) (s : Machine) → run t seed n ≡ Ok s → AreAhead s.clock s.future

@@ -29,7 +29,8 @@ IsCounted s = (p : ℕ) → 0 < p → content s.counts p ≡ crowd (stands_in p)
 -- not all of the living stand in one block
 many_fewer : (test : Transaction → Bool) (xs : List Transaction) → many test xs ≤ many anyone xs
 many_fewer test [] = omega arith
-many_fewer test (x ∷ xs) = let rest = many_fewer test xs in elim (test x) as (λ b. one b + many test xs ≤ 1 + many anyone xs) [ true ↦ omega arith | false ↦ omega arith ]
+many_fewer test (x ∷ xs) =
+    let rest = many_fewer test xs in elim (test x) as (λ b. one b + many test xs ≤ 1 + many anyone xs) [ true ↦ omega arith | false ↦ omega arith ]
 
 crowd_fewer : (test : Transaction → Bool) (s : Machine) → crowd test s ≤ crowd anyone s
 crowd_fewer test s =
@@ -39,7 +40,8 @@ crowd_fewer test s =
     omega arith
 
 -- from a block into another, and into one that it does not stay in: others stand as they stood
-went : (cs : List (ℕ × Count)) (from to p rest : ℕ) → content cs p ≡ one (nat_eq from p) + rest → rest < 2 ^ 64 - 1 → content (entered (left cs from) to) p ≡ one (nat_eq to p) + rest
+went : (cs : List (ℕ × Count)) (from to p rest : ℕ) → content cs p ≡ one (nat_eq from p) + rest → rest < 2 ^ 64 - 1 →
+    content (entered (left cs from) to) p ≡ one (nat_eq to p) + rest
 went cs from to p rest is room =
     let less = content_left cs from p in
     let was : content (left cs from) p ≡ rest = omega arith in
@@ -71,7 +73,9 @@ arrived_counted None s h = h
 arrived_counted (Some a) s h = made_counted a (making_of s) s h
 
 -- the active transaction goes into a block, and is there in the new state
-active_went : (s v : Machine) (x : Transaction) (place : ℕ) → crowd anyone s < 2 ^ 64 - 1 → s.active ≡ Some x → v.counts ≡ entered (left s.counts x.current) place → ((p : ℕ) → crowd (stands_in p) v ≡ one (nat_eq place p) + (many (stands_in p) s.current + future_many (stands_in p) s.future)) → IsCounted s → IsCounted v
+active_went : (s v : Machine) (x : Transaction) (place : ℕ) → crowd anyone s < 2 ^ 64 - 1 → s.active ≡ Some x →
+    v.counts ≡ entered (left s.counts x.current) place →
+    ((p : ℕ) → crowd (stands_in p) v ≡ one (nat_eq place p) + (many (stands_in p) s.current + future_many (stands_in p) s.future)) → IsCounted s → IsCounted v
 active_went s v x place room is counts there h p some =
     let was = active_crowd (stands_in p) s x is in
     let now = there p in
@@ -90,7 +94,8 @@ moved_counted t s (moves.Pass place) room decided h =
     with_active_has IsCounted s.active (λ x. moved_on s x place) s h (λ x is. active_went s (moved_on s x place) x place room is refl (λ p. omega arith) h)
 moved_counted t s (moves.Delay place until) room decided h =
     with_active_has IsCounted s.active (λ x. delayed s x place until) s h
-    (λ x is. active_went s (delayed s x place until) x place room is refl (λ p. let push = future_push (stands_in p) s.future (record { time = until; transaction = placed x place }) in omega arith) h)
+    (λ x is. active_went s (delayed s x place until) x place room is refl
+    (λ p. let push = future_push (stands_in p) s.future (record { time = until; transaction = placed x place }) in omega arith) h)
 moved_counted t s (moves.Terminate place count) room decided h =
     with_active_has IsCounted s.active (λ x. terminated s x place count) s h
     (λ x is p some.

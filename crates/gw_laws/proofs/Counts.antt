@@ -62,7 +62,8 @@ content_entered cs q p room =
           let fits : content cs q < 2 ^ 64 - 1 = rw here room in
           let set = content_here cs q (record (count_at cs q) { entries = raised (count_at cs q).entries; content = raised (content cs q) }) in
           rw (eq-eqb q p here) (rw (← here) (omega arith))
-      | inr apart ↦ let same = content_there cs q p (record (count_at cs q) { entries = raised (count_at cs q).entries; content = raised (content cs q) }) apart in rw (ne_eqb q p apart) (omega arith)
+      | inr apart ↦ let same = content_there cs q p (record (count_at cs q) { entries = raised (count_at cs q).entries; content = raised (content cs q) })
+          apart in rw (ne_eqb q p apart) (omega arith)
     ]
 
 pub content_passed : (cs : List (ℕ × Count)) (q p : ℕ) → content (passed_through cs q) p ≡ content cs p

@@ -69,7 +69,8 @@ module _ (test : Transaction → Bool) where
   many_lined x [] = refl
   many_lined x (y ∷ ys) =
       let rest = many_lined x ys in
-      cond_both (is_below y.priority x.priority) (x ∷ y ∷ ys) (y ∷ lined_up x ys) (λ zs. many zs ≡ one (test x) + (one (test y) + many ys)) (λ _. refl) (λ _. omega arith)
+      cond_both (is_below y.priority x.priority) (x ∷ y ∷ ys) (y ∷ lined_up x ys) (λ zs. many zs ≡ one (test x) + (one (test y) + many ys)) (λ _. refl)
+      (λ _. omega arith)
 
   pub many_all_lined : (xs ys : List Transaction) → many (all_lined_up xs ys) ≡ many xs + many ys
   many_all_lined [] ys = omega arith

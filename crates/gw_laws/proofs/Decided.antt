@@ -52,7 +52,8 @@ few_generates : (lines : List Numbered) → length (generates_in lines) ≤ leng
 few_generates [] = omega arith
 few_generates (line ∷ lines) =
     let rest = few_generates lines in
-    cond_both (is_generate line) (line.number ∷ generates_in lines) (generates_in lines) (λ ns. length ns ≤ suc (length lines)) (λ _. omega arith) (λ _. omega arith)
+    cond_both (is_generate line) (line.number ∷ generates_in lines) (generates_in lines) (λ ns. length ns ≤ suc (length lines)) (λ _. omega arith)
+    (λ _. omega arith)
 
 pub all_and_one : {X : Type 0} (P : X → Type 0) (xs : List X) (x : X) → AllByRecursion P xs → P x → AllByRecursion P (xs ++ x ∷ [])
 all_and_one P [] x h here = (here, tt)
@@ -66,17 +67,20 @@ module _ (t : Listing) (seed : ℕ) (s : Machine) where
   -- the next transaction of a GENERATE
   arrival_at_gets : (place : ℕ) (time priority : ℤ) → Gets t seed (IsMaybeAhead s) (arrival_at s place time priority)
   arrival_at_gets place time priority =
-      gets_stops t seed _ (is_negative time) NegativeTime _ (gets_stops t seed _ (nat_le 100000 (live s)) TooManyTransactions _ (gets_gives t seed (IsMaybeAhead s) (Some _) (omega arith)))
+      gets_stops t seed _ (is_negative time) NegativeTime _
+      (gets_stops t seed _ (nat_le 100000 (live s)) TooManyTransactions _ (gets_gives t seed (IsMaybeAhead s) (Some _) (omega arith)))
 
   arrival_in_time_gets : (place : ℕ) (time priority : Option Term) → Gets t seed (IsMaybeAhead s) (arrival_in_time s place time priority)
   arrival_in_time_gets place time priority =
-      gets_bind t seed (Any t seed) _ _ _ (gets_any t seed (value_or_zero s time)) (λ d _. gets_bind t seed (Any t seed) _ _ _ (gets_any t seed (value_or_zero s priority)) (λ p _. arrival_at_gets place d p))
+      gets_bind t seed (Any t seed) _ _ _ (gets_any t seed (value_or_zero s time))
+      (λ d _. gets_bind t seed (Any t seed) _ _ _ (gets_any t seed (value_or_zero s priority)) (λ p _. arrival_at_gets place d p))
 
   arrival_gets : (place made : ℕ) (time limit priority : Option Term) → Gets t seed (IsMaybeAhead s) (arrival_prog s place made time limit priority)
   arrival_gets place made time None priority = arrival_in_time_gets place time priority
   arrival_gets place made time (Some limit) priority =
       gets_bind t seed (Any t seed) _ _ _ (gets_any t seed (value_prog s limit))
-      (λ n _. gets_stops t seed _ (is_negative n) BadCount _ (gets_cond t seed _ (nat_le (magnitude n) made) _ _ (gets_gives t seed (IsMaybeAhead s) None tt) (arrival_in_time_gets place time priority)))
+      (λ n _. gets_stops t seed _ (is_negative n) BadCount _
+      (gets_cond t seed _ (nat_le (magnitude n) made) _ _ (gets_gives t seed (IsMaybeAhead s) None tt) (arrival_in_time_gets place time priority)))
 
   -- priming
   first_arrival_gets : (place : ℕ) (block : Option Block) → Gets t seed (IsMaybeAhead s) (first_arrival s place block)
@@ -85,13 +89,15 @@ module _ (t : Listing) (seed : ℕ) (s : Machine) where
   first_arrival_gets place (Some (blocks.Terminate count)) = gets_gives t seed (IsMaybeAhead s) None tt
   first_arrival_gets place None = gets_gives t seed (IsMaybeAhead s) None tt
 
-  with_arrival_first : (a : Option Arrival) (made : List Arrival) (most : ℕ) → IsMaybeAhead s a → AreFirst s most made → AreFirst s (suc most) (with_arrival a made)
+  with_arrival_first : (a : Option Arrival) (made : List Arrival) (most : ℕ) → IsMaybeAhead s a → AreFirst s most made →
+      AreFirst s (suc most) (with_arrival a made)
   with_arrival_first None made most here h = record { ahead = h.ahead; few = omega (arith, h.few) }
   with_arrival_first (Some a) made most here h =
       let longer = one_more made a in
       record { ahead = all_and_one (IsAhead s) made a h.ahead here; few = omega (arith, h.few) }
 
-  arrivals_get : (places : List ℕ) (made : List Arrival) (most : ℕ) → AreFirst s most made → Gets t seed (AreFirst s (most + length places)) (arrivals_prog s places made)
+  arrivals_get : (places : List ℕ) (made : List Arrival) (most : ℕ) → AreFirst s most made →
+      Gets t seed (AreFirst s (most + length places)) (arrivals_prog s places made)
   arrivals_get [] made most h = gets_gives t seed (AreFirst s (most + length {A = ℕ} [])) made (record { ahead = h.ahead; few = omega (arith, h.few) })
   arrivals_get (place ∷ places) made most h =
       gets_bind t seed (IsMaybeAhead s) _ (prime_prog s place) _ (gets_asks t seed _ (items.Block place) _ (first_arrival_gets place _))
@@ -118,7 +124,8 @@ module _ (t : Listing) (seed : ℕ) (s : Machine) where
   generate_gets : (x : Transaction) (place : ℕ) (mean limit priority : Option Term) → Gets t seed (IsDecided t s) (generate_prog s x place mean limit priority)
   generate_gets x place mean limit priority =
       gets_cond t seed _ (nat_eq x.current 0) _ _
-      (gets_bind t seed (IsMaybeAhead s) _ _ _ (arrival_gets place _ mean limit priority) (λ next h. gets_gives t seed (IsDecided t s) (moves.Generate place next) h))
+      (gets_bind t seed (IsMaybeAhead s) _ _ _ (arrival_gets place _ mean limit priority)
+      (λ next h. gets_gives t seed (IsDecided t s) (moves.Generate place next) h))
       (gets_ends t seed _ _)
 
   delay_decided : (place n : ℕ) → IsDecided t s (delay_of s place n)

@@ -43,8 +43,10 @@ made_numbered a w s room h = record {
   apart = λ k.
       let push = future_push (has_number k) w.future (newcomer w.next a) in
       elim (cases_eq w.next k) [
-        | inl same ↦ let new = eq-eqb w.next k same in let is : one (has_number k (newcomer w.next a).transaction) ≡ 1 = rw new refl in let none = h.given k (omega arith) in omega arith
-        | inr other ↦ let old = ne_eqb w.next k other in let is : one (has_number k (newcomer w.next a).transaction) ≡ 0 = rw old refl in let once = h.apart k in omega arith
+        | inl same ↦ let new = eq-eqb w.next k same in let is : one (has_number k (newcomer w.next a).transaction) ≡ 1 = rw new refl in let none =
+            h.given k (omega arith) in omega arith
+        | inr other ↦ let old =
+            ne_eqb w.next k other in let is : one (has_number k (newcomer w.next a).transaction) ≡ 0 = rw old refl in let once = h.apart k in omega arith
       ];
   given = λ k above.
       let push = future_push (has_number k) w.future (newcomer w.next a) in
@@ -54,7 +56,8 @@ made_numbered a w s room h = record {
       omega arith;
 }
 
-all_made_numbered : (arrivals : List Arrival) (w : Making) (s : Machine) → w.next + length arrivals < 2 ^ 64 - 1 → IsNumbered (with_making w s) → IsNumbered (with_making (all_made arrivals w) s)
+all_made_numbered : (arrivals : List Arrival) (w : Making) (s : Machine) → w.next + length arrivals < 2 ^ 64 - 1 → IsNumbered (with_making w s) →
+    IsNumbered (with_making (all_made arrivals w) s)
 all_made_numbered [] w s room h = h
 all_made_numbered (a ∷ rest) w s room h = all_made_numbered rest (made a w) s (omega arith) (made_numbered a w s (omega arith) h)
 
@@ -68,7 +71,8 @@ moved_numbered t s (moves.Start count arrivals) room decided h =
     all_made_numbered arrivals (making_of s) (started count s) (omega (arith, decided.few)) (record { apart = h.apart; given = h.given })
 moved_numbered t s (moves.Generate place next) room decided h =
     with_active_has IsNumbered s.active (λ x. generated s x place next) s h
-    (λ x is. arrived_numbered next (in_generate s x place) (omega arith) (same_numbered s (in_generate s x place) refl (λ k. let was = active_crowd (has_number k) s x is in omega arith) h))
+    (λ x is. arrived_numbered next (in_generate s x place) (omega arith)
+    (same_numbered s (in_generate s x place) refl (λ k. let was = active_crowd (has_number k) s x is in omega arith) h))
 moved_numbered t s (moves.Pass place) room decided h =
     with_active_has IsNumbered s.active (λ x. moved_on s x place) s h
     (λ x is. same_numbered s (moved_on s x place) refl (λ k. let was = active_crowd (has_number k) s x is in omega arith) h)
@@ -125,7 +129,8 @@ given_in next (x ∷ xs) none =
     let rest = given_in next xs (λ k above. let all = none k above in omega arith) in
     elim (cases_lt x.number next) [
       | inl below ↦ (below, rest)
-      | inr above ↦ absurd (let here = eq-eqb x.number x.number refl in let is : one (has_number x.number x) ≡ 1 = rw here refl in let all = none x.number above in omega arith)
+      | inr above ↦ absurd (let here = eq-eqb x.number x.number refl in let is : one (has_number x.number x) ≡ 1 = rw here refl in let all =
+          none x.number above in omega arith)
     ]
 
 pub numbers_are_apart : NumbersAreApart
@@ -136,4 +141,5 @@ numbers_are_apart t seed n s well within is =
 pub numbers_are_given : NumbersAreGiven
 numbers_are_given t seed n s well within is =
     let h = all_numbered t seed well n s is within in
-    All-from_recursion (λ (x : Transaction). x.number < s.next) (living s) (given_in s.next (living s) (λ k above. many_living (has_number k) s ∙ h.given k above))
+    All-from_recursion (λ (x : Transaction). x.number < s.next) (living s)
+    (given_in s.next (living s) (λ k above. many_living (has_number k) s ∙ h.given k above))

@@ -28,7 +28,8 @@ module _ (t : Listing) (seed : ℕ) where
   gets_stops P true stop p h = gets_ends P _
   gets_stops P false stop p h = h
 
-  pub gets_bind : {A B : Type 0} (P : A → Type 0) (Q : B → Type 0) (p : Prog A) (k : A → Prog B) → Gets t seed P p → ((a : A) → P a → Gets t seed Q (k a)) → Gets t seed Q (p >>= k)
+  pub gets_bind : {A B : Type 0} (P : A → Type 0) (Q : B → Type 0) (p : Prog A) (k : A → Prog B) → Gets t seed P p → ((a : A) → P a → Gets t seed Q (k a)) →
+      Gets t seed Q (p >>= k)
   gets_bind P Q (Gives a) k first second = second a (first.gets a refl)
   gets_bind P Q (Ends end) k first second = gets_ends Q end
   gets_bind P Q (Asks i f) k first second = gets_asks Q i _ (gets_bind P Q (f (ask t seed i)) k (record { gets = first.gets }) second)

@@ -31,7 +31,8 @@ made_within most a w s h =
     let push = future_push anyone w.future (newcomer w.next a) in
     record { next = omega (arith, h.next); crowd = omega (arith, h.crowd) }
 
-all_made_within : (most : ℕ) (arrivals : List Arrival) (w : Making) (s : Machine) → IsWithin most (with_making w s) → IsWithin (most + length arrivals) (with_making (all_made arrivals w) s)
+all_made_within : (most : ℕ) (arrivals : List Arrival) (w : Making) (s : Machine) → IsWithin most (with_making w s) →
+    IsWithin (most + length arrivals) (with_making (all_made arrivals w) s)
 all_made_within most [] w s h = record { next = omega (arith, h.next); crowd = omega (arith, h.crowd) }
 all_made_within most (a ∷ rest) w s h =
     let whole = all_made_within (most + 1) rest (made a w) s (made_within most a w s h) in
@@ -46,16 +47,19 @@ same_within : (most : ℕ) (s v : Machine) → v.next ≡ s.next → crowd anyon
 same_within most s v next fewer h = record { next = omega (arith, h.next); crowd = omega (arith, h.crowd) }
 
 -- each move
-moved_within : (t : Listing) (s : Machine) (m : Move) (most : ℕ) → length t.lines ≤ 2000 → IsDecided t s m → IsWithin most s → IsWithin (most + 2000) (moved s m)
+moved_within : (t : Listing) (s : Machine) (m : Move) (most : ℕ) → length t.lines ≤ 2000 → IsDecided t s m → IsWithin most s →
+    IsWithin (most + 2000) (moved s m)
 moved_within t s (moves.Start count arrivals) most few decided h =
     let first : IsWithin most (with_making (making_of s) (started count s)) = record { next = h.next; crowd = h.crowd } in
-    within_more (most + length arrivals) (most + 2000) (moved s (moves.Start count arrivals)) (omega (arith, decided.few)) (all_made_within most arrivals (making_of s) (started count s) first)
+    within_more (most + length arrivals) (most + 2000) (moved s (moves.Start count arrivals)) (omega (arith, decided.few))
+    (all_made_within most arrivals (making_of s) (started count s) first)
 moved_within t s (moves.Generate place next) most few decided h =
     with_active_has (IsWithin (most + 2000)) s.active (λ x. generated s x place next) s (within_more most (most + 2000) s (omega arith) h)
     (λ x is.
     let was = active_crowd anyone s x is in
     let there = in_generate s x place in
-    within_more (most + 1) (most + 2000) (generated s x place next) (omega arith) (arrived_within most next there (same_within most s there refl (omega arith) h)))
+    within_more (most + 1) (most + 2000) (generated s x place next) (omega arith)
+    (arrived_within most next there (same_within most s there refl (omega arith) h)))
 moved_within t s (moves.Pass place) most few decided h =
     with_active_has (IsWithin (most + 2000)) s.active (λ x. moved_on s x place) s (within_more most (most + 2000) s (omega arith) h)
     (λ x is.

@@ -17,7 +17,9 @@ module _ (t : Listing) (seed : ℕ) where
     go (Ok s) there = (s, there, step_moves t seed s v (sym (run_on t seed n s there) ∙ is))
     go (Err end) there = absurd (let whole : Err end ≡ Ok v = sym (bind_ends t seed (run_prog n) step_prog end there).0 ∙ is in cc)
 
-  pub over_run : (P : ℕ → Machine → Type 0) → P 0 zero_state → ((n : ℕ) (s : Machine) (m : Move) → run t seed n ≡ Ok s → IsDecided t s m → P n s → P (suc n) (moved s m)) → (n : ℕ) (s : Machine) → run t seed n ≡ Ok s → P n s
+  pub over_run : (P : ℕ → Machine → Type 0) → P 0 zero_state →
+      ((n : ℕ) (s : Machine) (m : Move) → run t seed n ≡ Ok s → IsDecided t s m → P n s → P (suc n) (moved s m)) → (n : ℕ) (s : Machine) → run t seed n ≡ Ok s →
+      P n s
   over_run P start keeps zero s is = let same : zero_state ≡ s = cc in subst (P 0) same start
   over_run P start keeps (suc n) v is =
       let last = last_move n v is in

@@ -27,7 +27,8 @@ pub at_gpssbench : (a : App) (P : App → Type 0) → a ≡ gpssbench → (is_si
 at_gpssbench a P e h = subst P e (h (ap is_simple_and_free e ∙ gpssbench_is_free))
 
 -- the matches give for a name the word that the words give for it
-pub given_by_words : (a : App) (words : List Text) (m : ArgMatches) → a ≡ gpssbench → HasMatchesOf a words m → (name : Text) → first_value (found_of m) name ≡ word_of words name
+pub given_by_words : (a : App) (words : List Text) (m : ArgMatches) → a ≡ gpssbench → HasMatchesOf a words m → (name : Text) →
+    first_value (found_of m) name ≡ word_of words name
 given_by_words a words m e h name =
     let rows = (h (ap is_simple e ∙ gpssbench_is_simple)).0 in
     first_value-rows (found_of m) name ∙ ap (first_of name) (rows ∙ ap (λ (v : App). matches_of v words) e)
@@ -48,7 +49,8 @@ bad_same given given' same (every e) = every (ap (said 1 1000000 constants.Optio
 bad_same given given' same (limit e) = limit (ap (said 1 1000000 constants.Options.USUAL.limit) (sym (same (codes "limit"))) ∙ e)
 
 -- clap refused the words by one of their faults, or for want of memory
-pub refused_by_clap : (words : List Text) (kind : ErrorKind) (refusal : Refusal) → IsRefusalAt kind refusal → (kind ≡ kinds.OutOfMemory) ⊎ IsAmong kind (faults_of words) → IsRefusedBy words refusal
+pub refused_by_clap : (words : List Text) (kind : ErrorKind) (refusal : Refusal) → IsRefusalAt kind refusal → (kind ≡ kinds.OutOfMemory) ⊎
+    IsAmong kind (faults_of words) → IsRefusedBy words refusal
 refused_by_clap words kind (refusals.Help text) is (inl memory) = absurd cc
 refused_by_clap words kind (refusals.Help text) is (inr among) = let P : ErrorKind → Type 0 = λ k. IsAmong k (faults_of words) in subst P is among
 refused_by_clap words kind (refusals.Bad text) is (inl memory) = absurd (is.1 memory)
@@ -56,7 +58,8 @@ refused_by_clap words kind (refusals.Bad text) is (inr among) = inl (record { ki
 refused_by_clap words kind refusals.Memory is among = tt
 
 -- the words were refused for a number
-pub refused_by_number : (words : List Text) (refusal : Refusal) → IsNumberRefusal refusal → faults_of words ≡ [] → HasBadNumber (word_of words) → IsRefusedBy words refusal
+pub refused_by_number : (words : List Text) (refusal : Refusal) → IsNumberRefusal refusal → faults_of words ≡ [] → HasBadNumber (word_of words) →
+    IsRefusedBy words refusal
 refused_by_number words (refusals.Help text) is taken bad = absurd is
 refused_by_number words (refusals.Bad text) is taken bad = inr (taken, bad)
 refused_by_number words refusals.Memory is taken bad = tt

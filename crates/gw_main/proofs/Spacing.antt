@@ -27,5 +27,6 @@ said_least least greatest usual n None enough e = let same : usual ≡ n = cc in
 said_least least greatest usual n (Some word) enough e = within_least least greatest n (number_of word) e
 
 pub spacing : (words : List Text) (meant : Result Asked Refusal) → IsReadAs words meant → IfOk meant (λ asked. 1 ≤ asked.options.every)
-spacing words (Ok asked) h = said_least 1 1000000 constants.Options.USUAL.every asked.options.every (word_of words (codes "every")) (omega arith) h.options.every
+spacing words (Ok asked) h =
+    said_least 1 1000000 constants.Options.USUAL.every asked.options.every (word_of words (codes "every")) (omega arith) h.options.every
 spacing words (Err refusal) h = tt

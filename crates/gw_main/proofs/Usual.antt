@@ -38,10 +38,14 @@ says_usual least greatest usual n name h =
     cc
 
 no_bad_number : HasBadNumber (word_of []) → ⊥
-no_bad_number (seed h) = let e : Some constants.Options.USUAL.seed ≡ None = sym (ap (said 1 2147483646 constants.Options.USUAL.seed) (no_word (codes "seed"))) ∙ h in cc
-no_bad_number (horizon h) = let e : Some constants.Options.USUAL.horizon ≡ None = sym (ap (said 1 1000000000000 constants.Options.USUAL.horizon) (no_word (codes "horizon"))) ∙ h in cc
-no_bad_number (every h) = let e : Some constants.Options.USUAL.every ≡ None = sym (ap (said 1 1000000 constants.Options.USUAL.every) (no_word (codes "every"))) ∙ h in cc
-no_bad_number (limit h) = let e : Some constants.Options.USUAL.limit ≡ None = sym (ap (said 1 1000000 constants.Options.USUAL.limit) (no_word (codes "limit"))) ∙ h in cc
+no_bad_number (seed h) =
+    let e : Some constants.Options.USUAL.seed ≡ None = sym (ap (said 1 2147483646 constants.Options.USUAL.seed) (no_word (codes "seed"))) ∙ h in cc
+no_bad_number (horizon h) =
+    let e : Some constants.Options.USUAL.horizon ≡ None = sym (ap (said 1 1000000000000 constants.Options.USUAL.horizon) (no_word (codes "horizon"))) ∙ h in cc
+no_bad_number (every h) =
+    let e : Some constants.Options.USUAL.every ≡ None = sym (ap (said 1 1000000 constants.Options.USUAL.every) (no_word (codes "every"))) ∙ h in cc
+no_bad_number (limit h) =
+    let e : Some constants.Options.USUAL.limit ≡ None = sym (ap (said 1 1000000 constants.Options.USUAL.limit) (no_word (codes "limit"))) ∙ h in cc
 
 abbrev options_with : ℕ → ℕ → ℕ → ℕ → Options
 options_with s t k l = record { seed = s; horizon = t; every = k; limit = l }
@@ -52,14 +56,16 @@ usual_options o h =
     let t : o.horizon ≡ 1000000000 = says_usual 1 1000000000000 constants.Options.USUAL.horizon o.horizon (codes "horizon") h.horizon in
     let k : o.every ≡ 1000 = says_usual 1 1000000 constants.Options.USUAL.every o.every (codes "every") h.every in
     let l : o.limit ≡ 1000000 = says_usual 1 1000000 constants.Options.USUAL.limit o.limit (codes "limit") h.limit in
-    ap (λ v. options_with v o.horizon o.every o.limit) s ∙ (ap (λ v. options_with 1 v o.every o.limit) t ∙ (ap (λ v. options_with 1 1000000000 v o.limit) k ∙ ap (options_with 1 1000000000 1000) l))
+    ap (λ v. options_with v o.horizon o.every o.limit) s ∙
+    (ap (λ v. options_with 1 v o.every o.limit) t ∙ (ap (λ v. options_with 1 1000000000 v o.limit) k ∙ ap (options_with 1 1000000000 1000) l))
 
 usual_place : (m : ModelAt) → IsModelAt None m → m ≡ places.Input
 usual_place places.Input h = refl
 usual_place (places.File path) h = absurd h
 
 -- words that are none ask for a run under the usual options, unless memory runs out
-is_usual : (meant : Result Asked Refusal) → IsReadAs [] meant → ((asked : Asked) × (meant ≡ Ok asked) × (asked.model ≡ places.Input) × (asked.options ≡ constants.Options.USUAL)) ⊎ (meant ≡ Err refusals.Memory)
+is_usual : (meant : Result Asked Refusal) → IsReadAs [] meant →
+    ((asked : Asked) × (meant ≡ Ok asked) × (asked.model ≡ places.Input) × (asked.options ≡ constants.Options.USUAL)) ⊎ (meant ≡ Err refusals.Memory)
 is_usual (Ok asked) h =
     let At : Option Text → Type 0 = λ w. IsModelAt w asked.model in
     inl (asked, refl, usual_place asked.model (subst At (no_word (codes "model")) h.model), usual_options asked.options h.options)
@@ -68,31 +74,47 @@ is_usual (Err (refusals.Bad text)) (inl line) = absurd (subst IsBadLine no_fault
 is_usual (Err (refusals.Bad text)) (inr number) = absurd (no_bad_number number.1)
 is_usual (Err refusals.Memory) h = inr refl
 
-module _ {S K : Type 0} (took : S → List ℕ → S → Type 0) (ended : S → Type 0) (reads : S → ℕ) (wrote : K → List ℕ → K → Type 0) (writes : K → ℕ) (nothing : (a : S) → took a [] a) (reader reader' : S) (writer writer' : K) where
+module _ {S K : Type 0} (took : S → List ℕ → S → Type 0) (ended : S → Type 0) (reads : S → ℕ) (wrote : K → List ℕ → K → Type 0) (writes : K → ℕ)
+    (nothing : (a : S) → took a [] a) (reader reader' : S) (writer writer' : K) where
   -- want of memory before anything is read is a conversation that stopped for want of memory within its model
   stops_unread : (o : Options) → reader' ≡ reader → writer' ≡ writer → Fails took ended reads wrote writes o reader reader' writer writer' faults.Memory
   stops_unread o unread unwritten =
       let P : S → Type 0 = λ v. Breaks took reads IsModelPart reader v 16777216 16777216 causes.Memory in
-      let breaks : Breaks took reads IsModelPart reader reader 16777216 16777216 causes.Memory = record { bytes = []; part = whole_part [] (no_lines [] refl); taken = nothing reader; idle = 0; spent = omega arith; idle_calls = omega arith; counted = refl; limit = tt } in
+      let breaks : Breaks took reads IsModelPart reader reader 16777216 16777216 causes.Memory =
+      record {
+        bytes = [];
+        part = whole_part [] (no_lines [] refl);
+        taken = nothing reader;
+        idle = 0;
+        spent = omega arith;
+        idle_calls =
+            omega arith;
+        counted = refl;
+        limit = tt;
+      } in
       in_model 16777216 causes.Memory (subst P (sym unread) breaks) refl unwritten
 
   -- so a run without words is one with its model on standard input, under the usual options
-  module _ {F E : Type 0} (opens : List ℕ → Result F ReadFault → Type 0) (took_file : F → List ℕ → F → Type 0) (ended_file : F → Type 0) (reads_file : F → ℕ) (told : E → List ℕ → E → Type 0) (losses : E → ℕ) (errors errors' : E) (status : ℕ) where
+  module _ {F E : Type 0} (opens : List ℕ → Result F ReadFault → Type 0) (took_file : F → List ℕ → F → Type 0) (ended_file : F → Type 0) (reads_file : F → ℕ)
+      (told : E → List ℕ → E → Type 0) (losses : E → ℕ) (errors errors' : E) (status : ℕ) where
     abbrev IsUsualRun : Type 0
     IsUsualRun = Runs took ended reads wrote writes told losses constants.Options.USUAL reader reader' writer writer' errors errors' status
 
     unread_run : Declines told losses (codes "stopped: F6\n") 3 reader reader' writer writer' errors errors' status → IsUsualRun
     unread_run h = stopped faults.Memory (stops_unread constants.Options.USUAL h.unread h.unwritten) h.tells h.status_is
 
-    pub usual_run : (words : List Text) → words ≡ [] → Does opens took_file ended_file reads_file took ended reads wrote writes told losses words reader reader' writer writer' errors errors' status → IsUsualRun
+    pub usual_run : (words : List Text) → words ≡ [] → Does opens took_file ended_file reads_file took ended reads wrote writes told losses words reader reader'
+        writer writer' errors errors' status → IsUsualRun
     usual_run words none d = go (is_usual d.meant (subst (λ (ws : List Text). IsReadAs ws d.meant) none d.reading)) where
       Done : Result Asked Refusal → Type 0
-      Done meant = Proceeds opens took_file ended_file reads_file took ended reads wrote writes told losses meant reader reader' writer writer' errors errors' status
+      Done meant =
+          Proceeds opens took_file ended_file reads_file took ended reads wrote writes told losses meant reader reader' writer writer' errors errors' status
 
       At : ModelAt → Options → Type 0
       At m o = RunsAt opens took_file ended_file reads_file took ended reads wrote writes told losses m o reader reader' writer writer' errors errors' status
 
-      go : ((asked : Asked) × (d.meant ≡ Ok asked) × (asked.model ≡ places.Input) × (asked.options ≡ constants.Options.USUAL)) ⊎ (d.meant ≡ Err refusals.Memory) → IsUsualRun
+      go : ((asked : Asked) × (d.meant ≡ Ok asked) × (asked.model ≡ places.Input) × (asked.options ≡ constants.Options.USUAL)) ⊎
+          (d.meant ≡ Err refusals.Memory) → IsUsualRun
       go (inl h) = subst (At places.Input) h.3 (subst (λ (m : ModelAt). At m h.0.options) h.2 (subst Done h.1 d.done))
       go (inr memory) = unread_run (subst Done memory d.done)
 

@@ -10,7 +10,8 @@ use Rattle.gw_script.specs.declared.fault.Fault.TheVariants.{Line, Model, Read, 
 
 -- the line for a faulty line of the model
 abbrev pub line_part : FaultyLine → List ℕ
-line_part faulty = codes "model refused: line " ++ decimal faulty.line ++ codes " " ++ code_of faulty.fault ++ codes "\n"
+line_part faulty =
+    codes "model refused: line " ++ decimal faulty.line ++ codes " " ++ code_of faulty.fault ++ codes "\n"
 
 -- the line for a model fault
 abbrev pub model_part : ModelFault → List ℕ
@@ -44,6 +45,7 @@ IsToldAs ReadLimit told = told ≡ ReadLimit
 IsToldAs Memory told = told ≡ Memory
 
 -- a line was told as far as the sink took it: whole, or a front of it where the sink failed
-pub data Tells {E : Type 0} (wrote : E → List ℕ → E → Type 0) (failures : E → ℕ) (text : List ℕ) (old new : E) : Type 0 where
+pub data Tells {E : Type 0} (wrote : E → List ℕ → E → Type 0) (failures : E → ℕ) (text : List ℕ) (old new : E) :
+    Type 0 where
   whole : wrote old text new → failures new ≡ failures old → Tells wrote failures text old new
   front : WritesPart wrote old text new → failures new ≡ one_more (failures old) → Tells wrote failures text old new

@@ -1,4 +1,5 @@
--- What the program does with a model on its input: it takes a model off its front, and serves the script that stands behind it. (Our own.)
+-- What the program does with a model on its input: it takes a model off its front, and serves the script that stands
+-- behind it. (Our own.)
 use Rattle.std.specs.Prelude.{◌≡◌, ℕ, List}
 use Rattle.gw_io.specs.declared.budget.ReadFault.{ReadFault}
 use Rattle.gw_io.specs.Model.{TakesModel, IsModelPart}
@@ -14,13 +15,16 @@ use Rattle.gw_script.specs.Turns.{stopped_by}
 use Rattle.gw_main.specs.Complaints.{Tells, complaint_of, status_of}
 
 -- a model was taken off the reader, by at most 16,777,216 calls of which none failed; `between` is the moment behind it
-pub record Takes {S : Type 0} (took : S → List ℕ → S → Type 0) (ended : S → Type 0) (reads : S → ℕ) (reader between : S) (model : List ℕ) : Type 0 where
+pub record Takes {S : Type 0} (took : S → List ℕ → S → Type 0) (ended : S → Type 0) (reads : S → ℕ) (reader between : S)
+    (model : List ℕ) : Type 0 where
   pub left : ℕ
   pub takes : TakesModel took ended reader between 16777216 left model
   pub uncounted : reads between ≡ reads reader
 
 -- a conversation came to its end: the model was taken and opened, and the session served what stands behind it
-pub record Converses {S K : Type 0} (took : S → List ℕ → S → Type 0) (ended : S → Type 0) (reads : S → ℕ) (wrote : K → List ℕ → K → Type 0) (writes : K → ℕ) (o : Options) (reader reader' : S) (writer writer' : K) (over : Over) : Type 0 where
+pub record Converses {S K : Type 0} (took : S → List ℕ → S → Type 0) (ended : S → Type 0) (reads : S → ℕ)
+    (wrote : K → List ℕ → K → Type 0) (writes : K → ℕ) (o : Options) (reader reader' : S) (writer writer' : K)
+    (over : Over) : Type 0 where
   pub between : S
   pub model : List ℕ
   pub book : Book
@@ -29,19 +33,32 @@ pub record Converses {S K : Type 0} (took : S → List ℕ → S → Type 0) (en
   pub opens : Opens model o book
   pub serves : Serves DeskAnswers took ended reads wrote writes book between reader' writer writer' after over
 
--- a conversation stopped: within the model, with nothing written; behind a model that is refused, with nothing more read
--- and nothing written; or in the session over the model
-pub data Fails {S K : Type 0} (took : S → List ℕ → S → Type 0) (ended : S → Type 0) (reads : S → ℕ) (wrote : K → List ℕ → K → Type 0) (writes : K → ℕ) (o : Options) (reader reader' : S) (writer writer' : K) (fault : Fault) : Type 0 where
-  in_model : (left : ℕ) (cause : ReadFault) → Breaks took reads IsModelPart reader reader' 16777216 left cause → fault ≡ stopped_by cause → writer' ≡ writer → Fails took ended reads wrote writes o reader reader' writer writer' fault
-  refused : (model : List ℕ) → Takes took ended reads reader reader' model → Refuses model o fault → writer' ≡ writer → Fails took ended reads wrote writes o reader reader' writer writer' fault
-  in_session : (between : S) (model : List ℕ) (book after : Book) → Takes took ended reads reader between model → Opens model o book → Stops DeskAnswers took reads wrote writes book between reader' writer writer' after fault → Fails took ended reads wrote writes o reader reader' writer writer' fault
+-- a conversation stopped: within the model, with nothing written; behind a model that is refused, with nothing more
+-- read and nothing written; or in the session over the model
+pub data Fails {S K : Type 0} (took : S → List ℕ → S → Type 0) (ended : S → Type 0) (reads : S → ℕ)
+    (wrote : K → List ℕ → K → Type 0) (writes : K → ℕ) (o : Options) (reader reader' : S) (writer writer' : K)
+    (fault : Fault) : Type 0 where
+  in_model : (left : ℕ) (cause : ReadFault) → Breaks took reads IsModelPart reader reader' 16777216 left cause →
+      fault ≡ stopped_by cause → writer' ≡ writer →
+      Fails took ended reads wrote writes o reader reader' writer writer' fault
+  refused : (model : List ℕ) → Takes took ended reads reader reader' model → Refuses model o fault → writer' ≡ writer →
+      Fails took ended reads wrote writes o reader reader' writer writer' fault
+  in_session : (between : S) (model : List ℕ) (book after : Book) → Takes took ended reads reader between model →
+      Opens model o book → Stops DeskAnswers took reads wrote writes book between reader' writer writer' after fault →
+      Fails took ended reads wrote writes o reader reader' writer writer' fault
 
--- how a run ends whose conversation came to its end, or stopped for a fault: it served the script to its end, and standard
--- error was told nothing; or standard error was told of the fault, and the status is the fault's
-pub data Ends {E : Type 0} (told : E → List ℕ → E → Type 0) (losses : E → ℕ) (comes : Over → Type 0) (fails : Fault → Type 0) (errors errors' : E) (status : ℕ) : Type 0 where
-  served : (over : Over) → comes over → errors' ≡ errors → status ≡ 0 → Ends told losses comes fails errors errors' status
-  stopped : (fault : Fault) → fails fault → Tells told losses (complaint_of fault) errors errors' → status ≡ status_of fault → Ends told losses comes fails errors errors' status
+-- how a run ends whose conversation came to its end, or stopped for a fault: it served the script to its end, and
+-- standard error was told nothing; or standard error was told of the fault, and the status is the fault's
+pub data Ends {E : Type 0} (told : E → List ℕ → E → Type 0) (losses : E → ℕ) (comes : Over → Type 0)
+    (fails : Fault → Type 0) (errors errors' : E) (status : ℕ) : Type 0 where
+  served : (over : Over) → comes over → errors' ≡ errors → status ≡ 0 →
+      Ends told losses comes fails errors errors' status
+  stopped : (fault : Fault) → fails fault → Tells told losses (complaint_of fault) errors errors' →
+      status ≡ status_of fault → Ends told losses comes fails errors errors' status
 
 -- a run of the program with its model on standard input
-abbrev pub Runs : {S K E : Type 0} → (S → List ℕ → S → Type 0) → (S → Type 0) → (S → ℕ) → (K → List ℕ → K → Type 0) → (K → ℕ) → (E → List ℕ → E → Type 0) → (E → ℕ) → Options → S → S → K → K → E → E → ℕ → Type 0
-Runs took ended reads wrote writes told losses o reader reader' writer writer' errors errors' status = Ends told losses (Converses took ended reads wrote writes o reader reader' writer writer') (Fails took ended reads wrote writes o reader reader' writer writer') errors errors' status
+abbrev pub Runs : {S K E : Type 0} → (S → List ℕ → S → Type 0) → (S → Type 0) → (S → ℕ) → (K → List ℕ → K → Type 0) →
+    (K → ℕ) → (E → List ℕ → E → Type 0) → (E → ℕ) → Options → S → S → K → K → E → E → ℕ → Type 0
+Runs took ended reads wrote writes told losses o reader reader' writer writer' errors errors' status =
+    Ends told losses (Converses took ended reads wrote writes o reader reader' writer writer')
+    (Fails took ended reads wrote writes o reader reader' writer writer') errors errors' status

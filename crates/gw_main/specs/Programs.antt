@@ -16,37 +16,71 @@ use Rattle.gw_main.specs.Files.{FileConverses, FileFails}
 use Rattle.gw_main.specs.Words.{IsReadAs}
 
 -- standard error was told a text, with nothing read and nothing written
-pub record Declines {S K E : Type 0} (told : E → List ℕ → E → Type 0) (losses : E → ℕ) (text : List ℕ) (code : ℕ) (reader reader' : S) (writer writer' : K) (errors errors' : E) (status : ℕ) : Type 0 where
+pub record Declines {S K E : Type 0} (told : E → List ℕ → E → Type 0) (losses : E → ℕ) (text : List ℕ) (code : ℕ)
+    (reader reader' : S) (writer writer' : K) (errors errors' : E) (status : ℕ) : Type 0 where
   pub status_is : status ≡ code
   pub unread : reader' ≡ reader
   pub unwritten : writer' ≡ writer
   pub tells : Tells told losses text errors errors'
 
 -- help was written, and the status is 0; or the writer failed behind a front of it, which standard error was told of
-pub data Helps {K E : Type 0} (wrote : K → List ℕ → K → Type 0) (writes : K → ℕ) (told : E → List ℕ → E → Type 0) (losses : E → ℕ) (text : List ℕ) (writer writer' : K) (errors errors' : E) (status : ℕ) : Type 0 where
-  helped : wrote writer text writer' → writes writer' ≡ writes writer → errors' ≡ errors → status ≡ 0 → Helps wrote writes told losses text writer writer' errors errors' status
-  stopped : WritesPart wrote writer text writer' → writes writer' ≡ one_more (writes writer) → Tells told losses (complaint_of faults.Write) errors errors' → status ≡ status_of faults.Write → Helps wrote writes told losses text writer writer' errors errors' status
+pub data Helps {K E : Type 0} (wrote : K → List ℕ → K → Type 0) (writes : K → ℕ) (told : E → List ℕ → E → Type 0)
+    (losses : E → ℕ) (text : List ℕ) (writer writer' : K) (errors errors' : E) (status : ℕ) : Type 0 where
+  helped : wrote writer text writer' → writes writer' ≡ writes writer → errors' ≡ errors → status ≡ 0 →
+      Helps wrote writes told losses text writer writer' errors errors' status
+  stopped : WritesPart wrote writer text writer' → writes writer' ≡ one_more (writes writer) →
+      Tells told losses (complaint_of faults.Write) errors errors' → status ≡ status_of faults.Write →
+      Helps wrote writes told losses text writer writer' errors errors' status
 
 -- a run with its model in a file
-abbrev pub FileRuns : {F S K E : Type 0} → (F → List ℕ → F → Type 0) → (F → Type 0) → (F → ℕ) → (S → List ℕ → S → Type 0) → (S → Type 0) → (S → ℕ) → (K → List ℕ → K → Type 0) → (K → ℕ) → (E → List ℕ → E → Type 0) → (E → ℕ) → Options → Result F ReadFault → S → S → K → K → E → E → ℕ → Type 0
-FileRuns took_file ended_file reads_file took ended reads wrote writes told losses o opened reader reader' writer writer' errors errors' status = Ends told losses (FileConverses took_file ended_file reads_file took ended reads wrote writes o opened reader reader' writer writer') (FileFails took_file ended_file reads_file took reads wrote writes o opened reader reader' writer writer') errors errors' status
+abbrev pub FileRuns : {F S K E : Type 0} → (F → List ℕ → F → Type 0) → (F → Type 0) → (F → ℕ) →
+    (S → List ℕ → S → Type 0) → (S → Type 0) → (S → ℕ) → (K → List ℕ → K → Type 0) → (K → ℕ) →
+    (E → List ℕ → E → Type 0) → (E → ℕ) → Options → Result F ReadFault → S → S → K → K → E → E → ℕ → Type 0
+FileRuns took_file ended_file reads_file took ended reads wrote writes told losses o opened reader reader' writer
+    writer' errors errors' status = Ends told losses
+    (FileConverses took_file ended_file reads_file took ended reads wrote writes o opened reader reader' writer writer')
+    (FileFails took_file ended_file reads_file took reads wrote writes o opened reader reader' writer writer')
+    errors errors' status
 
 -- a run that was asked for: its model stands on standard input, or in a file that was opened; `opens` says what the
 -- opening of a file of a name may give
-abbrev pub RunsAt : {F S K E : Type 0} → (List ℕ → Result F ReadFault → Type 0) → (F → List ℕ → F → Type 0) → (F → Type 0) → (F → ℕ) → (S → List ℕ → S → Type 0) → (S → Type 0) → (S → ℕ) → (K → List ℕ → K → Type 0) → (K → ℕ) → (E → List ℕ → E → Type 0) → (E → ℕ) → ModelAt → Options → S → S → K → K → E → E → ℕ → Type 0
-RunsAt {F} opens took_file ended_file reads_file took ended reads wrote writes told losses places.Input o reader reader' writer writer' errors errors' status = Runs took ended reads wrote writes told losses o reader reader' writer writer' errors errors' status
-RunsAt {F} opens took_file ended_file reads_file took ended reads wrote writes told losses (places.File path) o reader reader' writer writer' errors errors' status = (opened : Result F ReadFault) × opens path.now opened × FileRuns took_file ended_file reads_file took ended reads wrote writes told losses o opened reader reader' writer writer' errors errors' status
+abbrev pub RunsAt : {F S K E : Type 0} → (List ℕ → Result F ReadFault → Type 0) → (F → List ℕ → F → Type 0) →
+    (F → Type 0) → (F → ℕ) → (S → List ℕ → S → Type 0) → (S → Type 0) → (S → ℕ) → (K → List ℕ → K → Type 0) → (K → ℕ) →
+    (E → List ℕ → E → Type 0) → (E → ℕ) → ModelAt → Options → S → S → K → K → E → E → ℕ → Type 0
+RunsAt {F} opens took_file ended_file reads_file took ended reads wrote writes told losses places.Input o reader reader'
+    writer writer' errors errors' status =
+    Runs took ended reads wrote writes told losses o reader reader' writer writer' errors errors' status
+RunsAt {F} opens took_file ended_file reads_file took ended reads wrote writes told losses (places.File path)
+    o reader reader' writer writer' errors errors' status =
+    (opened : Result F ReadFault) × opens path.now opened ×
+    FileRuns took_file ended_file reads_file took ended reads wrote writes told losses o opened reader reader' writer
+    writer' errors errors' status
 
 -- what is done for what the words came to: a run, help with status 0, a refusal with status 2, or want of memory with
 -- status 3
-abbrev pub Proceeds : {F S K E : Type 0} → (List ℕ → Result F ReadFault → Type 0) → (F → List ℕ → F → Type 0) → (F → Type 0) → (F → ℕ) → (S → List ℕ → S → Type 0) → (S → Type 0) → (S → ℕ) → (K → List ℕ → K → Type 0) → (K → ℕ) → (E → List ℕ → E → Type 0) → (E → ℕ) → Result Asked Refusal → S → S → K → K → E → E → ℕ → Type 0
-Proceeds opens took_file ended_file reads_file took ended reads wrote writes told losses (Ok asked) reader reader' writer writer' errors errors' status = RunsAt opens took_file ended_file reads_file took ended reads wrote writes told losses asked.model asked.options reader reader' writer writer' errors errors' status
-Proceeds opens took_file ended_file reads_file took ended reads wrote writes told losses (Err (refusals.Help text)) reader reader' writer writer' errors errors' status = (reader' ≡ reader) × Helps wrote writes told losses (string_bytes text) writer writer' errors errors' status
-Proceeds opens took_file ended_file reads_file took ended reads wrote writes told losses (Err (refusals.Bad text)) reader reader' writer writer' errors errors' status = Declines told losses (string_bytes text) 2 reader reader' writer writer' errors errors' status
-Proceeds opens took_file ended_file reads_file took ended reads wrote writes told losses (Err refusals.Memory) reader reader' writer writer' errors errors' status = Declines told losses (codes "stopped: F6\n") 3 reader reader' writer writer' errors errors' status
+abbrev pub Proceeds : {F S K E : Type 0} → (List ℕ → Result F ReadFault → Type 0) → (F → List ℕ → F → Type 0) →
+    (F → Type 0) → (F → ℕ) → (S → List ℕ → S → Type 0) → (S → Type 0) → (S → ℕ) → (K → List ℕ → K → Type 0) → (K → ℕ) →
+    (E → List ℕ → E → Type 0) → (E → ℕ) → Result Asked Refusal → S → S → K → K → E → E → ℕ → Type 0
+Proceeds opens took_file ended_file reads_file took ended reads wrote writes told losses (Ok asked)
+    reader reader' writer writer' errors errors' status =
+    RunsAt opens took_file ended_file reads_file took ended reads wrote writes told losses asked.model asked.options
+    reader reader' writer writer' errors errors' status
+Proceeds opens took_file ended_file reads_file took ended reads wrote writes told losses (Err (refusals.Help text))
+    reader reader' writer writer' errors errors' status =
+    (reader' ≡ reader) × Helps wrote writes told losses (string_bytes text) writer writer' errors errors' status
+Proceeds opens took_file ended_file reads_file took ended reads wrote writes told losses (Err (refusals.Bad text))
+    reader reader' writer writer' errors errors' status =
+    Declines told losses (string_bytes text) 2 reader reader' writer writer' errors errors' status
+Proceeds opens took_file ended_file reads_file took ended reads wrote writes told losses (Err refusals.Memory)
+    reader reader' writer writer' errors errors' status =
+    Declines told losses (codes "stopped: F6\n") 3 reader reader' writer writer' errors errors' status
 
 -- the words are read, and what they came to is done
-pub record Does {F S K E : Type 0} (opens : List ℕ → Result F ReadFault → Type 0) (took_file : F → List ℕ → F → Type 0) (ended_file : F → Type 0) (reads_file : F → ℕ) (took : S → List ℕ → S → Type 0) (ended : S → Type 0) (reads : S → ℕ) (wrote : K → List ℕ → K → Type 0) (writes : K → ℕ) (told : E → List ℕ → E → Type 0) (losses : E → ℕ) (words : List (List ℕ)) (reader reader' : S) (writer writer' : K) (errors errors' : E) (status : ℕ) : Type 0 where
+pub record Does {F S K E : Type 0} (opens : List ℕ → Result F ReadFault → Type 0) (took_file : F → List ℕ → F → Type 0)
+    (ended_file : F → Type 0) (reads_file : F → ℕ) (took : S → List ℕ → S → Type 0) (ended : S → Type 0) (reads : S → ℕ)
+    (wrote : K → List ℕ → K → Type 0) (writes : K → ℕ) (told : E → List ℕ → E → Type 0) (losses : E → ℕ)
+    (words : List (List ℕ)) (reader reader' : S) (writer writer' : K) (errors errors' : E) (status : ℕ) : Type 0 where
   pub meant : Result Asked Refusal
   pub reading : IsReadAs words meant
-  pub done : Proceeds opens took_file ended_file reads_file took ended reads wrote writes told losses meant reader reader' writer writer' errors errors' status
+  pub done : Proceeds opens took_file ended_file reads_file took ended reads wrote writes told losses meant reader
+      reader' writer writer' errors errors' status

@@ -1,5 +1,5 @@
--- What the program's words ask for: `[MODEL] --seed S --horizon T --every K --limit L`, as `clap` reads such a line. Which
--- word goes to which name is clap's own definition; the numbers and their limits are ours.
+-- What the program's words ask for: `[MODEL] --seed S --horizon T --every K --limit L`, as `clap` reads such a line.
+-- Which word goes to which name is clap's own definition; the numbers and their limits are ours.
 use Rattle.std.specs.Prelude.{◌≡◌, ◌≢◌, ◌⊎◌, ℕ, true, ◌&&◌, List, [], Option, Some, None, Result, Ok, Err, if◌then◌else◌, nat_le, codes}
 use Rattle.clap.specs.Words.{App, IsAmong, Rule, Shape, Text, fault_of, first_of, matches_of, new_app, new_rule, with_rule}
 use Rattle.clap.specs.Kinds.{Kinds}
@@ -29,7 +29,9 @@ behind_name s = record s { no_binary_name = true }
 
 -- the program's command line
 abbrev pub gpssbench : App
-gpssbench = with_rule (with_rule (with_rule (with_rule (with_rule (on_top behind_name (new_app (codes "gpssbench"))) model_rule) (option_rule (codes "seed"))) (option_rule (codes "horizon"))) (option_rule (codes "every"))) (option_rule (codes "limit"))
+gpssbench = with_rule (with_rule (with_rule
+    (with_rule (with_rule (on_top behind_name (new_app (codes "gpssbench"))) model_rule) (option_rule (codes "seed")))
+    (option_rule (codes "horizon"))) (option_rule (codes "every"))) (option_rule (codes "limit"))
 
 -- what clap finds wrong in the words, or asked for in place of a run: nothing, where it takes them
 abbrev pub faults_of : List Text → Kinds
@@ -50,8 +52,8 @@ abbrev pub said : ℕ → ℕ → ℕ → Option Text → Option ℕ
 said least greatest usual None = Some usual
 said least greatest usual (Some word) = within least greatest (number_of word)
 
--- the options' numbers, by the word that is given for each name: the limits are those of a seed, of a clock, of the kept
--- states and of a run
+-- the options' numbers, by the word that is given for each name: the limits are those of a seed, of a clock, of the
+-- kept states and of a run
 abbrev pub seed_of : (Text → Option Text) → Option ℕ
 seed_of given = said 1 2147483646 constants.Options.USUAL.seed (given (codes "seed"))
 
@@ -101,7 +103,8 @@ pub record IsBadLine (faults : Kinds) : Type 0 where
 -- ran out
 abbrev pub IsRefusedBy : List Text → Refusal → Type 0
 IsRefusedBy words (refusals.Help text) = IsAmong kinds.DisplayHelp (faults_of words)
-IsRefusedBy words (refusals.Bad text) = IsBadLine (faults_of words) ⊎ ((faults_of words ≡ []) × HasBadNumber (word_of words))
+IsRefusedBy words (refusals.Bad text) =
+    IsBadLine (faults_of words) ⊎ ((faults_of words ≡ []) × HasBadNumber (word_of words))
 IsRefusedBy words refusals.Memory = Unit {0}
 
 -- what the words come to

@@ -15,8 +15,10 @@ pub fn converse<S: Source, K: Sink>(
     writer: &mut K,
 ) -> Result<Over, Fault>
     requires { 1 ≤ options.every }
-    ensures converses { IfOk result (Converses S.took S.ended S.failures K.wrote K.failures options reader.old reader.new writer.old writer.new) }
-    ensures fails { IfErr result (Fails S.took S.ended S.failures K.wrote K.failures options reader.old reader.new writer.old writer.new) }
+    ensures converses { IfOk result (Converses S.took S.ended S.failures K.wrote K.failures options reader.old
+        reader.new writer.old writer.new) }
+    ensures fails { IfErr result (Fails S.took S.ended S.failures K.wrote K.failures options reader.old reader.new
+        writer.old writer.new) }
 {
     let mut budget = Budget::new();
     let model = split_model(alloc, reader, &mut budget)?;
@@ -32,8 +34,10 @@ pub fn converse_over_file<F: Source + Drop, S: Source, K: Sink>(
     writer: &mut K,
 ) -> Result<Over, Fault>
     requires { 1 ≤ options.every }
-    ensures converses { IfOk result (FileConverses F.took F.ended F.failures S.took S.ended S.failures K.wrote K.failures options opened reader.old reader.new writer.old writer.new) }
-    ensures fails { IfErr result (FileFails F.took F.ended F.failures S.took S.failures K.wrote K.failures options opened reader.old reader.new writer.old writer.new) }
+    ensures converses { IfOk result (FileConverses F.took F.ended F.failures S.took S.ended S.failures K.wrote
+        K.failures options opened reader.old reader.new writer.old writer.new) }
+    ensures fails { IfErr result (FileFails F.took F.ended F.failures S.took S.failures K.wrote K.failures options
+        opened reader.old reader.new writer.old writer.new) }
 {
     let mut file = opened?;
     let mut budget = Budget::new();

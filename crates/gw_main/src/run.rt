@@ -28,9 +28,13 @@ pub fn run<
     E: Sink,
 >(alloc: Global, words: &[W], opener: O, reader: &mut S, writer: &mut K, errors: &mut E) -> u8
     requires { O.IsAlwaysCallable opener }
-    ensures does { Does (FnOnceReturnsAt O.FnOnce opener) F.took F.ended F.failures S.took S.ended S.failures K.wrote K.failures E.wrote E.failures (map W.text words.now) reader.old reader.new writer.old writer.new errors.old errors.new result }
+    ensures does { Does (FnOnceReturnsAt O.FnOnce opener)
+        F.took F.ended F.failures S.took S.ended S.failures K.wrote K.failures E.wrote E.failures (map W.text words.now)
+        reader.old reader.new writer.old writer.new errors.old errors.new result }
     // Without words the model stands on the reader, and the options are the usual ones.
-    ensures usual { length words.now ≡ 0 → Runs S.took S.ended S.failures K.wrote K.failures E.wrote E.failures Options.USUAL reader.old reader.new writer.old writer.new errors.old errors.new result }
+    ensures usual { length words.now ≡ 0 →
+        Runs S.took S.ended S.failures K.wrote K.failures E.wrote E.failures Options.USUAL reader.old reader.new
+        writer.old writer.new errors.old errors.new result }
 {
     let meant = read_words(alloc, words);
     proceed(alloc, meant, opener, reader, writer, errors)
@@ -42,8 +46,12 @@ const NO_TEXT: &[u8] =
 
 /// Tells why the program could not begin, and gives its status: 3 for want of memory, and 2 for a word that is no text.
 pub fn not_begun<E: Sink>(error: ErrorKind, errors: &mut E) -> u8
-    ensures memory { error ≡ ErrorKind.OutOfMemory → (result ≡ 3) × Tells E.wrote E.failures (codes "stopped: F6\n") errors.old errors.new }
-    ensures word { error ≢ ErrorKind.OutOfMemory → (result ≡ 2) × Tells E.wrote E.failures (codes "error: invalid UTF-8 was detected in one or more arguments\n\nFor more information, try '--help'.\n") errors.old errors.new }
+    ensures memory { error ≡ ErrorKind.OutOfMemory → (result ≡ 3) ×
+        Tells E.wrote E.failures (codes "stopped: F6\n") errors.old errors.new }
+    ensures word { error ≢ ErrorKind.OutOfMemory → (result ≡ 2) ×
+        Tells E.wrote E.failures
+        (codes "error: invalid UTF-8 was detected in one or more arguments\n\nFor more information, try '--help'.\n")
+        errors.old errors.new }
 {
     match error {
         ErrorKind::OutOfMemory => decline(errors, b"stopped: F6\n", 3),
@@ -73,7 +81,9 @@ fn proceed<F: Source + Drop, O: FnOnce(&str) -> Result<F, ReadFault>, S: Source,
 ) -> u8
     requires callable { O.IsAlwaysCallable opener }
     requires every { IfOk meant (λ asked. 1 ≤ asked.options.every) }
-    ensures { Proceeds (FnOnceReturnsAt O.FnOnce opener) F.took F.ended F.failures S.took S.ended S.failures K.wrote K.failures E.wrote E.failures meant.entry reader.old reader.new writer.old writer.new errors.old errors.new result }
+    ensures { Proceeds (FnOnceReturnsAt O.FnOnce opener)
+        F.took F.ended F.failures S.took S.ended S.failures K.wrote K.failures E.wrote E.failures meant.entry reader.old
+        reader.new writer.old writer.new errors.old errors.new result }
 {
     match meant {
         Ok(asked) => serve(alloc, asked, opener, reader, writer, errors),
@@ -94,7 +104,9 @@ fn serve<F: Source + Drop, O: FnOnce(&str) -> Result<F, ReadFault>, S: Source, K
 ) -> u8
     requires callable { O.IsAlwaysCallable opener }
     requires every { 1 ≤ asked.options.every }
-    ensures { RunsAt (FnOnceReturnsAt O.FnOnce opener) F.took F.ended F.failures S.took S.ended S.failures K.wrote K.failures E.wrote E.failures asked.entry.model asked.entry.options reader.old reader.new writer.old writer.new errors.old errors.new result }
+    ensures { RunsAt (FnOnceReturnsAt O.FnOnce opener)
+        F.took F.ended F.failures S.took S.ended S.failures K.wrote K.failures E.wrote E.failures asked.entry.model
+        asked.entry.options reader.old reader.new writer.old writer.new errors.old errors.new result }
 {
     match asked.model {
         ModelAt::Input => end(
@@ -113,7 +125,8 @@ fn serve<F: Source + Drop, O: FnOnce(&str) -> Result<F, ReadFault>, S: Source, K
 // Tells how a conversation ended, and gives the status.
 fn end<E: Sink>(alloc: Global, over: Result<Over, Fault>, errors: &mut E) -> u8
     ensures { MatchResult over (λ _. (errors.new ≡ errors.old) × (result ≡ 0))
-        (λ fault. (told : Fault) × IsToldAs fault told × Tells E.wrote E.failures (complaint_of told) errors.old errors.new × (result ≡ status_of told)) }
+        (λ fault. (told : Fault) × IsToldAs fault told ×
+        Tells E.wrote E.failures (complaint_of told) errors.old errors.new × (result ≡ status_of told)) }
 {
     match over {
         Ok(_) => 0,

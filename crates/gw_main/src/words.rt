@@ -52,13 +52,14 @@ impl From<AllocError> for Refusal {
 
 /// Reads the words behind the program's name: where the model stands, and the options.
 ///
-/// Which word goes to which name, and which faults a line has, is what `clap` defines for a command of this kind, and its
-/// contracts say both exactly. They leave open which fault is told, where a line has several at one place, and they say
-/// nothing of the texts that clap writes: those stand on tests. The numbers and their limits are our own.
+/// Which word goes to which name, and which faults a line has, is what `clap` defines for a command of this kind, and
+/// its contracts say both exactly. They leave open which fault is told, where a line has several at one place, and they
+/// say nothing of the texts that clap writes: those stand on tests. The numbers and their limits are our own.
 ///
 /// # Errors
 ///
-/// A [`Refusal`], as soon as one is known: clap's fault before a bad number. [`Refusal::Memory`] may come for any words.
+/// A [`Refusal`], as soon as one is known: clap's fault before a bad number. [`Refusal::Memory`] may come for any
+/// words.
 pub fn read_words<'a, W: AsStr>(alloc: Global, words: &'a [W]) -> Result<Asked<'a>, Refusal>
     ensures { IsReadAs (map W.text words.entry.now) result }
 {

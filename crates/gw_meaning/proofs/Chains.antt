@@ -41,12 +41,16 @@ tail_in_order x xs h = λ i j d before within. h (suc i) (suc j) d (omega arith)
 
 pub ordered : (xs : List Transaction) → AreInOrder xs → IsOrdered xs
 ordered [] h = tt
-ordered (x ∷ xs) h =
-    (recursion_from_All (λ (y : Transaction). is_below x.priority y.priority ≡ false) xs (λ k d within. h 0 (suc k) d (omega arith) (omega arith)), ordered xs (tail_in_order x xs h))
+ordered (x ∷ xs) h = (
+  recursion_from_All (λ (y : Transaction). is_below x.priority y.priority ≡ false) xs (λ k d within. h 0 (suc k) d (omega arith) (omega arith)),
+  ordered xs
+      (tail_in_order x xs h),
+)
 
 pub in_order : (xs : List Transaction) → IsOrdered xs → AreInOrder xs
 in_order [] h = λ i j d before within. absurd (omega arith)
-in_order (x ∷ xs) h = AllPairs-cons (λ (x y : Transaction). is_below x.priority y.priority ≡ false) x xs (All-from_recursion (λ (y : Transaction). is_below x.priority y.priority ≡ false) xs h.0) (in_order xs h.1)
+in_order (x ∷ xs) h = AllPairs-cons (λ (x y : Transaction). is_below x.priority y.priority ≡ false) x xs
+    (All-from_recursion (λ (y : Transaction). is_below x.priority y.priority ≡ false) xs h.0) (in_order xs h.1)
 
 -- what a transaction of higher priority stands in front of
 not_above_further : (x y : Transaction) (zs : List Transaction) → is_below x.priority y.priority ≡ false → AreNotAbove y zs → AreNotAbove x zs
@@ -56,7 +60,8 @@ not_above_further x y (z ∷ zs) here rest = (not_below x.priority y.priority z.
 not_above_lined : (y x : Transaction) (zs : List Transaction) → is_below y.priority x.priority ≡ false → AreNotAbove y zs → AreNotAbove y (lined_up x zs)
 not_above_lined y x [] here rest = (here, tt)
 not_above_lined y x (z ∷ zs) here rest =
-    cond_both (is_below z.priority x.priority) (x ∷ z ∷ zs) (z ∷ lined_up x zs) (AreNotAbove y) (λ _. (here, rest)) (λ _. (rest.0, not_above_lined y x zs here rest.1))
+    cond_both (is_below z.priority x.priority) (x ∷ z ∷ zs) (z ∷ lined_up x zs) (AreNotAbove y) (λ _. (here, rest))
+    (λ _. (rest.0, not_above_lined y x zs here rest.1))
 
 -- one more, and several more
 pub ordered_lined : (x : Transaction) (ys : List Transaction) → IsOrdered ys → IsOrdered (lined_up x ys)
@@ -71,12 +76,14 @@ ordered_all_lined [] ys h = h
 ordered_all_lined (x ∷ xs) ys h = ordered_all_lined xs (lined_up x ys) (ordered_lined x ys h)
 
 -- the one at the end of a front stands behind none of lower priority
-not_above_last : (z : Transaction) (front : List Transaction) (y : Transaction) (back : List Transaction) → AreNotAbove z (front ++ y ∷ back) → is_below z.priority y.priority ≡ false
+not_above_last : (z : Transaction) (front : List Transaction) (y : Transaction) (back : List Transaction) → AreNotAbove z (front ++ y ∷ back) →
+    is_below z.priority y.priority ≡ false
 not_above_last z [] y back h = h.0
 not_above_last z (w ∷ ws) y back h = not_above_last z ws y back h.1
 
 -- behind y, where those behind y are of lower priority
-pub lined_up_behind : (x : Transaction) (front : List Transaction) (y : Transaction) (back : List Transaction) → IsOrdered (front ++ y ∷ back) → is_below y.priority x.priority ≡ false → lined_up x back ≡ x ∷ back → lined_up x (front ++ y ∷ back) ≡ front ++ y ∷ x ∷ back
+pub lined_up_behind : (x : Transaction) (front : List Transaction) (y : Transaction) (back : List Transaction) → IsOrdered (front ++ y ∷ back) →
+    is_below y.priority x.priority ≡ false → lined_up x back ≡ x ∷ back → lined_up x (front ++ y ∷ back) ≡ front ++ y ∷ x ∷ back
 lined_up_behind x [] y back h above rest = rw above (ap (λ zs. y ∷ zs) rest)
 lined_up_behind x (z ∷ zs) y back h above rest =
     rw (not_below z.priority y.priority x.priority (not_above_last z zs y back h.0) above) (ap (λ ws. z ∷ ws) (lined_up_behind x zs y back h.1 above rest))

@@ -30,10 +30,12 @@ left counts place = left_at (count_in counts place) counts place
 
 -- the counts after a transaction entered a block, and stays in it or is gone at once
 abbrev pub entered : List (ℕ × Count) → ℕ → List (ℕ × Count)
-entered counts place = let c = count_at counts place in with_count counts place (record c { entries = raised c.entries; content = raised c.content })
+entered counts place = let c = count_at counts place in
+    with_count counts place (record c { entries = raised c.entries; content = raised c.content })
 
 abbrev pub passed_through : List (ℕ × Count) → ℕ → List (ℕ × Count)
-passed_through counts place = let c = count_at counts place in with_count counts place (record c { entries = raised c.entries })
+passed_through counts place =
+    let c = count_at counts place in with_count counts place (record c { entries = raised c.entries })
 
 -- the counts after a GENERATE made one more
 abbrev pub made_one : List (ℕ × Count) → ℕ → List (ℕ × Count)
@@ -45,7 +47,11 @@ placed x place = record x { current = place; destination = None }
 
 -- a new transaction, on its way to its GENERATE
 abbrev pub newcomer : ℕ → Arrival → Event
-newcomer number a = record { time = a.time; transaction = record { number = number; priority = a.priority; mark = 0; current = 0; destination = Some a.place } }
+newcomer number a = record {
+  time = a.time;
+  transaction =
+      record { number = number; priority = a.priority; mark = 0; current = 0; destination = Some a.place };
+}
 
 -- what the making of transactions changes
 pub record Making : Type 0 where
@@ -58,7 +64,8 @@ making next future counts = record { next = next; future = future; counts = coun
 
 -- one more transaction is made
 abbrev pub made : Arrival → Making → Making
-made a w = record { next = raised w.next; future = w.future ++ newcomer w.next a ∷ []; counts = made_one w.counts a.place }
+made a w =
+    record { next = raised w.next; future = w.future ++ newcomer w.next a ∷ []; counts = made_one w.counts a.place }
 
 abbrev pub maybe_made : Option Arrival → Making → Making
 maybe_made None w = w
@@ -85,7 +92,11 @@ arrived next s = with_making (maybe_made next (making_of s)) s
 -- the active transaction x is in its GENERATE, and the next one is made
 abbrev pub generated : Machine → Transaction → ℕ → Option Arrival → Machine
 generated s x place next =
-    arrived next (record s { active = Some (record (placed x place) { mark = s.clock }); counts = entered (left s.counts x.current) place })
+    arrived next (record s {
+      active = Some (record (placed x place) { mark = s.clock });
+      counts =
+          entered (left s.counts x.current) place;
+    })
 
 -- the active transaction x is in a block and stays active
 abbrev pub moved_on : Machine → Transaction → ℕ → Machine
@@ -94,12 +105,24 @@ moved_on s x place = record s { active = Some (placed x place); counts = entered
 -- the active transaction x is in a block and on the future chain
 abbrev pub delayed : Machine → Transaction → ℕ → ℕ → Machine
 delayed s x place until =
-    record s { active = None; future = s.future ++ record { time = until; transaction = placed x place } ∷ []; counts = entered (left s.counts x.current) place }
+    record s {
+      active = None;
+      future = s.future ++ record { time = until; transaction = placed x place } ∷ [];
+      counts =
+          entered (left s.counts x.current) place;
+    }
 
 -- the active transaction x is gone, and count is taken from the termination count, which completes the START at 0
 abbrev pub terminated : Machine → Transaction → ℕ → ℕ → Machine
 terminated s x place count =
-    record s { active = None; remaining = s.remaining - count; complete = (if nat_lt count s.remaining then s.complete else raised s.complete); counts = passed_through (left s.counts x.current) place }
+    record s {
+      active = None;
+      remaining = s.remaining - count;
+      complete =
+          (if nat_lt count s.remaining then s.complete else raised s.complete);
+      counts =
+          passed_through (left s.counts x.current) place;
+    }
 
 -- the first of the current chain is active
 abbrev pub picked : Machine → List Transaction → Machine
@@ -116,7 +139,12 @@ due time (e ∷ es) = if is_due time e then e.transaction ∷ due time es else d
 
 -- the clock stands at a later moment, and its transactions are on the current chain
 abbrev pub advanced : Machine → ℕ → Machine
-advanced s time = record s { clock = time; current = all_lined_up (due time s.future) s.current; future = filter (λ e. not (is_due time e)) s.future }
+advanced s time = record s {
+  clock = time;
+  current = all_lined_up (due time s.future) s.current;
+  future =
+      filter (λ e. not (is_due time e)) s.future;
+}
 
 -- what a move does, where x is active
 abbrev pub with_active : Option Transaction → (Transaction → Machine) → Machine → Machine

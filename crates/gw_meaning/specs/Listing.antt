@@ -63,13 +63,15 @@ first_block (line ∷ lines) = if is_block line then Some line.number else first
 -- the number of the block after the block with this number
 abbrev pub after_in : List Numbered → ℕ → Option ℕ
 after_in [] number = None
-after_in (line ∷ lines) number = if line.number == number then (if is_block line then first_block lines else None) else after_in lines number
+after_in (line ∷ lines) number =
+    if line.number == number then (if is_block line then first_block lines else None) else after_in lines number
 
 -- the position among the blocks, behind `before` of them, of the block with this number
 abbrev pub position_in : ℕ → List Numbered → ℕ → Option ℕ
 position_in before [] number = None
 position_in before (line ∷ lines) number =
-    if line.number == number then (if is_block line then Some (before + 1) else None) else position_in (if is_block line then before + 1 else before) lines number
+    if line.number == number then (if is_block line then Some (before + 1) else None)
+    else position_in (if is_block line then before + 1 else before) lines number
 
 -- whether a statement has this label
 abbrev pub has_label : List ℕ → Option (List ℕ) → Bool
@@ -79,7 +81,8 @@ has_label name (Some label) = bytes_eq label name
 -- the number of the block with this label
 abbrev pub labelled_in : List ℕ → List Numbered → Option ℕ
 labelled_in name [] = None
-labelled_in name (line ∷ lines) = if is_block line && has_label name line.statement.label then Some line.number else labelled_in name lines
+labelled_in name (line ∷ lines) =
+    if is_block line && has_label name line.statement.label then Some line.number else labelled_in name lines
 
 -- the numbers of the GENERATEs, in order
 abbrev pub generates_in : List Numbered → List ℕ

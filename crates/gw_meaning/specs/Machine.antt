@@ -34,7 +34,20 @@ AreInOrder chain = AllPairs (λ (x y : Transaction). is_below x.priority y.prior
 
 -- the state before the first step
 abbrev pub zero_state : Machine
-zero_state = record { clock = 0; since = 0; remaining = 0; commands = 0; complete = 0; primed = false; next = 1; active = None; current = []; future = []; counts = [] }
+zero_state = record {
+  clock = 0;
+  since = 0;
+  remaining = 0;
+  commands = 0;
+  complete = 0;
+  primed = false;
+  next =
+      1;
+  active = None;
+  current = [];
+  future = [];
+  counts = [];
+}
 
 -- one more; a count of 64 bits stays at its greatest value, which no run is long enough to reach
 abbrev pub raised : ℕ → ℕ

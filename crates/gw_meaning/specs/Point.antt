@@ -1,5 +1,5 @@
--- The point of START k: the first moment at which k STARTs are complete, or at which the run ends during the k-th; and how
--- the run stands there. (Our own.)
+-- The point of START k: the first moment at which k STARTs are complete, or at which the run ends during the k-th; and
+-- how the run stands there. (Our own.)
 use Rattle.std.specs.Prelude.{◌≡◌, ℕ, ◌+◌, ◌<◌, ◌≤◌, Option, Some, None, Ok, Err}
 use Rattle.gw_meaning.specs.declared.item.End.{End}
 use Rattle.gw_meaning.specs.declared.item.End.TheVariants as ends
@@ -20,8 +20,10 @@ outcome_of (ends.Error stop) = Some (outcomes.Error stop)
 abbrev pub IsFirst : Listing → ℕ → ℕ → ℕ → Type 0
 IsFirst t seed k n = (m : ℕ) (u : Machine) → m < n → run t seed m ≡ Ok u → u.complete ≡ k → ⊥
 
--- n is the point of START k, counted from 1, with this outcome and in this state: the first moment at which k STARTs are
--- complete, or the moment at which the run ends with one fewer complete, during the k-th
+-- n is the point of START k, counted from 1, with this outcome and in this state: the first moment at which k STARTs
+-- are complete, or the moment at which the run ends with one fewer complete, during the k-th
 pub data IsPoint (t : Listing) (seed k n : ℕ) (o : Outcome) (s : Machine) : Type 0 where
-  complete : 1 ≤ k → n ≤ t.limit → run t seed n ≡ Ok s → s.complete ≡ k → IsFirst t seed k n → o ≡ outcomes.Complete → IsPoint t seed k n o s
-  ended : (end : End) → n ≤ t.limit → run t seed n ≡ Ok s → s.complete + 1 ≡ k → step t seed s ≡ Err end → outcome_of end ≡ Some o → IsPoint t seed k n o s
+  complete : 1 ≤ k → n ≤ t.limit → run t seed n ≡ Ok s → s.complete ≡ k → IsFirst t seed k n → o ≡ outcomes.Complete →
+      IsPoint t seed k n o s
+  ended : (end : End) → n ≤ t.limit → run t seed n ≡ Ok s → s.complete + 1 ≡ k → step t seed s ≡ Err end →
+      outcome_of end ≡ Some o → IsPoint t seed k n o s

@@ -40,7 +40,8 @@ or_later (Some n) later = Some n
 -- the first step below n that reads an item with a property
 abbrev pub first_reading : (Item → Bool) → Listing → ℕ → ℕ → Option ℕ
 first_reading p t seed zero = None
-first_reading p t seed (suc n) = or_later (first_reading p t seed n) (if list_any p (reads t seed n) then Some n else None)
+first_reading p t seed (suc n) =
+    or_later (first_reading p t seed n) (if list_any p (reads t seed n) then Some n else None)
 
 -- the first step below n that uses an item
 abbrev pub first_use : Item → Listing → ℕ → ℕ → Option ℕ

@@ -41,19 +41,24 @@ stops_if false stop p = p
 -- The next transaction of a GENERATE: its limit, then the time, then its priority.
 abbrev pub arrival_at : Machine → ℕ → ℤ → ℤ → Prog (Option Arrival)
 arrival_at s place time priority =
-    stops_if (is_negative time) NegativeTime (stops_if (nat_le 100000 (live s)) TooManyTransactions (Gives (Some (record { place = place; time = s.clock + magnitude time; priority = priority }))))
+    stops_if (is_negative time) NegativeTime
+    (stops_if (nat_le 100000 (live s)) TooManyTransactions
+    (Gives (Some (record { place = place; time = s.clock + magnitude time; priority = priority }))))
 
 abbrev pub arrival_in_time : Machine → ℕ → Option Term → Option Term → Prog (Option Arrival)
-arrival_in_time s place time priority = value_or_zero s time >>= (λ t. value_or_zero s priority >>= (λ p. arrival_at s place t p))
+arrival_in_time s place time priority =
+    value_or_zero s time >>= (λ t. value_or_zero s priority >>= (λ p. arrival_at s place t p))
 
 -- with a limit of n, of which some are made
 abbrev pub arrival_within : Machine → ℕ → ℕ → Option Term → Option Term → ℤ → Prog (Option Arrival)
 arrival_within s place made time priority n =
-    stops_if (is_negative n) BadCount (if nat_le (magnitude n) made then Gives None else arrival_in_time s place time priority)
+    stops_if (is_negative n) BadCount (if nat_le (magnitude n) made then Gives None
+    else arrival_in_time s place time priority)
 
 abbrev pub arrival_prog : Machine → ℕ → ℕ → Option Term → Option Term → Option Term → Prog (Option Arrival)
 arrival_prog s place made time None priority = arrival_in_time s place time priority
-arrival_prog s place made time (Some limit) priority = value_prog s limit >>= (λ n. arrival_within s place made time priority n)
+arrival_prog s place made time (Some limit) priority =
+    value_prog s limit >>= (λ n. arrival_within s place made time priority n)
 
 -- the first transaction comes after the offset, where there is one, and else as those after it do
 abbrev pub first_time : Option Term → Option Term → Option Term
@@ -62,7 +67,8 @@ first_time (Some offset) mean = Some offset
 
 -- Priming: the first transactions of the GENERATEs, in order.
 abbrev pub first_arrival : Machine → ℕ → Option Block → Prog (Option Arrival)
-first_arrival s place (Some (blocks.Generate mean offset limit priority)) = arrival_prog s place (count_at s.counts place).made (first_time offset mean) limit priority
+first_arrival s place (Some (blocks.Generate mean offset limit priority)) =
+    arrival_prog s place (count_at s.counts place).made (first_time offset mean) limit priority
 first_arrival s place (Some (blocks.Advance time)) = Gives None
 first_arrival s place (Some (blocks.Terminate count)) = Gives None
 first_arrival s place None = Gives None
@@ -93,17 +99,20 @@ command_prog s (Some (commands.Start count)) = start_prog s s.primed count
 -- Attempt: the active transaction x tries the block at place.
 abbrev pub generate_prog : Machine → Transaction → ℕ → Option Term → Option Term → Option Term → Prog Move
 generate_prog s x place mean limit priority =
-    if x.current == 0 then (arrival_prog s place (count_at s.counts place).made mean limit priority >>= (λ next. Gives (moves.Generate place next))) else Ends (ends.Error NoNextBlock)
+    if x.current == 0 then (arrival_prog s place (count_at s.counts place).made mean limit priority >>=
+    (λ next. Gives (moves.Generate place next))) else Ends (ends.Error NoNextBlock)
 
 abbrev pub delay_of : Machine → ℕ → ℕ → Move
 delay_of s place zero = moves.Pass place
 delay_of s place (suc n) = moves.Delay place (s.clock + suc n)
 
 abbrev pub advance_prog : Machine → ℕ → Option Term → Prog Move
-advance_prog s place time = value_or_zero s time >>= (λ t. stops_if (is_negative t) NegativeTime (Gives (delay_of s place (magnitude t))))
+advance_prog s place time =
+    value_or_zero s time >>= (λ t. stops_if (is_negative t) NegativeTime (Gives (delay_of s place (magnitude t))))
 
 abbrev pub terminate_prog : Machine → ℕ → Option Term → Prog Move
-terminate_prog s place count = value_or_zero s count >>= (λ n. stops_if (is_negative n) BadCount (Gives (moves.Terminate place (magnitude n))))
+terminate_prog s place count =
+    value_or_zero s count >>= (λ n. stops_if (is_negative n) BadCount (Gives (moves.Terminate place (magnitude n))))
 
 abbrev pub enter_prog : Machine → Transaction → ℕ → Option Block → Prog Move
 enter_prog s x place None = Ends (ends.Error NoNextBlock)

@@ -51,18 +51,22 @@ pub numbers_once : (rs : List Replication) → NumbersApart rs → has_number_tw
 numbers_once [] f = refl
 numbers_once (q ∷ qs) f =
     or_from (has_number q.number qs) (has_number_twice qs)
-    (none_from (λ (p : Replication). p.number == q.number) qs (λ i s e. ne_eqb s.number q.number (λ equal. f zero (suc i) q s (omega arith) refl e (sym equal))))
+    (none_from (λ (p : Replication). p.number == q.number) qs
+    (λ i s e. ne_eqb s.number q.number (λ equal. f zero (suc i) q s (omega arith) refl e (sym equal))))
     (numbers_once qs (λ i j r s less. f (suc i) (suc j) r s (omega arith)))
 
 -- the labels of blocks
 abbrev pub LabelsApart : List Numbered → Type 0
-LabelsApart lines = (i j : ℕ) (k l : Numbered) (m n : List ℕ) → i < j → slice_get lines i ≡ Some k → slice_get lines j ≡ Some l → block_label k ≡ Some m → block_label l ≡ Some n → m ≢ n
+LabelsApart lines = (i j : ℕ) (k l : Numbered) (m n : List ℕ) → i < j → slice_get lines i ≡ Some k → slice_get lines j ≡ Some l → block_label k ≡ Some m →
+    block_label l ≡ Some n → m ≢ n
 
 -- a block without a label answers for none
-pub unlabelled_more : (line : Numbered) (rest : List Numbered) (name : List ℕ) → block_label line ≡ None → labelled_in name (line ∷ rest) ≡ labelled_in name rest
+pub unlabelled_more : (line : Numbered) (rest : List Numbered) (name : List ℕ) → block_label line ≡ None →
+    labelled_in name (line ∷ rest) ≡ labelled_in name rest
 unlabelled_more line rest name e = grind (arith, common_steps)
 
-pub unlabelled_rest : (line : Numbered) (rest : List Numbered) (name : List ℕ) → is_some (labelled_in name (line ∷ rest)) ≡ false → is_some (labelled_in name rest) ≡ false
+pub unlabelled_rest : (line : Numbered) (rest : List Numbered) (name : List ℕ) → is_some (labelled_in name (line ∷ rest)) ≡ false →
+    is_some (labelled_in name rest) ≡ false
 unlabelled_rest line rest name h = grind (arith, common_steps)
 
 same_bytes : (name : List ℕ) → bytes_eq name name ≡ true
@@ -71,7 +75,8 @@ same_bytes name = (bytes_eq-Decides name name).1 refl
 apart_bytes : (m n : List ℕ) → m ≢ n → bytes_eq m n ≡ false
 apart_bytes m n ne = false_from_ne_true (bytes_eq m n) (λ h. ne ((bytes_eq-Decides m n).0 h))
 
-pub unlabelled : (name : List ℕ) (lines : List Numbered) → is_some (labelled_in name lines) ≡ false → (j : ℕ) (l : Numbered) (n : List ℕ) → slice_get lines j ≡ Some l → block_label l ≡ Some n → name ≢ n
+pub unlabelled : (name : List ℕ) (lines : List Numbered) → is_some (labelled_in name lines) ≡ false → (j : ℕ) (l : Numbered) (n : List ℕ) →
+    slice_get lines j ≡ Some l → block_label l ≡ Some n → name ≢ n
 unlabelled name [] h j l n e k = cc
 unlabelled name (line ∷ rest) h zero l n e k =
     let same : line ≡ l = cc in
@@ -83,14 +88,16 @@ unlabelled name (line ∷ rest) h zero l n e k =
     false≢true (sym h ∙ ap is_some found)
 unlabelled name (line ∷ rest) h (suc j) l n e k = unlabelled name rest (unlabelled_rest line rest name h) j l n e k
 
-unlabelled_by : (line : Numbered) (rest : List Numbered) (name : List ℕ) (label : Option (List ℕ)) → block_label line ≡ label → is_some (labelled_in name rest) ≡ false → ((n : List ℕ) → block_label line ≡ Some n → name ≢ n) → is_some (labelled_in name (line ∷ rest)) ≡ false
+unlabelled_by : (line : Numbered) (rest : List Numbered) (name : List ℕ) (label : Option (List ℕ)) → block_label line ≡ label →
+    is_some (labelled_in name rest) ≡ false → ((n : List ℕ) → block_label line ≡ Some n → name ≢ n) → is_some (labelled_in name (line ∷ rest)) ≡ false
 unlabelled_by line rest name None e h f = ap is_some (unlabelled_more line rest name e) ∙ h
 unlabelled_by line rest name (Some n) e h f =
     let more : labelled_in name (line ∷ rest) ≡ cond (bytes_eq n name) (Some line.number) (labelled_in name rest) = labelled_more line rest n name e in
     let test : bytes_eq n name ≡ false = apart_bytes n name (λ equal. f n e (sym equal)) in
     ap is_some (more ∙ ap (λ (b : Bool). cond b (Some line.number) (labelled_in name rest)) test) ∙ h
 
-pub unlabelled_from : (name : List ℕ) (lines : List Numbered) → ((j : ℕ) (l : Numbered) (n : List ℕ) → slice_get lines j ≡ Some l → block_label l ≡ Some n → name ≢ n) → is_some (labelled_in name lines) ≡ false
+pub unlabelled_from : (name : List ℕ) (lines : List Numbered) →
+    ((j : ℕ) (l : Numbered) (n : List ℕ) → slice_get lines j ≡ Some l → block_label l ≡ Some n → name ≢ n) → is_some (labelled_in name lines) ≡ false
 unlabelled_from name [] f = refl
 unlabelled_from name (line ∷ rest) f =
     let behind : is_some (labelled_in name rest) ≡ false = unlabelled_from name rest (λ j. f (suc j)) in
@@ -108,7 +115,8 @@ labels_apart (line ∷ rest) h (suc i) zero k l m n less e g p q = absurd (omega
 labels_apart (line ∷ rest) h (suc i) (suc j) k l m n less e g p q =
     labels_apart rest ((or_parts (is_labelled (block_label line) rest) (has_label_twice rest) h).1) i j k l m n (omega arith) e g p q
 
-labelled_by : (label : Option (List ℕ)) (rest : List Numbered) → ((m : List ℕ) → label ≡ Some m → is_some (labelled_in m rest) ≡ false) → is_labelled label rest ≡ false
+labelled_by : (label : Option (List ℕ)) (rest : List Numbered) → ((m : List ℕ) → label ≡ Some m → is_some (labelled_in m rest) ≡ false) →
+    is_labelled label rest ≡ false
 labelled_by None rest f = refl
 labelled_by (Some m) rest f = f m refl
 

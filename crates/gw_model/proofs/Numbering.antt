@@ -4,7 +4,8 @@ use Rattle.gw_meaning.specs.declared.statement.Statement.{Statement}
 use Rattle.gw_model.specs.Listed.{numbered}
 
 -- one more statement is numbered behind the others
-pub numbered_more : (first : ℕ) (statements : List Statement) (s : Statement) (n : ℕ) → n ≡ first + length statements → numbered first (statements ++ s ∷ []) ≡ numbered first statements ++ record { number = n; statement = s } ∷ []
+pub numbered_more : (first : ℕ) (statements : List Statement) (s : Statement) (n : ℕ) → n ≡ first + length statements →
+    numbered first (statements ++ s ∷ []) ≡ numbered first statements ++ record { number = n; statement = s } ∷ []
 numbered_more first [] s n h =
     let e : first ≡ n = omega arith in
     ap (λ (m : ℕ). let line : Numbered = record { number = m; statement = s } in line ∷ []) e

@@ -13,7 +13,8 @@ use Rattle.gw_model.specs.Spliced.{greatest_number, number_in, come, spliced}
 -- a number that no line has: not the first one, and not those behind it
 pub absent_first : (line : Numbered) (lines : List Numbered) (k : ℕ) → line_in (line ∷ lines) k ≡ None → ((line.number == k) ≡ false) × (line_in lines k ≡ None)
 absent_first line lines k h =
-    (elim (line.number == k) as (λ b. cond b (Some line) (line_in lines k) ≡ None → (b ≡ false) × (line_in lines k ≡ None)) [ true ↦ λ none. absurd cc | false ↦ λ none. (refl, none) ]) h
+    (elim (line.number == k) as (λ b. cond b (Some line) (line_in lines k) ≡ None → (b ≡ false) × (line_in lines k ≡ None))
+    [ true ↦ λ none. absurd cc | false ↦ λ none. (refl, none) ]) h
 
 pub absent_from : (line : Numbered) (lines : List Numbered) (k : ℕ) → (line.number == k) ≡ false → line_in lines k ≡ None → line_in (line ∷ lines) k ≡ None
 absent_from line lines k other none = subst (λ (b : Bool). cond b (Some line) (line_in lines k) ≡ None) (sym other) none
@@ -22,7 +23,8 @@ pub other_way : (m n : ℕ) → (m == n) ≡ false → (n == m) ≡ false
 other_way m n h = ne_eqb n m (λ e. both_ways (m == n) h (eq-eqb m n (sym e)))
 
 -- a line that comes in, and one that goes out
-absent_with : (front back : List Numbered) (line : Numbered) (k : ℕ) → (line.number == k) ≡ false → line_in (front ++ back) k ≡ None → line_in (front ++ line ∷ back) k ≡ None
+absent_with : (front back : List Numbered) (line : Numbered) (k : ℕ) → (line.number == k) ≡ false → line_in (front ++ back) k ≡ None →
+    line_in (front ++ line ∷ back) k ≡ None
 absent_with [] back line k other none = absent_from line back k other none
 absent_with (x ∷ front) back line k other none =
     let parts = absent_first x (front ++ back) k none in
@@ -34,7 +36,8 @@ absent_without (x ∷ front) back line k none =
     let parts = absent_first x (front ++ line ∷ back) k none in
     absent_from x (front ++ back) k parts.0 (absent_without front back line k parts.1)
 
-pub numbered_with : (front back : List Numbered) (line : Numbered) → 1 ≤ line.number → AreNumbered (front ++ back) → line_in (front ++ back) line.number ≡ None → AreNumbered (front ++ line ∷ back)
+pub numbered_with : (front back : List Numbered) (line : Numbered) → 1 ≤ line.number → AreNumbered (front ++ back) →
+    line_in (front ++ back) line.number ≡ None → AreNumbered (front ++ line ∷ back)
 numbered_with [] back line least apart none = (least, none, apart)
 numbered_with (x ∷ front) back line least apart none =
     let parts = absent_first x (front ++ back) line.number none in
@@ -78,9 +81,11 @@ cut_at (y ∷ ys) zero less = (y, record { found = refl; parts = refl })
 cut_at (y ∷ ys) (suc i) less = let rest = cut_at ys i (omega arith) in (rest.0, record { found = rest.1.found; parts = ap (λ zs. y ∷ zs) rest.1.parts })
 
 -- what comes in between lines that have not its number
-come_between : (front back : List Numbered) (number : ℕ) (comes : Option Statement) → 1 ≤ number → AreNumbered (front ++ back) → line_in (front ++ back) number ≡ None → AreNumbered (front ++ come number comes ++ back)
+come_between : (front back : List Numbered) (number : ℕ) (comes : Option Statement) → 1 ≤ number → AreNumbered (front ++ back) →
+    line_in (front ++ back) number ≡ None → AreNumbered (front ++ come number comes ++ back)
 come_between front back number None least apart none = rw append-nil apart
-come_between front back number (Some s) least apart none = rw append_assoc (numbered_with front back (record { number = number; statement = s }) least apart none)
+come_between front back number (Some s) least apart none =
+    rw append_assoc (numbered_with front back (record { number = number; statement = s }) least apart none)
 
 -- the item at a position is the one at the index before
 pub nth_get : {X : Type 0} (xs : List X) (position : ℕ) (x : X) → 1 ≤ position → slice_get xs (position - 1) ≡ Some x → nth xs position ≡ Some x
@@ -88,12 +93,14 @@ nth_get xs position x least h =
     let e : suc (position - 1) ≡ position = omega arith in
     subst (λ (p : ℕ). nth xs p ≡ Some x) e h
 
-pub numbered_spliced : (lines : List Numbered) (position : ℕ) (goes : Bool) (comes : Option Statement) → 1 ≤ position → (goes ≡ true → position ≤ length lines) → AreNumbered lines → AreNumbered (spliced lines position goes comes)
+pub numbered_spliced : (lines : List Numbered) (position : ℕ) (goes : Bool) (comes : Option Statement) → 1 ≤ position →
+    (goes ≡ true → position ≤ length lines) → AreNumbered lines → AreNumbered (spliced lines position goes comes)
 numbered_spliced lines position false comes least there apart =
     let i = position - 1 in
     let whole : lines ≡ take i lines ++ drop i lines = sym (take-append-drop i lines) in
     come_between (take i lines) (drop i lines) (greatest_number lines + 1) comes (omega arith)
-    (subst (λ (ls : List Numbered). AreNumbered ls) whole apart) (subst (λ (ls : List Numbered). line_in ls (greatest_number lines + 1) ≡ None) whole (new_absent lines))
+    (subst (λ (ls : List Numbered). AreNumbered ls) whole apart)
+    (subst (λ (ls : List Numbered). line_in ls (greatest_number lines + 1) ≡ None) whole (new_absent lines))
 numbered_spliced lines position true comes least there apart =
     let i = position - 1 in
     let within : position ≤ length lines = there refl in
@@ -111,7 +118,8 @@ numbered_spliced lines position true comes least there apart =
 absent_numbered : (first : ℕ) (statements : List Statement) (k : ℕ) → k < first → line_in (numbered first statements) k ≡ None
 absent_numbered first [] k less = refl
 absent_numbered first (s ∷ ss) k less =
-    absent_from (record { number = first; statement = s }) (numbered (first + 1) ss) k (ne_eqb first k (λ e. absurd (omega arith))) (absent_numbered (first + 1) ss k (omega arith))
+    absent_from (record { number = first; statement = s }) (numbered (first + 1) ss) k (ne_eqb first k (λ e. absurd (omega arith)))
+    (absent_numbered (first + 1) ss k (omega arith))
 
 pub numbered_listed : (first : ℕ) (statements : List Statement) → 1 ≤ first → AreNumbered (numbered first statements)
 numbered_listed first [] least = tt

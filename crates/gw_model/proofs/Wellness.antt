@@ -32,7 +32,8 @@ unseeded r s =
     (outside 1 2147483646 r.seed s.least_seed s.greatest_seed) (outside 1 1000000000 r.number s.least_number s.greatest_number)
 
 -- where no test of the scan holds, the version is well-formed
-pub well_from : (t : Listing) → is_too_long t.lines t.replications ≡ false → has_bad_replication t.replications ≡ false → is_bad_horizon t.horizon t.limit ≡ false → has_label_twice t.lines ≡ false → Well t
+pub well_from : (t : Listing) → is_too_long t.lines t.replications ≡ false → has_bad_replication t.replications ≡ false →
+    is_bad_horizon t.horizon t.limit ≡ false → has_label_twice t.lines ≡ false → Well t
 well_from t long bad limits twice =
     let sizes = or_parts (nat_lt 2000 (length t.lines)) (nat_lt 32 (length t.replications)) long in
     let seeds = or_parts (list_any is_bad_replication t.replications) (has_number_twice t.replications) bad in
@@ -54,9 +55,15 @@ well_from t long bad limits twice =
 -- a well-formed version has no fault
 pub no_fault : (t : Listing) → Well t → fault_of t ≡ None
 no_fault t w =
-    let long : is_too_long t.lines t.replications ≡ false = or_from (nat_lt 2000 (length t.lines)) (nat_lt 32 (length t.replications)) (le-ltb 2000 (length t.lines) w.statements) (le-ltb 32 (length t.replications) w.replications) in
-    let bad : has_bad_replication t.replications ≡ false = or_from (list_any is_bad_replication t.replications) (has_number_twice t.replications) (none_from is_bad_replication t.replications (λ i r e. unseeded r (w.seeded i r e))) (numbers_once t.replications w.numbers_apart) in
-    let limits : is_bad_horizon t.horizon t.limit ≡ false = or_from (is_outside 1 1000000000000 t.horizon) (is_outside 1 1000000 t.limit) (outside 1 1000000000000 t.horizon w.least_horizon w.greatest_horizon) (outside 1 1000000 t.limit w.least_limit w.greatest_limit) in
+    let long : is_too_long t.lines t.replications ≡ false =
+    or_from (nat_lt 2000 (length t.lines)) (nat_lt 32 (length t.replications)) (le-ltb 2000 (length t.lines) w.statements)
+    (le-ltb 32 (length t.replications) w.replications) in
+    let bad : has_bad_replication t.replications ≡ false =
+    or_from (list_any is_bad_replication t.replications) (has_number_twice t.replications)
+    (none_from is_bad_replication t.replications (λ i r e. unseeded r (w.seeded i r e))) (numbers_once t.replications w.numbers_apart) in
+    let limits : is_bad_horizon t.horizon t.limit ≡ false =
+    or_from (is_outside 1 1000000000000 t.horizon) (is_outside 1 1000000 t.limit) (outside 1 1000000000000 t.horizon w.least_horizon w.greatest_horizon)
+    (outside 1 1000000 t.limit w.least_limit w.greatest_limit) in
     let twice : has_label_twice t.lines ≡ false = labels_once t.lines w.labels_apart in
     rw (long, bad, limits, twice)
 

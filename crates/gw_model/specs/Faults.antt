@@ -64,7 +64,8 @@ abbrev pub fault_of : Listing → Option ModelFault
 fault_of t =
     if is_too_long t.lines t.replications
     then Some TooMany
-    else (if has_bad_replication t.replications then Some BadSeed else (if is_bad_horizon t.horizon t.limit then Some BadHorizon else label_fault_of t.lines))
+    else (if has_bad_replication t.replications then Some BadSeed
+    else (if is_bad_horizon t.horizon t.limit then Some BadHorizon else label_fault_of t.lines))
 
 -- the fault is the first one, or memory was refused
 abbrev pub IsFault : Option ModelFault → ModelFault → Type 0

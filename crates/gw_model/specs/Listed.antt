@@ -8,11 +8,13 @@ use Rattle.gw_meaning.specs.declared.statement.Replication.{Replication}
 -- statements with numbers of their own, one after another
 abbrev pub numbered : ℕ → List Statement → List Numbered
 numbered first [] = []
-numbered first (statement ∷ statements) = record { number = first; statement = statement } ∷ numbered (first + 1) statements
+numbered first (statement ∷ statements) =
+    record { number = first; statement = statement } ∷ numbered (first + 1) statements
 
 -- the version with these lines
 abbrev pub listing_of : List Numbered → ℕ → List Replication → ℕ → Listing
-listing_of lines horizon replications limit = record { lines = lines; horizon = horizon; replications = replications; limit = limit }
+listing_of lines horizon replications limit =
+    record { lines = lines; horizon = horizon; replications = replications; limit = limit }
 
 -- the version with these statements, numbered from 1
 abbrev pub listed : List Statement → ℕ → List Replication → ℕ → Listing

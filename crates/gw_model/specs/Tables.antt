@@ -12,12 +12,18 @@ use Rattle.gw_meaning.specs.declared.statement.Numbered.{Numbered}
 use Rattle.gw_model.specs.declared.places.Place.{Place}
 use Rattle.gw_model.specs.declared.tables.Tables.{Tables}
 
--- the place of the first statement with this number, where the first of these has the index and stands behind `before` blocks
+-- the place of the first statement with this number, where the first of these has the index and stands behind `before`
+-- blocks
 abbrev pub place_in : ℕ → ℕ → List Numbered → ℕ → Option Place
 place_in index before [] number = None
 place_in index before (line ∷ lines) number =
     if line.number == number
-    then Some (record { index = index; after = if is_block line then first_block lines else None; position = if is_block line then Some (before + 1) else None })
+    then Some (record {
+      index = index;
+      after = if is_block line then first_block lines else None;
+      position =
+          if is_block line then Some (before + 1) else None;
+    })
     else place_in (index + 1) (if is_block line then before + 1 else before) lines number
 
 -- the tables of these lines

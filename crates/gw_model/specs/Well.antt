@@ -17,9 +17,11 @@ pub record Well (t : Listing) : Type 0 where
   pub statements : length t.lines ≤ 2000
   pub replications : length t.replications ≤ 32
   pub seeded : (i : ℕ) (r : Replication) → slice_get t.replications i ≡ Some r → IsSeeded r
-  pub numbers_apart : (i j : ℕ) (r s : Replication) → i < j → slice_get t.replications i ≡ Some r → slice_get t.replications j ≡ Some s → r.number ≢ s.number
+  pub numbers_apart : (i j : ℕ) (r s : Replication) → i < j → slice_get t.replications i ≡ Some r →
+      slice_get t.replications j ≡ Some s → r.number ≢ s.number
   pub least_horizon : 1 ≤ t.horizon
   pub greatest_horizon : t.horizon ≤ 1000000000000
   pub least_limit : 1 ≤ t.limit
   pub greatest_limit : t.limit ≤ 1000000
-  pub labels_apart : (i j : ℕ) (k l : Numbered) (m n : List ℕ) → i < j → slice_get t.lines i ≡ Some k → slice_get t.lines j ≡ Some l → block_label k ≡ Some m → block_label l ≡ Some n → m ≢ n
+  pub labels_apart : (i j : ℕ) (k l : Numbered) (m n : List ℕ) → i < j → slice_get t.lines i ≡ Some k →
+      slice_get t.lines j ≡ Some l → block_label k ≡ Some m → block_label l ≡ Some n → m ≢ n

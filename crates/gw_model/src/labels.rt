@@ -14,7 +14,8 @@ use std::collections::BTreeMap;
 
 /// The number of the block with each label. No two blocks may have one label.
 pub fn labels_of(alloc: Global, lines: &[Numbered]) -> Result<BTreeMap<Name, u64>, ModelFault>
-    ensures labels { IfOk result (λ labels. (name : List ℕ) → tree.get (slice_cmp nat_cmp) labels name ≡ labelled_in name lines.now) }
+    ensures labels { IfOk result (λ labels. (name : List ℕ) →
+        tree.get (slice_cmp nat_cmp) labels name ≡ labelled_in name lines.now) }
     ensures once { OnOk result (has_label_twice lines.now ≡ false) }
     ensures err { IfErr result (IsFault (label_fault_of lines.now)) }
 {

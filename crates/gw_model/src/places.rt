@@ -60,7 +60,8 @@ pub fn places_of(alloc: Global, lines: &[Numbered]) -> Result<Vec<Option<Place>>
 
 // Writes the place of a number, and makes the table longer where it ends before it.
 fn put(table: &mut Vec<Option<Place>>, number: u64, place: Place) -> Result<(), AllocError>
-    ensures { OnOk result ((k : ℕ) → get_or table.new.items k None ≡ (if number == k then Some place else get_or table.old.items k None)) }
+    ensures { OnOk result ((k : ℕ) → get_or table.new.items k None ≡
+        (if number == k then Some place else get_or table.old.items k None)) }
 {
     let at = number as usize;
     if at >= table.len() {
@@ -77,7 +78,8 @@ pub fn line_of<'a>(
     table: &[Option<Place>],
     number: u64,
 ) -> Option<&'a Numbered>
-    ensures { option_copied result ≡ option_and_then (λ (p : Place). slice_get lines.now p.index) (get_or table.now number None) }
+    ensures { option_copied result ≡ option_and_then (λ (p : Place). slice_get lines.now p.index)
+        (get_or table.now number None) }
 {
     match place_of(table, number) {
         Some(place) => lines.get(place.index),

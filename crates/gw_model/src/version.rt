@@ -32,9 +32,17 @@ impl Model for Version {
 
     ghost use Rattle.gw_model.specs.Tables.{IsKept};
 
-    ghost view = { λ v. record { lines = v.lines.items; horizon = v.horizon; replications = v.replications.items; limit = v.limit } };
+    ghost view = { λ v. record {
+      lines = v.lines.items;
+      horizon = v.horizon;
+      replications =
+          v.replications.items;
+      limit = v.limit;
+    } };
 
-    ghost invariant = { λ v. IsKept (record { lines = v.lines.items; horizon = v.horizon; replications = v.replications.items; limit = v.limit }) v.tables };
+    ghost invariant = { λ v. IsKept (record
+        { lines = v.lines.items; horizon = v.horizon; replications = v.replications.items; limit = v.limit })
+        v.tables };
 }
 
 impl Version {
@@ -58,8 +66,10 @@ impl Version {
         ensures value { IfOk result (λ v. v ≡ listed statements.items horizon replications.items limit) }
         ensures found { IfOk result (λ v. Well v) }
         ensures none { OnOk result (fault_of (listed statements.items horizon replications.items limit) ≡ None) }
-        ensures fault { IfErr result (λ f. IsFault (fault_of (listed statements.items horizon replications.items limit)) f) }
-        ensures only { Well (listed statements.items horizon replications.items limit) → IfErr result (λ f. f ≡ Memory) }
+        ensures fault { IfErr result (λ f. IsFault (fault_of (listed statements.items horizon replications.items limit))
+            f) }
+        ensures only { Well (listed statements.items horizon replications.items limit) →
+            IfErr result (λ f. f ≡ Memory) }
     {
         let lines = number(alloc, statements)?;
         Version::from_lines(alloc, lines, horizon, replications, limit)
@@ -98,7 +108,8 @@ impl Version {
         ensures value { IfOk result (λ v. v ≡ record self.now { replications = replications.items }) }
         ensures found { IfOk result (λ v. Well v) }
         ensures none { OnOk result (fault_of (record self.now { replications = replications.items }) ≡ None) }
-        ensures fault { IfErr result (λ f. IsFault (fault_of (record self.now { replications = replications.items })) f) }
+        ensures fault { IfErr result
+          (λ f. IsFault (fault_of (record self.now { replications = replications.items })) f) }
         ensures only { Well (record self.now { replications = replications.items }) → IfErr result (λ f. f ≡ Memory) }
     {
         let lines = copy_lines(alloc, self.lines.as_slice())?;
@@ -130,7 +141,8 @@ impl Version {
         ensures value { IfOk result (λ v. v ≡ listing_of lines.items horizon replications.items limit) }
         ensures found { IfOk result (λ v. Well v) }
         ensures none { OnOk result (fault_of (listing_of lines.items horizon replications.items limit) ≡ None) }
-        ensures fault { IfErr result (λ f. IsFault (fault_of (listing_of lines.items horizon replications.items limit)) f) }
+        ensures fault { IfErr result (λ f. IsFault (fault_of (listing_of lines.items horizon replications.items limit))
+            f) }
         ensures only { Well (listing_of lines.items horizon replications.items limit) → IfErr result (λ f. f ≡ Memory) }
     {
         if is_too_long(lines.as_slice(), replications.as_slice()) {

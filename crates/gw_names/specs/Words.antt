@@ -45,7 +45,9 @@ word_of Rmult = codes "RMULT"
 
 -- every verb of the language
 abbrev pub verbs : List Verb
-verbs = Generate ∷ Advance ∷ Terminate ∷ Seize ∷ Release ∷ Enter ∷ Leave ∷ Queue ∷ Depart ∷ Transfer ∷ Test ∷ Gate ∷ Logic ∷ Assign ∷ Savevalue ∷ Mark ∷ Buffer ∷ Priority ∷ Tabulate ∷ Link ∷ Unlink ∷ Split ∷ Loop ∷ Storage ∷ Table ∷ Variable ∷ Equ ∷ Function ∷ Start ∷ Reset ∷ Clear ∷ Rmult ∷ []
+verbs = Generate ∷ Advance ∷ Terminate ∷ Seize ∷ Release ∷ Enter ∷ Leave ∷ Queue ∷ Depart ∷ Transfer ∷ Test ∷ Gate ∷
+    Logic ∷ Assign ∷ Savevalue ∷ Mark ∷ Buffer ∷ Priority ∷ Tabulate ∷ Link ∷ Unlink ∷ Split ∷ Loop ∷ Storage ∷ Table ∷
+    Variable ∷ Equ ∷ Function ∷ Start ∷ Reset ∷ Clear ∷ Rmult ∷ []
 
 -- a text in upper case
 abbrev pub upper_of : List ℕ → List ℕ
@@ -87,7 +89,9 @@ class_word class.Fn = codes "FN"
 
 -- every class
 abbrev pub classes : List Class
-classes = class.C1 ∷ class.Ac1 ∷ class.Tg1 ∷ class.M1 ∷ class.Xn1 ∷ class.Pr ∷ class.P ∷ class.F ∷ class.Fc ∷ class.S ∷ class.R ∷ class.Sc ∷ class.Sm ∷ class.Q ∷ class.Qc ∷ class.Qm ∷ class.Qz ∷ class.N ∷ class.W ∷ class.X ∷ class.Ls ∷ class.Ch ∷ class.Cc ∷ class.Tc ∷ class.Rn ∷ class.V ∷ class.Fn ∷ []
+classes = class.C1 ∷ class.Ac1 ∷ class.Tg1 ∷ class.M1 ∷ class.Xn1 ∷ class.Pr ∷ class.P ∷ class.F ∷ class.Fc ∷ class.S ∷
+    class.R ∷ class.Sc ∷ class.Sm ∷ class.Q ∷ class.Qc ∷ class.Qm ∷ class.Qz ∷ class.N ∷ class.W ∷ class.X ∷ class.Ls ∷
+    class.Ch ∷ class.Cc ∷ class.Tc ∷ class.Rn ∷ class.V ∷ class.Fn ∷ []
 
 -- a class's word, alone or followed by digits only
 abbrev pub is_class_word : List ℕ → List ℕ → Bool

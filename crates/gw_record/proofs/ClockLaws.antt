@@ -77,11 +77,12 @@ reached_at t (s ∷ xs) (suc k) d within later = go (nat_lt t s.time) (reached_a
 pub first_beyond_known :
     (t step time : ℕ) (xs : List ClockStep) → IsReached time xs →
     first_beyond t xs ≡ or_later (first_beyond t xs) (cond (nat_lt t time) (Some step) None)
-first_beyond_known t step time xs (k, x, within, at, reached) = go (nat_lt t time) refl (first_beyond t xs) (λ below. reached_at t xs k x within (rw at (omega (arith, below, reached)))) where
-  go : (b : Bool) → nat_lt t time ≡ b → (o : Option ℕ) → (t < time → is_some o ≡ true) → o ≡ or_later o (cond b (Some step) None)
-  go b e (Some n) h = refl
-  go false e None h = refl
-  go true e None h = absurd (true≢false (sym (h (grind (arith, nat_tests)))))
+first_beyond_known t step time xs (k, x, within, at, reached) =
+    go (nat_lt t time) refl (first_beyond t xs) (λ below. reached_at t xs k x within (rw at (omega (arith, below, reached)))) where
+      go : (b : Bool) → nat_lt t time ≡ b → (o : Option ℕ) → (t < time → is_some o ≡ true) → o ≡ or_later o (cond b (Some step) None)
+      go b e (Some n) h = refl
+      go false e None h = refl
+      go true e None h = absurd (true≢false (sym (h (grind (arith, nat_tests)))))
 
 -- the first i lie below n
 pub below_taken : (n : ℕ) (xs : List ClockStep) (i : ℕ) → AllWithin (λ (s : ClockStep). nat_lt s.step n ≡ true) xs 0 i → AreBelow n (take i xs)

@@ -10,7 +10,8 @@ use Rattle.gw_record.specs.Extending.{tallied}
 use Rattle.gw_record.specs.Reaching.{AreWanted}
 
 -- one more moment that a step was wanted from
-pub wanted_more : (t : Listing) (seed k from to : ℕ) (s : Machine) → AreWanted t seed k from to → run t seed to ≡ Ok s → s.complete < k → AreWanted t seed k from (to + 1)
+pub wanted_more : (t : Listing) (seed k from to : ℕ) (s : Machine) → AreWanted t seed k from to → run t seed to ≡ Ok s → s.complete < k →
+    AreWanted t seed k from (to + 1)
 wanted_more t seed k from to s before there fewer m u low less is = go (nat_eq m to) refl where
   go : (b : Bool) → nat_eq m to ≡ b → u.complete < k
   go true e =

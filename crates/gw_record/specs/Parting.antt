@@ -22,8 +22,10 @@ AreBefore moments m n = IsPartitionPoint (λ (i : ℕ). nat_lt i m ≡ true) (λ
 
 -- just the first n of these Clock steps are to a time or to one before it
 abbrev pub AreUpTo : List ClockStep → ℕ → ℕ → Type 0
-AreUpTo steps time n = IsPartitionPoint (λ (s : ClockStep). nat_le s.time time ≡ true) (λ s. nat_le s.time time ≡ false) steps n
+AreUpTo steps time n =
+    IsPartitionPoint (λ (s : ClockStep). nat_le s.time time ≡ true) (λ s. nat_le s.time time ≡ false) steps n
 
 -- just the first n of these Clock steps lie below a step
 abbrev pub AreFirst : List ClockStep → ℕ → ℕ → Type 0
-AreFirst steps step n = IsPartitionPoint (λ (s : ClockStep). nat_lt s.step step ≡ true) (λ s. nat_lt s.step step ≡ false) steps n
+AreFirst steps step n =
+    IsPartitionPoint (λ (s : ClockStep). nat_lt s.step step ≡ true) (λ s. nat_lt s.step step ≡ false) steps n

@@ -9,8 +9,8 @@ use Rattle.gw_record.specs.declared.first_uses.FirstUses.{FirstUses}
 use Rattle.gw_record.specs.Parting.{AreInOrder, AreMoments}
 use Rattle.gw_record.specs.Uses.{AreFirstUses, nothing_used}
 
--- what is recorded of a run: the state at the tip, after so many steps; states kept on the way, in order; the moments of
--- START ends, in order; and the first uses of items
+-- what is recorded of a run: the state at the tip, after so many steps; states kept on the way, in order; the moments
+-- of START ends, in order; and the first uses of items
 pub record Tape : Type 0 where
   pub every : ℕ
   pub moment : ℕ
@@ -55,8 +55,8 @@ pub record IsEndThere (t : Listing) (seed : ℕ) (r : Tape) (k m : ℕ) : Type 0
   pub below : m ≤ r.moment
   pub kept : IsThere r.kept m
 
--- it is the record of the run from zero: each state is the run's at its moment; each wanted one below the tip is there; the
--- first uses are those of the steps below the tip
+-- it is the record of the run from zero: each state is the run's at its moment; each wanted one below the tip is there;
+-- the first uses are those of the steps below the tip
 pub record Records (t : Listing) (seed : ℕ) (r : Tape) : Type 0 where
   pub tip : run t seed r.moment ≡ Ok r.tip
   pub within : r.moment ≤ t.limit

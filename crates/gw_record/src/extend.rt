@@ -121,7 +121,8 @@ impl Recorded {
     // Notes the tip as a START end where it is one.
     fn keep_end(&mut self) -> Result<(), AllocError>
         ensures records { (t : Listing) (seed : ℕ) → Records t seed self.old →
-            (IsWanted t seed self.old.every self.old.moment → IsThere self.old.kept self.old.moment) → Records t seed self.new }
+            (IsWanted t seed self.old.every self.old.moment → IsThere self.old.kept self.old.moment) →
+            Records t seed self.new }
         ensures ok { OnOk result ((t : Listing) (seed : ℕ) →
             Records t seed self.old → self.new.tip.complete ≤ length self.new.ends) }
         ensures same { (self.new.moment ≡ self.old.moment) × (self.new.every ≡ self.old.every) ×

@@ -48,7 +48,8 @@ impl FirstSteps {
     pub fn note(&mut self, number: u64, step: u64) -> Result<(), AllocError>
         requires { step < 2 ^ 64 - 1 }
         ensures ok { OnOk result ((k : ℕ) →
-            step_at self.new k ≡ (if number == k then or_later (step_at self.old k) (Some step) else step_at self.old k)) }
+            step_at self.new k ≡ (if number == k then or_later (step_at self.old k) (Some step)
+            else step_at self.old k)) }
         ensures err { OnErr result (self.new ≡ self.old) }
     {
         self.make_room(number)?;

@@ -59,7 +59,8 @@ impl FirstUses {
         requires step { step < 2 ^ 64 - 1 }
         requires clock { AreBelow (step + 1) self.old.clock_steps }
         ensures ok { OnOk result ((item : Item) →
-            first_in self.new item ≡ or_later (first_in self.old item) (if list_any (is_use item) items.now then Some step else None)) }
+            first_in self.new item ≡ or_later (first_in self.old item)
+            (if list_any (is_use item) items.now then Some step else None)) }
         ensures clock { AreBelow (step + 1) self.new.clock_steps }
         ensures err { OnErr result ((item : Item) →
             below step (first_in self.new item) ≡ below step (first_in self.old item)) }

@@ -36,7 +36,11 @@ module _ {X : Type 0} (time : X → ℕ) where
 
   Rises-at : (xs : List X) → IsNonDecreasingBy time xs → Rises xs
   Rises-at [] h = tt
-  Rises-at (x ∷ xs) h = (From-at (time x) xs (λ j d below. h zero (suc j) d (omega arith) (omega arith)), Rises-at xs (λ i j d up below. h (suc i) (suc j) d (omega arith) (omega arith)))
+  Rises-at (x ∷ xs) h = (
+    From-at (time x) xs (λ j d below. h zero (suc j) d (omega arith) (omega arith)),
+    Rises-at xs
+        (λ i j d up below. h (suc i) (suc j) d (omega arith) (omega arith)),
+  )
 
   From-less : (m n : ℕ) (xs : List X) → m ≤ n → From n xs → From m xs
   From-less m n [] h from = tt
@@ -133,9 +137,16 @@ module _ {X : Type 0} (time : X → ℕ) where
   -- std's test of a tie
   tie_is : (x y : X) → ties (λ (a b : X). is_lt (nat_cmp (time a) (time b))) x y ≡ is_at (time x) y
   tie_is x y = elim (cases_order (time x) (time y)) [
-    | inl e ↦ rw (le-ltb (time x) (time y) (omega arith), le-ltb (time y) (time x) (omega arith), eq-eqb (time x) (time y) e, eq-eqb (time y) (time x) (sym e)) refl
+    | inl e ↦ rw (le-ltb (time x) (time y) (omega arith), le-ltb (time y) (time x) (omega arith), eq-eqb (time x) (time y) e, eq-eqb (time y) (time x) (sym e))
+        refl
     | inr (inl h) ↦ rw (lt-ltb (time x) (time y) h, ne_eqb (time y) (time x) (λ e. absurd (omega arith))) refl
-    | inr (inr h) ↦ rw (le-ltb (time x) (time y) (omega arith), lt-ltb (time y) (time x) h, ne_eqb (time x) (time y) (λ e. absurd (omega arith)), ne_eqb (time y) (time x) (λ e. absurd (omega arith))) refl
+    | inr (inr h) ↦ rw (
+      le-ltb (time x) (time y) (omega arith),
+      lt-ltb (time y) (time x) h,
+      ne_eqb (time x) (time y) (λ e. absurd (omega arith)),
+      ne_eqb
+          (time y) (time x) (λ e. absurd (omega arith)),
+    ) refl
   ]
 
   filter_ties : (x : X) (xs : List X) → filter (ties (λ (a b : X). is_lt (nat_cmp (time a) (time b))) x) xs ≡ filter (is_at (time x)) xs

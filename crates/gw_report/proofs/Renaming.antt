@@ -53,11 +53,14 @@ module _ (move : ℕ → ℕ) (t u : Listing) (r : IsRenamed move t u) where
   events_renamed [] = refl
   events_renamed (e ∷ es) = ap₂ (λ line lines. line ∷ lines) (line_renamed e.time e.transaction) (events_renamed es)
 
-  waiting_renamed : (o : Option Transaction) (xs : List Transaction) → map (current_line u) (option_to_list (option_map (moved_transaction move) o) ++ map (moved_transaction move) xs) ≡ map (current_line t) (option_to_list o ++ xs)
+  waiting_renamed : (o : Option Transaction) (xs : List Transaction) →
+      map (current_line u) (option_to_list (option_map (moved_transaction move) o) ++ map (moved_transaction move) xs) ≡
+      map (current_line t) (option_to_list o ++ xs)
   waiting_renamed None xs = lines_renamed xs
   waiting_renamed (Some x) xs = lines_renamed (x ∷ xs)
 
-  put_renamed : (e : Event) (es : List Event) → put_by (λ (x : Event). x.time) (moved_event move e) (map (moved_event move) es) ≡ map (moved_event move) (put_by (λ (x : Event). x.time) e es)
+  put_renamed : (e : Event) (es : List Event) → put_by (λ (x : Event). x.time) (moved_event move e) (map (moved_event move) es) ≡
+      map (moved_event move) (put_by (λ (x : Event). x.time) e es)
   put_renamed e [] = refl
   put_renamed e (f ∷ es) = cond_under (map (moved_event move)) (nat_le e.time f.time) _ _ _ _ refl (ap (λ fs. moved_event move f ∷ fs) (put_renamed e es))
 
@@ -89,7 +92,8 @@ module _ (move : ℕ → ℕ) (t u : Listing) (r : IsRenamed move t u) where
   names_renamed (l ∷ ls) [] h = absurd h
   names_renamed (l ∷ ls) (m ∷ ms) h = ap₂ ◌++◌ (name_renamed l m h.0 h.1) (names_renamed ls ms h.2)
 
-  row_renamed : (s : Machine) (l m : Numbered) (block : Block) → m.number ≡ move l.number → m.statement ≡ l.statement → block_line u m block (count_at (map (moved_count move) s.counts) m.number) ≡ block_line t l block (count_at s.counts l.number)
+  row_renamed : (s : Machine) (l m : Numbered) (block : Block) → m.number ≡ move l.number → m.statement ≡ l.statement →
+      block_line u m block (count_at (map (moved_count move) s.counts) m.number) ≡ block_line t l block (count_at s.counts l.number)
   unfolding block_line
   row_renamed s l m block number statement =
       let label : label_text m.statement.label ≡ label_text l.statement.label = ap (λ (x : Statement). label_text x.label) statement in
@@ -98,15 +102,18 @@ module _ (move : ℕ → ℕ) (t u : Listing) (r : IsRenamed move t u) where
       ap (count_at (map (moved_count move) s.counts)) number ∙ count_at_moved move r.is_move s.counts l.number in
       rw (label, position, count) refl
 
-  block_by : (s : Machine) (l m : Numbered) (o : Option Block) → m.number ≡ move l.number → m.statement ≡ l.statement → block_lines_of u (moved_machine move s) m o ≡ block_lines_of t s l o
+  block_by : (s : Machine) (l m : Numbered) (o : Option Block) → m.number ≡ move l.number → m.statement ≡ l.statement →
+      block_lines_of u (moved_machine move s) m o ≡ block_lines_of t s l o
   block_by s l m None number statement = refl
   block_by s l m (Some block) number statement = ap (λ row. row ∷ []) (row_renamed s l m block number statement)
 
-  block_renamed : (s : Machine) (l m : Numbered) → m.number ≡ move l.number → m.statement ≡ l.statement → block_lines u (moved_machine move s) m ≡ block_lines t s l
+  block_renamed : (s : Machine) (l m : Numbered) → m.number ≡ move l.number → m.statement ≡ l.statement →
+      block_lines u (moved_machine move s) m ≡ block_lines t s l
   block_renamed s l m number statement =
       ap (λ (x : Statement). block_lines_of u (moved_machine move s) m (block_of_body x.body)) statement ∙ block_by s l m (block_of l) number statement
 
-  pub blocks_renamed : (s : Machine) (ls ms : List Numbered) → AreRenamed move ls ms → flat_map (block_lines u (moved_machine move s)) ms ≡ flat_map (block_lines t s) ls
+  pub blocks_renamed : (s : Machine) (ls ms : List Numbered) → AreRenamed move ls ms →
+      flat_map (block_lines u (moved_machine move s)) ms ≡ flat_map (block_lines t s) ls
   blocks_renamed s [] [] h = refl
   blocks_renamed s [] (m ∷ ms) h = absurd h
   blocks_renamed s (l ∷ ls) [] h = absurd h
@@ -128,7 +135,8 @@ blocks_counted move (l ∷ ls) (m ∷ ms) h =
 head_renamed : (move : ℕ → ℕ) (t u : Listing) (s : Machine) → IsRenamed move t u → head_text u (moved_machine move s) ≡ head_text t s
 unfolding head_text
 head_renamed move t u s r =
-    ap (λ n. table_of head_columns ((decimal s.since ∷ decimal s.clock ∷ decimal n ∷ decimal 0 ∷ decimal 0 ∷ []) ∷ [])) (blocks_counted move t.lines u.lines r.lines)
+    ap (λ n. table_of head_columns ((decimal s.since ∷ decimal s.clock ∷ decimal n ∷ decimal 0 ∷ decimal 0 ∷ []) ∷ []))
+    (blocks_counted move t.lines u.lines r.lines)
 
 seed_renamed : (move : ℕ → ℕ) (t u : Listing) (rep : ℕ) → IsRenamed move t u → seed_of u rep ≡ seed_of t rep
 unfolding seed_of

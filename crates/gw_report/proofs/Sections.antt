@@ -38,7 +38,8 @@ section_shown columns [] = refl
 section_shown columns (row ∷ rows) = any_shown columns (row_of columns row) (rows_of columns rows) (row_has columns row)
 
 -- lines that lists of rows make, one list after another
-pub rows_joined : {X : Type 0} (columns : List Column) (f : X → List (List (List ℕ))) (xs : List X) → flat_map (λ x. rows_of columns (f x)) xs ≡ rows_of columns (flat_map f xs)
+pub rows_joined : {X : Type 0} (columns : List Column) (f : X → List (List (List ℕ))) (xs : List X) →
+    flat_map (λ x. rows_of columns (f x)) xs ≡ rows_of columns (flat_map f xs)
 rows_joined columns f [] = refl
 rows_joined columns f (x ∷ xs) = rw (flat_map-append (row_of columns) (f x) (flat_map f xs), rows_joined columns f xs) refl
 
@@ -47,6 +48,7 @@ pub block_shown : (t : Listing) (s : Machine) (line : Numbered) (block : Block) 
 block_shown t s line block h = rw (h, append-nil) refl
 
 -- lines of one row each, over what is read from each element
-pub rows_mapped : {X Y : Type 0} (columns : List Column) (f : Y → List (List ℕ)) (g : X → Y) (xs : List X) → flat_map (λ x. row_of columns (f (g x))) xs ≡ rows_of columns (map f (map g xs))
+pub rows_mapped : {X Y : Type 0} (columns : List Column) (f : Y → List (List ℕ)) (g : X → Y) (xs : List X) →
+    flat_map (λ x. row_of columns (f (g x))) xs ≡ rows_of columns (map f (map g xs))
 rows_mapped columns f g [] = refl
 rows_mapped columns f g (x ∷ xs) = ap (λ l. row_of columns (f (g x)) ++ l) (rows_mapped columns f g xs)

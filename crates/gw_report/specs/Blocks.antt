@@ -14,12 +14,17 @@ use Rattle.gw_report.specs.Chains.{place_of}
 
 -- the columns of the labels, and of the blocks
 abbrev pub name_columns : List Column
-name_columns = record { title = codes "NAME"; width = 10; side = Left } ∷ record { title = codes "VALUE"; width = 10; side = Right } ∷ []
+name_columns = record { title = codes "NAME"; width = 10; side = Left } ∷
+    record { title = codes "VALUE"; width = 10; side = Right } ∷ []
 
 abbrev pub block_columns : List Column
 block_columns =
-    record { title = codes "LABEL"; width = 10; side = Left } ∷ record { title = codes "LOC"; width = 5; side = Right } ∷ record { title = codes "BLOCK TYPE"; width = 10; side = Left }
-    ∷ record { title = codes "ENTRY COUNT"; width = 11; side = Right } ∷ record { title = codes "CURRENT COUNT"; width = 13; side = Right } ∷ record { title = codes "RETRY"; width = 6; side = Right } ∷ []
+    record { title = codes "LABEL"; width = 10; side = Left } ∷
+    record { title = codes "LOC"; width = 5; side = Right } ∷
+    record { title = codes "BLOCK TYPE"; width = 10; side = Left }
+    ∷ record { title = codes "ENTRY COUNT"; width = 11; side = Right } ∷
+    record { title = codes "CURRENT COUNT"; width = 13; side = Right } ∷
+    record { title = codes "RETRY"; width = 6; side = Right } ∷ []
 
 -- a label, or nothing
 abbrev pub label_text : Option (List ℕ) → List ℕ
@@ -38,7 +43,8 @@ name_lines t line = name_lines_of t line.number (block_of line) line.statement.l
 -- a block's line in the list of blocks: its label, its position, its verb, and its counts
 unfoldable pub block_line : Listing → Numbered → Block → Count → List (List ℕ)
 block_line t line block count =
-    label_text line.statement.label ∷ decimal (place_of t (Some line.number)) ∷ word_of (verb_of_block block) ∷ decimal count.entries ∷ decimal count.content ∷ decimal 0 ∷ []
+    label_text line.statement.label ∷ decimal (place_of t (Some line.number)) ∷ word_of (verb_of_block block) ∷
+    decimal count.entries ∷ decimal count.content ∷ decimal 0 ∷ []
 
 abbrev pub block_lines_of : Listing → Machine → Numbered → Option Block → List (List (List ℕ))
 block_lines_of t s line None = []

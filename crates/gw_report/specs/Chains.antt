@@ -21,7 +21,8 @@ next_number t x (Some place) = Some place
 -- a transaction's line; `moment` is its mark time, or the time at which it moves on
 unfoldable pub line_of : Listing → ℕ → Transaction → List (List ℕ)
 line_of t moment x =
-    decimal x.number ∷ signed x.priority ∷ decimal moment ∷ decimal (place_of t (Some x.current)) ∷ decimal (place_of t (next_number t x x.destination)) ∷ []
+    decimal x.number ∷ signed x.priority ∷ decimal moment ∷ decimal (place_of t (Some x.current)) ∷
+    decimal (place_of t (next_number t x x.destination)) ∷ []
 
 -- one in front of the first that is not sooner
 abbrev pub put_by : {X : Type 0} → (X → ℕ) → X → List X → List X
@@ -39,13 +40,19 @@ by_time = ordered_by (λ (e : Event). e.time)
 -- the columns of the current chain, and of the future chain
 abbrev pub current_columns : List Column
 current_columns =
-    record { title = codes "CEC XN"; width = 8; side = Right } ∷ record { title = codes "PRI"; width = 11; side = Right } ∷ record { title = codes "M1"; width = 10; side = Right }
-    ∷ record { title = codes "CURRENT"; width = 7; side = Right } ∷ record { title = codes "NEXT"; width = 7; side = Right } ∷ []
+    record { title = codes "CEC XN"; width = 8; side = Right } ∷
+    record { title = codes "PRI"; width = 11; side = Right } ∷
+    record { title = codes "M1"; width = 10; side = Right }
+    ∷ record { title = codes "CURRENT"; width = 7; side = Right } ∷
+    record { title = codes "NEXT"; width = 7; side = Right } ∷ []
 
 abbrev pub future_columns : List Column
 future_columns =
-    record { title = codes "FEC XN"; width = 8; side = Right } ∷ record { title = codes "PRI"; width = 11; side = Right } ∷ record { title = codes "BDT"; width = 10; side = Right }
-    ∷ record { title = codes "CURRENT"; width = 7; side = Right } ∷ record { title = codes "NEXT"; width = 7; side = Right } ∷ []
+    record { title = codes "FEC XN"; width = 8; side = Right } ∷
+    record { title = codes "PRI"; width = 11; side = Right } ∷
+    record { title = codes "BDT"; width = 10; side = Right }
+    ∷ record { title = codes "CURRENT"; width = 7; side = Right } ∷
+    record { title = codes "NEXT"; width = 7; side = Right } ∷ []
 
 -- the line of a transaction that waits for its turn now, and of one on the future chain
 abbrev pub current_line : Listing → Transaction → List (List ℕ)

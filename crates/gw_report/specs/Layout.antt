@@ -28,7 +28,8 @@ cell_of column text = fitted column.side column.width text
 abbrev pub row_behind : List ℕ → List Column → List (List ℕ) → List ℕ
 row_behind before [] texts = 10 ∷ []
 row_behind before (column ∷ columns) [] = 10 ∷ []
-row_behind before (column ∷ columns) (text ∷ texts) = before ++ cell_of column text ++ row_behind (32 ∷ []) columns texts
+row_behind before (column ∷ columns) (text ∷ texts) =
+    before ++ cell_of column text ++ row_behind (32 ∷ []) columns texts
 
 -- a line: texts in columns, one blank between two, and the end of the line
 unfoldable pub row_of : List Column → List (List ℕ) → List ℕ

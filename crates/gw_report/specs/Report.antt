@@ -28,18 +28,24 @@ field_text word number = word ++ decimal number
 -- the first line: which replication it is, its seed, which START it is, and how that stands
 unfoldable pub title_text : ℕ → ℕ → ℕ → Outcome → List ℕ
 title_text rep seed k outcome =
-    field_text (codes "REPLICATION ") rep ++ field_text (codes " SEED ") seed ++ field_text (codes " START ") k ++ 32 ∷ outcome_text outcome ++ 10 ∷ []
+    field_text (codes "REPLICATION ") rep ++ field_text (codes " SEED ") seed ++ field_text (codes " START ") k ++
+    32 ∷ outcome_text outcome ++ 10 ∷ []
 
 -- the columns of the head
 abbrev pub head_columns : List Column
 head_columns =
-    record { title = codes "START TIME"; width = 10; side = Right } ∷ record { title = codes "END TIME"; width = 10; side = Right } ∷ record { title = codes "BLOCKS"; width = 10; side = Right }
-    ∷ record { title = codes "FACILITIES"; width = 10; side = Right } ∷ record { title = codes "STORAGES"; width = 10; side = Right } ∷ []
+    record { title = codes "START TIME"; width = 10; side = Right } ∷
+    record { title = codes "END TIME"; width = 10; side = Right } ∷
+    record { title = codes "BLOCKS"; width = 10; side = Right }
+    ∷ record { title = codes "FACILITIES"; width = 10; side = Right } ∷
+    record { title = codes "STORAGES"; width = 10; side = Right } ∷ []
 
 -- the head: from when to when, and how much there is; no facilities and no storages so far
 unfoldable pub head_text : Listing → Machine → List ℕ
-head_text t s = table_of head_columns ((decimal s.since ∷ decimal s.clock ∷ decimal (length (filter is_block t.lines)) ∷ decimal 0 ∷ decimal 0 ∷ []) ∷ [])
+head_text t s = table_of head_columns ((decimal s.since ∷ decimal s.clock ∷ decimal (length (filter is_block t.lines)) ∷
+    decimal 0 ∷ decimal 0 ∷ []) ∷ [])
 
 -- the whole report, section behind section
 unfoldable pub text_of : Listing → ℕ → ℕ → Machine → Outcome → List ℕ
-text_of t rep k s outcome = title_text rep (seed_of t rep) k outcome ++ head_text t s ++ names_text t ++ blocks_text t s ++ current_text t s ++ future_text t s
+text_of t rep k s outcome = title_text rep (seed_of t rep) k outcome ++ head_text t s ++ names_text t ++
+    blocks_text t s ++ current_text t s ++ future_text t s

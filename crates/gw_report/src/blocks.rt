@@ -38,7 +38,8 @@ fn put_block(
     state: &State,
     line: &Numbered,
 ) -> Result<(), AllocError>
-    ensures { OnOk result (out.new.items ≡ out.old.items ++ rows_of block_columns (block_lines version.now state.now line.now)) }
+    ensures { OnOk result (out.new.items ≡ out.old.items ++
+        rows_of block_columns (block_lines version.now state.now line.now)) }
 {
     let Body::Block(block) = &line.statement.body else {
         return Ok(());

@@ -41,7 +41,8 @@ pub fn put_heading(out: &mut Vec<u8>, columns: &[Column]) -> Result<(), AllocErr
 /// Appends a row: its cells in their columns.
 #[tactic(auto, unfolding(crate::specs::Layout::row_of))]
 pub fn put_row(out: &mut Vec<u8>, columns: &[Column], cells: &[Cell]) -> Result<(), AllocError>
-    ensures { OnOk result (out.new.items ≡ out.old.items ++ row_of (map column_of columns.now) (map text_of_cell cells.now)) }
+    ensures { OnOk result (out.new.items ≡ out.old.items ++
+        row_of (map column_of columns.now) (map text_of_cell cells.now)) }
 {
     let mut before = b"".as_slice();
     for (column, cell) in columns.iter().zip(cells) {

@@ -28,7 +28,8 @@ pub fn put_current(out: &mut Vec<u8>, version: &Version, state: &State) -> Resul
 
 // The lines of the active transaction and of the current chain.
 fn current_lines(alloc: Global, version: &Version, state: &State) -> Result<Vec<u8>, AllocError>
-    ensures { IfOk result (λ lines. lines.items ≡ rows_of current_columns (map (current_line version.now) (option_to_list state.now.active ++ state.now.current))) }
+    ensures { IfOk result (λ lines. lines.items ≡
+        rows_of current_columns (map (current_line version.now) (option_to_list state.now.active ++ state.now.current))) }
 {
     let mut lines = Vec::new(alloc);
     put_active(&mut lines, version, state.active())?;
@@ -44,7 +45,8 @@ fn put_active(
     version: &Version,
     active: Option<&Transaction>,
 ) -> Result<(), AllocError>
-    ensures { OnOk result (out.new.items ≡ out.old.items ++ rows_of current_columns (map (current_line version.now) (option_to_list (option_copied active.entry)))) }
+    ensures { OnOk result (out.new.items ≡ out.old.items ++
+        rows_of current_columns (map (current_line version.now) (option_to_list (option_copied active.entry)))) }
 {
     match active {
         Some(transaction) => put_waiting(out, version, transaction),
@@ -58,7 +60,8 @@ fn put_waiting(
     version: &Version,
     transaction: &Transaction,
 ) -> Result<(), AllocError>
-    ensures { OnOk result (out.new.items ≡ out.old.items ++ row_of current_columns (current_line version.now transaction.now)) }
+    ensures { OnOk result (out.new.items ≡ out.old.items ++
+        row_of current_columns (current_line version.now transaction.now)) }
 {
     put_line(
         out,

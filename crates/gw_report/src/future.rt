@@ -33,7 +33,8 @@ fn future_lines(
     version: &Version,
     future: &VecDeque<Event>,
 ) -> Result<Vec<u8>, AllocError>
-    ensures { IfOk result (λ lines. lines.items ≡ rows_of future_columns (map (future_line version.now) (by_time future.now.items))) }
+    ensures { IfOk result (λ lines. lines.items ≡
+        rows_of future_columns (map (future_line version.now) (by_time future.now.items))) }
 {
     let events = by_time(alloc, future)?;
     let mut lines = Vec::new(alloc);

@@ -1,7 +1,8 @@
 //! The standard report of one START of one replication, as bytes.
 //!
-//! [`print`] is the only call, beside the law that the numbers of statements do not show. A section is a table of columns and a function that appends its lines; the
-//! definition of the whole text, `specs/Report.antt`, and `report.rt` name the sections in the same order.
+//! [`print`] is the only call, beside the law that the numbers of statements do not show. A section is a table of
+//! columns and a function that appends its lines; the definition of the whole text, `specs/Report.antt`, and
+//! `report.rt` name the sections in the same order.
 #![tactic(auto)]
 
 mod blocks;

@@ -19,7 +19,8 @@ pub fn put_line(
     moment: Time,
     transaction: &Transaction,
 ) -> Result<(), AllocError>
-    ensures { OnOk result (out.new.items ≡ out.old.items ++ row_of (map column_of columns.now) (line_of version.now moment transaction.now)) }
+    ensures { OnOk result (out.new.items ≡ out.old.items ++
+        row_of (map column_of columns.now) (line_of version.now moment transaction.now)) }
 {
     let cells = [
         Cell::Number(transaction.number),

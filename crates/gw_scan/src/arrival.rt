@@ -34,7 +34,9 @@ impl State {
         limit: &Option<Expr>,
         priority: &Option<Expr>,
     ) -> Result<Option<Arrival>, Halt>
-        ensures { Decides case.entry.version.now case.entry.seed (arrival_prog self.now place (count_at self.now.counts place).made time.now limit.now priority.now) result uses.old uses.new }
+        ensures { Decides case.entry.version.now case.entry.seed
+            (arrival_prog self.now place (count_at self.now.counts place).made time.now limit.now priority.now)
+            result uses.old uses.new }
     {
         if let Some(limit) = limit {
             let limit = self.value(case, uses, limit)?;
@@ -56,7 +58,8 @@ impl State {
         time: &Option<Expr>,
         priority: &Option<Expr>,
     ) -> Result<Option<Arrival>, Halt>
-        ensures { Decides case.entry.version.now case.entry.seed (arrival_in_time self.now place time.now priority.now) result uses.old uses.new }
+        ensures { Decides case.entry.version.now case.entry.seed (arrival_in_time self.now place time.now priority.now)
+            result uses.old uses.new }
     {
         let time = self.value_or_zero(case, uses, time)?;
         let priority = self.value_or_zero(case, uses, priority)?;
@@ -87,7 +90,8 @@ impl State {
         uses: &mut Uses,
         places: &[u64],
     ) -> Result<Row<Arrival>, Halt>
-        ensures { Decides case.entry.version.now case.entry.seed (arrivals_prog self.now places.now []) result uses.old uses.new }
+        ensures { Decides case.entry.version.now case.entry.seed (arrivals_prog self.now places.now [])
+            result uses.old uses.new }
     {
         let mut arrivals = Vec::new(alloc);
         for place in places {
@@ -111,7 +115,8 @@ impl State {
         place: u64,
         block: Option<&Block>,
     ) -> Result<Option<Arrival>, Halt>
-        ensures { Decides case.entry.version.now case.entry.seed (first_arrival self.now place (option_copied block.entry)) result uses.old uses.new }
+        ensures { Decides case.entry.version.now case.entry.seed
+            (first_arrival self.now place (option_copied block.entry)) result uses.old uses.new }
     {
         match block {
             Some(

@@ -29,7 +29,8 @@ impl State {
 
     // No START is under way: the next command.
     fn command(&self, alloc: Global, case: Case, uses: &mut Uses) -> Result<Move, Halt>
-        ensures decides { Decides case.entry.version.now case.entry.seed (move_prog self.now 0) result uses.old uses.new }
+        ensures decides { Decides case.entry.version.now case.entry.seed (move_prog self.now 0)
+            result uses.old uses.new }
         ensures clock { IfOk result IsInClock }
     {
         let command = ask_command(case.version, uses, self.commands.saturating_add(1))?;
@@ -43,7 +44,8 @@ impl State {
         uses: &mut Uses,
         command: Option<Command>,
     ) -> Result<Move, Halt>
-        ensures decides { Decides case.entry.version.now case.entry.seed (command_prog self.now command) result uses.old uses.new }
+        ensures decides { Decides case.entry.version.now case.entry.seed (command_prog self.now command)
+            result uses.old uses.new }
         ensures clock { IfOk result IsInClock }
     {
         match command {
@@ -54,7 +56,8 @@ impl State {
 
     // A START, with the first transactions of the GENERATEs where it is the one that primes them.
     fn start_of(&self, alloc: Global, case: Case, uses: &mut Uses, count: u64) -> Result<Move, Halt>
-        ensures decides { Decides case.entry.version.now case.entry.seed (start_prog self.now self.now.primed count) result uses.old uses.new }
+        ensures decides { Decides case.entry.version.now case.entry.seed (start_prog self.now self.now.primed count)
+            result uses.old uses.new }
         ensures clock { IfOk result IsInClock }
     {
         if self.primed {
@@ -73,7 +76,8 @@ impl State {
         case: Case,
         uses: &mut Uses,
     ) -> Result<Row<Arrival>, Halt>
-        ensures { Decides case.entry.version.now case.entry.seed (first_arrivals_prog self.now) result uses.old uses.new }
+        ensures { Decides case.entry.version.now case.entry.seed (first_arrivals_prog self.now)
+            result uses.old uses.new }
     {
         let places = ask_generates(case.version, uses)?;
         self.arrivals(alloc, case, uses, places)
@@ -81,7 +85,8 @@ impl State {
 
     // The active transaction x tries its next block.
     fn attempt(&self, case: Case, uses: &mut Uses, x: &Transaction) -> Result<Move, Halt>
-        ensures decides { Decides case.entry.version.now case.entry.seed (attempt_prog self.now x.now x.now.destination) result uses.old uses.new }
+        ensures decides { Decides case.entry.version.now case.entry.seed (attempt_prog self.now x.now x.now.destination)
+            result uses.old uses.new }
         ensures clock { IfOk result IsInClock }
     {
         match x.destination {
@@ -91,7 +96,8 @@ impl State {
     }
 
     fn try_after(&self, case: Case, uses: &mut Uses, x: &Transaction) -> Result<Move, Halt>
-        ensures decides { Decides case.entry.version.now case.entry.seed (attempt_prog self.now x.now None) result uses.old uses.new }
+        ensures decides { Decides case.entry.version.now case.entry.seed (attempt_prog self.now x.now None)
+            result uses.old uses.new }
         ensures clock { IfOk result IsInClock }
     {
         let place = ask_after(case.version, uses, x.current)?;
@@ -105,7 +111,8 @@ impl State {
         x: &Transaction,
         place: Option<u64>,
     ) -> Result<Move, Halt>
-        ensures decides { Decides case.entry.version.now case.entry.seed (try_prog self.now x.now place) result uses.old uses.new }
+        ensures decides { Decides case.entry.version.now case.entry.seed (try_prog self.now x.now place)
+            result uses.old uses.new }
         ensures clock { IfOk result IsInClock }
     {
         let Some(place) = place else {
@@ -123,7 +130,8 @@ impl State {
         place: u64,
         block: Option<&Block>,
     ) -> Result<Move, Halt>
-        ensures decides { Decides case.entry.version.now case.entry.seed (enter_prog self.now x.now place (option_copied block.entry)) result uses.old uses.new }
+        ensures decides { Decides case.entry.version.now case.entry.seed
+            (enter_prog self.now x.now place (option_copied block.entry)) result uses.old uses.new }
         ensures clock { IfOk result IsInClock }
     {
         match block {
@@ -151,7 +159,8 @@ impl State {
         limit: &Option<Expr>,
         priority: &Option<Expr>,
     ) -> Result<Move, Halt>
-        ensures decides { Decides case.entry.version.now case.entry.seed (generate_prog self.now x.now place mean.now limit.now priority.now) result uses.old uses.new }
+        ensures decides { Decides case.entry.version.now case.entry.seed
+            (generate_prog self.now x.now place mean.now limit.now priority.now) result uses.old uses.new }
         ensures clock { IfOk result IsInClock }
     {
         if x.current != 0 {
@@ -168,7 +177,8 @@ impl State {
         place: u64,
         time: &Option<Expr>,
     ) -> Result<Move, Halt>
-        ensures decides { Decides case.entry.version.now case.entry.seed (advance_prog self.now place time.now) result uses.old uses.new }
+        ensures decides { Decides case.entry.version.now case.entry.seed (advance_prog self.now place time.now)
+            result uses.old uses.new }
         ensures clock { IfOk result IsInClock }
     {
         let time = self.value_or_zero(case, uses, time)?;
@@ -191,7 +201,8 @@ impl State {
         place: u64,
         count: &Option<Expr>,
     ) -> Result<Move, Halt>
-        ensures decides { Decides case.entry.version.now case.entry.seed (terminate_prog self.now place count.now) result uses.old uses.new }
+        ensures decides { Decides case.entry.version.now case.entry.seed (terminate_prog self.now place count.now)
+            result uses.old uses.new }
         ensures clock { IfOk result IsInClock }
     {
         let count = self.value_or_zero(case, uses, count)?;
@@ -206,7 +217,8 @@ impl State {
 
     // None is active: the first of the current chain, or else the least future time.
     fn pick_or_clock(&self, case: Case, uses: &mut Uses) -> Result<Move, Halt>
-        ensures decides { Decides case.entry.version.now case.entry.seed (pick_prog self.now self.now.current) result uses.old uses.new }
+        ensures decides { Decides case.entry.version.now case.entry.seed (pick_prog self.now self.now.current)
+            result uses.old uses.new }
         ensures clock { IfOk result IsInClock }
     {
         if !self.current.is_empty() {

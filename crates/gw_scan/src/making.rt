@@ -13,7 +13,8 @@ use std::collections::VecDeque;
 pub fn make(next: &mut u64, future: &mut VecDeque<Event>, counts: &mut Counts, arrival: Arrival)
     requires chain { deque_len future.old < deque_capacity future.old }
     requires counts { 0 < spare counts.old }
-    ensures made { making next.new future.new.items counts.new.entries ≡ made arrival (making next.old future.old.items counts.old.entries) }
+    ensures made { making next.new future.new.items counts.new.entries ≡
+        made arrival (making next.old future.old.items counts.old.entries) }
     ensures len { deque_len future.new ≡ deque_len future.old + 1 }
     ensures chain_room { deque_capacity future.old ≤ deque_capacity future.new }
     ensures counts_room { spare counts.old ≤ spare counts.new + 1 }
@@ -42,7 +43,8 @@ pub fn make_all(
 )
     requires chain { deque_len future.old + length arrivals.now ≤ deque_capacity future.old }
     requires counts { length arrivals.now ≤ spare counts.old }
-    ensures { making next.new future.new.items counts.new.entries ≡ all_made arrivals.now (making next.old future.old.items counts.old.entries) }
+    ensures { making next.new future.new.items counts.new.entries ≡
+        all_made arrivals.now (making next.old future.old.items counts.old.entries) }
 {
     for arrival in arrivals {
         make(next, future, counts, *arrival);

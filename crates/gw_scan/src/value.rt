@@ -12,7 +12,8 @@ use gw_nums::Val;
 impl State {
     // The value of an operand.
     pub(crate) fn value(&self, _case: Case, uses: &mut Uses, operand: &Expr) -> Result<Val, Halt>
-        ensures { Decides _case.entry.version.now _case.entry.seed (value_prog self.now operand.now) result uses.old uses.new }
+        ensures { Decides _case.entry.version.now _case.entry.seed (value_prog self.now operand.now)
+            result uses.old uses.new }
     {
         let _ = uses;
         match operand.node() {
@@ -27,7 +28,8 @@ impl State {
         uses: &mut Uses,
         operand: &Option<Expr>,
     ) -> Result<Val, Halt>
-        ensures { Decides case.entry.version.now case.entry.seed (value_or_zero self.now operand.now) result uses.old uses.new }
+        ensures { Decides case.entry.version.now case.entry.seed (value_or_zero self.now operand.now)
+            result uses.old uses.new }
     {
         match operand {
             Some(expr) => self.value(case, uses, expr),

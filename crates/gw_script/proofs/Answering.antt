@@ -25,14 +25,18 @@ pub memory_told : codes "refused E7\n" ≡ refusal_of refusals.Memory
 memory_told = let seven : 7 < 10 = omega arith in rw (decimal_digit 7 seven) refl
 
 -- a growth was refused for all reports before any was made
-pub reports_all_none : {D : Type 0} (version : D → Listing) (does : D → Event → Reply → D → Type 0) (d : D) (k : ℕ) → ReportsAll version does d k (codes "memory\n") d
+pub reports_all_none : {D : Type 0} (version : D → Listing) (does : D → Event → Reply → D → Type 0) (d : D) (k : ℕ) →
+    ReportsAll version does d k (codes "memory\n") d
 reports_all_none version does d k = refused [] (numbers_of (version d).replications) [] refl (refl, refl) refl
 
 -- something may be replied to any request, and leave the keeper as it is
-replies_some : {D : Type 0} (version : D → Listing) (does : D → Event → Reply → D → Type 0) (in_vain : (d : D) (event : Event) → does d event (wants_memory event) d) (d : D) (n : ℕ) (request : Request) → (front : List ℕ) × Replies version does d n request front d
+replies_some : {D : Type 0} (version : D → Listing) (does : D → Event → Reply → D → Type 0)
+    (in_vain : (d : D) (event : Event) → does d event (wants_memory event) d) (d : D) (n : ℕ) (request : Request) → (front : List ℕ) ×
+    Replies version does d n request front d
 replies_some version does in_vain d n requests.Nothing = (_, (refl, refl))
 replies_some version does in_vain d n (requests.Edit e) = (_, refuses refusals.Memory (in_vain d (events.Edit e)) refl)
-replies_some version does in_vain d n (requests.Report rep k) = (_, record { answer = answers.Memory; answers_so = in_vain d (events.Finish rep k); told = refl })
+replies_some version does in_vain d n (requests.Report rep k) =
+    (_, record { answer = answers.Memory; answers_so = in_vain d (events.Finish rep k); told = refl })
 replies_some version does in_vain d n (requests.Peek rep k) = (_, record { answer = answers.Memory; answers_so = in_vain d (events.Peek rep k); told = refl })
 replies_some version does in_vain d n (requests.All k) = (_, reports_all_none version does d k)
 replies_some version does in_vain d n requests.List = (_, (inr refl, refl))
@@ -40,7 +44,9 @@ replies_some version does in_vain d n requests.Quit = (_, (refl, refl))
 replies_some version does in_vain d n (requests.Bad reason) = (_, (refl, refl))
 
 -- something may be answered to any line, and leave the keeper as it is
-pub answers_some : {D : Type 0} (version : D → Listing) (does : D → Event → Reply → D → Type 0) (in_vain : (d : D) (event : Event) → does d event (wants_memory event) d) (d : D) (n : ℕ) (line : List ℕ) → (front : List ℕ) × Answers version does d n line front d
+pub answers_some : {D : Type 0} (version : D → Listing) (does : D → Event → Reply → D → Type 0)
+    (in_vain : (d : D) (event : Event) → does d event (wants_memory event) d) (d : D) (n : ℕ) (line : List ℕ) → (front : List ℕ) ×
+    Answers version does d n line front d
 answers_some version does in_vain d n line =
     let some = replies_some version does in_vain d n (request_of line) in
     (some.0, read some.1)
@@ -52,35 +58,61 @@ if_err_at {A} r P e f is same h =
     subst F (sym (is ∙ ap (λ x. Err x) same)) h
 
 -- writing an answer broke off
-pub broken_sending : {D K : Type 0} (wrote : K → List ℕ → K → Type 0) (writes_of : K → ℕ) (A : List ℕ → D → Type 0) (old new : K) (text : List ℕ) (after : D) (fault : Fault) → A text after → WritesPart wrote old text new → fault ≡ faults.Write → writes_of new ≡ one_more (writes_of old) → BreaksOff wrote writes_of A old new after fault
+pub broken_sending : {D K : Type 0} (wrote : K → List ℕ → K → Type 0) (writes_of : K → ℕ) (A : List ℕ → D → Type 0) (old new : K) (text : List ℕ) (after : D)
+    (fault : Fault) → A text after → WritesPart wrote old text new → fault ≡ faults.Write → writes_of new ≡ one_more (writes_of old) →
+    BreaksOff wrote writes_of A old new after fault
 broken_sending wrote writes_of A old new text after fault is part failed counted =
     let T : List ℕ → Type 0 = λ x. A x after in
     let C : Fault → Type 0 = λ f. BreaksBy f (writes_of old) (writes_of new) in
     record { front = part.front; left = part.left; answers = subst T part.parts is; written = part.written; cause = subst C (sym failed) counted }
 
 -- what was answered where a growth was refused is an answer
-pub untold_replies : {D : Type 0} (version : D → Listing) (does : D → Event → Reply → D → Type 0) (d after : D) (n : ℕ) (request : Request) (text : List ℕ) → untold_of request ≡ Some text → Untold version does d n request after → Replies version does d n request text after
+pub untold_replies : {D : Type 0} (version : D → Listing) (does : D → Event → Reply → D → Type 0) (d after : D) (n : ℕ) (request : Request) (text : List ℕ) →
+    untold_of request ≡ Some text → Untold version does d n request after → Replies version does d n request text after
 untold_replies version does d after n request text is untold = rw is at untold
 
 -- an answer broke off where a growth was refused for telling it
-pub broken_refused : {D K : Type 0} (wrote : K → List ℕ → K → Type 0) (writes_of : K → ℕ) (wrote_none : (a : K) → wrote a [] a) (version : D → Listing) (does : D → Event → Reply → D → Type 0) (in_vain : (d : D) (event : Event) → does d event (wants_memory event) d) (d after : D) (n : ℕ) (request : Request) (old new : K) (fault : Fault) → Untold version does d n request after → BreaksRefused wrote writes_of (untold_of request) old new fault → BreaksOff wrote writes_of (Replies version does d n request) old new after fault
+pub broken_refused : {D K : Type 0} (wrote : K → List ℕ → K → Type 0) (writes_of : K → ℕ) (wrote_none : (a : K) → wrote a [] a) (version : D → Listing)
+    (does : D → Event → Reply → D → Type 0) (in_vain : (d : D) (event : Event) → does d event (wants_memory event) d) (d after : D) (n : ℕ) (request : Request)
+    (old new : K) (fault : Fault) → Untold version does d n request after → BreaksRefused wrote writes_of (untold_of request) old new fault →
+    BreaksOff wrote writes_of (Replies version does d n request) old new after fault
 broken_refused {D} {K} wrote writes_of wrote_none version does in_vain d after n request old new fault untold (not_begun other memory same) =
     let W : K → Type 0 = λ k. wrote old [] k in
     let C : Fault → Type 0 = λ f. BreaksBy f (writes_of old) (writes_of new) in
     let still : after ≡ d = rw other at untold in
     let some = replies_some version does in_vain d n request in
     let R : D → Type 0 = λ x. Replies version does d n request some.0 x in
-    record { front = []; left = some.0; answers = subst R (sym still) some.1; written = subst W (sym same) (wrote_none old); cause = subst C (sym memory) (ap writes_of same) }
+    record {
+      front = [];
+      left = some.0;
+      answers = subst R (sym still) some.1;
+      written = subst W (sym same) (wrote_none old);
+      cause =
+          subst C (sym memory) (ap writes_of same);
+    }
 broken_refused {D} {K} wrote writes_of wrote_none version does in_vain d after n request old new fault untold (begun front left asks written failed counted) =
     let C : Fault → Type 0 = λ f. BreaksBy f (writes_of old) (writes_of new) in
-    record { front = front; left = left; answers = untold_replies version does d after n request (front ++ left) asks untold; written = written; cause = subst C (sym failed) counted }
+    record {
+      front = front;
+      left = left;
+      answers = untold_replies version does d after n request (front ++ left) asks untold;
+      written = written;
+      cause =
+          subst C (sym failed) counted;
+    }
 
 -- likewise, where the text was the whole answer
-pub broken_if : {A D K : Type 0} (r : Result A Fault) (wrote : K → List ℕ → K → Type 0) (writes_of : K → ℕ) (Says : List ℕ → D → Type 0) (old new : K) (text : List ℕ) (after : D) → Says text after → IfErr r (λ f. f ≡ faults.Write) → OnErr r (WritesPart wrote old text new) → OnErr r (writes_of new ≡ one_more (writes_of old)) → IfErr r (λ f. BreaksOff wrote writes_of Says old new after f)
+pub broken_if : {A D K : Type 0} (r : Result A Fault) (wrote : K → List ℕ → K → Type 0) (writes_of : K → ℕ) (Says : List ℕ → D → Type 0) (old new : K)
+    (text : List ℕ) (after : D) → Says text after → IfErr r (λ f. f ≡ faults.Write) → OnErr r (WritesPart wrote old text new) →
+    OnErr r (writes_of new ≡ one_more (writes_of old)) → IfErr r (λ f. BreaksOff wrote writes_of Says old new after f)
 broken_if (Ok x) wrote writes_of Says old new text after is failed part counted = failed
-broken_if (Err f) wrote writes_of Says old new text after is failed part counted = broken_sending wrote writes_of Says old new text after f is part failed counted
+broken_if (Err f) wrote writes_of Says old new text after is failed part counted =
+    broken_sending wrote writes_of Says old new text after f is part failed counted
 
 -- saying that a growth was refused broke off, where that may be said
-pub refused_if : {A K : Type 0} (r : Result A Fault) (wrote : K → List ℕ → K → Type 0) (writes_of : K → ℕ) (untold : Option (List ℕ)) (old new : K) (text : List ℕ) → untold ≡ Some text → IfErr r (λ f. f ≡ faults.Write) → OnErr r (WritesPart wrote old text new) → OnErr r (writes_of new ≡ one_more (writes_of old)) → IfErr r (λ f. BreaksRefused wrote writes_of untold old new f)
+pub refused_if : {A K : Type 0} (r : Result A Fault) (wrote : K → List ℕ → K → Type 0) (writes_of : K → ℕ) (untold : Option (List ℕ)) (old new : K)
+    (text : List ℕ) → untold ≡ Some text → IfErr r (λ f. f ≡ faults.Write) → OnErr r (WritesPart wrote old text new) →
+    OnErr r (writes_of new ≡ one_more (writes_of old)) → IfErr r (λ f. BreaksRefused wrote writes_of untold old new f)
 refused_if (Ok x) wrote writes_of untold old new text is failed part counted = failed
-refused_if (Err f) wrote writes_of untold old new text is failed part counted = begun part.front part.left (is ∙ ap (λ t. Some t) part.parts) part.written failed counted
+refused_if (Err f) wrote writes_of untold old new text is failed part counted =
+    begun part.front part.left (is ∙ ap (λ t. Some t) part.parts) part.written failed counted

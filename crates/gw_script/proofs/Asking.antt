@@ -17,19 +17,25 @@ use Rattle.gw_request.specs.Arguments.{text_edit}
 use Rattle.gw_request.specs.Requests.{request_of, request_with, may_want_memory, copies}
 use Rattle.gw_script.specs.Replying.{is_quit}
 
-text_goes_on : (c : Text) (o : Option (ℕ × List ℕ)) → is_quit (unwrap_or (option_and_then (λ p. Some (requests.Edit (text_edit c p.0 p.1))) o) (requests.Bad reasons.Arguments)) ≡ false
+text_goes_on : (c : Text) (o : Option (ℕ × List ℕ)) →
+    is_quit (unwrap_or (option_and_then (λ p. Some (requests.Edit (text_edit c p.0 p.1))) o) (requests.Bad reasons.Arguments)) ≡ false
 text_goes_on c None = refl
 text_goes_on c (Some p) = refl
 
-name_goes_on : (n : ℕ) (o : Option (List ℕ)) → is_quit (unwrap_or (option_and_then (λ name. Some (requests.Edit (edits.Capacity name n))) o) (requests.Bad reasons.Arguments)) ≡ false
+name_goes_on : (n : ℕ) (o : Option (List ℕ)) → is_quit
+    (unwrap_or (option_and_then (λ name. Some (requests.Edit (edits.Capacity name n))) o) (requests.Bad reasons.Arguments)) ≡ false
 name_goes_on n None = refl
 name_goes_on n (Some name) = refl
 
-amount_goes_on : (word : List ℕ) (o : Option ℕ) → is_quit (unwrap_or (option_and_then (λ n. option_and_then (λ name. Some (requests.Edit (edits.Capacity name n))) (name_of word)) o) (requests.Bad reasons.Arguments)) ≡ false
+amount_goes_on : (word : List ℕ) (o : Option ℕ) → is_quit
+    (unwrap_or (option_and_then (λ n. option_and_then (λ name. Some (requests.Edit (edits.Capacity name n))) (name_of word)) o)
+    (requests.Bad reasons.Arguments)) ≡ false
 amount_goes_on word None = refl
 amount_goes_on word (Some n) = name_goes_on n (name_of word)
 
-capacity_goes_on : (o : Option (List ℕ × List ℕ)) → is_quit (unwrap_or (option_and_then (λ p. option_and_then (λ n. option_and_then (λ name. Some (requests.Edit (edits.Capacity name n))) (name_of p.0)) (number_of p.1)) o) (requests.Bad reasons.Arguments)) ≡ false
+capacity_goes_on : (o : Option (List ℕ × List ℕ)) → is_quit
+    (unwrap_or (option_and_then (λ p. option_and_then (λ n. option_and_then (λ name. Some (requests.Edit (edits.Capacity name n))) (name_of p.0))
+    (number_of p.1)) o) (requests.Bad reasons.Arguments)) ≡ false
 capacity_goes_on None = refl
 capacity_goes_on (Some p) = amount_goes_on p.0 (number_of p.1)
 
@@ -47,11 +53,13 @@ both : (a b : Bool) → IsTrue (a && b) → IsTrue b
 both true b h = h
 both false b h = absurd cc
 
-tests_go_on : (long blank : Bool) (r : Request) → is_quit r ≡ false → is_quit (if long then requests.Bad reasons.Long else (if blank then requests.Nothing else r)) ≡ false
+tests_go_on : (long blank : Bool) (r : Request) → is_quit r ≡ false →
+    is_quit (if long then requests.Bad reasons.Long else (if blank then requests.Nothing else r)) ≡ false
 tests_go_on true blank r h = refl
 tests_go_on false true r h = refl
 tests_go_on false false r h = h
 
 pub unread_goes_on : (line : List ℕ) → IsTrue (may_want_memory line) → is_quit (request_of line) ≡ false
 unfolding request_of
-unread_goes_on line h = tests_go_on (nat_lt 65536 (length line)) (list_all is_blank line) (request_with (command_of (first_word line).0) (first_word line).1) (with_goes_on (command_of (first_word line).0) (first_word line).1 (both (nat_le (length line) 65536) (copies (command_of (first_word line).0)) h))
+unread_goes_on line h = tests_go_on (nat_lt 65536 (length line)) (list_all is_blank line) (request_with (command_of (first_word line).0) (first_word line).1)
+    (with_goes_on (command_of (first_word line).0) (first_word line).1 (both (nat_le (length line) 65536) (copies (command_of (first_word line).0)) h))

@@ -15,20 +15,26 @@ use Rattle.gw_script.specs.Sessions.{Says, nothing, line, last, quit, last_quit,
 use Rattle.gw_script.specs.Turns.{Writes, BreaksOff, BreaksBy, stopped_by, over_if}
 
 -- after some lines over the keeper b, before line n over the keeper d
-pub record Turned {D S K : Type 0} (answers : D → ℕ → List ℕ → List ℕ → D → Type 0) (took : S → List ℕ → S → Type 0) (wrote : K → List ℕ → K → Type 0) (b d : D) (n left : ℕ) (source source' : S) (sink sink' : K) : Type 0 where
+pub record Turned {D S K : Type 0} (answers : D → ℕ → List ℕ → List ℕ → D → Type 0) (took : S → List ℕ → S → Type 0) (wrote : K → List ℕ → K → Type 0) (b d : D)
+    (n left : ℕ) (source source' : S) (sink sink' : K) : Type 0 where
   pub input : List ℕ
   pub output : List ℕ
   pub taken : took source input source'
   pub written : wrote sink output sink'
-  pub onward : (rest out : List ℕ) (over : Over) (final : D) → Says answers d n rest out over final → Says answers b 1 (input ++ rest) (output ++ out) over final
+  pub onward : (rest out : List ℕ) (over : Over) (final : D) → Says answers d n rest out over final →
+      Says answers b 1 (input ++ rest) (output ++ out) over final
   pub spent : left + length input ≡ 16777216
   pub few : n + left ≤ 16777217
 
-pub turned_none : {D S K : Type 0} (answers : D → ℕ → List ℕ → List ℕ → D → Type 0) (took : S → List ℕ → S → Type 0) (wrote : K → List ℕ → K → Type 0) (b : D) (source : S) (sink : K) → took source [] source → wrote sink [] sink → Turned answers took wrote b b 1 16777216 source source sink sink
-turned_none answers took wrote b source sink x y = record { input = []; output = []; taken = x; written = y; onward = λ rest out over final says. says; spent = refl; few = omega arith }
+pub turned_none : {D S K : Type 0} (answers : D → ℕ → List ℕ → List ℕ → D → Type 0) (took : S → List ℕ → S → Type 0) (wrote : K → List ℕ → K → Type 0) (b : D)
+    (source : S) (sink : K) → took source [] source → wrote sink [] sink → Turned answers took wrote b b 1 16777216 source source sink sink
+turned_none answers took wrote b source sink x y =
+    record { input = []; output = []; taken = x; written = y; onward = λ rest out over final says. says; spent = refl; few = omega arith }
 
 -- something is said to any unended line, and may leave the keeper as it is
-pub says_some : {D : Type 0} (answers : D → ℕ → List ℕ → List ℕ → D → Type 0) → ((d : D) (n : ℕ) (line : List ℕ) → (front : List ℕ) × answers d n line front d) → (d : D) (n : ℕ) (text : List ℕ) → IsUnended text → (out : List ℕ) × (over : Over) × Says answers d n text out over d
+pub says_some : {D : Type 0} (answers : D → ℕ → List ℕ → List ℕ → D → Type 0) →
+    ((d : D) (n : ℕ) (line : List ℕ) → (front : List ℕ) × answers d n line front d) → (d : D) (n : ℕ) (text : List ℕ) → IsUnended text → (out : List ℕ) ×
+    (over : Over) × Says answers d n text out over d
 says_some {D} answers some_to d n text unended = go (is_quit (request_of text)) refl where
   some : (front : List ℕ) × answers d n text front d
   some = some_to d n text
@@ -38,14 +44,16 @@ says_some {D} answers some_to d n text unended = go (is_quit (request_of text)) 
   go false is = (some.0, overs.InputEnd, last d d n text some.0 unended is some.1)
 
 -- regrouped input and output
-says_regrouped : {D : Type 0} (answers : D → ℕ → List ℕ → List ℕ → D → Type 0) (b d : D) (over : Over) (i j k x y z : List ℕ) → Says answers b 1 (i ++ (j ++ k)) (x ++ (y ++ z)) over d → Says answers b 1 ((i ++ j) ++ k) ((x ++ y) ++ z) over d
+says_regrouped : {D : Type 0} (answers : D → ℕ → List ℕ → List ℕ → D → Type 0) (b d : D) (over : Over) (i j k x y z : List ℕ) →
+    Says answers b 1 (i ++ (j ++ k)) (x ++ (y ++ z)) over d → Says answers b 1 ((i ++ j) ++ k) ((x ++ y) ++ z) over d
 says_regrouped answers b d over i j k x y z says =
     let P : List ℕ → Type 0 = λ l. Says answers b 1 l ((x ++ y) ++ z) over d in
     let Q : List ℕ → Type 0 = λ o. Says answers b 1 (i ++ (j ++ k)) o over d in
     subst P (sym (append_assoc i j k)) (subst Q (sym (append_assoc x y z)) says)
 
 -- answering broke off for a cause that stops the session, where reading did not fail
-pub stop_cause : (fault : Fault) (reads reads' writes writes' taken : ℕ) → reads' ≡ reads → taken ≤ 16777216 → BreaksBy fault writes writes' → StopsBy fault reads reads' writes writes' taken
+pub stop_cause : (fault : Fault) (reads reads' writes writes' taken : ℕ) → reads' ≡ reads → taken ≤ 16777216 → BreaksBy fault writes writes' →
+    StopsBy fault reads reads' writes writes' taken
 stop_cause (faults.Line faulty) reads reads' writes writes' taken same few h = h
 stop_cause (faults.Model fault) reads reads' writes writes' taken same few h = h
 stop_cause faults.Read reads reads' writes writes' taken same few h = absurd h
@@ -54,24 +62,32 @@ stop_cause faults.ReadLimit reads reads' writes writes' taken same few h = absur
 stop_cause faults.Memory reads reads' writes writes' taken same few h = (same, h, few)
 
 -- reading broke off for a cause that stops the session
-pub read_cause : (fault : ReadFault) (reads reads' reads'' writes writes' left idle taken : ℕ) → reads' ≡ reads → writes' ≡ writes → taken + (left + idle) ≡ 16777216 → AreIdleCalls fault idle → reads'' ≡ failures_at fault reads' → IsSpentAt fault left →
+pub read_cause : (fault : ReadFault) (reads reads' reads'' writes writes' left idle taken : ℕ) → reads' ≡ reads → writes' ≡ writes →
+    taken + (left + idle) ≡ 16777216 → AreIdleCalls fault idle → reads'' ≡ failures_at fault reads' → IsSpentAt fault left →
     StopsBy (stopped_by fault) reads reads'' writes writes' taken
-read_cause reads.Read n m o writes writes' left idle taken same written total calls counted spent = (counted ∙ ap one_more same, written, omega (arith, total, calls))
-read_cause reads.Limit n m o writes writes' left idle taken same written total calls counted spent = (counted ∙ same, written, omega (arith, total, calls, spent))
+read_cause reads.Read n m o writes writes' left idle taken same written total calls counted spent =
+    (counted ∙ ap one_more same, written, omega (arith, total, calls))
+read_cause reads.Limit n m o writes writes' left idle taken same written total calls counted spent =
+    (counted ∙ same, written, omega (arith, total, calls, spent))
 read_cause reads.Memory n m o writes writes' left idle taken same written total calls counted spent = (counted ∙ same, written, omega (arith, total))
 
 -- what is said to a whole line with nothing behind it
-pub says_whole : {D : Type 0} (answers : D → ℕ → List ℕ → List ℕ → D → Type 0) (d d' : D) (n : ℕ) (text front : List ℕ) → IsUnended text → answers d n (without_cr_of text) front d' → (over : Over) × Says answers d n (text ++ 10 ∷ []) front over d'
+pub says_whole : {D : Type 0} (answers : D → ℕ → List ℕ → List ℕ → D → Type 0) (d d' : D) (n : ℕ) (text front : List ℕ) → IsUnended text →
+    answers d n (without_cr_of text) front d' → (over : Over) × Says answers d n (text ++ 10 ∷ []) front over d'
 says_whole answers d d' n text front unended told = go (is_quit (request_of (without_cr_of text))) refl where
   go : (q : Bool) → is_quit (request_of (without_cr_of text)) ≡ q → (over : Over) × Says answers d n (text ++ 10 ∷ []) front over d'
   go true is = (overs.Quit, quit d d' n text front unended is told)
   go false is =
       let P : List ℕ → Type 0 = λ i. Says answers d n i front overs.InputEnd d' in
-      let Q : List ℕ → Type 0 = λ o. Says answers d n ((text ++ 10 ∷ []) ++ []) o overs.InputEnd d' in
-      (overs.InputEnd, subst P (append-nil (text ++ 10 ∷ [])) (subst Q (append-nil front) (line d d' d' n text [] front [] overs.InputEnd unended is told (nothing d' (n + 1)))))
+      let Q : List ℕ → Type 0 = λ o. Says answers d n ((text ++ 10 ∷ []) ++ []) o overs.InputEnd d' in (
+        overs.InputEnd,
+        subst P (append-nil (text ++ 10 ∷ []))
+            (subst Q (append-nil front) (line d d' d' n text [] front [] overs.InputEnd unended is told (nothing d' (n + 1)))),
+      )
 
 -- what is said to a last line
-pub says_last : {D : Type 0} (answers : D → ℕ → List ℕ → List ℕ → D → Type 0) (d d' : D) (n : ℕ) (text front : List ℕ) → IsUnended text → answers d n text front d' → Says answers d n text front (over_if (is_quit (request_of text))) d'
+pub says_last : {D : Type 0} (answers : D → ℕ → List ℕ → List ℕ → D → Type 0) (d d' : D) (n : ℕ) (text front : List ℕ) → IsUnended text →
+    answers d n text front d' → Says answers d n text front (over_if (is_quit (request_of text))) d'
 says_last answers d d' n text front unended told = go (is_quit (request_of text)) refl where
   go : (q : Bool) → is_quit (request_of text) ≡ q → Says answers d n text front (over_if q) d'
   go true is = last_quit d d' n text front unended is told
@@ -79,22 +95,31 @@ says_last answers d d' n text front unended told = go (is_quit (request_of text)
 
 -- the relations that a session is told by: what may be answered, what is taken off the source and written to the sink, and how
 -- each goes on
-module _ {D S K : Type 0} (answers : D → ℕ → List ℕ → List ℕ → D → Type 0) (took : S → List ℕ → S → Type 0) (wrote : K → List ℕ → K → Type 0) (took_on : (a b c : S) (x y : List ℕ) → took a x b → took b y c → took a (x ++ y) c) (wrote_on : (a b c : K) (x y : List ℕ) → wrote a x b → wrote b y c → wrote a (x ++ y) c) where
+module _ {D S K : Type 0} (answers : D → ℕ → List ℕ → List ℕ → D → Type 0) (took : S → List ℕ → S → Type 0) (wrote : K → List ℕ → K → Type 0)
+    (took_on : (a b c : S) (x y : List ℕ) → took a x b → took b y c → took a (x ++ y) c)
+    (wrote_on : (a b c : K) (x y : List ℕ) → wrote a x b → wrote b y c → wrote a (x ++ y) c) where
   -- a whole line, answered
-  pub turned_line : {b d d' : D} {n left left' : ℕ} {source s s' : S} {sink k k' : K} (text : List ℕ) → Turned answers took wrote b d n left source s sink k → IsUnended text → took s (text ++ 10 ∷ []) s' → left ≡ left' + (length text + 1) → is_quit (request_of (without_cr_of text)) ≡ false → Writes wrote (answers d n (without_cr_of text)) k k' d' → Turned answers took wrote b d' (n + 1) left' source s' sink k'
+  pub turned_line : {b d d' : D} {n left left' : ℕ} {source s s' : S} {sink k k' : K} (text : List ℕ) → Turned answers took wrote b d n left source s sink k →
+      IsUnended text → took s (text ++ 10 ∷ []) s' → left ≡ left' + (length text + 1) → is_quit (request_of (without_cr_of text)) ≡ false →
+      Writes wrote (answers d n (without_cr_of text)) k k' d' → Turned answers took wrote b d' (n + 1) left' source s' sink k'
   turned_line {b} {d} {d'} {n} {left} {left'} {source} {s} {s'} {sink} {k} {k'} text before unended taken spent goes r = record {
     input = before.input ++ (text ++ 10 ∷ []);
     output = before.output ++ r.front;
     taken = took_on source s s' before.input (text ++ 10 ∷ []) before.taken taken;
     written = wrote_on sink k k' before.output r.front before.written r.written;
-    onward = λ rest out over final says. says_regrouped answers b final over before.input (text ++ 10 ∷ []) rest before.output r.front out (before.onward ((text ++ 10 ∷ []) ++ rest) (r.front ++ out) over final (line d d' final n text rest r.front out over unended goes r.answers says));
+    onward = λ rest out over final says. says_regrouped answers b final over before.input (text ++ 10 ∷ []) rest before.output r.front out
+        (before.onward ((text ++ 10 ∷ []) ++ rest) (r.front ++ out) over final (line d d' final n text rest r.front out over unended goes r.answers says));
     spent = omega (arith, before.spent, spent, length-append before.input (text ++ 10 ∷ []), length-append text (10 ∷ []));
     few = omega (arith, before.few, spent);
   }
 
-  module _ (reads_of : S → ℕ) (writes_of : K → ℕ) {b d : D} {n left : ℕ} {source s s' : S} {sink k : K} (before : Turned answers took wrote b d n left source s sink k) where
+  module _ (reads_of : S → ℕ) (writes_of : K → ℕ) {b d : D} {n left : ℕ} {source s s' : S} {sink k : K}
+      (before : Turned answers took wrote b d n left source s sink k) where
     -- the session stops in a turn: a front of what is said to what it reads is written
-    stops_within : {final : D} {k' : K} (bytes front rest : List ℕ) (over : Over) (fault : Fault) → took s bytes s' → wrote k front k' → Says answers d n bytes (front ++ rest) over final → StopsBy fault (reads_of source) (reads_of s') (writes_of sink) (writes_of k') (length (before.input ++ bytes)) → Stops answers took reads_of wrote writes_of b source s' sink k' final fault
+    stops_within : {final : D} {k' : K} (bytes front rest : List ℕ) (over : Over) (fault : Fault) → took s bytes s' → wrote k front k' →
+        Says answers d n bytes (front ++ rest) over final →
+        StopsBy fault (reads_of source) (reads_of s') (writes_of sink) (writes_of k') (length (before.input ++ bytes)) →
+        Stops answers took reads_of wrote writes_of b source s' sink k' final fault
     stops_within {final} {k'} bytes front rest over fault taken written says cause =
         let P : List ℕ → Type 0 = λ o. Says answers b 1 (before.input ++ bytes) o over final in
         record {
@@ -109,8 +134,10 @@ module _ {D S K : Type 0} (answers : D → ℕ → List ℕ → List ℕ → D �
         }
 
     -- the last turn: something is said to what it reads, and it is written
-    pub serves_last : {final : D} {k' : K} (ended : S → Type 0) (bytes front : List ℕ) (over : Over) → took s bytes s' → wrote k front k' → Says answers d n bytes front over final → IsAllRead (ended s') over →
-        length bytes + end_calls over ≤ left → reads_of s' ≡ reads_of source → writes_of k' ≡ writes_of sink → Serves answers took ended reads_of wrote writes_of b source s' sink k' final over
+    pub serves_last : {final : D} {k' : K} (ended : S → Type 0) (bytes front : List ℕ) (over : Over) → took s bytes s' → wrote k front k' →
+        Says answers d n bytes front over final → IsAllRead (ended s') over →
+        length bytes + end_calls over ≤ left → reads_of s' ≡ reads_of source → writes_of k' ≡ writes_of sink →
+        Serves answers took ended reads_of wrote writes_of b source s' sink k' final over
     serves_last {final} {k'} ended bytes front over taken written says all few read_well wrote_well = record {
       input = before.input ++ bytes;
       output = before.output ++ front;
@@ -124,22 +151,28 @@ module _ {D S K : Type 0} (answers : D → ℕ → List ℕ → List ℕ → D �
     }
 
     -- reading a line broke off
-    pub stops_reading : (wrote_none : (a : K) → wrote a [] a) (some_to : (d : D) (n : ℕ) (line : List ℕ) → (front : List ℕ) × answers d n line front d) {left' : ℕ} (fault : ReadFault) → reads_of s ≡ reads_of source → writes_of k ≡ writes_of sink →
+    pub stops_reading : (wrote_none : (a : K) → wrote a [] a) (some_to : (d : D) (n : ℕ) (line : List ℕ) → (front : List ℕ) × answers d n line front d)
+        {left' : ℕ} (fault : ReadFault) → reads_of s ≡ reads_of source → writes_of k ≡ writes_of sink →
         Breaks took reads_of IsUnended s s' left left' fault → Stops answers took reads_of wrote writes_of b source s' sink k d (stopped_by fault)
     stops_reading wrote_none some_to {left'} fault same written broken =
         let said = says_some answers some_to d n broken.bytes broken.part in
-        let total : length (before.input ++ broken.bytes) + (left' + broken.idle) ≡ 16777216 = omega (arith, before.spent, broken.spent, length-append before.input broken.bytes) in
+        let total : length (before.input ++ broken.bytes) + (left' + broken.idle) ≡ 16777216 =
+        omega (arith, before.spent, broken.spent, length-append before.input broken.bytes) in
         stops_within broken.bytes [] said.0 said.1 (stopped_by fault) broken.taken (wrote_none k) said.2
-        (read_cause fault (reads_of source) (reads_of s) (reads_of s') (writes_of sink) (writes_of k) left' broken.idle (length (before.input ++ broken.bytes)) same written total broken.idle_calls broken.counted broken.limit)
+        (read_cause fault (reads_of source) (reads_of s) (reads_of s') (writes_of sink) (writes_of k) left' broken.idle (length (before.input ++ broken.bytes))
+        same written total broken.idle_calls broken.counted broken.limit)
 
     -- answering a line broke off
-    pub stops_answering : {k' : K} {after : D} (bytes text : List ℕ) (over : Over) (fault : Fault) → reads_of s' ≡ reads_of source → writes_of k ≡ writes_of sink → length bytes ≤ left → took s bytes s' →
-        (broken : BreaksOff wrote writes_of (answers d n text) k k' after fault) → Says answers d n bytes (broken.front ++ broken.left) over after → Stops answers took reads_of wrote writes_of b source s' sink k' after fault
+    pub stops_answering : {k' : K} {after : D} (bytes text : List ℕ) (over : Over) (fault : Fault) → reads_of s' ≡ reads_of source →
+        writes_of k ≡ writes_of sink → length bytes ≤ left → took s bytes s' →
+        (broken : BreaksOff wrote writes_of (answers d n text) k k' after fault) → Says answers d n bytes (broken.front ++ broken.left) over after →
+        Stops answers took reads_of wrote writes_of b source s' sink k' after fault
     stops_answering {k'} {after} bytes text over fault read_well same fits taken broken says =
         let C : ℕ → Type 0 = λ w. BreaksBy fault w (writes_of k') in
         let few : length (before.input ++ bytes) ≤ 16777216 = omega (arith, before.spent, fits, length-append before.input bytes) in
         stops_within bytes broken.front broken.left over fault taken broken.written says
-        (stop_cause fault (reads_of source) (reads_of s') (writes_of sink) (writes_of k') (length (before.input ++ bytes)) read_well few (subst C same broken.cause))
+        (stop_cause fault (reads_of source) (reads_of s') (writes_of sink) (writes_of k') (length (before.input ++ bytes)) read_well few
+        (subst C same broken.cause))
 
 -- the end of the input was found, however the session ends behind it
 pub all_read_if : (q : Bool) (E : Type 0) → E → IsAllRead E (over_if q)

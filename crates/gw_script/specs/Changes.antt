@@ -30,6 +30,8 @@ abbrev pub refusal_of : EditFault → List ℕ
 refusal_of fault = codes "refused E" ++ decimal (number_of fault) ++ detail_of fault ++ codes "\n"
 
 -- an edit was accepted, or it was refused
-pub data Edits {D : Type 0} (does : D → Event → Reply → D → Type 0) (d : D) (e : Edit) (front : List ℕ) (d' : D) : Type 0 where
+pub data Edits {D : Type 0} (does : D → Event → Reply → D → Type 0) (d : D) (e : Edit) (front : List ℕ) (d' : D) :
+    Type 0 where
   accepts : (n : ℕ) → does d (events.Edit e) (replies.Edited n) d' → front ≡ accepted n → Edits does d e front d'
-  refuses : (fault : EditFault) → does d (events.Edit e) (replies.Refused fault) d' → front ≡ refusal_of fault → Edits does d e front d'
+  refuses : (fault : EditFault) → does d (events.Edit e) (replies.Refused fault) d' → front ≡ refusal_of fault →
+      Edits does d e front d'

@@ -26,15 +26,18 @@ abbrev pub TellsOnly : {D : Type 0} → List ℕ → D → List ℕ → D → Ty
 TellsOnly text d front d' = (front ≡ text) × (d' ≡ d)
 
 -- what the n-th line is answered, by what it asks for
-abbrev pub Replies : {D : Type 0} → (D → Listing) → (D → Event → Reply → D → Type 0) → D → ℕ → Request → List ℕ → D → Type 0
+abbrev pub Replies : {D : Type 0} → (D → Listing) → (D → Event → Reply → D → Type 0) → D → ℕ → Request → List ℕ → D →
+    Type 0
 Replies version does d n requests.Nothing front d' = TellsOnly [] d front d'
 Replies version does d n (requests.Edit e) front d' = Edits does d e front d'
 Replies version does d n (requests.Report rep k) front d' = Queries does d (events.Finish rep k) front d'
 Replies version does d n (requests.Peek rep k) front d' = Queries does d (events.Peek rep k) front d'
 Replies version does d n (requests.All k) front d' = ReportsAll version does d k front d'
-Replies version does d n requests.List front d' = ((front ≡ listing_of (version d).lines) ⊎ (front ≡ codes "memory\n")) × (d' ≡ d)
+Replies version does d n requests.List front d' =
+    ((front ≡ listing_of (version d).lines) ⊎ (front ≡ codes "memory\n")) × (d' ≡ d)
 Replies version does d n requests.Quit front d' = TellsOnly (codes "bye\n") d front d'
-Replies version does d n (requests.Bad reason) front d' = TellsOnly (codes "? " ++ decimal n ++ codes " " ++ word_of reason ++ codes "\n") d front d'
+Replies version does d n (requests.Bad reason) front d' =
+    TellsOnly (codes "? " ++ decimal n ++ codes " " ++ word_of reason ++ codes "\n") d front d'
 
 -- whether a line ends the session
 abbrev pub is_quit : Request → Bool
@@ -47,7 +50,8 @@ is_quit requests.List = false
 is_quit requests.Quit = true
 is_quit (requests.Bad reason) = false
 
--- what a line may be answered where a growth is refused for telling its answer: a query and an edit may, the rest may not
+-- what a line may be answered where a growth is refused for telling its answer: a query and an edit may, the rest may
+-- not
 abbrev pub untold_of : Request → Option (List ℕ)
 untold_of requests.Nothing = None
 untold_of (requests.Edit e) = Some (codes "refused E7\n")
@@ -60,12 +64,15 @@ untold_of (requests.Bad reason) = None
 
 -- a growth was refused for telling an answer: that may be answered, or the keeper is as it was
 abbrev pub Untold : {D : Type 0} → (D → Listing) → (D → Event → Reply → D → Type 0) → D → ℕ → Request → D → Type 0
-Untold version does d n request d' = MatchOption (untold_of request) (d' ≡ d) (λ text. Replies version does d n request text d')
+Untold version does d n request d' =
+    MatchOption (untold_of request) (d' ≡ d) (λ text. Replies version does d n request text d')
 
 -- what may be answered to the n-th line, and what it leaves: an edit for whose reading a growth was refused is refused
-pub data Answers {D : Type 0} (version : D → Listing) (does : D → Event → Reply → D → Type 0) (d : D) (n : ℕ) (line front : List ℕ) (d' : D) : Type 0 where
+pub data Answers {D : Type 0} (version : D → Listing) (does : D → Event → Reply → D → Type 0) (d : D) (n : ℕ)
+    (line front : List ℕ) (d' : D) : Type 0 where
   read : Replies version does d n (request_of line) front d' → Answers version does d n line front d'
-  unread : IsTrue (may_want_memory line) → front ≡ codes "refused E7\n" → d' ≡ d → Answers version does d n line front d'
+  unread : IsTrue (may_want_memory line) → front ≡ codes "refused E7\n" → d' ≡ d →
+      Answers version does d n line front d'
 
 -- what may be answered over a desk
 abbrev pub DeskAnswers : Book → ℕ → List ℕ → List ℕ → Book → Type 0

@@ -1,4 +1,5 @@
--- What a session writes to a script: one answer for each line, in order, up to `quit` or the end of the input. (Our own.)
+-- What a session writes to a script: one answer for each line, in order, up to `quit` or the end of the input. (Our
+-- own.)
 use Rattle.std.specs.Prelude.{◌≡◌, ℕ, ◌+◌, ◌<◌, ◌≤◌, true, false, List, [], ◌∷◌, ◌++◌, length}
 use Rattle.gw_io.specs.Failures.{one_more}
 use Rattle.gw_io.specs.Line.{IsUnended, without_cr_of}
@@ -9,15 +10,21 @@ use Rattle.gw_script.specs.declared.fault.Fault.{Fault}
 use Rattle.gw_script.specs.declared.fault.Fault.TheVariants as faults
 use Rattle.gw_script.specs.Replying.{is_quit}
 
--- To this input from line n on, this is written, so the session ends, and this it leaves of the keeper. Each line is answered
--- as it may be over the keeper that the lines before it left. A carriage return before a line feed is dropped, the last line may
--- lack its line feed, and behind `quit` nothing more is read.
-pub data Says {D : Type 0} (answers : D → ℕ → List ℕ → List ℕ → D → Type 0) : D → ℕ → List ℕ → List ℕ → Over → D → Type 0 where
+-- To this input from line n on, this is written, so the session ends, and this it leaves of the keeper. Each line is
+-- answered as it may be over the keeper that the lines before it left. A carriage return before a line feed is dropped,
+-- the last line may lack its line feed, and behind `quit` nothing more is read.
+pub data Says {D : Type 0} (answers : D → ℕ → List ℕ → List ℕ → D → Type 0) : D → ℕ → List ℕ → List ℕ → Over → D →
+    Type 0 where
   nothing : (d : D) (n : ℕ) → Says answers d n [] [] overs.InputEnd d
-  line : (d d' d'' : D) (n : ℕ) (line rest front out : List ℕ) (over : Over) → IsUnended line → is_quit (request_of (without_cr_of line)) ≡ false → answers d n (without_cr_of line) front d' → Says answers d' (n + 1) rest out over d'' → Says answers d n ((line ++ 10 ∷ []) ++ rest) (front ++ out) over d''
-  last : (d d' : D) (n : ℕ) (line front : List ℕ) → IsUnended line → is_quit (request_of line) ≡ false → answers d n line front d' → Says answers d n line front overs.InputEnd d'
-  quit : (d d' : D) (n : ℕ) (line front : List ℕ) → IsUnended line → is_quit (request_of (without_cr_of line)) ≡ true → answers d n (without_cr_of line) front d' → Says answers d n (line ++ 10 ∷ []) front overs.Quit d'
-  last_quit : (d d' : D) (n : ℕ) (line front : List ℕ) → IsUnended line → is_quit (request_of line) ≡ true → answers d n line front d' → Says answers d n line front overs.Quit d'
+  line : (d d' d'' : D) (n : ℕ) (line rest front out : List ℕ) (over : Over) → IsUnended line →
+      is_quit (request_of (without_cr_of line)) ≡ false → answers d n (without_cr_of line) front d' →
+      Says answers d' (n + 1) rest out over d'' → Says answers d n ((line ++ 10 ∷ []) ++ rest) (front ++ out) over d''
+  last : (d d' : D) (n : ℕ) (line front : List ℕ) → IsUnended line → is_quit (request_of line) ≡ false →
+      answers d n line front d' → Says answers d n line front overs.InputEnd d'
+  quit : (d d' : D) (n : ℕ) (line front : List ℕ) → IsUnended line → is_quit (request_of (without_cr_of line)) ≡ true →
+      answers d n (without_cr_of line) front d' → Says answers d n (line ++ 10 ∷ []) front overs.Quit d'
+  last_quit : (d d' : D) (n : ℕ) (line front : List ℕ) → IsUnended line → is_quit (request_of line) ≡ true →
+      answers d n line front d' → Says answers d n line front overs.Quit d'
 
 -- a session that ends with the input has read all of it
 abbrev pub IsAllRead : Type 0 → Over → Type 0
@@ -29,10 +36,11 @@ abbrev pub end_calls : Over → ℕ
 end_calls overs.Quit = 0
 end_calls overs.InputEnd = 1
 
--- a session read an input, wrote what is said to it, and left the keeper as that leaves it; neither reader nor writer failed,
--- and at most 16,777,216 calls of read were made
+-- a session read an input, wrote what is said to it, and left the keeper as that leaves it; neither reader nor writer
+-- failed, and at most 16,777,216 calls of read were made
 pub record Serves {D S K : Type 0} (answers : D → ℕ → List ℕ → List ℕ → D → Type 0)
-    (took : S → List ℕ → S → Type 0) (ended : S → Type 0) (reads : S → ℕ) (wrote : K → List ℕ → K → Type 0) (writes : K → ℕ)
+    (took : S → List ℕ → S → Type 0) (ended : S → Type 0) (reads : S → ℕ) (wrote : K → List ℕ → K → Type 0)
+    (writes : K → ℕ)
     (d : D) (source source' : S) (sink sink' : K) (d' : D) (over : Over) : Type 0 where
   pub input : List ℕ
   pub output : List ℕ
@@ -49,12 +57,15 @@ pub record Serves {D S K : Type 0} (answers : D → ℕ → List ℕ → List �
 abbrev pub StopsBy : Fault → ℕ → ℕ → ℕ → ℕ → ℕ → Type 0
 StopsBy (faults.Line faulty) reads reads' writes writes' taken = ⊥
 StopsBy (faults.Model fault) reads reads' writes writes' taken = ⊥
-StopsBy faults.Read reads reads' writes writes' taken = (reads' ≡ one_more reads) × (writes' ≡ writes) × (taken < 16777216)
-StopsBy faults.Write reads reads' writes writes' taken = (reads' ≡ reads) × (writes' ≡ one_more writes) × (taken ≤ 16777216)
+StopsBy faults.Read reads reads' writes writes' taken =
+    (reads' ≡ one_more reads) × (writes' ≡ writes) × (taken < 16777216)
+StopsBy faults.Write reads reads' writes writes' taken =
+    (reads' ≡ reads) × (writes' ≡ one_more writes) × (taken ≤ 16777216)
 StopsBy faults.ReadLimit reads reads' writes writes' taken = (reads' ≡ reads) × (writes' ≡ writes) × (taken ≡ 16777216)
 StopsBy faults.Memory reads reads' writes writes' taken = (reads' ≡ reads) × (writes' ≡ writes) × (taken ≤ 16777216)
 
--- a session stopped: what it wrote is the front of what is said to what it read, and it left the keeper as that leaves it
+-- a session stopped: what it wrote is the front of what is said to what it read, and it left the keeper as that leaves
+-- it
 pub record Stops {D S K : Type 0} (answers : D → ℕ → List ℕ → List ℕ → D → Type 0)
     (took : S → List ℕ → S → Type 0) (reads : S → ℕ) (wrote : K → List ℕ → K → Type 0) (writes : K → ℕ)
     (d : D) (source source' : S) (sink sink' : K) (d' : D) (fault : Fault) : Type 0 where

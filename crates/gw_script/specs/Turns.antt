@@ -15,7 +15,8 @@ stopped_by reads.Limit = faults.ReadLimit
 stopped_by reads.Memory = faults.Memory
 
 -- an answer was written: bytes that may be answered, which leave the keeper so
-pub record Writes {D K : Type 0} (wrote : K → List ℕ → K → Type 0) (A : List ℕ → D → Type 0) (old new : K) (after : D) : Type 0 where
+pub record Writes {D K : Type 0} (wrote : K → List ℕ → K → Type 0) (A : List ℕ → D → Type 0) (old new : K) (after : D) :
+    Type 0 where
   pub front : List ℕ
   pub answers : A front after
   pub written : wrote old front new
@@ -30,17 +31,21 @@ BreaksBy faults.ReadLimit writes writes' = ⊥
 BreaksBy faults.Memory writes writes' = writes' ≡ writes
 
 -- a front part of an answer was written: bytes that may be answered, which leave the keeper so, begin with it
-pub record BreaksOff {D K : Type 0} (wrote : K → List ℕ → K → Type 0) (writes : K → ℕ) (A : List ℕ → D → Type 0) (old new : K) (after : D) (fault : Fault) : Type 0 where
+pub record BreaksOff {D K : Type 0} (wrote : K → List ℕ → K → Type 0) (writes : K → ℕ) (A : List ℕ → D → Type 0)
+    (old new : K) (after : D) (fault : Fault) : Type 0 where
   pub front : List ℕ
   pub left : List ℕ
   pub answers : A (front ++ left) after
   pub written : wrote old front new
   pub cause : BreaksBy fault (writes old) (writes new)
 
--- saying that a growth was refused broke off: where a line may not be answered so, there is nothing to say, and it was not begun
-pub data BreaksRefused {K : Type 0} (wrote : K → List ℕ → K → Type 0) (writes : K → ℕ) (untold : Option (List ℕ)) (old new : K) (fault : Fault) : Type 0 where
+-- saying that a growth was refused broke off: where a line may not be answered so, there is nothing to say, and it was
+-- not begun
+pub data BreaksRefused {K : Type 0} (wrote : K → List ℕ → K → Type 0) (writes : K → ℕ) (untold : Option (List ℕ))
+    (old new : K) (fault : Fault) : Type 0 where
   not_begun : untold ≡ None → fault ≡ faults.Memory → new ≡ old → BreaksRefused wrote writes untold old new fault
-  begun : (front left : List ℕ) → untold ≡ Some (front ++ left) → wrote old front new → fault ≡ faults.Write → writes new ≡ one_more (writes old) → BreaksRefused wrote writes untold old new fault
+  begun : (front left : List ℕ) → untold ≡ Some (front ++ left) → wrote old front new → fault ≡ faults.Write →
+      writes new ≡ one_more (writes old) → BreaksRefused wrote writes untold old new fault
 
 -- how a session ends behind its last line
 abbrev pub over_if : Bool → Over

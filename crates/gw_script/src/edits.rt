@@ -10,8 +10,8 @@ use std::alloc::{AllocError, Global};
 // The room that an answer takes at most.
 const ROOM: usize = 73;
 
-/// Edits the version, and gives what that is answered. The room for the answer comes first: where it is refused, nothing
-/// is done.
+/// Edits the version, and gives what that is answered. The room for the answer comes first: where it is refused,
+/// nothing is done.
 pub fn edit<D: Keeper>(alloc: Global, keeper: &mut D, edit: Edit) -> Result<Vec<u8>, AllocError>
     ensures ok { IfOk result (λ v. Edits D.does keeper.old edit v.items keeper.new) }
     ensures err { OnErr result (keeper.new ≡ keeper.old) }

@@ -1,8 +1,8 @@
 //! Lines in, bytes out: a session over one keeper of a version.
 //!
-//! [`session`] opens the model on a desk, reads the script line by line and answers each line; what it wrote is what the
-//! model and the script mean. The version stays open from line to line, so that a report makes only the steps that no
-//! earlier line made. [`session_on`] does the same over any [`Keeper`].
+//! [`session`] opens the model on a desk, reads the script line by line and answers each line; what it wrote is what
+//! the model and the script mean. The version stays open from line to line, so that a report makes only the steps that
+//! no earlier line made. [`session_on`] does the same over any [`Keeper`].
 #![tactic(auto)]
 
 mod answers;

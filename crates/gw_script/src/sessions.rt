@@ -17,8 +17,8 @@ use gw_request::{Request, request_of};
 use std::alloc::Global;
 
 /// Answers the lines of a script over a keeper of a version, up to `quit` or the end of the input. At most 16,777,216
-/// calls of read are made. Behind a fault what was written stays, the keeper is as the lines read so far left it, and the
-/// session is over.
+/// calls of read are made. Behind a fault what was written stays, the keeper is as the lines read so far left it, and
+/// the session is over.
 ///
 /// # Errors
 ///
@@ -30,8 +30,10 @@ pub fn session_on<D: Keeper, S: Source, K: Sink>(
     source: &mut S,
     sink: &mut K,
 ) -> Result<Over, Fault>
-    ensures serves { IfOk result (Serves (Answers D.version D.does) S.took S.ended S.failures K.wrote K.failures keeper.old source.old source.new sink.old sink.new keeper.new) }
-    ensures stops { IfErr result (Stops (Answers D.version D.does) S.took S.failures K.wrote K.failures keeper.old source.old source.new sink.old sink.new keeper.new) }
+    ensures serves { IfOk result (Serves (Answers D.version D.does)
+        S.took S.ended S.failures K.wrote K.failures keeper.old source.old source.new sink.old sink.new keeper.new) }
+    ensures stops { IfErr result (Stops (Answers D.version D.does)
+        S.took S.failures K.wrote K.failures keeper.old source.old source.new sink.old sink.new keeper.new) }
 {
     let mut budget = Budget::new();
     let mut n = 0u64;
@@ -61,8 +63,11 @@ pub fn session<S: Source, K: Sink>(
     sink: &mut K,
 ) -> Result<Over, Fault>
     requires { 1 ≤ options.every }
-    ensures serves { IfOk result (λ over. (b : Book) × (b' : Book) × Opens model.now options b × Serves DeskAnswers S.took S.ended S.failures K.wrote K.failures b source.old source.new sink.old sink.new b' over) }
-    ensures stops { IfErr result (λ fault. (Refuses model.now options fault × (source.new ≡ source.old) × (sink.new ≡ sink.old))
+    ensures serves { IfOk result (λ over. (b : Book) × (b' : Book) × Opens model.now options b ×
+        Serves DeskAnswers S.took S.ended S.failures K.wrote K.failures b source.old source.new sink.old sink.new b'
+        over) }
+    ensures stops { IfErr result (λ fault.
+        (Refuses model.now options fault × (source.new ≡ source.old) × (sink.new ≡ sink.old))
         ⊎ ((b : Book) × (b' : Book) × Opens model.now options b × Stops DeskAnswers S.took S.failures K.wrote K.failures b source.old source.new sink.old sink.new b' fault)) }
 {
     let mut desk = open(alloc, model, options)?;
@@ -84,9 +89,11 @@ fn reply<D: Keeper, K: Sink>(
     sink: &mut K,
 ) -> Result<bool, Fault>
     ensures quit { IfOk result (λ quit. quit ≡ is_quit (request_of line.now)) }
-    ensures ok { OnOk result (Writes K.wrote (Answers D.version D.does keeper.old n line.now) sink.old sink.new keeper.new) }
+    ensures ok { OnOk result (Writes K.wrote (Answers D.version D.does keeper.old n line.now)
+        sink.old sink.new keeper.new) }
     ensures same { OnOk result (K.failures sink.new ≡ K.failures sink.old) }
-    ensures err { IfErr result (λ f. BreaksOff K.wrote K.failures (Answers D.version D.does keeper.old n line.now) sink.old sink.new keeper.new f) }
+    ensures err { IfErr result (λ f. BreaksOff K.wrote K.failures (Answers D.version D.does keeper.old n line.now)
+        sink.old sink.new keeper.new f) }
 {
     match request_of(alloc, line) {
         Ok(request) => fulfil(alloc, keeper, n, request, sink),
@@ -117,9 +124,11 @@ fn fulfil<D: Keeper, K: Sink>(
     sink: &mut K,
 ) -> Result<bool, Fault>
     ensures quit { IfOk result (λ quit. quit ≡ is_quit request) }
-    ensures ok { OnOk result (Writes K.wrote (Replies D.version D.does keeper.old n request) sink.old sink.new keeper.new) }
+    ensures ok { OnOk result (Writes K.wrote (Replies D.version D.does keeper.old n request)
+        sink.old sink.new keeper.new) }
     ensures same { OnOk result (K.failures sink.new ≡ K.failures sink.old) }
-    ensures err { IfErr result (λ f. BreaksOff K.wrote K.failures (Replies D.version D.does keeper.old n request) sink.old sink.new keeper.new f) }
+    ensures err { IfErr result (λ f. BreaksOff K.wrote K.failures (Replies D.version D.does keeper.old n request)
+        sink.old sink.new keeper.new f) }
 {
     let quit = is_quit(&request);
     let untold = untold(&request);
@@ -132,7 +141,8 @@ fn fulfil<D: Keeper, K: Sink>(
 
 // Says that a growth was refused, where a line may be answered so; at any other the session ends.
 fn send_refused<K: Sink>(sink: &mut K, untold: Option<&[u8]>) -> Result<(), Fault>
-    ensures ok { OnOk result ((text : List ℕ) × (option_copied untold.entry ≡ Some text) × K.wrote sink.old text sink.new) }
+    ensures ok { OnOk result ((text : List ℕ) × (option_copied untold.entry ≡ Some text) ×
+        K.wrote sink.old text sink.new) }
     ensures same { OnOk result (K.failures sink.new ≡ K.failures sink.old) }
     ensures err { IfErr result (λ f. BreaksRefused K.wrote K.failures (option_copied untold.entry) sink.old sink.new f) }
 {

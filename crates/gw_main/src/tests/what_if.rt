@@ -1,6 +1,6 @@
-// Examples of edits and queries, with their exact bytes for three spacings of the kept states.
-// The values come from outside: they were worked out by two independent programs, and the steps that are left by hand. Each
-// peek is decided at all three spacings or at none.
+// Examples of edits and queries, with their exact bytes for three spacings of the kept states. The values come from
+// outside: they were worked out by two independent programs, and the steps that are left by hand. Each peek is decided
+// at all three spacings or at none.
 
 pub struct WhatIf {
     pub name: &'static str,

@@ -10,7 +10,8 @@ pub returns-in-Some : goal.returns-in-Some
 returns-in-Some c =
     let Ends : Machine → Type 0 = λ s. EndsAs (step c.args.version.now c.args.seed s) (Some c.in-Some.end) in
     let end = ends_so _ c.in-Some.end (subst Ends c.state.ensures (rw c.in-Some.is at c.in_ok-end.ensures)) in
-    rw (c.seen_at_end.ensures, c.tip.ensures, c.complete.ensures, c.state-in-Some.ensures) (seen_ended c.args.version.now c.args.seed c.args.k c.args.run.now c.requires.records c.requires.some c.requires.none c.in-Some.end end)
+    rw (c.seen_at_end.ensures, c.tip.ensures, c.complete.ensures, c.state-in-Some.ensures)
+    (seen_ended c.args.version.now c.args.seed c.args.k c.args.run.now c.requires.records c.requires.some c.requires.none c.in-Some.end end)
 
 pub returns-then-tip-limit : goal.returns-then-tip-limit
 returns-then-tip-limit c =

@@ -15,7 +15,12 @@ returns c =
     elim c.match-touched.branch [
       | in-Some w ↦
           subst (WentBack t e u n r) (sym w.run-is)
-          (record { records = w.cut.ensures.records t; kept = λ a h. subst (λ o. IsKeptOf t a r o w.cut.new.self.moment) (w.in-Some.ensures a h) (w.cut.ensures.kept t a h); every = w.cut.ensures.every })
+          (record {
+            records = w.cut.ensures.records t;
+            kept =
+                λ a h. subst (λ o. IsKeptOf t a r o w.cut.new.self.moment) (w.in-Some.ensures a h) (w.cut.ensures.kept t a h);
+            every = w.cut.ensures.every;
+          })
       | in_default w ↦
           subst (WentBack t e u n r) (sym w.run-is)
           (record { records = λ a h. h; kept = λ a h. subst (λ o. IsKeptOf t a r o r.moment) (w.in_default.ensures a h) refl; every = refl })

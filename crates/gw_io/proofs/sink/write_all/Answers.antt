@@ -19,6 +19,7 @@ returns-in_err-written-clause-err g c =
 pub loop-written-preserved : goal.loop-written-preserved
 loop-written-preserved g c = record {
   within = within c.args.bytes.now _ _ c.loop-written.invariant.within c.in_ok-written.ensures.count;
-  wrote = further g.K.Sink.wrote g.met.K.Sink.onward _ _ _ c.args.bytes.now c.loop-written.written c.in_ok-written.field-0 c.loop-written.invariant.wrote c.in_ok-written.ensures.ok;
+  wrote = further g.K.Sink.wrote g.met.K.Sink.onward _ _ _ c.args.bytes.now c.loop-written.written c.in_ok-written.field-0 c.loop-written.invariant.wrote
+      c.in_ok-written.ensures.ok;
   uncounted = grind (arith, common_steps);
 }

@@ -18,8 +18,10 @@ returns-in_err-push-clause-fault g c =
     let known = c.loop-bytes.invariant in
     let read = c.in_ok-byte.ensures in
     let some = rw c.in-Some.is at read.ok in
-    let spent : c.args.budget.now ≡ c.read_byte.new.budget + (length (c.loop-bytes.bytes.items ++ c.in-Some.byte ∷ []) + 0) = omega (arith, length-append c.loop-bytes.bytes.items (c.in-Some.byte ∷ [])) in
-    rw (p.1, p.2) (out_of_memory g.S.Source.took g.S.Source.failures AnyBytes _ _ (c.loop-bytes.bytes.items ++ c.in-Some.byte ∷ []) _ _ 0 _ c.in_err-push.ensures.err (omega arith)
+    let spent : c.args.budget.now ≡ c.read_byte.new.budget + (length (c.loop-bytes.bytes.items ++ c.in-Some.byte ∷ []) + 0) =
+    omega (arith, length-append c.loop-bytes.bytes.items (c.in-Some.byte ∷ [])) in
+    rw (p.1, p.2) (out_of_memory g.S.Source.took g.S.Source.failures AnyBytes _ _ (c.loop-bytes.bytes.items ++ c.in-Some.byte ∷ [])
+    _ _ 0 _ c.in_err-push.ensures.err (omega arith)
     (g.met.S.Source.onward _ _ _ _ _ known.taken some) spent (read.uncounted ∙ known.uncounted) tt)
 
 pub returns-clause-all : goal.returns-clause-all

@@ -8,8 +8,10 @@ use Rattle.gw_main.proofs.command.command.Goals as goal
 
 pub returns : goal.returns
 returns c =
-    let named : app_of c.no_binary_name.result ≡ on_top behind_name (new_app (codes "gpssbench")) = ap app_of_fields c.no_binary_name.ensures ∙ ap (on_top behind_name) c.new.ensures.app in
-    let told : app_of c.after_help.result ≡ on_top behind_name (new_app (codes "gpssbench")) = ap app_of_fields c.after_help.ensures ∙ ap app_of_fields c.about.ensures ∙ named in
+    let named : app_of c.no_binary_name.result ≡ on_top behind_name (new_app (codes "gpssbench")) =
+    ap app_of_fields c.no_binary_name.ensures ∙ ap (on_top behind_name) c.new.ensures.app in
+    let told : app_of c.after_help.result ≡ on_top behind_name (new_app (codes "gpssbench")) =
+    ap app_of_fields c.after_help.ensures ∙ ap app_of_fields c.about.ensures ∙ named in
     let one = c.in_ok-arg.ensures.shape c.model.ensures.local ∙ ap₂ with_rule told c.model.ensures.rule in
     let two = c.in_ok-arg-2.ensures.shape c.option.ensures.local ∙ ap₂ with_rule one c.option.ensures.rule in
     let three = c.in_ok-arg-3.ensures.shape c.option-2.ensures.local ∙ ap₂ with_rule two c.option-2.ensures.rule in

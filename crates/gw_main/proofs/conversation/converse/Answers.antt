@@ -11,9 +11,15 @@ returns-in_err-model-clause-fails g c =
     let exit = c.from_residual in
     let p = err_from_is_err_and exit.result exit.ensures.1 in
     let fault = c.in_err-model.field-0.0 in
-    if_err_at exit.result (Fails g.S.Source.took g.S.Source.ended g.S.Source.failures g.K.Sink.wrote g.K.Sink.failures c.args.options c.args.reader.now c.split_model.new.source c.args.writer.now c.args.writer.now) p.0 (stopped_by fault) p.1 p.2 (in_model c.split_model.new.budget fault (rw c.new-budget.ensures at c.in_err-model.ensures.fault) refl refl)
+    if_err_at exit.result (Fails g.S.Source.took g.S.Source.ended g.S.Source.failures g.K.Sink.wrote g.K.Sink.failures c.args.options c.args.reader.now
+    c.split_model.new.source c.args.writer.now c.args.writer.now) p.0 (stopped_by fault) p.1 p.2
+    (in_model c.split_model.new.budget fault (rw c.new-budget.ensures at c.in_err-model.ensures.fault) refl refl)
 
 pub returns-clause-fails : goal.returns-clause-fails
 returns-clause-fails g c =
-    let taken : Takes g.S.Source.took g.S.Source.ended g.S.Source.failures c.args.reader.now c.split_model.new.source c.in_ok-model.model.items = record { left = c.split_model.new.budget; takes = rw c.new-budget.ensures at c.in_ok-model.ensures.model; uncounted = c.in_ok-model.ensures.uncounted } in
-    IfErr-weaker c.session.result _ _ (λ fault h. fails_behind g.S.Source.took g.S.Source.ended g.S.Source.failures g.K.Sink.wrote g.K.Sink.failures c.args.options c.args.reader.now c.split_model.new.source c.session.new.source c.args.writer.now c.session.new.sink c.in_ok-model.model.items fault taken h) (rw c.deref.ensures.value at c.session.ensures.stops)
+    let taken : Takes g.S.Source.took g.S.Source.ended g.S.Source.failures c.args.reader.now c.split_model.new.source c.in_ok-model.model.items =
+    record { left = c.split_model.new.budget; takes = rw c.new-budget.ensures at c.in_ok-model.ensures.model; uncounted = c.in_ok-model.ensures.uncounted }
+    in
+    IfErr-weaker c.session.result _ _ (λ fault h. fails_behind g.S.Source.took g.S.Source.ended g.S.Source.failures g.K.Sink.wrote g.K.Sink.failures
+    c.args.options c.args.reader.now c.split_model.new.source c.session.new.source c.args.writer.now c.session.new.sink c.in_ok-model.model.items fault
+    taken h) (rw c.deref.ensures.value at c.session.ensures.stops)

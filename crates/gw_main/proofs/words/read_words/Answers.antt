@@ -28,4 +28,5 @@ returns g c =
     let words : List Text = map g.W.AsStr.text c.args.words.now in
     let same = given_by_words (app_of c.in_ok-command.command) words c.in-Ok.matches c.in_ok-command.ensures c.in-Ok.ensures.ok.2 in
     let taken = at_gpssbench (app_of c.in_ok-command.command) (λ a. fault_of a words ≡ []) c.in_ok-command.ensures c.in-Ok.ensures.kinds in
-    refused_by_number words c.number_refusal.result c.number_refusal.ensures taken (bad_same (first_value (found_of c.in-Ok.matches)) (word_of words) same c.in-Err-options_of.ensures.err)
+    refused_by_number words c.number_refusal.result c.number_refusal.ensures taken
+    (bad_same (first_value (found_of c.in-Ok.matches)) (word_of words) same c.in-Err-options_of.ensures.err)

@@ -44,9 +44,13 @@ loop-index-preserved-else-is_some c =
     record {
       within = omega arith;
       labels = λ name.
-          let written : tree.get (slice_cmp nat_cmp) c.insert.new.self name ≡ cond (tree.is_at (slice_cmp nat_cmp key) name) (Some line.number) (tree.get (slice_cmp nat_cmp) c.loop-index.labels name) = rw copied at (c.in_ok-old.ensures.updates.0 name) in
+          let written : tree.get (slice_cmp nat_cmp) c.insert.new.self name ≡
+          cond (tree.is_at (slice_cmp nat_cmp key) name) (Some line.number) (tree.get (slice_cmp nat_cmp) c.loop-index.labels name) =
+          rw copied at (c.in_ok-old.ensures.updates.0 name) in
           let same = at_name key name (Some line.number) (tree.get (slice_cmp nat_cmp) c.loop-index.labels name) in
-          let rest : cond (bytes_eq key name) (Some line.number) (tree.get (slice_cmp nat_cmp) c.loop-index.labels name) ≡ cond (bytes_eq key name) (Some line.number) (labelled_in name (drop i lines)) = ap (λ (o : Option ℕ). cond (bytes_eq key name) (Some line.number) o) (c.loop-index.invariant.labels name) in
+          let rest : cond (bytes_eq key name) (Some line.number) (tree.get (slice_cmp nat_cmp) c.loop-index.labels name) ≡
+          cond (bytes_eq key name) (Some line.number) (labelled_in name (drop i lines)) =
+          ap (λ (o : Option ℕ). cond (bytes_eq key name) (Some line.number) o) (c.loop-index.invariant.labels name) in
           rw front (written ∙ same ∙ rest ∙ sym (labelled_more line (drop i lines) key name label));
       once = rw front (once_here line (drop i lines) key label known c.loop-index.invariant.once);
     }

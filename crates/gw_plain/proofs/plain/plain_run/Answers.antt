@@ -9,7 +9,13 @@ loop-moment-init c = rw c.zero-state.ensures refl
 pub returns-in-Ended : goal.returns-in-Ended
 returns-in-Ended c =
     let told = rw c.in-Ended.is at c.in_ok-step.ensures.told in
-    record { moment = c.loop-moment._moment; within = search rules; there = rw told.1 c.loop-moment.invariant; over = subst (λ s. step c.args.version.now c.args.seed s ≡ Err c.in-Ended.end) (sym told.1) told.0 }
+    record {
+      moment = c.loop-moment._moment;
+      within = search rules;
+      there = rw told.1 c.loop-moment.invariant;
+      over =
+          subst (λ s. step c.args.version.now c.args.seed s ≡ Err c.in-Ended.end) (sym told.1) told.0;
+    }
 
 pub loop-moment-preserved : goal.loop-moment-preserved
 loop-moment-preserved c =
@@ -20,4 +26,10 @@ pub returns : goal.returns
 returns c =
     let t = c.args.version.now in
     let s = c.loop-moment.state in
-    record { moment = c.loop-moment._moment; within = search rules; there = c.loop-moment.invariant; over = is_over t c.args.seed c.loop-moment._moment s (step t c.args.seed s) c.in_ok-end.end (search rules) refl c.in_ok-end.ensures }
+    record {
+      moment = c.loop-moment._moment;
+      within = search rules;
+      there = c.loop-moment.invariant;
+      over =
+          is_over t c.args.seed c.loop-moment._moment s (step t c.args.seed s) c.in_ok-end.end (search rules) refl c.in_ok-end.ensures;
+    }

@@ -20,5 +20,6 @@ returns c =
     ] in
     let ended = row_ended c.loop-column.before.now columns texts none in
     let nothing : c.as_slice-before.result.now ≡ [] = search rules in
-    let first = ap (λ (before : List ℕ). c.args.out.now.items ++ row_behind before (map column_of c.args.columns.now) (map text_of_cell c.args.cells.now)) nothing in
+    let first =
+    ap (λ (before : List ℕ). c.args.out.now.items ++ row_behind before (map column_of c.args.columns.now) (map text_of_cell c.args.cells.now)) nothing in
     on_ok_weaker c.end_line.result (λ end. end ∙ ap (λ t. c.loop-column.out.items ++ t) (sym ended) ∙ c.loop-column.invariant ∙ first) c.end_line.ensures

@@ -10,4 +10,5 @@ unfolding current_text
 returns c =
     let lines = c.as_slice.ensures.value ∙ c.in_ok-lines.ensures in
     let shown = section_shown current_columns (map (current_line c.args.version.now) (option_to_list c.args.state.now.active ++ c.args.state.now.current)) in
-    on_ok_weaker c.put_section.result (λ put. put ∙ ap (λ l. c.args.out.now.items ++ if_any current_columns l) lines ∙ ap (λ l. c.args.out.now.items ++ l) shown) c.put_section.ensures
+    on_ok_weaker c.put_section.result (λ put. put ∙ ap (λ l. c.args.out.now.items ++ if_any current_columns l) lines ∙
+    ap (λ l. c.args.out.now.items ++ l) shown) c.put_section.ensures

@@ -14,4 +14,6 @@ returns c =
     let whole = take_all c.loop-line.line-index c.lines-line-items.result.now c.loop-line-test.false ∙ c.lines-line-items.ensures.value in
     let done = c.loop-line.invariant ∙ ap (λ xs. flat_map (λ x. rows_of name_columns (name_lines c.args.version.now x)) xs) whole in
     let lines = c.as_slice.ensures.value ∙ done ∙ rows_joined name_columns (name_lines c.args.version.now) c.args.version.now.lines in
-    on_ok_weaker c.put_section.result (λ put. put ∙ ap (λ l. c.args.out.now.items ++ if_any name_columns l) lines ∙ ap (λ l. c.args.out.now.items ++ l) (section_shown name_columns (flat_map (name_lines c.args.version.now) c.args.version.now.lines))) c.put_section.ensures
+    on_ok_weaker c.put_section.result (λ put. put ∙ ap (λ l. c.args.out.now.items ++ if_any name_columns l) lines ∙
+    ap (λ l. c.args.out.now.items ++ l) (section_shown name_columns (flat_map (name_lines c.args.version.now) c.args.version.now.lines)))
+    c.put_section.ensures

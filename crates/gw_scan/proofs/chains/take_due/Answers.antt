@@ -32,7 +32,8 @@ loop-preserved c =
           let later : is_due t e ≡ false = sym c.eq.ensures ∙ w.if-eq.false in
           let same = rw later at n in
           record {
-            sorting = rw (w.current-is, w.future-is, w.push_back_reserved.ensures.items) (sorted_kept t F c.args.current.now.items i e rest c.loop.current.items h later s);
+            sorting = rw (w.current-is, w.future-is, w.push_back_reserved.ensures.items)
+                (sorted_kept t F c.args.current.now.items i e rest c.loop.current.items h later s);
             room = rw w.current-is (omega (arith, same, room));
             order = rw w.current-is c.loop.invariant.order;
             left = rw w.future-is (omega (arith, popped, c.loop.invariant.left, w.push_back_reserved.ensures.len));

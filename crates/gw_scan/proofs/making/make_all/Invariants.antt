@@ -6,7 +6,8 @@ use Rattle.gw_scan.proofs.making.make_all.Given as goal
 
 abbrev pub invariant-loop-arrival : goal.invariant-loop-arrival
 invariant-loop-arrival l = record {
-  made : all_made (drop l.arrival-index l.arrivals) (making l.next l.future.items l.counts.entries) ≡ all_made l.arrivals (making l.initial.next l.initial.future.items l.initial.counts.entries);
+  made : all_made (drop l.arrival-index l.arrivals) (making l.next l.future.items l.counts.entries) ≡
+      all_made l.arrivals (making l.initial.next l.initial.future.items l.initial.counts.entries);
   chain : deque_len l.future + length (drop l.arrival-index l.arrivals) ≤ deque_capacity l.future;
   counts : length (drop l.arrival-index l.arrivals) ≤ spare l.counts;
 }

@@ -11,7 +11,8 @@ returns-in-Ok-clause-told c =
 
 pub returns-in-Ok-clause-uses : goal.returns-in-Ok-clause-uses
 returns-in-Ok-clause-uses c =
-    c.in-Ok.ensures.decides.1 ∙ ap (λ is. c.args.uses.now ++ is) (sym (step_goes_items c.args.version.now c.args.seed c.args.state.now c.in-Ok.next c.in-Ok.ensures.decides.0))
+    c.in-Ok.ensures.decides.1 ∙ ap (λ is. c.args.uses.now ++ is)
+    (sym (step_goes_items c.args.version.now c.args.seed c.args.state.now c.in-Ok.next c.in-Ok.ensures.decides.0))
 
 pub returns-in-Err-End-clause-told : goal.returns-in-Err-End-clause-told
 returns-in-Err-End-clause-told c =
@@ -24,6 +25,7 @@ returns-in-Err-End-clause-uses c =
     let t = c.args.version.now in
     let s = c.args.state.now in
     let old = c.args.uses.now in
-    let cut : take (length old) c.decide.new.uses ≡ old = ap (λ us. take (length old) us) told.decides.1 ∙ take_at old (items_of t c.args.seed (decide s)) (length old) refl in
+    let cut : take (length old) c.decide.new.uses ≡ old =
+    ap (λ us. take (length old) us) told.decides.1 ∙ take_at old (items_of t c.args.seed (decide s)) (length old) refl in
     let kept : c.truncate.new.self ≡ old = c.truncate.ensures ∙ (ap (λ n. take n c.decide.new.uses) c.len-mark.ensures ∙ cut) in
     kept ∙ (sym (append-nil old) ∙ ap (λ is. old ++ is) (sym (step_ends_items t c.args.seed s c.in-Err-End.end told.decides.0)))

@@ -13,12 +13,17 @@ returns-in_err-put_one-clause-err g c =
     let numbers = c.args.numbers.now in
     let i = c.loop-number.number-index in
     let within : i < length numbers = omega arith in
-    let parts : numbers ≡ (take i numbers ++ get_or numbers i 0 ∷ []) ++ drop (i + 1) numbers = sym (take-append-drop (i + 1) numbers) ∙ ap (λ t. t ++ drop (i + 1) numbers) (take_more numbers i 0 within) in
-    on_err c.from_residual.result (MakesSome g.D.Keeper.does c.args.keeper.now c.args.k numbers c.put_one.new.keeper) (makes_more g.D.Keeper.does c.args.k c.args.keeper.now c.loop-number.keeper c.put_one.new.keeper (take i numbers) numbers (drop (i + 1) numbers) (get_or numbers i 0) c.args.text.now.items c.loop-number.text.items (codes "memory\n") parts c.loop-number.invariant c.in_err-put_one.ensures.err)
+    let parts : numbers ≡ (take i numbers ++ get_or numbers i 0 ∷ []) ++ drop (i + 1) numbers =
+    sym (take-append-drop (i + 1) numbers) ∙ ap (λ t. t ++ drop (i + 1) numbers) (take_more numbers i 0 within) in
+    on_err c.from_residual.result (MakesSome g.D.Keeper.does c.args.keeper.now c.args.k numbers c.put_one.new.keeper)
+    (makes_more g.D.Keeper.does c.args.k c.args.keeper.now c.loop-number.keeper c.put_one.new.keeper (take i numbers) numbers (drop (i + 1) numbers)
+    (get_or numbers i 0) c.args.text.now.items c.loop-number.text.items (codes "memory\n") parts c.loop-number.invariant c.in_err-put_one.ensures.err)
 
 pub loop-number-preserved : goal.loop-number-preserved
 loop-number-preserved g c =
     let numbers = c.args.numbers.now in
     let i = c.loop-number.number-index in
     let within : i < length numbers = omega arith in
-    puts_more g.D.Keeper.does c.args.k c.args.keeper.now c.loop-number.keeper c.put_one.new.keeper (take i numbers) (take (i + 1) numbers) (get_or numbers i 0) c.args.text.now.items c.loop-number.text.items c.put_one.new.text.items (take_more numbers i 0 within) c.loop-number.invariant c.in_ok-put_one.ensures.ok
+    puts_more g.D.Keeper.does c.args.k c.args.keeper.now c.loop-number.keeper c.put_one.new.keeper (take i numbers) (take (i + 1) numbers) (get_or numbers i 0)
+    c.args.text.now.items c.loop-number.text.items c.put_one.new.text.items (take_more numbers i 0 within)
+    c.loop-number.invariant c.in_ok-put_one.ensures.ok

@@ -11,4 +11,6 @@ pub returns-in-Edit-clause-err : goal.returns-in-Edit-clause-err
 returns-in-Edit-clause-err g c =
     let old = c.args.keeper.now in
     let e = c.in-Edit.change in
-    rw c.in-Edit.is (on_err_weaker c.edit.result (λ same. refuses faults.Memory (subst (λ d. g.D.Keeper.does old (events.Edit e) (replies.Refused faults.Memory) d) (sym same) (g.met.D.Keeper.in_vain old (events.Edit e))) memory_told) c.edit.ensures.err)
+    rw c.in-Edit.is (on_err_weaker c.edit.result (λ same. refuses faults.Memory
+    (subst (λ d. g.D.Keeper.does old (events.Edit e) (replies.Refused faults.Memory) d) (sym same) (g.met.D.Keeper.in_vain old (events.Edit e)))
+    memory_told) c.edit.ensures.err)

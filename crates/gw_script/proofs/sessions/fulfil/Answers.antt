@@ -14,4 +14,5 @@ returns-in_err-send_refused-in-Err-clause-err g c =
     let new = c.send_refused.new.sink in
     let replies = Replies g.D.Keeper.version g.D.Keeper.does c.args.keeper.now c.args.n c.args.request in
     if_err_at exit.result (BreaksOff g.K.Sink.wrote g.K.Sink.failures replies old new c.answer.new.keeper) p.0 fault p.1 p.2
-    (broken_refused g.K.Sink.wrote g.K.Sink.failures g.met.K.Sink.nothing g.D.Keeper.version g.D.Keeper.does g.met.D.Keeper.in_vain c.args.keeper.now c.answer.new.keeper c.args.n c.args.request old new fault c.in-Err.ensures.err refused)
+    (broken_refused g.K.Sink.wrote g.K.Sink.failures g.met.K.Sink.nothing g.D.Keeper.version g.D.Keeper.does g.met.D.Keeper.in_vain c.args.keeper.now
+    c.answer.new.keeper c.args.n c.args.request old new fault c.in-Err.ensures.err refused)

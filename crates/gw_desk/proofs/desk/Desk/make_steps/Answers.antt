@@ -7,13 +7,15 @@ pub reach-requires : goal.reach-requires
 reach-requires c =
     let seed = rw (← c.self.view_is) at c.requires.seed in
     let found = rw c.as_slice.ensures.value at c.in-Some.ensures.place in
-    (old_records _ c.args.rep c.args.seed c.in-Some.place c.index_mut.result.now c.index_mut.result.now.run c.self.invariant seed (sym found) c.index_mut.ensures.value).0
+    (old_records _ c.args.rep c.args.seed c.in-Some.place c.index_mut.result.now c.index_mut.result.now.run c.self.invariant seed (sym found)
+    c.index_mut.ensures.value).0
 
 pub invariant_of-self : goal.invariant_of-self
 invariant_of-self c =
     let seed = rw (← c.self.view_is) at c.requires.seed in
     let found = rw c.as_slice.ensures.value at c.in-Some.ensures.place in
-    still_book _ c.args.rep c.args.seed c.in-Some.place c.index_mut.result.now c.reach.new.self c.self.invariant seed (sym found) c.index_mut.ensures.value c.reach.new.tally c.reach.ensures.records c.reach.ensures.every
+    still_book _ c.args.rep c.args.seed c.in-Some.place c.index_mut.result.now c.reach.new.self c.self.invariant seed (sym found)
+    c.index_mut.ensures.value c.reach.new.tally c.reach.ensures.records c.reach.ensures.every
 
 pub unreachable-requires : goal.unreachable-requires
 unreachable-requires c =
@@ -25,17 +27,20 @@ pub returns-clause-steps : goal.returns-clause-steps
 returns-clause-steps c =
     let seed = rw (← c.self.view_is) at c.requires.seed in
     let found = rw c.as_slice.ensures.value at c.in-Some.ensures.place in
-    rw (← c.self.view_is) (finishes _ c.args.rep c.args.seed c.in-Some.place c.index_mut.result.now c.reach.new.self c.self.invariant seed (sym found) c.index_mut.ensures.value c.args.k c.reach.new.tally c.reach.ensures.every c.reach.ensures.grows c.reach.ensures.wanted c.reach.ensures.tally)
+    rw (← c.self.view_is) (finishes _ c.args.rep c.args.seed c.in-Some.place c.index_mut.result.now c.reach.new.self c.self.invariant seed (sym found)
+    c.index_mut.ensures.value c.args.k c.reach.new.tally c.reach.ensures.every c.reach.ensures.grows c.reach.ensures.wanted c.reach.ensures.tally)
 
 pub returns-clause-desk : goal.returns-clause-desk
 returns-clause-desk c =
     let seed = rw (← c.self.view_is) at c.requires.seed in
     let found = rw c.as_slice.ensures.value at c.in-Some.ensures.place in
-    still_book _ c.args.rep c.args.seed c.in-Some.place c.index_mut.result.now c.reach.new.self c.self.invariant seed (sym found) c.index_mut.ensures.value c.reach.new.tally c.reach.ensures.records c.reach.ensures.every
+    still_book _ c.args.rep c.args.seed c.in-Some.place c.index_mut.result.now c.reach.new.self c.self.invariant seed (sym found)
+    c.index_mut.ensures.value c.reach.new.tally c.reach.ensures.records c.reach.ensures.every
 
 pub returns-clause-shut : goal.returns-clause-shut
 returns-clause-shut c =
     let seed = rw (← c.self.view_is) at c.requires.seed in
     let found = rw c.as_slice.ensures.value at c.in-Some.ensures.place in
     on_each (Reaches c.self.inside.version c.args.seed c.args.k c.reach.new.self) c.reach.result c.reach.ensures.reached
-    (λ reach reached. shut _ c.args.rep c.args.seed c.in-Some.place c.index_mut.result.now c.reach.new.self c.self.invariant seed (sym found) c.index_mut.ensures.value c.args.k reach c.reach.ensures.records c.requires.some reached)
+    (λ reach reached. shut _ c.args.rep c.args.seed c.in-Some.place c.index_mut.result.now c.reach.new.self c.self.invariant seed (sym found)
+    c.index_mut.ensures.value c.args.k reach c.reach.ensures.records c.requires.some reached)

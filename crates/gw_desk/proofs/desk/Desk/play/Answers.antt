@@ -12,7 +12,8 @@ loop-event-preserved c =
     let known = at.invariant in
     let e = c.in-Some.event in
     let steps : into_iter_items at.event-iterator ≡ e ∷ into_iter_items c.next.new.self = c.in-Some.ensures.steps.0 in
-    let more = plays_more c.args.self.now at.self c.play_one-reply.new.self at.yielded at.replies.items e c.play_one-reply.result known.plays c.play_one-reply.ensures in
+    let more = plays_more c.args.self.now at.self c.play_one-reply.new.self at.yielded at.replies.items e c.play_one-reply.result known.plays
+    c.play_one-reply.ensures in
     record {
       all = append_assoc at.yielded (e ∷ []) _ ∙ rw (← steps) known.all;
       left = let was = known.left in let gone = c.in-Some.ensures.steps.1 in let short = ap length steps in omega arith;

@@ -11,4 +11,5 @@ pub returns-in-Peek : goal.returns-in-Peek
 returns-in-Peek c = rw c.in-Peek.is (λ desk. desk, (refl, c.peek.ensures))
 
 pub returns-in-Finish : goal.returns-in-Finish
-returns-in-Finish c = rw c.in-Finish.is (λ desk. c.finish.ensures.desk, (c.finish.ensures.answer, c.finish.ensures.steps, c.finish.ensures.decided, c.finish.ensures.idle))
+returns-in-Finish c =
+    rw c.in-Finish.is (λ desk. c.finish.ensures.desk, (c.finish.ensures.answer, c.finish.ensures.steps, c.finish.ensures.decided, c.finish.ensures.idle))

@@ -9,4 +9,5 @@ returns-in-Ok-Point c =
     let seed = rw (← c.self.view_is) at c.requires.seed in
     let run = rw (← c.self.view_is) at c.requires.run in
     let given = rw (← c.self.view_is) at c.printed.ensures in
-    rw (← c.self.view_is) (peeks_ready _ c.args.rep c.args.k c.args.seed c.args.run.now s c.in-Ok-Point.outcome c.printed.result c.requires.some few seed run found seen.2 (given s there))
+    rw (← c.self.view_is) (peeks_ready _ c.args.rep c.args.k c.args.seed c.args.run.now s c.in-Ok-Point.outcome c.printed.result c.requires.some few seed run
+    found seen.2 (given s there))

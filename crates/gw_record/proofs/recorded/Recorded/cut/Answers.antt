@@ -16,7 +16,8 @@ returns-in-Some-clause-kept c = λ t seed h.
     let parts = rw c.as_slice.ensures.value at c.count_until-count.ensures.parts in
     let before = rw (← c.self.view_is) at h in
     let taken = sym c.truncate.ensures.items ∙ c.in-Some.ensures.items in
-    rw (← c.self.view_is) (cut_back t seed _ c.args.moment _ _ c.in-Some.last c.go_back.new.self before c.if-moment-self.true within parts taken c.go_back.ensures).1
+    rw (← c.self.view_is) (cut_back t seed _ c.args.moment _ _ c.in-Some.last c.go_back.new.self before c.if-moment-self.true within parts taken
+    c.go_back.ensures).1
 
 pub returns-in-None-clause-records : goal.returns-in-None-clause-records
 returns-in-None-clause-records c = λ t seed h.

@@ -22,8 +22,10 @@ loop-moment-preserved c =
       every = c.in_ok-go.ensures.every ∙ i.every;
       moment = search rules;
       grows = search rules;
-      wanted = subst (λ n. AreWanted c.args.version.now c.args.seed c.args.k c.args.self.now.moment n) (sym went) (wanted_more t seed c.args.k from c.loop-moment.self.moment c.loop-moment.self.tip i.wanted i.records.tip fewer);
-      tally = counted ∙ (ap (λ n. raised n) i.tally ∙ (tallied_more c.args.tally.now from c.loop-moment.self.moment i.grows ∙ ap (λ n. tallied c.args.tally.now (n - c.args.self.now.moment)) (sym went)));
+      wanted = subst (λ n. AreWanted c.args.version.now c.args.seed c.args.k c.args.self.now.moment n) (sym went)
+          (wanted_more t seed c.args.k from c.loop-moment.self.moment c.loop-moment.self.tip i.wanted i.records.tip fewer);
+      tally = counted ∙ (ap (λ n. raised n) i.tally ∙ (tallied_more c.args.tally.now from c.loop-moment.self.moment i.grows ∙
+          ap (λ n. tallied c.args.tally.now (n - c.args.self.now.moment)) (sym went)));
     }
 
 pub returns-clause-reached : goal.returns-clause-reached

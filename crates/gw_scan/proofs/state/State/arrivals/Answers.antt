@@ -16,8 +16,10 @@ returns-in_err-arrival c =
     let made = c.loop-place.arrivals.items in
     let place = get_or places i 0 in
     let h : i < length places = search rules in
-    let whole : arrivals_prog s (drop i places) made ≡ (prime_prog s place >>= (λ a. arrivals_prog s (drop (i + 1) places) (with_arrival a made))) = ap (λ ps. arrivals_prog s ps made) (drop_more places i 0 h) in
-    c.loop-place.invariant c.from_residual.result _ (decides_exit c.args.case.version.now c.args.case.seed (prime_prog s place) (λ a. arrivals_prog s (drop (i + 1) places) (with_arrival a made)) _ _ _ c.in_err-arrival.field-0.0 _ _ whole p.1 p.2 c.in_err-arrival.ensures)
+    let whole : arrivals_prog s (drop i places) made ≡ (prime_prog s place >>= (λ a. arrivals_prog s (drop (i + 1) places) (with_arrival a made))) =
+    ap (λ ps. arrivals_prog s ps made) (drop_more places i 0 h) in
+    c.loop-place.invariant c.from_residual.result _ (decides_exit c.args.case.version.now c.args.case.seed (prime_prog s place)
+    (λ a. arrivals_prog s (drop (i + 1) places) (with_arrival a made)) _ _ _ c.in_err-arrival.field-0.0 _ _ whole p.1 p.2 c.in_err-arrival.ensures)
 
 pub loop-place-preserved : goal.loop-place-preserved
 loop-place-preserved c = λ r all rest.
@@ -27,12 +29,16 @@ loop-place-preserved c = λ r all rest.
     let made = c.loop-place.arrivals.items in
     let place = get_or places i 0 in
     let h : i < length places = search rules in
-    let whole : arrivals_prog s (drop i places) made ≡ (prime_prog s place >>= (λ a. arrivals_prog s (drop (i + 1) places) (with_arrival a made))) = ap (λ ps. arrivals_prog s ps made) (drop_more places i 0 h) in
+    let whole : arrivals_prog s (drop i places) made ≡ (prime_prog s place >>= (λ a. arrivals_prog s (drop (i + 1) places) (with_arrival a made))) =
+    ap (λ ps. arrivals_prog s ps made) (drop_more places i 0 h) in
     let put : with_arrival c.in_ok-arrival.arrival made ≡ c.put_if.new.arrivals.items = sym c.in_ok-put_if.ensures in
-    c.loop-place.invariant r all (decides_whole c.args.case.version.now c.args.case.seed (prime_prog s place) (λ a. arrivals_prog s (drop (i + 1) places) (with_arrival a made)) _ c.in_ok-arrival.arrival r c.loop-place.uses c.prime.new.uses all whole c.in_ok-arrival.ensures (rw put rest))
+    c.loop-place.invariant r all (decides_whole c.args.case.version.now c.args.case.seed (prime_prog s place)
+    (λ a. arrivals_prog s (drop (i + 1) places) (with_arrival a made))
+    _ c.in_ok-arrival.arrival r c.loop-place.uses c.prime.new.uses all whole c.in_ok-arrival.ensures (rw put rest))
 
 pub returns : goal.returns
 returns c =
     let last : c.loop-place.place-index ≡ length c.args.places.now = omega arith in
     let end : drop c.loop-place.place-index c.args.places.now ≡ [] = rw last (drop-length c.args.places.now) in
-    rw c.from_vec.ensures (c.loop-place.invariant (Ok c.loop-place.arrivals.items) c.loop-place.uses (rw end (decides_gives c.args.case.version.now c.args.case.seed c.loop-place.arrivals.items c.loop-place.uses)))
+    rw c.from_vec.ensures (c.loop-place.invariant (Ok c.loop-place.arrivals.items) c.loop-place.uses
+    (rw end (decides_gives c.args.case.version.now c.args.case.seed c.loop-place.arrivals.items c.loop-place.uses)))

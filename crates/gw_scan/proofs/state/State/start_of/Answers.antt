@@ -13,7 +13,8 @@ returns-in_err-arrivals-clause-decides c =
     let s = c.args.self.now in
     let unprimed : s.primed ≡ false = ap (λ (m : Machine). m.primed) (sym c.self.view_is) ∙ c.if-self.false in
     let whole : start_prog s s.primed c.args.count ≡ (first_arrivals_prog s >>= (λ first. Gives (moves.Start c.args.count first))) = rw unprimed refl in
-    decides_exit c.args.case.version.now c.args.case.seed (first_arrivals_prog s) (λ first. Gives (moves.Start c.args.count first)) _ _ _ c.in_err-arrivals.field-0.0 _ _ whole p.1 p.2 c.in_err-arrivals.ensures
+    decides_exit c.args.case.version.now c.args.case.seed (first_arrivals_prog s) (λ first. Gives (moves.Start c.args.count first))
+    _ _ _ c.in_err-arrivals.field-0.0 _ _ whole p.1 p.2 c.in_err-arrivals.ensures
 
 pub returns-clause-decides : goal.returns-clause-decides
 returns-clause-decides c =
@@ -21,4 +22,7 @@ returns-clause-decides c =
     let t = c.args.case.version.now in
     let unprimed : s.primed ≡ false = ap (λ (m : Machine). m.primed) (sym c.self.view_is) ∙ c.if-self.false in
     let whole : start_prog s s.primed c.args.count ≡ (first_arrivals_prog s >>= (λ first. Gives (moves.Start c.args.count first))) = rw unprimed refl in
-    decides_whole t c.args.case.seed (first_arrivals_prog s) (λ first. Gives (moves.Start c.args.count first)) _ c.in_ok-arrivals.arrivals (Ok (moves.Start c.args.count c.in_ok-arrivals.arrivals)) c.args.uses.now c.first_arrivals.new.uses c.first_arrivals.new.uses whole c.in_ok-arrivals.ensures (decides_gives t c.args.case.seed (moves.Start c.args.count c.in_ok-arrivals.arrivals) c.first_arrivals.new.uses)
+    decides_whole t c.args.case.seed (first_arrivals_prog s) (λ first. Gives (moves.Start c.args.count first)) _ c.in_ok-arrivals.arrivals
+    (Ok (moves.Start c.args.count c.in_ok-arrivals.arrivals))
+    c.args.uses.now c.first_arrivals.new.uses c.first_arrivals.new.uses whole c.in_ok-arrivals.ensures
+    (decides_gives t c.args.case.seed (moves.Start c.args.count c.in_ok-arrivals.arrivals) c.first_arrivals.new.uses)

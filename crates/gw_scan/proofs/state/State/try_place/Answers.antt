@@ -6,4 +6,5 @@ use Rattle.gw_scan.proofs.state.State.try_place.Goals as goal
 pub returns-clause-decides : goal.returns-clause-decides
 returns-clause-decides c =
     let case = c.args.case in
-    rw c.in-Some.is (decides_asked case.version.now case.seed (items.Block c.in-Some.place) (enter_prog c.args.self.now c.args.x.now c.in-Some.place) _ _ _ _ c.in_ok-block.ensures.ok (rw (← c.in_ok-block.ensures.answer) c.enter.ensures.decides))
+    rw c.in-Some.is (decides_asked case.version.now case.seed (items.Block c.in-Some.place) (enter_prog c.args.self.now c.args.x.now c.in-Some.place)
+    _ _ _ _ c.in_ok-block.ensures.ok (rw (← c.in_ok-block.ensures.answer) c.enter.ensures.decides))
