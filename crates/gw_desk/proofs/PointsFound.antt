@@ -61,7 +61,8 @@ search_means t seed k some zero n s sum there first = go (s.complete == k) refl 
       record { s = s; u = u; there = subst P all there; goes = is; incomplete = λ e. grind (arith, nat_tests); first = subst Q all first }
 search_means t seed k some (suc fuel) n s sum there first =
     go (λ u more later. search_means t seed k some fuel (suc n) u (omega (arith, sum)) more later) (s.complete == k) refl (step t seed s) refl where
-      go : ((u : Machine) → run t seed (suc n) ≡ Ok u → IsFirst t seed k (suc n) → Means t seed k (search t seed k fuel u)) → (b : Bool) → (s.complete == k) ≡ b →
+      go : ((u : Machine) → run t seed (suc n) ≡ Ok u → IsFirst t seed k (suc n) → Means t seed k (search t seed k fuel u)) →
+          (b : Bool) → (s.complete == k) ≡ b →
           (r : Result Machine End) → step t seed s ≡ r → Means t seed k (cond b (Point s outcomes.Complete) (behind k s (search t seed k fuel) r))
       go rest true done r is = (n, complete some (omega (arith, sum)) there (grind (arith, nat_tests)) first refl)
       go rest false other (Err end) is = ends_so t seed k n s end (omega (arith, sum)) there is (λ e. grind (arith, nat_tests)) first

@@ -70,7 +70,8 @@ module _ (t u : Listing) (place : ℕ) (line : Numbered) (s : Statement) (back :
     generates_alike same =
         between generates_in (generates_behind (lines_before t place) (changed_line line s ∷ back) (line ∷ back) (generates_here back line s same))
 
-    commands_alike : (j : ℕ) → command_of (changed_line line s) ≡ command_of line → nth (filter_map command_of u.lines) j ≡ nth (filter_map command_of t.lines) j
+    commands_alike : (j : ℕ) → command_of (changed_line line s) ≡ command_of line →
+        nth (filter_map command_of u.lines) j ≡ nth (filter_map command_of t.lines) j
     commands_alike j same =
         between (λ ls. nth (filter_map command_of ls) j) (ap (λ cs. nth cs j)
         (commands_behind (lines_before t place) (changed_line line s ∷ back) (line ∷ back) (commands_here back line s same)))
@@ -97,7 +98,8 @@ module _ (t u : Listing) (place : ℕ) (line : Numbered) (s : Statement) (back :
     other_alike was is items.Seed h = seeds
     other_alike was is (items.Within time) h = ap (λ n. nat_le time n) e.horizon
 
-    block_by_block : is_block line ≡ true → is_block (changed_line line s) ≡ true → (i : Item) → is_touched (block_change line (changed_line line s)) i ≡ false →
+    block_by_block : is_block line ≡ true → is_block (changed_line line s) ≡ true → (i : Item) →
+        is_touched (block_change line (changed_line line s)) i ≡ false →
         ask u b i ≡ ask t a i
     block_by_block was is i h =
         ⊎_elim

@@ -125,7 +125,8 @@ fn line_probes(version: &Version, place: u64, line: &Numbered) -> Probes
 // A block that comes in or goes out behind the block in front of it.
 fn block_probes(front: Option<u64>, line: &Numbered) -> Probes
     ensures { given result ≡ behind front
-        ++ (One (items.Block line.now.number) ∷ One (items.After line.now.number) ∷ generates_if (is_generate line.now)) }
+        ++ (One (items.Block line.now.number) ∷ One (items.After line.now.number) ∷
+        generates_if (is_generate line.now)) }
 {
     [
         front.map(|number| Probe::One(Item::After(number))),

@@ -138,7 +138,7 @@ impl Sink for Page {
         ensures counted { OnErr result (self.new.failures ≡ one_more self.old.failures) }
         ensures most { IfOk result (λ n. n ≡ min (length bytes.now) (min self.old.step self.old.room)) }
         ensures room { MatchResult result (λ n. self.old.room ≡ self.new.room + n)
-          (λ _. self.new.room ≡ self.old.room) }
+            (λ _. self.new.room ≡ self.old.room) }
         ensures step { self.new.step ≡ self.old.step }
     {
         let count = bytes.len().min(self.step.min(self.room));

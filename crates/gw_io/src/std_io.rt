@@ -43,7 +43,8 @@ impl<R: Read> Source for FromRead<R> {
 
     ghost nothing = { λ a. Consumes-nothing (R.remaining a.reader) };
 
-    ghost onward = { λ a b c x y. Consumes-onward (R.remaining a.reader) (R.remaining b.reader) (R.remaining c.reader) x y };
+    ghost onward = { λ a b c x y.
+        Consumes-onward (R.remaining a.reader) (R.remaining b.reader) (R.remaining c.reader) x y };
 
     fn read(&mut self) -> Result<Option<u8>, Failed> {
         let mut byte = [0u8];
@@ -107,7 +108,8 @@ impl<W: Write> Sink for ToWrite<W> {
 
     ghost nothing = { λ a. Appends-nothing (W.contents a.writer) };
 
-    ghost onward = { λ a b c x y. Appends-onward (W.contents a.writer) (W.contents b.writer) (W.contents c.writer) x y };
+    ghost onward = { λ a b c x y.
+        Appends-onward (W.contents a.writer) (W.contents b.writer) (W.contents c.writer) x y };
 
     fn write(&mut self, bytes: &[u8]) -> Result<usize, Failed> {
         match self.writer.write(bytes) {

@@ -22,7 +22,7 @@ pub fn read_all<S: Source>(
     budget: &mut Budget,
 ) -> Result<Vec<u8>, ReadFault>
     ensures all { IfOk result
-      (λ bytes. TakesAll S.took S.ended source.old source.new budget.old budget.new bytes.items) }
+        (λ bytes. TakesAll S.took S.ended source.old source.new budget.old budget.new bytes.items) }
     ensures uncounted { OnOk result (S.failures source.new ≡ S.failures source.old) }
     ensures fault { IfErr result (Breaks S.took S.failures AnyBytes source.old source.new budget.old budget.new) }
 {

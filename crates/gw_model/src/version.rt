@@ -109,7 +109,7 @@ impl Version {
         ensures found { IfOk result (λ v. Well v) }
         ensures none { OnOk result (fault_of (record self.now { replications = replications.items }) ≡ None) }
         ensures fault { IfErr result
-          (λ f. IsFault (fault_of (record self.now { replications = replications.items })) f) }
+            (λ f. IsFault (fault_of (record self.now { replications = replications.items })) f) }
         ensures only { Well (record self.now { replications = replications.items }) → IfErr result (λ f. f ≡ Memory) }
     {
         let lines = copy_lines(alloc, self.lines.as_slice())?;

@@ -29,7 +29,8 @@ pub fn put_current(out: &mut Vec<u8>, version: &Version, state: &State) -> Resul
 // The lines of the active transaction and of the current chain.
 fn current_lines(alloc: Global, version: &Version, state: &State) -> Result<Vec<u8>, AllocError>
     ensures { IfOk result (λ lines. lines.items ≡
-        rows_of current_columns (map (current_line version.now) (option_to_list state.now.active ++ state.now.current))) }
+        rows_of current_columns
+        (map (current_line version.now) (option_to_list state.now.active ++ state.now.current))) }
 {
     let mut lines = Vec::new(alloc);
     put_active(&mut lines, version, state.active())?;

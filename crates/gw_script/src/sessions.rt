@@ -68,7 +68,8 @@ pub fn session<S: Source, K: Sink>(
         over) }
     ensures stops { IfErr result (λ fault.
         (Refuses model.now options fault × (source.new ≡ source.old) × (sink.new ≡ sink.old))
-        ⊎ ((b : Book) × (b' : Book) × Opens model.now options b × Stops DeskAnswers S.took S.failures K.wrote K.failures b source.old source.new sink.old sink.new b' fault)) }
+        ⊎ ((b : Book) × (b' : Book) × Opens model.now options b
+        × Stops DeskAnswers S.took S.failures K.wrote K.failures b source.old source.new sink.old sink.new b' fault)) }
 {
     let mut desk = open(alloc, model, options)?;
     session_on(alloc, &mut desk, source, sink)
@@ -144,7 +145,8 @@ fn send_refused<K: Sink>(sink: &mut K, untold: Option<&[u8]>) -> Result<(), Faul
     ensures ok { OnOk result ((text : List ℕ) × (option_copied untold.entry ≡ Some text) ×
         K.wrote sink.old text sink.new) }
     ensures same { OnOk result (K.failures sink.new ≡ K.failures sink.old) }
-    ensures err { IfErr result (λ f. BreaksRefused K.wrote K.failures (option_copied untold.entry) sink.old sink.new f) }
+    ensures err { IfErr result (λ f.
+        BreaksRefused K.wrote K.failures (option_copied untold.entry) sink.old sink.new f) }
 {
     match untold {
         Some(text) => send(sink, text),
