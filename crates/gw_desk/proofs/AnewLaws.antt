@@ -1,11 +1,11 @@
 -- A version with its places renamed is answered alike, and so is the version made anew.
-use Rattle.std.proofs.Common.{◌≡◌, ℕ, zero, suc, ◌+◌, ◌<◌, ◌||◌, nat_eq, nat_lt, Bool, true, false, cond, List, [], ◌∷◌, length, filter, Option, Some, None, Result, Ok, Err, refl, ap, sym, subst, ◌∙◌, arith}
+use Rattle.std.proofs.Common.{◌≡◌, ℕ, zero, suc, ◌+◌, ◌<◌, ◌&&◌, ◌||◌, nat_eq, nat_lt, Bool, true, false, cond, List, [], ◌∷◌, length, filter, Option, Some, None, Result, Ok, Err, refl, ap, ap₂, is_some, option_map, sym, subst, ◌∙◌, arith}
 use Rattle.std.proofs.lemmas.Bool.{ne_eqb}
 use Rattle.gw_meaning.specs.declared.item.End.{End}
 use Rattle.gw_meaning.specs.declared.item.Outcome.{Outcome}
 use Rattle.gw_meaning.specs.declared.statement.Statement.{Statement}
 use Rattle.gw_meaning.specs.declared.statement.Numbered.{Numbered}
-use Rattle.gw_meaning.specs.Listing.{Listing, line_in, is_start, starts, seed_at, seed_in}
+use Rattle.gw_meaning.specs.Listing.{Listing, block_of, block_of_body, has_label, labelled_in, is_start, starts, seed_at, seed_in}
 use Rattle.gw_meaning.specs.Numbers.{AreNumbered}
 use Rattle.gw_meaning.specs.Machine.{Machine, zero_state}
 use Rattle.gw_meaning.specs.Step.{step}
@@ -13,7 +13,9 @@ use Rattle.gw_meaning.specs.Point.{outcome_of}
 use Rattle.gw_model.specs.Listed.{numbered}
 use Rattle.gw_model.proofs.Numbers.{numbered_listed}
 use Rattle.gw_frame.specs.Moved.{moved_machine, moved_result}
-use Rattle.gw_frame.specs.Renamed.{statements_of, IsSameModel, IsRenamed}
+use Rattle.gw_model.specs.Faults.{is_labelled, has_label_twice}
+use Rattle.gw_model.specs.Listed.{block_label}
+use Rattle.gw_frame.specs.Renamed.{statements_of, AreRenamed, IsSameModel, IsRenamed}
 use Rattle.gw_frame.proofs.Renaming.{commands_renamed}
 use Rattle.gw_frame.proofs.RenamedRuns.{renamed_step}
 use Rattle.gw_frame.proofs.Renumbering.{has_renaming}
@@ -21,7 +23,7 @@ use Rattle.gw_report.proofs.Renaming.{renamed_text}
 use Rattle.gw_desk.specs.declared.answer.Answer.TheVariants as answers
 use Rattle.gw_desk.specs.Finding.{Verdict, Point, NoStart, TooLong, with_outcome, at_end, behind, search, verdict}
 use Rattle.gw_desk.specs.Replies.{told, told_of, answer_with, answer_of}
-use Rattle.gw_desk.specs.Anew.{anew, SameAnswers, AnsweredAnew}
+use Rattle.gw_desk.specs.Anew.{anew, SameAnswers, AnsweredAnew, FaultyAnew}
 
 -- a verdict with its state renamed
 abbrev moved_verdict : (ℕ → ℕ) → Verdict → Verdict
@@ -97,3 +99,49 @@ answered_anew t are =
     let statements = statements_of t.lines in
     let same : IsSameModel t (anew t) = record { statements = same_statements 1 statements; horizon = refl; replications = refl; limit = refl } in
     same_answers t (anew t) same are (numbered_listed 1 statements (omega arith))
+
+-- labels and numbers of statements
+label_renamed : (move : ℕ → ℕ) (name : List ℕ) (ls ms : List Numbered) → AreRenamed move ls ms →
+    labelled_in name ms ≡ option_map move (labelled_in name ls)
+label_renamed move name [] [] r = refl
+label_renamed move name [] (m ∷ ms) r = absurd r
+label_renamed move name (l ∷ ls) [] r = absurd r
+label_renamed move name (l ∷ ls) (m ∷ ms) r =
+    let same : (is_some (block_of m) && has_label name m.statement.label) ≡ (is_some (block_of l) && has_label name l.statement.label) =
+    ap (λ (s : Statement). is_some (block_of_body s.body) && has_label name s.label) r.1 in
+    rw (same, r.0)
+    (elim (is_some (block_of l) && has_label name l.statement.label) as
+    (λ b. cond b (Some (move l.number)) (labelled_in name ms) ≡ option_map move (cond b (Some l.number) (labelled_in name ls)))
+    [ true ↦ refl | false ↦ label_renamed move name ls ms r.2 ])
+
+there_renamed : (move : ℕ → ℕ) (o : Option ℕ) → is_some (option_map move o) ≡ is_some o
+there_renamed move None = refl
+there_renamed move (Some n) = refl
+
+labelled_renamed : (move : ℕ → ℕ) (label : Option (List ℕ)) (ls ms : List Numbered) → AreRenamed move ls ms → is_labelled label ms ≡ is_labelled label ls
+labelled_renamed move None ls ms r = refl
+labelled_renamed move (Some name) ls ms r = ap is_some (label_renamed move name ls ms r) ∙ there_renamed move (labelled_in name ls)
+
+abbrev label_of_statement : Statement → Option (List ℕ)
+label_of_statement s = cond (is_some (block_of_body s.body)) s.label None
+
+twice_renamed : (move : ℕ → ℕ) (ls ms : List Numbered) → AreRenamed move ls ms → has_label_twice ms ≡ has_label_twice ls
+twice_renamed move [] [] r = refl
+twice_renamed move [] (m ∷ ms) r = absurd r
+twice_renamed move (l ∷ ls) [] r = absurd r
+twice_renamed move (l ∷ ls) (m ∷ ms) r =
+    let same : block_label m ≡ block_label l = ap label_of_statement r.1 in
+    ap₂ (λ a b. a || b) (ap (λ label. is_labelled label ms) same ∙ labelled_renamed move (block_label l) ls ms r.2) (twice_renamed move ls ms r.2)
+
+length_renamed : (move : ℕ → ℕ) (ls ms : List Numbered) → AreRenamed move ls ms → length ms ≡ length ls
+length_renamed move [] [] r = refl
+length_renamed move [] (m ∷ ms) r = absurd r
+length_renamed move (l ∷ ls) [] r = absurd r
+length_renamed move (l ∷ ls) (m ∷ ms) r = ap suc (length_renamed move ls ms r.2)
+
+pub faulty_anew : FaultyAnew
+faulty_anew t are =
+    let statements = statements_of t.lines in
+    let same : IsSameModel t (anew t) = record { statements = same_statements 1 statements; horizon = refl; replications = refl; limit = refl } in
+    let found = has_renaming t (anew t) same are (numbered_listed 1 statements (omega arith)) in
+    rw (length_renamed found.0 t.lines (anew t).lines found.1.lines, twice_renamed found.0 t.lines (anew t).lines found.1.lines) refl

@@ -8,33 +8,40 @@ use Rattle.gw_desk.specs.declared.answer.Report.{Report}
 use Rattle.gw_desk.specs.Book.{Book, IsBook}
 use Rattle.gw_desk.specs.Replies.{answer_of}
 use Rattle.gw_desk.specs.Peeking.{Peeks, IsAnswer}
+use Rattle.gw_desk.specs.Anew.{anew}
 use Rattle.gw_desk.proofs.AnewLaws.{answered_anew}
-use Rattle.gw_desk.specs.Headline.{IsRight, AreRight, ReportsAreRight}
+use Rattle.gw_desk.specs.Headline.{IsRight, IsRightPeek, AreRight, ReportsAreRight}
 
--- a report that the definition answers is the one that it answers of the version made anew
+-- what the definition answers of a version, it answers of the version made anew
 module _ (b : Book) (is : IsBook b) (rep k : ℕ) where
-  made_anew : (report : Report) → answers.Ready report ≡ answer_of b.version (length b.edits) rep k →
-      IsRight b.version (length b.edits) rep k (answers.Ready report)
-  made_anew report h = h ∙ sym (answered_anew b.version is.numbered (length b.edits) rep k)
+  made_anew : (answer : Answer) → answer ≡ answer_of b.version (length b.edits) rep k →
+      answer ≡ answer_of (anew b.version) (length b.edits) rep k
+  made_anew answer h = h ∙ sym (answered_anew b.version is.numbered (length b.edits) rep k)
 
-  peek_right : (answer : Answer) → Peeks b rep k answer → IsRight b.version (length b.edits) rep k answer
-  peek_right (answers.Ready report) h = made_anew report h.0
+  peek_right : (answer : Answer) → Peeks b rep k answer → IsRightPeek b.version (length b.edits) rep k answer
+  peek_right (answers.Ready report) h = made_anew (answers.Ready report) h.0
   peek_right (answers.Unfinished n) h = tt
-  peek_right answers.NoStart h = tt
-  peek_right answers.TooLong h = tt
-  peek_right answers.NoReplication h = tt
+  peek_right answers.NoStart h = made_anew answers.NoStart h.0
+  peek_right answers.TooLong h = made_anew answers.TooLong h.0
+  peek_right answers.NoReplication h = made_anew answers.NoReplication h.0
   peek_right answers.Memory h = tt
 
-  finish_right : (answer : Answer) → IsAnswer (answer_of b.version (length b.edits) rep k) answer → IsRight b.version (length b.edits) rep k answer
-  finish_right (answers.Ready report) h = made_anew report (⊎_elim (λ is. is) (λ memory. absurd cc) h)
-  finish_right (answers.Unfinished m) h = tt
-  finish_right answers.NoStart h = tt
-  finish_right answers.TooLong h = tt
-  finish_right answers.NoReplication h = tt
+  decided : (answer : Answer) → (answer ≡ answers.Memory → ⊥) → IsAnswer (answer_of b.version (length b.edits) rep k) answer →
+      answer ≡ answer_of (anew b.version) (length b.edits) rep k
+  decided answer other h = ⊎_elim (λ is. made_anew answer is) (λ memory. absurd (other memory)) h
+
+  finish_right : (answer : Answer) → IsAnswer (answer_of b.version (length b.edits) rep k) answer →
+      IsRight b.version (length b.edits) rep k answer
+  finish_right (answers.Ready report) h = decided (answers.Ready report) (λ memory. cc) h
+  finish_right (answers.Unfinished n) h = decided (answers.Unfinished n) (λ memory. cc) h
+  finish_right answers.NoStart h = decided answers.NoStart (λ memory. cc) h
+  finish_right answers.TooLong h = decided answers.TooLong (λ memory. cc) h
+  finish_right answers.NoReplication h = decided answers.NoReplication (λ memory. cc) h
   finish_right answers.Memory h = tt
 
 pub reports_are_right : ReportsAreRight
-reports_are_right b c [] others is h = tt
+reports_are_right b c [] [] is h = tt
+reports_are_right b c [] (reply ∷ others) is h = absurd h
 reports_are_right b c (event ∷ more) [] is h = absurd h
 reports_are_right b c (events.Edit e ∷ more) (replies.Edited m ∷ others) is (x, (desk, does), rest) =
     let after = reports_are_right x c more others (desk is) rest in

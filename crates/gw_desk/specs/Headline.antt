@@ -14,22 +14,28 @@ use Rattle.gw_desk.specs.Replies.{answer_of}
 use Rattle.gw_desk.specs.Anew.{anew}
 use Rattle.gw_desk.specs.Playing.{Plays}
 
--- a report handed out of a version behind n accepted edits is the one of the version made anew, run from zero
+-- a query of a version behind n accepted edits is answered as the version made anew is, run from zero; or memory was refused
 abbrev pub IsRight : Listing → ℕ → ℕ → ℕ → Answer → Type 0
-IsRight t n rep k (answers.Ready report) = answers.Ready report ≡ answer_of (anew t) n rep k
-IsRight t n rep k answer = Unit {0}
+IsRight t n rep k answers.Memory = Unit {0}
+IsRight t n rep k answer = answer ≡ answer_of (anew t) n rep k
+
+-- and a query of the recorded steps alone may also be answered that they do not decide
+abbrev pub IsRightPeek : Listing → ℕ → ℕ → ℕ → Answer → Type 0
+IsRightPeek t n rep k (answers.Unfinished steps) = Unit {0}
+IsRightPeek t n rep k answer = IsRight t n rep k answer
 
 -- the replies to events, from a version behind n accepted edits on: an accepted edit goes on to its version, a refused
 -- one leaves it
 abbrev pub AreRight : Listing → ℕ → List Event → List Reply → Type 0
-AreRight t n [] others = Unit {0}
-AreRight t n (event ∷ more) [] = Unit {0}
+AreRight t n [] [] = Unit {0}
+AreRight t n [] (reply ∷ others) = ⊥
+AreRight t n (event ∷ more) [] = ⊥
 AreRight t n (events.Edit e ∷ more) (replies.Edited m ∷ others) =
     (u : Listing) × (applied t e ≡ Ok u) × (m ≡ n + 1) × AreRight u (n + 1) more others
 AreRight t n (events.Edit e ∷ more) (replies.Refused fault ∷ others) = AreRight t n more others
 AreRight t n (events.Edit e ∷ more) (replies.Answered answer ∷ others) = ⊥
 AreRight t n (events.Peek rep k ∷ more) (replies.Answered answer ∷ others) =
-    IsRight t n rep k answer × AreRight t n more others
+    IsRightPeek t n rep k answer × AreRight t n more others
 AreRight t n (events.Peek rep k ∷ more) (reply ∷ others) = ⊥
 AreRight t n (events.Finish rep k ∷ more) (replies.Answered answer ∷ others) =
     IsRight t n rep k answer × AreRight t n more others

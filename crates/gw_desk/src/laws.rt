@@ -1,5 +1,5 @@
 // Laws above the definitions that the contracts of the calls cite.
-ghost use Rattle.gw_desk.specs.Anew.{SameAnswers, AnsweredAnew};
+ghost use Rattle.gw_desk.specs.Anew.{SameAnswers, AnsweredAnew, FaultyAnew};
 ghost use Rattle.gw_desk.specs.Headline.{ReportsAreRight};
 ghost use Rattle.gw_desk.specs.Points.{FindsPoints};
 
@@ -10,15 +10,18 @@ pub fn points_are_found()
 {}
 
 /// After any list of edits and queries that [`Desk::play`](crate::Desk::play) played, each report handed out is, byte
-/// for byte, the report of a run from zero of the version of the edits accepted so far; a refused edit changes nothing.
+/// for byte, the report of the version made anew from its statements, run from zero. So is every other answer of a
+/// query, but that memory may be refused, and that a peek may say that the recorded steps do not decide. A refused edit
+/// leaves the version.
 pub fn reports_are_right()
     ensures { ReportsAreRight }
 {}
 
 /// The numbers of statements do not matter: two versions with the same statements in order, whatever their numbers, are
 /// answered alike for every replication and START. So an edited version is answered as the version made anew from the
-/// statements that `list` shows.
+/// statements that `list` shows, which has a fault only where it has one itself.
 pub fn numbers_do_not_matter()
     ensures alike { SameAnswers }
     ensures anew { AnsweredAnew }
+    ensures faulty { FaultyAnew }
 {}
