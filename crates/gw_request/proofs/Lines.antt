@@ -307,7 +307,7 @@ line_again line r h = go (behind_again h.asks) where
       (ap (word_at line) (ap cut cuts ∙ cut_again (word_of h.command) b words (solid_word h.command) blank)) asks
 
 pub lines_ask : LinesAsk
-lines_ask line r = record {
-  found = line_found line r;
-  again = λ h. (line_again line r h, behind_asked h.asks (are_asked h.command));
-}
+lines_ask line r = (
+  λ h. line_found line r h.0 h.1,
+  λ h. (line_again line r h, behind_asked h.asks (are_asked h.command)),
+)

@@ -1,5 +1,5 @@
 -- What a script line asks for, apart from how it is read; and the law that it is read so. (Our own.)
-use Rattle.std.specs.Prelude.{◌≡◌, ◌≤◌, ℕ, Bool, true, false, List, [], ◌∷◌, ◌++◌, Some, length}
+use Rattle.std.specs.Prelude.{◌≡◌, ◌↔◌, ◌≤◌, ℕ, Bool, true, false, List, [], ◌∷◌, ◌++◌, Some, length}
 use Rattle.gw_names.specs.Names.{name_of}
 use Rattle.gw_request.specs.declared.command.Command.{Command}
 use Rattle.gw_request.specs.declared.request.Request.{Request}
@@ -41,7 +41,7 @@ pub data Behind : Form → List ℕ → Request → Type 0 where
       IsBlank b → IsName spelling name → IsBlank d → IsNumber digits n →
       Behind (NameAndNumber f) (b ∷ (spelling ++ d ∷ digits)) (f name n)
 
--- a line asks for something: it is a command's word, with what stands behind it by the command's form
+-- a line asks for something: it is a command's word, and behind it stands what the command's form says
 pub record AsksFor (line : List ℕ) (r : Request) : Type 0 where
   pub short : length line ≤ 65536
   pub command : Command
@@ -56,9 +56,5 @@ is_asked (requests.Bad why) = false
 is_asked r = true
 
 -- a line is read as a request of a command exactly where it asks for that
-pub record ReadAsAsked (line : List ℕ) (r : Request) : Type 0 where
-  pub found : request_of line ≡ r → is_asked r ≡ true → AsksFor line r
-  pub again : AsksFor line r → (request_of line ≡ r) × (is_asked r ≡ true)
-
 abbrev pub LinesAsk : Type 0
-LinesAsk = (line : List ℕ) (r : Request) → ReadAsAsked line r
+LinesAsk = (line : List ℕ) (r : Request) → ((request_of line ≡ r) × (is_asked r ≡ true)) ↔ AsksFor line r
