@@ -14,6 +14,7 @@ use Rattle.gw_lines.specs.Models.{with_byte}
 use Rattle.gw_lines.specs.Spelling.{Spells}
 use Rattle.gw_lines.specs.Faulty.{FirstFault}
 use Rattle.gw_lines.specs.Edits.{edit_lines, SpellsEdit, AreClean, MayGoOn, spelled, misses, is_missing, FaultOfLines, no_line, long_line, wrong_byte, in_first, goes_on, at_the_end, FirstFaultOfEdit, AnswersEdit, short_lines, byte_fault, plain_lines, followed, first_of, edit_in, edit_of}
+use Rattle.gw_lines.specs.Read.{EditsAreRead, EditsAreRefused}
 use Rattle.gw_lines.proofs.Fronts.{front_yes, rest_yes}
 use Rattle.gw_lines.proofs.Operands.{failed, err_is}
 use Rattle.gw_lines.proofs.Lines.{short_is, spells_found, spells_again}
@@ -259,6 +260,15 @@ fault_in (in_first line further f c h m) = clean_gives c ∙ on_first further h 
 fault_in (goes_on line next others c (spelled l s h)) = clean_gives c ∙ ap followed (spells_again l s h)
 fault_in (goes_on line next others c (misses l n h)) = clean_gives c ∙ ap followed (fault_again h)
 fault_in (at_the_end line n c h) = clean_gives c ∙ fault_again h
+
+-- ---- the laws
+
+pub edits_are_read : EditsAreRead
+edits_are_read text s = (edit_spells text s, edit_again text s)
+
+pub edits_are_refused : EditsAreRefused
+unfolding edit_of
+edits_are_refused text f = (lines_fault (edit_lines text) f, λ h. fault_in h)
 
 -- ---- the clauses
 

@@ -13,6 +13,7 @@ use Rattle.gw_lines.specs.Models.{lines_of, numbered, statements_of, model_of}
 use Rattle.gw_lines.specs.Spelling.{Spells}
 use Rattle.gw_lines.specs.Faulty.{FirstFault}
 use Rattle.gw_lines.specs.Whole.{IsRemark, OfLines, no_lines, remark_line, statement_line, FirstFaulty, faulty_line, behind_remark, behind_statement, SpellsModel, FirstFaultOf, AnswersAt}
+use Rattle.gw_lines.specs.Read.{ModelsAreRead, ModelsAreRefused}
 use Rattle.gw_lines.proofs.Bodies.{done, ok_is}
 use Rattle.gw_lines.proofs.Operands.{failed, err_is}
 use Rattle.gw_lines.proofs.Lines.{short_is, short_again, cut_of, cut_is, spells_found, spells_again}
@@ -130,6 +131,16 @@ faulty_again : {n : ℕ} {lines : List (List ℕ)} {x : FaultyLine} → FirstFau
 faulty_again (faulty_line n line lines f u h) = rw (faulty_is u h) refl
 faulty_again (behind_remark n line lines x r h) = rw (remark_is r, faulty_again h) refl
 faulty_again (behind_statement n line lines s x k h) = rw (spelled_is k, faulty_again h) refl
+
+-- ---- the laws
+
+pub models_are_read : ModelsAreRead
+unfolding model_of
+models_are_read bytes ss = (lines_found 1 (lines_of bytes) ss, λ h. lines_again h 1)
+
+pub models_are_refused : ModelsAreRefused
+unfolding model_of
+models_are_refused bytes e = (lines_faulty 1 (lines_of bytes) e, λ h. faulty_again h)
 
 -- ---- the clauses
 

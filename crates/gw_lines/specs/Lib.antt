@@ -10,6 +10,7 @@ pub mod Whole
 pub mod Spelling
 pub mod Faulty
 pub mod Edits
+pub mod Read
 pub use Rattle.gw_meaning.specs.Statements
 pub use Rattle.gw_nums.specs.Range
 pub use Rattle.gw_expr.specs.Term

@@ -3,3 +3,4 @@ pub mod Numbers
 pub mod Commands
 pub mod Arguments
 pub mod Requests
+pub mod Asking

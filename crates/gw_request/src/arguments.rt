@@ -1,6 +1,7 @@
-// What a command asks for with the words behind it: one reader for each shape.
-ghost use Rattle.std.specs.Prelude.{◌≡◌, IfOk, OnErr, IsTrue, option_copied};
-ghost use Rattle.gw_request.specs.Arguments.{request_in, bare_request, single_in, single_request, pair_in, pair_request, text_in, text_edit, capacity_in, copies_words};
+// What a command asks for with the words behind it: one reader for each form.
+ghost use Rattle.std.specs.Prelude.{◌≡◌, IfOk, OnErr, IsTrue, Some, option_copied};
+ghost use Rattle.gw_request.specs.declared.command.Command.TheVariants as commands;
+ghost use Rattle.gw_request.specs.Arguments.{request_in, copies_words};
 
 use crate::command::{Bare, Command, Pair, Single, Text};
 use crate::number::{next_number, number_of};
@@ -31,7 +32,7 @@ pub fn read_arguments(
 }
 
 fn bare_request(command: Bare) -> Request
-    ensures { result ≡ bare_request command }
+    ensures { Some result ≡ request_in (commands.Bare command) None }
 {
     match command {
         Bare::List => Request::List,
@@ -40,33 +41,23 @@ fn bare_request(command: Bare) -> Request
 }
 
 fn read_single(command: Single, words: &[u8]) -> Option<Request>
-    ensures { result ≡ single_in command words.now }
+    ensures { result ≡ request_in (commands.Single command) (Some words.now) }
 {
-    Some(single_request(command, number_of(words)?))
-}
-
-fn single_request(command: Single, n: u64) -> Request
-    ensures { result ≡ single_request command n }
-{
-    match command {
+    let n = number_of(words)?;
+    Some(match command {
         Single::Delete => Request::Edit(Edit::Delete { place: n }),
         Single::Drop => Request::Edit(Edit::Drop { replication: n }),
         Single::Horizon => Request::Edit(Edit::Horizon { time: n }),
         Single::All => Request::All { k: n },
-    }
+    })
 }
 
 fn read_pair(command: Pair, words: &[u8]) -> Option<Request>
-    ensures { result ≡ pair_in command words.now }
+    ensures { result ≡ request_in (commands.Pair command) (Some words.now) }
 {
     let (rep, behind) = next_number(words)?;
-    Some(pair_request(command, rep, number_of(behind)?))
-}
-
-fn pair_request(command: Pair, rep: u64, n: u64) -> Request
-    ensures { result ≡ pair_request command rep n }
-{
-    match command {
+    let n = number_of(behind)?;
+    Some(match command {
         Pair::Seed => Request::Edit(Edit::Seed {
             replication: rep,
             seed: n,
@@ -77,30 +68,24 @@ fn pair_request(command: Pair, rep: u64, n: u64) -> Request
         }),
         Pair::Report => Request::Report { rep, k: n },
         Pair::Peek => Request::Peek { rep, k: n },
-    }
+    })
 }
 
 fn read_text(alloc: Global, command: Text, words: &[u8]) -> Result<Option<Request>, AllocError>
-    ensures { IfOk result (λ o. o ≡ text_in command words.now) }
+    ensures { IfOk result (λ o. o ≡ request_in (commands.Text command) (Some words.now)) }
 {
     let Some((place, behind)) = next_number(words) else {
         return Ok(None);
     };
     let text = Row::from_vec(Vec::from_slice(alloc, behind)?);
-    Ok(Some(Request::Edit(text_edit(command, place, text))))
-}
-
-fn text_edit(command: Text, place: u64, text: Row<u8>) -> Edit
-    ensures { result ≡ text_edit command place text }
-{
-    match command {
+    Ok(Some(Request::Edit(match command {
         Text::Insert => Edit::Insert { place, text },
         Text::Change => Edit::Change { place, text },
-    }
+    })))
 }
 
 fn read_capacity(alloc: Global, words: &[u8]) -> Result<Option<Request>, AllocError>
-    ensures { IfOk result (λ o. o ≡ capacity_in words.now) }
+    ensures { IfOk result (λ o. o ≡ request_in commands.Capacity (Some words.now)) }
 {
     let Some((word, behind)) = cut(words) else {
         return Ok(None);

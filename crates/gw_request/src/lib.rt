@@ -1,17 +1,19 @@
 //! What a script line asks for.
 //!
 //! [`request_of`] reads one line. The line is cut at its blanks (words), and its first word is looked up in the table
-//! of the commands (command). Each shape of what stands behind a command word has one reader (arguments), and a word
-//! of 1 to 18 digits is a number (number). A further command is a further line of the table, under its shape.
+//! of the commands (command). Each form of what stands behind a command word has one reader (arguments), and a word
+//! of 1 to 18 digits is a number (number). A further command is a further row of the table, with its form.
 #![tactic(auto)]
 
 mod arguments;
 mod command;
+mod laws;
 mod number;
 mod request;
 #[cfg(test)]
 mod tests;
 mod words;
 
+pub use laws::lines_ask;
 pub use number::number_of;
 pub use request::{LINE_LIMIT, Reason, Request, request_of};

@@ -2,3 +2,4 @@ pub mod Asking
 pub mod Answering
 pub mod Reporting
 pub mod Turning
+pub mod Refusing

@@ -1,11 +1,11 @@
 -- What a model and the options open: a version with replication 1 and nothing recorded, or the first faulty line, or the
 -- first model fault.
 -- (Our own.)
-use Rattle.std.specs.Prelude.{◌≡◌, ℕ, List, [], ◌∷◌, Some, None, Ok, Err}
+use Rattle.std.specs.Prelude.{◌≡◌, ℕ, List, [], ◌∷◌, Some, None}
 use Rattle.gw_lines.specs.declared.fault.FaultyLine.{FaultyLine}
 use Rattle.gw_lines.specs.declared.fault.LineFault.{LineFault}
 use Rattle.gw_lines.specs.declared.fault.LineFault.TheVariants as lines
-use Rattle.gw_lines.specs.Models.{model_of}
+use Rattle.gw_lines.specs.Whole.{SpellsModel, FirstFaultOf}
 use Rattle.gw_meaning.specs.declared.statement.Statement.{Statement}
 use Rattle.gw_meaning.specs.Listing.{Listing}
 use Rattle.gw_model.specs.declared.fault.ModelFault.{ModelFault}
@@ -27,7 +27,7 @@ book_of t every = record { version = t; every = every; edits = []; runs = blank_
 -- the model's lines spell statements, and these make the version t, which has no fault
 pub record OpensVersion (model : List ℕ) (o : Options) (t : Listing) : Type 0 where
   pub statements : List Statement
-  pub spelled : model_of model ≡ Ok statements
+  pub spelled : SpellsModel model statements
   pub is_version : t ≡ opened statements o
   pub no_fault : fault_of t ≡ None
 
@@ -40,12 +40,12 @@ pub record Opens (model : List ℕ) (o : Options) (b : Book) : Type 0 where
 -- the model's lines spell statements, and this is the first fault of what they make
 pub record HasFault (model : List ℕ) (o : Options) (fault : ModelFault) : Type 0 where
   pub statements : List Statement
-  pub spelled : model_of model ≡ Ok statements
+  pub spelled : SpellsModel model statements
   pub first : fault_of (opened statements o) ≡ Some fault
 
 -- why a model is refused: no fault of reading or writing is among the reasons
 abbrev pub Refuses : List ℕ → Options → Fault → Type 0
-Refuses model o (faults.Line faulty) = model_of model ≡ Err faulty
+Refuses model o (faults.Line faulty) = FirstFaultOf model faulty
 Refuses model o (faults.Model fault) = HasFault model o fault
 Refuses model o faults.Read = ⊥
 Refuses model o faults.Write = ⊥

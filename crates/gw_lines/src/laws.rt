@@ -1,0 +1,14 @@
+// Laws above the definitions of reading.
+ghost use Rattle.gw_lines.specs.Read.{EditsAreRead, EditsAreRefused, ModelsAreRead, ModelsAreRefused};
+
+/// A model is read as what it spells, and refused with its first faulty line.
+pub fn models_are_read()
+    ensures read { ModelsAreRead }
+    ensures refused { ModelsAreRefused }
+{}
+
+/// An edit's text is read as the statement that it spells, and refused with its first fault.
+pub fn edits_are_read()
+    ensures read { EditsAreRead }
+    ensures refused { EditsAreRefused }
+{}
