@@ -1,5 +1,5 @@
--- The laws of reading: what is read of a model, or of an edit's text, is what it spells, and the fault that is answered is
--- its first. (Our own.)
+-- The laws of reading: what is read of a model, or of an edit's text, is what it spells, and the fault that is answered
+-- is its first. (Our own.)
 use Rattle.std.specs.Prelude.{ℕ, ◌≡◌, ◌↔◌, List, Ok, Err}
 use Rattle.gw_meaning.specs.declared.statement.Statement.{Statement}
 use Rattle.gw_lines.specs.declared.fault.LineFault.{LineFault}
@@ -10,7 +10,9 @@ use Rattle.gw_lines.specs.Edits.{SpellsEdit, FirstFaultOfEdit, edit_of}
 
 -- a model is read as statements exactly where it spells them
 abbrev pub ModelsAreRead : Type 0
-ModelsAreRead = (bytes : List ℕ) (statements : List Statement) → (model_of bytes ≡ Ok statements) ↔ SpellsModel bytes statements
+ModelsAreRead =
+    (bytes : List ℕ) (statements : List Statement) →
+    (model_of bytes ≡ Ok statements) ↔ SpellsModel bytes statements
 
 -- a model is refused with a faulty line exactly where that is its first
 abbrev pub ModelsAreRefused : Type 0
