@@ -6,8 +6,7 @@ use Rattle.gw_record.specs.Extending.{tallied}
 use Rattle.gw_record.specs.Reaching.{AreWanted}
 use Rattle.gw_desk.specs.Book.{Book, run_in}
 
--- the run of one replication goes on, from moments only at which the START was not complete, and these steps are
--- counted
+-- more steps are made of one replication, each only while the START was not complete; `made` counts them
 pub record GoesOn (old : Book) (rep k seed : ℕ) (a : Tape) (new : Book) : Type 0 where
   pub run : Tape
   pub there : run_in new.runs rep ≡ Some run
@@ -25,6 +24,6 @@ pub record Finishes (old : Book) (rep k : ℕ) (new : Book) : Type 0 where
   pub steps : (seed : ℕ) (a : Tape) → seed_at old.version rep ≡ Some seed → run_in old.runs rep ≡ Some a →
       GoesOn old rep k seed a new
 
--- a START that a version has not: its replication is not there, or there are not so many STARTs
+-- a START that the version does not have: its replication is not there, or there are fewer STARTs
 abbrev pub IsMissing : Listing → ℕ → ℕ → Type 0
 IsMissing t rep k = (seed_at t rep ≡ None) ⊎ ((k < 1) ⊎ (starts t < k))

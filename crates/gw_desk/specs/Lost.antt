@@ -1,5 +1,5 @@
--- The laws of a keeper, at a desk: it may be asked in vain, and its answers may be lost. (Laws that an `impl` names
--- stand here.)
+-- The laws of a keeper, at a desk: any call may be answered that memory was refused, and an answer may be lost. (An
+-- `impl` names only what stands in specs/, so they stand here.)
 use Rattle.std.proofs.Common.{◌≡◌, ℕ, Some, inr, refl, sym, ap}
 use Rattle.std.proofs.Math.Nat.{le_refl, le_trans, not-suc-le_self, sub_self}
 use Rattle.gw_record.specs.Tape.{Tape}

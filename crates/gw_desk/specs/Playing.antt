@@ -11,8 +11,8 @@ use Rattle.gw_desk.specs.Peeking.{IsUnfinished, Peeks, IsAnswer}
 use Rattle.gw_desk.specs.Finishing.{Finishes, IsMissing}
 use Rattle.gw_desk.specs.Editing.{Accepts, Refuses}
 
--- the case of each event: an edit is accepted, or refused, which changes nothing; a query is answered, from the
--- recorded steps or with those that are missing, which are none where there is no such START
+-- the case of each event. An edit is accepted or refused; a refused one changes nothing. A peek is answered from the
+-- recorded steps. A finish makes the missing steps; where there is no such START it makes none
 abbrev pub Tells : Book → Event → Reply → Book → Type 0
 Tells b (events.Edit e) (replies.Edited n) c = Accepts b e c n
 Tells b (events.Edit e) (replies.Refused fault) c = (c ≡ b) × Refuses b e fault

@@ -7,7 +7,7 @@ use Rattle.gw_meaning.specs.Step.{step, run}
 use Rattle.gw_meaning.specs.Point.{IsPoint, IsFirst, outcome_of}
 use Rattle.gw_desk.specs.Finding.{Verdict, Point, NoStart, TooLong, verdict}
 
--- the run ends within the limit before START k, or behind the last command; up to its end k STARTs were never complete
+-- the run ends within the limit, and not during START k: fewer STARTs were complete, or no command is left
 pub record EndsBefore (t : Listing) (seed k : ℕ) : Type 0 where
   pub n : ℕ
   pub s : Machine
@@ -20,7 +20,7 @@ pub record EndsBefore (t : Listing) (seed k : ℕ) : Type 0 where
   pub first : IsFirst t seed k n
 
 -- all steps of the limit are made, the run goes on, and k STARTs were never complete
-pub record GoesOn (t : Listing) (seed k : ℕ) : Type 0 where
+pub record PassesLimit (t : Listing) (seed k : ℕ) : Type 0 where
   pub s : Machine
   pub u : Machine
   pub there : run t seed t.limit ≡ Ok s
@@ -32,7 +32,7 @@ pub record GoesOn (t : Listing) (seed k : ℕ) : Type 0 where
 abbrev pub Means : Listing → ℕ → ℕ → Verdict → Type 0
 Means t seed k (Point s o) = (n : ℕ) × IsPoint t seed k n o s
 Means t seed k NoStart = EndsBefore t seed k
-Means t seed k TooLong = GoesOn t seed k
+Means t seed k TooLong = PassesLimit t seed k
 
 -- every search for the point of a START, of which the first is 1, finds what a point is
 abbrev pub FindsPoints : Type 0

@@ -1,4 +1,4 @@
--- What answering one line leaves.
+-- What answering one line leaves. (Our own.)
 use Rattle.std.specs.Prelude.{◌≡◌, ℕ, Bool, true, false, List, ◌++◌, Option, Some, None}
 use Rattle.gw_io.specs.declared.budget.ReadFault.{ReadFault}
 use Rattle.gw_io.specs.declared.budget.ReadFault.TheVariants as reads
@@ -39,8 +39,7 @@ pub record BreaksOff {D K : Type 0} (wrote : K → List ℕ → K → Type 0) (w
   pub written : wrote old front new
   pub cause : BreaksBy fault (writes old) (writes new)
 
--- saying that a growth was refused broke off: where a line may not be answered so, there is nothing to say, and it was
--- not begun
+-- saying that a growth was refused broke off; where a line has no such answer, nothing was written
 pub data BreaksRefused {K : Type 0} (wrote : K → List ℕ → K → Type 0) (writes : K → ℕ) (untold : Option (List ℕ))
     (old new : K) (fault : Fault) : Type 0 where
   not_begun : untold ≡ None → fault ≡ faults.Memory → new ≡ old → BreaksRefused wrote writes untold old new fault
