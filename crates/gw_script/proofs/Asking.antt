@@ -5,22 +5,25 @@ use Rattle.std.specs.List.{list_all}
 use Rattle.gw_names.specs.Names.{name_of}
 use Rattle.gw_request.specs.declared.command.Command.{Command}
 use Rattle.gw_request.specs.declared.command.Command.TheVariants as commands
-use Rattle.gw_request.specs.declared.command.Text.{Text}
+use Rattle.gw_request.specs.declared.command.Bare.TheVariants as bares
+use Rattle.gw_request.specs.declared.command.Single.TheVariants as singles
+use Rattle.gw_request.specs.declared.command.Pair.TheVariants as pairs
+use Rattle.gw_request.specs.declared.command.Text.TheVariants as texts
 use Rattle.gw_request.specs.declared.request.Request.{Request}
 use Rattle.gw_request.specs.declared.request.Request.TheVariants as requests
 use Rattle.gw_request.specs.declared.request.Reason.TheVariants as reasons
+use Rattle.gw_edit.specs.declared.edit.Edit.{Edit}
 use Rattle.gw_edit.specs.declared.edit.Edit.TheVariants as edits
 use Rattle.gw_request.specs.Words.{is_blank, first_word, cut}
 use Rattle.gw_request.specs.Numbers.{number_of, next_number}
 use Rattle.gw_request.specs.Commands.{command_of}
-use Rattle.gw_request.specs.Arguments.{text_edit}
 use Rattle.gw_request.specs.Requests.{request_of, request_with, may_want_memory, copies}
 use Rattle.gw_script.specs.Replying.{is_quit}
 
-text_goes_on : (c : Text) (o : Option (ℕ × List ℕ)) →
-    is_quit (unwrap_or (option_and_then (λ p. Some (requests.Edit (text_edit c p.0 p.1))) o) (requests.Bad reasons.Arguments)) ≡ false
-text_goes_on c None = refl
-text_goes_on c (Some p) = refl
+text_goes_on : (f : ℕ → List ℕ → Edit) (o : Option (ℕ × List ℕ)) →
+    is_quit (unwrap_or (option_and_then (λ p. Some (requests.Edit (f p.0 p.1))) o) (requests.Bad reasons.Arguments)) ≡ false
+text_goes_on f None = refl
+text_goes_on f (Some p) = refl
 
 name_goes_on : (n : ℕ) (o : Option (List ℕ)) → is_quit
     (unwrap_or (option_and_then (λ name. Some (requests.Edit (edits.Capacity name n))) o) (requests.Bad reasons.Arguments)) ≡ false
@@ -41,11 +44,20 @@ capacity_goes_on (Some p) = amount_goes_on p.0 (number_of p.1)
 
 with_goes_on : (o : Option Command) (words : Option (List ℕ)) → IsTrue (copies o) → is_quit (request_with o words) ≡ false
 with_goes_on None words h = absurd cc
-with_goes_on (Some (commands.Bare c)) words h = absurd cc
-with_goes_on (Some (commands.Single c)) words h = absurd cc
-with_goes_on (Some (commands.Pair c)) words h = absurd cc
-with_goes_on (Some (commands.Text c)) None h = refl
-with_goes_on (Some (commands.Text c)) (Some words) h = text_goes_on c (next_number words)
+with_goes_on (Some (commands.Bare bares.List)) words h = absurd cc
+with_goes_on (Some (commands.Bare bares.Quit)) words h = absurd cc
+with_goes_on (Some (commands.Single singles.Delete)) words h = absurd cc
+with_goes_on (Some (commands.Single singles.Drop)) words h = absurd cc
+with_goes_on (Some (commands.Single singles.Horizon)) words h = absurd cc
+with_goes_on (Some (commands.Single singles.All)) words h = absurd cc
+with_goes_on (Some (commands.Pair pairs.Seed)) words h = absurd cc
+with_goes_on (Some (commands.Pair pairs.Replicate)) words h = absurd cc
+with_goes_on (Some (commands.Pair pairs.Report)) words h = absurd cc
+with_goes_on (Some (commands.Pair pairs.Peek)) words h = absurd cc
+with_goes_on (Some (commands.Text texts.Insert)) None h = refl
+with_goes_on (Some (commands.Text texts.Insert)) (Some words) h = text_goes_on (λ n text. edits.Insert n text) (next_number words)
+with_goes_on (Some (commands.Text texts.Change)) None h = refl
+with_goes_on (Some (commands.Text texts.Change)) (Some words) h = text_goes_on (λ n text. edits.Change n text) (next_number words)
 with_goes_on (Some commands.Capacity) None h = refl
 with_goes_on (Some commands.Capacity) (Some words) h = capacity_goes_on (cut words)
 
