@@ -1,5 +1,5 @@
 -- Statements that are the same are the same block.
-use Rattle.std.proofs.Common.{◌≡◌, true, Option, Some, None, ◌&&◌, refl, ap}
+use Rattle.std.proofs.Common.{◌≡◌, true, Option, Some, None, ◌&&◌, refl, ap, ap₂}
 use Rattle.std.specs.Str.{bytes_eq}
 use Rattle.std.proofs.lemmas.Bool.{and_parts}
 use Rattle.std.proofs.lemmas.Bool.Decides.{Decides-int_eq}
@@ -21,22 +21,26 @@ operand_same (Some a) None h = absurd cc
 operand_same (Some a) (Some b) h = ap (λ t. Some t) (term_same a b h)
 
 block_same : (a b : Block) → same_block a b ≡ true → a ≡ b
-block_same (blocks.Generate m o l p) (blocks.Generate m' o' l' p') h =
-    let x = and_parts (same_operand m m' && same_operand o o' && same_operand l l') (same_operand p p') h in
-    let y = and_parts (same_operand m m' && same_operand o o') (same_operand l l') x.0 in
-    let z = and_parts (same_operand m m') (same_operand o o') y.0 in
-    let mean : m ≡ m' = operand_same m m' z.0 in
+block_same (blocks.Generate m r o l p) (blocks.Generate m' r' o' l' p') h =
+    let x = and_parts (same_operand m m' && same_operand r r' && same_operand o o' && same_operand l l') (same_operand p p') h in
+    let y = and_parts (same_operand m m' && same_operand r r' && same_operand o o') (same_operand l l') x.0 in
+    let z = and_parts (same_operand m m' && same_operand r r') (same_operand o o') y.0 in
+    let w = and_parts (same_operand m m') (same_operand r r') z.0 in
+    let mean : m ≡ m' = operand_same m m' w.0 in
+    let range : r ≡ r' = operand_same r r' w.1 in
     let offset : o ≡ o' = operand_same o o' z.1 in
     let limit : l ≡ l' = operand_same l l' y.1 in
     let priority : p ≡ p' = operand_same p p' x.1 in
-    rw (mean, offset, limit, priority)
-block_same (blocks.Generate m o l p) (blocks.Advance time) h = absurd cc
-block_same (blocks.Generate m o l p) (blocks.Terminate count) h = absurd cc
-block_same (blocks.Advance time) (blocks.Generate m o l p) h = absurd cc
-block_same (blocks.Advance time) (blocks.Advance time') h = ap (λ t. blocks.Advance t) (operand_same time time' h)
-block_same (blocks.Advance time) (blocks.Terminate count) h = absurd cc
-block_same (blocks.Terminate count) (blocks.Generate m o l p) h = absurd cc
-block_same (blocks.Terminate count) (blocks.Advance time) h = absurd cc
+    rw (mean, range, offset, limit, priority)
+block_same (blocks.Generate m r o l p) (blocks.Advance m' r') h = absurd cc
+block_same (blocks.Generate m r o l p) (blocks.Terminate count) h = absurd cc
+block_same (blocks.Advance m r) (blocks.Generate m' r' o l p) h = absurd cc
+block_same (blocks.Advance m r) (blocks.Advance m' r') h =
+    let w = and_parts (same_operand m m') (same_operand r r') h in
+    ap₂ (λ x y. blocks.Advance x y) (operand_same m m' w.0) (operand_same r r' w.1)
+block_same (blocks.Advance m r) (blocks.Terminate count) h = absurd cc
+block_same (blocks.Terminate count) (blocks.Generate m r o l p) h = absurd cc
+block_same (blocks.Terminate count) (blocks.Advance m r) h = absurd cc
 block_same (blocks.Terminate count) (blocks.Terminate count') h = ap (λ t. blocks.Terminate t) (operand_same count count' h)
 
 body_same : (a b : Body) → same_body a b ≡ true → a ≡ b

@@ -22,10 +22,10 @@ same_operand (Some a) (Some b) = same_term a b
 
 -- two blocks
 abbrev pub same_block : Block → Block → Bool
-same_block (blocks.Generate mean offset limit priority) (blocks.Generate mean' offset' limit' priority') =
-    same_operand mean mean' && same_operand offset offset' && same_operand limit limit' &&
+same_block (blocks.Generate mean range offset limit priority) (blocks.Generate mean' range' offset' limit' priority') =
+    same_operand mean mean' && same_operand range range' && same_operand offset offset' && same_operand limit limit' &&
     same_operand priority priority'
-same_block (blocks.Advance time) (blocks.Advance time') = same_operand time time'
+same_block (blocks.Advance mean range) (blocks.Advance mean' range') = same_operand mean mean' && same_operand range range'
 same_block (blocks.Terminate count) (blocks.Terminate count') = same_operand count count'
 same_block block block' = false
 

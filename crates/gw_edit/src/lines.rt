@@ -39,7 +39,13 @@ pub fn last_block(lines: &[Numbered]) -> Option<u64>
 pub fn count_commands(lines: &[Numbered]) -> u64
     ensures { result ≡ length (filter (λ line. not (is_block line)) lines.now) }
 {
-    lines.iter().filter(|line| !is_block(line)).count() as u64
+    let mut count = 0;
+    for line in lines {
+        if !is_block(line) {
+            count += 1;
+        }
+    }
+    count
 }
 
 /// Whether the line is a block.

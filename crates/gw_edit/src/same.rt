@@ -27,25 +27,32 @@ fn same_block(old: &Block, new: &Block) -> bool
         (
             Block::Generate {
                 mean,
+                range,
                 offset,
                 limit,
                 priority,
             },
             Block::Generate {
                 mean: new_mean,
+                range: new_range,
                 offset: new_offset,
                 limit: new_limit,
                 priority: new_priority,
             },
         ) => {
             same_operand(mean, new_mean)
+                && same_operand(range, new_range)
                 && same_operand(offset, new_offset)
                 && same_operand(limit, new_limit)
                 && same_operand(priority, new_priority)
         }
-        (Block::Advance { time }, Block::Advance { time: new_time }) => {
-            same_operand(time, new_time)
-        }
+        (
+            Block::Advance { mean, range },
+            Block::Advance {
+                mean: new_mean,
+                range: new_range,
+            },
+        ) => same_operand(mean, new_mean) && same_operand(range, new_range),
         (Block::Terminate { count }, Block::Terminate { count: new_count }) => {
             same_operand(count, new_count)
         }

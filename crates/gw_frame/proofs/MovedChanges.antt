@@ -3,24 +3,31 @@ use Rattle.std.proofs.Common.{◌≡◌, ℕ, List, [], ◌∷◌, ◌++◌, map
 use Rattle.std.proofs.lemmas.List.{map-append}
 use Rattle.gw_meaning.specs.declared.transaction.Transaction.{Transaction}
 use Rattle.gw_meaning.specs.declared.moves.Arrival.{Arrival}
+use Rattle.gw_streams.specs.declared.stream.Stream.{Stream}
+use Rattle.gw_meaning.specs.declared.moves.Change.{Change}
+use Rattle.gw_meaning.specs.declared.moves.Change.TheVariants as changes
+use Rattle.gw_meaning.specs.declared.moves.Fate.{Fate}
+use Rattle.gw_meaning.specs.declared.moves.Fate.TheVariants as fates
 use Rattle.gw_meaning.specs.declared.moves.Move.{Move}
 use Rattle.gw_meaning.specs.declared.moves.Move.TheVariants as moves
 use Rattle.gw_meaning.specs.Machine.{Machine, raised}
-use Rattle.gw_meaning.specs.Changes.{left, entered, due, Making, making, made, maybe_made, all_made, making_of, with_making, newcomer, placed, started, arrived, generated, moved_on, delayed, terminated, picked, advanced, with_active, moved}
+use Rattle.gw_meaning.specs.Changes.{crossed, due, Making, making, made, maybe_made, all_made, making_of, with_making, newcomer, placed, started, arrived, marked, fated, changed, entering, picked, advanced, with_active, moved, decided}
 use Rattle.gw_frame.specs.Moved.{IsMove, moved_transaction, moved_event, moved_count, moved_machine}
-use Rattle.gw_frame.proofs.MovedLists.{made_one_moved, went_moved, gone_moved, all_lined_up_moved, due_moved, later_moved}
+use Rattle.gw_frame.proofs.MovedLists.{made_one_moved, crossed_moved, all_lined_up_moved, due_moved, later_moved}
 
 module _ (move : ℕ → ℕ) where
-  -- what is to be made, and a move, with their places moved
+  -- what is to be made, what a block changes, and a move, with their places moved
   abbrev pub moved_arrival : Arrival → Arrival
   moved_arrival a = record a { place = move a.place }
 
+  abbrev pub moved_change : Change → Change
+  moved_change changes.Nothing = changes.Nothing
+  moved_change (changes.Generate next) = changes.Generate (option_map moved_arrival next)
+
   abbrev pub moved_move : Move → Move
   moved_move (moves.Start count arrivals) = moves.Start count (map moved_arrival arrivals)
-  moved_move (moves.Generate place next) = moves.Generate (move place) (option_map moved_arrival next)
-  moved_move (moves.Pass place) = moves.Pass (move place)
-  moved_move (moves.Delay place until) = moves.Delay (move place) until
-  moved_move (moves.Terminate place count) = moves.Terminate (move place) count
+  moved_move moves.Command = moves.Command
+  moved_move (moves.Enter place change fate) = moves.Enter (move place) (moved_change change) fate
   moved_move moves.Pick = moves.Pick
   moved_move (moves.Clock time) = moves.Clock time
 
@@ -55,24 +62,30 @@ module _ (move : ℕ → ℕ) (is : IsMove move) where
       arrived (option_map (moved_arrival move) next) (moved_machine move s) ≡ moved_machine move (arrived next s)
   arrived_moved next s = ap (λ w. with_making w (moved_machine move s)) (maybe_made_moved next (making_of s))
 
-  generated_moved : (s : Machine) (x : Transaction) (place : ℕ) (next : Option Arrival) →
-      generated (moved_machine move s) (moved_transaction move x) (move place) (option_map (moved_arrival move) next) ≡
-      moved_machine move (generated s x place next)
-  generated_moved s x place next =
-      let there : Machine = record s { active = Some (record (placed x place) { mark = s.clock }); counts = entered (left s.counts x.current) place } in
-      rw (went_moved move is s.counts x.current place) (arrived_moved next there)
+  -- entering a block
+  marked_moved : (change : Change) (clock : ℕ) (x : Transaction) →
+      marked (moved_change move change) clock (moved_transaction move x) ≡ moved_transaction move (marked change clock x)
+  marked_moved changes.Nothing clock x = refl
+  marked_moved (changes.Generate next) clock x = refl
 
-  moved_on_moved : (s : Machine) (x : Transaction) (place : ℕ) →
-      moved_on (moved_machine move s) (moved_transaction move x) (move place) ≡ moved_machine move (moved_on s x place)
-  moved_on_moved s x place = rw (went_moved move is s.counts x.current place) refl
+  fated_moved : (fate : Fate) (x : Transaction) (s : Machine) →
+      fated fate (moved_transaction move x) (moved_machine move s) ≡ moved_machine move (fated fate x s)
+  fated_moved fates.Active x s = refl
+  fated_moved (fates.Delayed until) x s = rw (map-append (moved_event move) s.future) refl
+  fated_moved (fates.Destroyed count) x s = refl
 
-  delayed_moved : (s : Machine) (x : Transaction) (place until : ℕ) →
-      delayed (moved_machine move s) (moved_transaction move x) (move place) until ≡ moved_machine move (delayed s x place until)
-  delayed_moved s x place until = rw (went_moved move is s.counts x.current place, map-append (moved_event move) s.future) refl
+  changed_moved : (change : Change) (s : Machine) → changed (moved_change move change) (moved_machine move s) ≡ moved_machine move (changed change s)
+  changed_moved changes.Nothing s = refl
+  changed_moved (changes.Generate next) s = arrived_moved next s
 
-  terminated_moved : (s : Machine) (x : Transaction) (place count : ℕ) →
-      terminated (moved_machine move s) (moved_transaction move x) (move place) count ≡ moved_machine move (terminated s x place count)
-  terminated_moved s x place count = rw (gone_moved move is s.counts x.current place) refl
+  entering_moved : (s : Machine) (x : Transaction) (place : ℕ) (change : Change) (fate : Fate) →
+      entering (moved_machine move s) (moved_transaction move x) (move place) (moved_change move change) fate ≡
+      moved_machine move (entering s x place change fate)
+  entering_moved s x place change fate =
+      let there : Machine = record s { counts = crossed fate s.counts x.current place } in
+      let y = marked change s.clock (placed x place) in
+      rw (crossed_moved move is fate s.counts x.current place, marked_moved change s.clock (placed x place), fated_moved fate y there)
+      (changed_moved change (fated fate y there))
 
   picked_moved : (s : Machine) (xs : List Transaction) → picked (moved_machine move s) (map (moved_transaction move) xs) ≡ moved_machine move (picked s xs)
   picked_moved s [] = refl
@@ -87,11 +100,13 @@ module _ (move : ℕ → ℕ) (is : IsMove move) where
   with_active_moved s None f g each = refl
   with_active_moved s (Some x) f g each = each x
 
-  pub moved_moved : (s : Machine) (m : Move) → moved (moved_machine move s) (moved_move move m) ≡ moved_machine move (moved s m)
+  moved_moved : (s : Machine) (m : Move) → moved (moved_machine move s) (moved_move move m) ≡ moved_machine move (moved s m)
   moved_moved s (moves.Start count arrivals) = started_moved s count arrivals
-  moved_moved s (moves.Generate place next) = with_active_moved s s.active _ _ (λ x. generated_moved s x place next)
-  moved_moved s (moves.Pass place) = with_active_moved s s.active _ _ (λ x. moved_on_moved s x place)
-  moved_moved s (moves.Delay place until) = with_active_moved s s.active _ _ (λ x. delayed_moved s x place until)
-  moved_moved s (moves.Terminate place count) = with_active_moved s s.active _ _ (λ x. terminated_moved s x place count)
+  moved_moved s moves.Command = refl
+  moved_moved s (moves.Enter place change fate) = with_active_moved s s.active _ _ (λ x. entering_moved s x place change fate)
   moved_moved s moves.Pick = picked_moved s s.current
   moved_moved s (moves.Clock time) = advanced_moved s time
+
+  pub decided_moved : (s : Machine) (m : Move) (streams : List Stream) →
+      decided (moved_machine move s) (moved_move move m) streams ≡ moved_machine move (decided s m streams)
+  decided_moved s m streams = ap (λ (v : Machine). let w : Machine = record v { streams = streams } in w) (moved_moved s m)

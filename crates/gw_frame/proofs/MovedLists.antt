@@ -5,8 +5,9 @@ use Rattle.gw_nums.specs.Range.{is_below}
 use Rattle.gw_meaning.specs.declared.transaction.Transaction.{Transaction}
 use Rattle.gw_meaning.specs.declared.transaction.Event.{Event}
 use Rattle.gw_meaning.specs.declared.transaction.Count.{Count}
+use Rattle.gw_meaning.specs.declared.moves.Fate.{Fate}
 use Rattle.gw_meaning.specs.Machine.{count_in, count_at, or_no_count, with_count}
-use Rattle.gw_meaning.specs.Changes.{lined_up, all_lined_up, left_at, left, entered, passed_through, made_one, is_due, due}
+use Rattle.gw_meaning.specs.Changes.{lined_up, all_lined_up, left_at, left, entered, crossed, made_one, is_due, due}
 use Rattle.gw_frame.specs.Moved.{IsMove, moved_count, moved_transaction, moved_event}
 
 -- of two choices by one test, the moved is the choice of the moved
@@ -45,24 +46,16 @@ module _ (move : ℕ → ℕ) (is : IsMove move) where
   left_moved : (cs : List (ℕ × Count)) (place : ℕ) → left (map (moved_count move) cs) (move place) ≡ map (moved_count move) (left cs place)
   left_moved cs place = rw (count_in_moved cs place) (left_at_moved (count_in cs place) cs place)
 
-  entered_moved : (cs : List (ℕ × Count)) (place : ℕ) → entered (map (moved_count move) cs) (move place) ≡ map (moved_count move) (entered cs place)
-  entered_moved cs place = rw (count_at_moved cs place) (with_count_moved cs place _)
+  entered_moved : (fate : Fate) (cs : List (ℕ × Count)) (place : ℕ) →
+      entered fate (map (moved_count move) cs) (move place) ≡ map (moved_count move) (entered fate cs place)
+  entered_moved fate cs place = rw (count_at_moved cs place) (with_count_moved cs place _)
 
-  passed_through_moved : (cs : List (ℕ × Count)) (place : ℕ) →
-      passed_through (map (moved_count move) cs) (move place) ≡ map (moved_count move) (passed_through cs place)
-  passed_through_moved cs place = rw (count_at_moved cs place) (with_count_moved cs place _)
+  pub crossed_moved : (fate : Fate) (cs : List (ℕ × Count)) (from to : ℕ) →
+      crossed fate (map (moved_count move) cs) (move from) (move to) ≡ map (moved_count move) (crossed fate cs from to)
+  crossed_moved fate cs from to = rw (left_moved cs from) (entered_moved fate (left cs from) to)
 
   pub made_one_moved : (cs : List (ℕ × Count)) (place : ℕ) → made_one (map (moved_count move) cs) (move place) ≡ map (moved_count move) (made_one cs place)
   made_one_moved cs place = rw (count_at_moved cs place) (with_count_moved cs place _)
-
-  -- from one block into another, and into one that it does not stay in
-  pub went_moved : (cs : List (ℕ × Count)) (from to : ℕ) →
-      entered (left (map (moved_count move) cs) (move from)) (move to) ≡ map (moved_count move) (entered (left cs from) to)
-  went_moved cs from to = rw (left_moved cs from) (entered_moved (left cs from) to)
-
-  pub gone_moved : (cs : List (ℕ × Count)) (from to : ℕ) →
-      passed_through (left (map (moved_count move) cs) (move from)) (move to) ≡ map (moved_count move) (passed_through (left cs from) to)
-  gone_moved cs from to = rw (left_moved cs from) (passed_through_moved (left cs from) to)
 
 module _ (move : ℕ → ℕ) where
   pub lined_up_moved : (x : Transaction) (ys : List Transaction) →

@@ -1,6 +1,6 @@
--- What a move makes of a state names only blocks of the version, where the state and the move do; and so does every state of
--- a run, and every item that it reads.
-use Rattle.std.proofs.Common.{◌≡◌, ℕ, zero, suc, nat_eq, Bool, true, false, cond, not, List, [], ◌∷◌, filter, Option, Some, None, Ok, inl, refl, sym, subst, ◌∙◌}
+-- What a move makes of a state names only blocks of the version, where the state does; and so does every state of a run, and
+-- every item that it reads.
+use Rattle.std.proofs.Common.{ℕ, nat_eq, Bool, true, false, cond, not, List, [], ◌∷◌, filter, Option, Some, None, inl, refl, sym, subst, ◌∙◌}
 use Rattle.std.specs.List.{AllByRecursion}
 use Rattle.gw_nums.specs.Range.{is_below}
 use Rattle.gw_meaning.specs.declared.item.Item.{Item}
@@ -8,19 +8,20 @@ use Rattle.gw_meaning.specs.declared.transaction.Transaction.{Transaction}
 use Rattle.gw_meaning.specs.declared.transaction.Event.{Event}
 use Rattle.gw_meaning.specs.declared.transaction.Count.{Count}
 use Rattle.gw_meaning.specs.declared.moves.Arrival.{Arrival}
+use Rattle.gw_meaning.specs.declared.moves.Change.{Change}
+use Rattle.gw_meaning.specs.declared.moves.Fate.{Fate}
+use Rattle.gw_meaning.specs.declared.moves.Fate.TheVariants as fates
 use Rattle.gw_meaning.specs.declared.moves.Move.{Move}
 use Rattle.gw_meaning.specs.declared.moves.Move.TheVariants as moves
 use Rattle.gw_meaning.specs.Listing.{Listing}
-use Rattle.gw_meaning.specs.Numbers.{AreNumbered}
-use Rattle.gw_meaning.specs.Machine.{Machine, zero_state, count_in, with_count}
-use Rattle.gw_meaning.specs.Changes.{lined_up, all_lined_up, left_at, left, entered, is_due, due, Making, made, maybe_made, all_made, making, making_of, with_active, generated, moved_on, delayed, terminated, moved, picked}
-use Rattle.gw_meaning.specs.Questions.{Gives}
-use Rattle.gw_meaning.specs.Step.{decide, step_prog, step}
-use Rattle.gw_frame.specs.Places.{IsPlace, IsPlaceIfAny, TransactionNames, ActiveNames, EventNames, CountNames, StateNames, ItemNames, StatesNameBlocks, StepsReadBlocks}
-use Rattle.gw_frame.proofs.Places.{ArrivalNames, ArrivalNamesIfAny, MoveNames, Keeps, all_with, keeps_gives, keeps_bind}
-use Rattle.gw_frame.proofs.PlacedSteps.{move_keeps}
-use Rattle.gw_meaning.proofs.Programs.{run_on}
-use Rattle.gw_frame.proofs.ReadLaws.{run_before, step_reads, reads_there}
+use Rattle.gw_meaning.specs.Machine.{Machine, count_in, with_count}
+use Rattle.gw_meaning.specs.Changes.{lined_up, all_lined_up, left_at, left, is_due, due, Making, made, all_made, making_of, with_making, started, placed, fated, moved}
+use Rattle.gw_frame.specs.Places.{IsPlace, TransactionNames, ActiveNames, EventNames, CountNames, StateNames, ItemNames, StatesNameBlocks, StepsReadBlocks}
+use Rattle.gw_frame.proofs.Keeps.{all_with}
+use Rattle.gw_frame.proofs.Decided.{IsComing, IsDecided, IsRead, step_decides}
+use Rattle.gw_frame.proofs.Moves.{settled, marked_same, entered_has, picked_has}
+use Rattle.gw_frame.proofs.Running.{over_run}
+use Rattle.gw_frame.proofs.ReadLaws.{step_reads, reads_there}
 
 -- lists
 all_cond : {X : Type 0} (P : X → Type 0) (b : Bool) (xs ys : List X) → AllByRecursion P xs → AllByRecursion P ys → AllByRecursion P (cond b xs ys)
@@ -62,101 +63,71 @@ module _ (t : Listing) where
   later_names time (e ∷ es) all = all_cond (EventNames t) (not (is_due time e)) _ _ (all.0, later_names time es all.1) (later_names time es all.1)
 
   -- the making of transactions
-  record MakingNames (w : Making) : Type 0 where
-    future : AllByRecursion (EventNames t) w.future
-    counts : AllByRecursion (CountNames t) w.counts
-
-  made_names : (a : Arrival) (w : Making) → ArrivalNames t a → MakingNames w → MakingNames (made a w)
-  made_names a w named h = record {
-    future = all_with (EventNames t) w.future _ h.future (record { current = inl refl; destination = named }, tt);
-    counts = with_count_names w.counts a.place _ named h.counts;
+  made_names : (s : Machine) (a : Arrival) (w : Making) (v : Machine) → IsComing t s a → StateNames t (with_making w v) →
+      StateNames t (with_making (made a w) v)
+  made_names s a w v coming h = record {
+    active = h.active;
+    current = h.current;
+    future = all_with (EventNames t) w.future _ h.future (record { current = inl refl; destination = coming.place }, tt);
+    counts = with_count_names w.counts a.place _ coming.place h.counts;
   }
 
-  maybe_made_names : (a : Option Arrival) (w : Making) → ArrivalNamesIfAny t a → MakingNames w → MakingNames (maybe_made a w)
-  maybe_made_names None w named h = h
-  maybe_made_names (Some a) w named h = made_names a w named h
+  all_made_names : (s : Machine) (arrivals : List Arrival) (w : Making) (v : Machine) → AllByRecursion (IsComing t s) arrivals →
+      StateNames t (with_making w v) → StateNames t (with_making (all_made arrivals w) v)
+  all_made_names s [] w v coming h = h
+  all_made_names s (a ∷ rest) w v coming h = all_made_names s rest (made a w) v coming.1 (made_names s a w v coming.0 h)
 
-  all_made_names : (arrivals : List Arrival) (w : Making) → AllByRecursion (ArrivalNames t) arrivals → MakingNames w → MakingNames (all_made arrivals w)
-  all_made_names [] w named h = h
-  all_made_names (a ∷ rest) w named h = all_made_names rest (made a w) named.1 (made_names a w named.0 h)
+  -- entering a block
+  fated_names : (fate : Fate) (x : Transaction) (s : Machine) → TransactionNames t x → StateNames t s → StateNames t (fated fate x s)
+  fated_names fates.Active x s named h = record { active = named; current = h.current; future = h.future; counts = h.counts }
+  fated_names (fates.Delayed until) x s named h =
+      record { active = tt; current = h.current; future = all_with (EventNames t) s.future _ h.future (named, tt); counts = h.counts }
+  fated_names (fates.Destroyed count) x s named h = record { active = tt; current = h.current; future = h.future; counts = h.counts }
+
+  settled_names : (s : Machine) (x : Transaction) (place : ℕ) (change : Change) (fate : Fate) → StateNames t s → TransactionNames t x → IsPlace t place →
+      StateNames t (settled s x place change fate)
+  settled_names s x place change fate h moving named =
+      let same = marked_same change s.clock (placed x place) in
+      let counts = with_count_names (left s.counts x.current) place _ named (left_names s.counts x.current moving.current h.counts) in
+      fated_names fate _ _ (record { current = rw same.1 named; destination = rw same.2 tt })
+      (record { active = h.active; current = h.current; future = h.future; counts = counts })
 
   -- moves
-  picked_names : (s : Machine) (chain : List Transaction) → StateNames t s → AllByRecursion (TransactionNames t) chain → StateNames t (picked s chain)
-  picked_names s [] h all = h
-  picked_names s (x ∷ xs) h all = record { active = all.0; current = all.1; future = h.future; counts = h.counts }
-
-  crossed : (s : Machine) (x : Transaction) (place : ℕ) → StateNames t s → TransactionNames t x → IsPlace t place → (c : Count) →
-      AllByRecursion (CountNames t) (with_count (left s.counts x.current) place c)
-  crossed s x place h moving named c = with_count_names (left s.counts x.current) place c named (left_names s.counts x.current moving.current h.counts)
-
-  with_active_names : (s : Machine) (o : Option Transaction) (f : Transaction → Machine) → StateNames t s → ActiveNames t o →
-      ((x : Transaction) → TransactionNames t x → StateNames t (f x)) → StateNames t (with_active o f s)
-  with_active_names s None f h active each = h
-  with_active_names s (Some x) f h active each = each x active
-
-  -- a transaction in the block that it entered
-  placed_names : (place : ℕ) → IsPlace t place → (x y : Transaction) → y.current ≡ place → y.destination ≡ None → TransactionNames t y
-  placed_names place named x y here none =
-      record { current = subst (λ p. IsPlace t p) (sym here) named; destination = subst (λ o. IsPlaceIfAny t o) (sym none) tt }
-
-  generated_names : (s : Machine) (x : Transaction) (place : ℕ) (next : Option Arrival) → StateNames t s → TransactionNames t x → IsPlace t place →
-      ArrivalNamesIfAny t next → StateNames t (generated s x place next)
-  generated_names s x place next h moving named coming =
-      let w : Making = making s.next s.future (entered (left s.counts x.current) place) in
-      let made = maybe_made_names next w coming (record { future = h.future; counts = crossed s x place h moving named _ }) in
-      record { active = placed_names place named x _ refl refl; current = h.current; future = made.future; counts = made.counts }
-
-  pub moved_names : (s : Machine) (m : Move) → StateNames t s → MoveNames t m → StateNames t (moved s m)
-  moved_names s (moves.Start count arrivals) h named =
-      let made = all_made_names arrivals (making_of s) named (record { future = h.future; counts = h.counts }) in
-      record { active = h.active; current = h.current; future = made.future; counts = made.counts }
-  moved_names s (moves.Generate place next) h named =
-      with_active_names s s.active (λ x. generated s x place next) h h.active (λ x moving. generated_names s x place next h moving named.0 named.1)
-  moved_names s (moves.Pass place) h named =
-      with_active_names s s.active (λ x. moved_on s x place) h h.active
-      (λ x moving. record {
-        active = placed_names place named x _ refl refl;
-        current = h.current;
-        future = h.future;
-        counts =
-            crossed s x place h moving named _;
-      })
-  moved_names s (moves.Delay place until) h named =
-      with_active_names s s.active (λ x. delayed s x place until) h h.active
-      (λ x moving. record {
-        active = tt;
-        current = h.current;
-        future = all_with (EventNames t) s.future _ h.future (placed_names place named x _ refl refl, tt);
-        counts = crossed s x place h moving named _;
-      })
-  moved_names s (moves.Terminate place count) h named =
-      with_active_names s s.active (λ x. terminated s x place count) h h.active
-      (λ x moving. record { active = tt; current = h.current; future = h.future; counts = crossed s x place h moving named _ })
-  moved_names s moves.Pick h named = picked_names s s.current h h.current
-  moved_names s (moves.Clock time) h named = record {
+  moved_names : (s : Machine) (m : Move) → IsDecided t s m → StateNames t s → StateNames t (moved s m)
+  moved_names s (moves.Start count arrivals) decided h = all_made_names s arrivals (making_of s) (started count s) decided.coming
+      (record { active = h.active; current = h.current; future = h.future; counts = h.counts })
+  moved_names s moves.Command decided h = record { active = h.active; current = h.current; future = h.future; counts = h.counts }
+  moved_names s (moves.Enter place change fate) decided h =
+      entered_has (StateNames t) (StateNames t) t s place change fate decided.1 h
+      (λ x is. settled_names s x place change fate h (let here : ActiveNames t (Some x) = subst (λ o. ActiveNames t o) is h.active in here) decided.0)
+      (λ v k. k) (λ a v coming k. made_names s a (making_of v) v coming k)
+  moved_names s moves.Pick decided h = picked_has (StateNames t) s s.current h
+      (λ x xs is. (let all : AllByRecursion (TransactionNames t) (x ∷ xs) = subst (λ chain. AllByRecursion (TransactionNames t) chain) is h.current in
+      record { active = all.0; current = all.1; future = h.future; counts = h.counts }))
+  moved_names s (moves.Clock time) decided h = record {
     active = h.active;
     current = all_lined_up_names (due time s.future) s.current (due_names time s.future h.future) h.current;
     future = later_names time s.future h.future;
     counts = h.counts;
   }
 
--- a step, and each state of a run with what its step reads
-step_keeps : (t : Listing) (seed : ℕ) (s : Machine) → AreNumbered t.lines → StateNames t s → Keeps t seed (StateNames t) (step_prog s)
-step_keeps t seed s numbered h =
-    keeps_bind t seed (MoveNames t) (StateNames t) (decide s) (λ m. Gives (moved s m)) (move_keeps t seed s s.remaining numbered h.active)
-    (λ m named. keeps_gives t seed (StateNames t) (moved s m) (moved_names t s m h named))
-
+-- each state of a run, with what its step reads
 pub run_names : StatesNameBlocks
-run_names t seed zero s numbered is =
-    let zero_names : StateNames t zero_state = record { active = tt; current = tt; future = tt; counts = tt } in
-    let same : zero_state ≡ s = cc in subst (StateNames t) same zero_names
-run_names t seed (suc n) v numbered is =
-    let before = run_before t seed n v is in
-    let goes : step t seed before.0 ≡ Ok v = sym (run_on t seed n before.0 before.1) ∙ is in
-    ((step_keeps t seed before.0 numbered (run_names t seed n before.0 numbered before.1)).runs v goes).0
+run_names t seed n s numbered =
+    over_run t seed (λ n s. StateNames t s) (record { active = tt; current = tt; future = tt; counts = tt })
+    (λ n s m streams there decided h.
+    let next = moved_names t s m decided h in
+    record { active = next.active; current = next.current; future = next.future; counts = next.counts })
+    n s
+
+all_read : (t : Listing) (s : Machine) (is : List Item) → ((i : Item) → IsRead t s i → ItemNames t i) → AllByRecursion (IsRead t s) is →
+    AllByRecursion (ItemNames t) is
+all_read t s [] each h = tt
+all_read t s (i ∷ is) each h = (each i h.0, all_read t s is each h.1)
 
 pub reads_names : StepsReadBlocks
 reads_names t seed n s v numbered there goes =
-    let named = ((step_keeps t seed s numbered (run_names t seed n s numbered there)).runs v goes).1 in
+    let named = run_names t seed n s numbered there in
+    let read = all_read t s _ (λ i h. h numbered named.active) ((step_decides t seed s).runs v goes).1 in
     let F : List Item → Type 0 = λ is. AllByRecursion (ItemNames t) is in
-    subst F (sym (reads_there t seed n s there ∙ step_reads t seed s v goes)) named
+    subst F (sym (reads_there t seed n s there ∙ step_reads t seed s v goes)) read

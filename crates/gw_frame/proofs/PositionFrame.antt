@@ -1,5 +1,5 @@
 -- The frame law in positions.
-use Rattle.std.proofs.Common.{◌≡◌, ℕ, zero, suc, ◌<◌, List, [], ◌∷◌, map, Option, Some, None, option_map, Ok, refl, ap, ap₂, sym, subst, ◌∙◌, arith, below_more}
+use Rattle.std.proofs.Common.{◌≡◌, ℕ, zero, suc, ◌<◌, List, [], ◌∷◌, map, Option, Some, None, option_map, Ok, refl, ap, ap₂, subst, ◌∙◌, arith, below_more}
 use Rattle.std.specs.List.{AllByRecursion}
 use Rattle.gw_meaning.specs.declared.item.Item.{Item}
 use Rattle.gw_meaning.specs.declared.item.Item.TheVariants as items
@@ -9,11 +9,11 @@ use Rattle.gw_meaning.specs.Listing.{Listing}
 use Rattle.gw_meaning.specs.Machine.{Machine}
 use Rattle.gw_meaning.specs.Step.{step, run}
 use Rattle.gw_meaning.specs.Reads.{reads}
-use Rattle.gw_meaning.proofs.Programs.{run_on}
 use Rattle.gw_frame.specs.Moved.{moved_item, moved_transaction, moved_event, moved_count, moved_machine}
 use Rattle.gw_frame.specs.Places.{IsPlace, IsPlaceIfAny, TransactionNames, ActiveNames, EventNames, CountNames, StateNames, ItemNames}
 use Rattle.gw_frame.specs.Positions.{position_of, shifted, FrameInPositions}
-use Rattle.gw_frame.proofs.ReadLaws.{run_before, unseen_reads}
+use Rattle.gw_frame.proofs.ReadLaws.{unseen_reads}
+use Rattle.gw_frame.proofs.Running.{last_step}
 use Rattle.gw_frame.proofs.PlacedStates.{run_names, reads_names}
 use Rattle.gw_frame.proofs.PositionLaws.{position_shifts}
 
@@ -72,9 +72,9 @@ pub record Goes (t : Listing) (seed j : ℕ) : Type 0 where
 goes_below : (t : Listing) (seed n : ℕ) (s : Machine) → run t seed n ≡ Ok s → (j : ℕ) → j < n → Goes t seed j
 goes_below t seed zero s there j below = absurd (omega arith)
 goes_below t seed (suc n) s there j below =
-    let before = run_before t seed n s there in
-    let last : Goes t seed n = record { from = before.0; to = s; there = before.1; goes = sym (run_on t seed n before.0 before.1) ∙ there } in
-    below_more (λ i. Goes t seed i) n (goes_below t seed n before.0 before.1) last j (omega arith)
+    let last = last_step t seed n s there in
+    below_more (λ i. Goes t seed i) n (goes_below t seed n last.before last.there)
+    (record { from = last.before; to = s; there = last.there; goes = last.goes }) j (omega arith)
 
 pub frame_in_positions : FrameInPositions
 frame_in_positions t seed u new_seed n s front goes comes back splice first second there alike =

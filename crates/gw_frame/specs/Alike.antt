@@ -1,6 +1,5 @@
 -- What it is for two versions, each with its seed, to answer a question alike; and the law that a run depends only on
--- what
--- it asked. (Our own.)
+-- what it asked. (Our own.)
 use Rattle.std.specs.Prelude.{◌≡◌, ℕ, List, All}
 use Rattle.gw_meaning.specs.declared.item.Item.{Item}
 use Rattle.gw_meaning.specs.Listing.{Listing}

@@ -1,5 +1,6 @@
 pub mod Alike
 pub mod Reads
+pub mod Seeds
 pub mod Moved
 pub mod Places
 pub mod Positions

@@ -1,6 +1,5 @@
 -- The places of blocks given other names, wherever they stand: in questions, answers and states; and what it is for a
--- version
--- to answer accordingly. Operands and ends name no place. (Our own.)
+-- version to answer accordingly. Operands, ends and streams name no place. (Our own.)
 use Rattle.std.specs.Prelude.{◌≡◌, ℕ, map, option_map, Result, Ok, Err}
 use Rattle.gw_meaning.specs.declared.item.Item.{Item}
 use Rattle.gw_meaning.specs.declared.item.Item.TheVariants as items

@@ -1,6 +1,5 @@
 -- Which places a state and an item name: a state of a run names no place but the blocks of its version, and its steps
--- read no
--- other. (Our own.)
+-- read no other. (Our own.)
 use Rattle.std.specs.Prelude.{ℕ, ◌≡◌, ◌⊎◌, Option, Some, None, Ok}
 use Rattle.std.specs.List.{AllByRecursion}
 use Rattle.gw_meaning.specs.declared.item.Item.{Item}

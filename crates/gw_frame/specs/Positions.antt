@@ -1,8 +1,6 @@
 -- The frame law in positions. A state names a block by the number of its statement, which edits leave alone; a version
--- tells
--- its position. Where statements go out of a version and others come in between those that stay, the positions behind
--- them
--- move, and nothing else of a run does that answers alike. (Manual: positions. Our own: numbers.)
+-- tells its position. Where statements go out of a version and others come in between those that stay, the positions
+-- behind them move, and nothing else of a run does that answers alike. (Manual: positions. Our own: numbers.)
 use Rattle.std.specs.Prelude.{ℕ, ◌≡◌, ◌+◌, ◌-◌, ◌<◌, ◌≤◌, List, ◌++◌, length, map, filter, Ok, if◌then◌else◌, nat_le, unwrap_or}
 use Rattle.gw_meaning.specs.declared.statement.Numbered.{Numbered}
 use Rattle.gw_meaning.specs.Listing.{Listing, is_block, position_at}

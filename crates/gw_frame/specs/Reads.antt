@@ -1,6 +1,5 @@
 -- What each step of a run from zero reads, which a recorded run keeps; and the law that the run depends on nothing
--- else.
--- (Our own.)
+-- else. (Our own.)
 use Rattle.std.specs.Prelude.{◌≡◌, ℕ, zero, suc, ◌<◌, List, [], ◌++◌, Ok}
 use Rattle.gw_meaning.specs.declared.item.Item.{Item}
 use Rattle.gw_meaning.specs.Listing.{Listing}
@@ -27,8 +26,8 @@ UnseenStepReads =
     AnswersAlike t seed u new_seed (step_items t seed s) →
     (step u new_seed s ≡ Ok v) × (step_items u new_seed s ≡ step_items t seed s)
 
--- a version that answers alike all that the steps below n read comes to the same state after n steps, which read the
--- same
+-- a version that answers alike all that the steps below n read comes to the same state after n steps, and they read
+-- the same
 abbrev pub UnseenReads : Type 0
 UnseenReads =
     (t : Listing) (seed : ℕ) (u : Listing) (new_seed n : ℕ) (s : Machine) → run t seed n ≡ Ok s →

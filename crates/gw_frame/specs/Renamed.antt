@@ -1,6 +1,5 @@
 -- The numbers of statements do not matter: two versions with the same statements in order, whatever their numbers, have
--- one
--- run, but for the names of its places. (Our own.)
+-- one run, but for the names of its places. (Our own.)
 use Rattle.std.specs.Prelude.{ℕ, ◌≡◌, List, [], ◌∷◌, map}
 use Rattle.gw_meaning.specs.declared.item.Item.{Item}
 use Rattle.gw_meaning.specs.declared.statement.Statement.{Statement}

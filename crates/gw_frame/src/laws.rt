@@ -4,6 +4,7 @@ ghost use Rattle.gw_frame.specs.Places.{StatesNameBlocks, StepsReadBlocks};
 ghost use Rattle.gw_frame.specs.Positions.{FrameInPositions};
 ghost use Rattle.gw_frame.specs.Renamed.{HasRenaming, RenamedAnswers, RenamedStep, RenamedRun};
 ghost use Rattle.gw_frame.specs.Reads.{RunAsksItsReads, UnseenStepReads, UnseenReads};
+ghost use Rattle.gw_frame.specs.Seeds.{SeedIsReadAtFirstDraws};
 
 /// A version that answers alike all that a run asked has the same run and is asked the same. So is each of its steps,
 /// from whatever state.
@@ -18,6 +19,11 @@ pub fn unseen_reads()
     ensures asked { RunAsksItsReads }
     ensures step { UnseenStepReads }
     ensures run { UnseenReads }
+{}
+
+/// A step of a run reads the seed just where a stream draws first in it.
+pub fn seed_is_read_at_first_draws()
+    ensures { SeedIsReadAtFirstDraws }
 {}
 
 /// A state of a run names no place but the blocks of its version, and its steps read no other.

@@ -7,36 +7,43 @@ use Rattle.std.proofs.lemmas.Bool.Decides.{Decides-int_eq}
 use Rattle.std.proofs.lemmas.List.Elements.{filter-append}
 use Rattle.gw_nums.specs.Range.{is_below}
 use Rattle.gw_meaning.specs.declared.transaction.Transaction.{Transaction}
+use Rattle.gw_meaning.specs.declared.moves.Change.{Change}
+use Rattle.gw_meaning.specs.declared.moves.Fate.{Fate}
 use Rattle.gw_meaning.specs.declared.moves.Move.{Move}
 use Rattle.gw_meaning.specs.declared.moves.Move.TheVariants as moves
 use Rattle.gw_meaning.specs.Listing.{Listing}
 use Rattle.gw_meaning.specs.Machine.{Machine}
-use Rattle.gw_meaning.specs.Changes.{lined_up, all_lined_up, due, generated, moved_on, delayed, terminated, moved}
+use Rattle.gw_meaning.specs.Changes.{lined_up, all_lined_up, due, moved}
 use Rattle.gw_meaning.specs.Step.{run}
 use Rattle.gw_meaning.proofs.Programs.{run_on}
 use Rattle.gw_meaning.proofs.Chains.{IsOrdered, AreNotAbove, in_order, ordered_lined, ordered_all_lined, below_one_way}
 use Rattle.gw_laws.specs.Chain.{ChainIsInOrder, ChainIsFirstInFirstOut, IsFirstInFirstOut, numbers_of, is_in}
-use Rattle.gw_laws.proofs.Active.{with_active_has, picked_has}
+use Rattle.gw_frame.proofs.Decided.{IsDecided, IsDecidedChange, step_decides}
+use Rattle.gw_frame.proofs.Moves.{settled_is, entered_has, picked_has}
+use Rattle.gw_frame.proofs.Running.{over_run}
 use Rattle.gw_laws.proofs.Crowd.{one, many, future_parts}
-use Rattle.gw_laws.proofs.Decided.{step_moves}
 use Rattle.gw_laws.proofs.NumberLaws.{has_number, IsNumbered, all_numbered}
-use Rattle.gw_laws.proofs.Running.{over_run}
 
 -- in order of priority
 abbrev IsChained : Machine → Type 0
 IsChained s = IsOrdered s.current
 
-moved_ordered : (s : Machine) (m : Move) → IsChained s → IsChained (moved s m)
-moved_ordered s (moves.Start count arrivals) h = h
-moved_ordered s (moves.Generate place next) h = with_active_has IsChained s.active (λ x. generated s x place next) s h (λ x is. h)
-moved_ordered s (moves.Pass place) h = with_active_has IsChained s.active (λ x. moved_on s x place) s h (λ x is. h)
-moved_ordered s (moves.Delay place until) h = with_active_has IsChained s.active (λ x. delayed s x place until) s h (λ x is. h)
-moved_ordered s (moves.Terminate place count) h = with_active_has IsChained s.active (λ x. terminated s x place count) s h (λ x is. h)
-moved_ordered s moves.Pick h = picked_has IsChained s s.current h (λ x xs is. (subst IsOrdered is h).1)
-moved_ordered s (moves.Clock time) h = ordered_all_lined (due time s.future) s.current h
+-- a block leaves the chain as it is
+chain_there : (t : Listing) (s : Machine) (place : ℕ) (change : Change) (fate : Fate) → IsDecidedChange t s change →
+    s.current ≡ (moved s (moves.Enter place change fate)).current
+chain_there t s place change fate decided =
+    let P : Machine → Type 0 = λ v. s.current ≡ v.current in
+    entered_has P P t s place change fate decided refl (λ x is. sym (settled_is s x place change fate).current) (λ v k. k) (λ a v coming k. k)
+
+moved_ordered : (t : Listing) (s : Machine) (m : Move) → IsDecided t s m → IsChained s → IsChained (moved s m)
+moved_ordered t s (moves.Start count arrivals) decided h = h
+moved_ordered t s moves.Command decided h = h
+moved_ordered t s (moves.Enter place change fate) decided h = subst IsOrdered (chain_there t s place change fate decided.1) h
+moved_ordered t s moves.Pick decided h = picked_has IsChained s s.current h (λ x xs is. (subst IsOrdered is h).1)
+moved_ordered t s (moves.Clock time) decided h = ordered_all_lined (due time s.future) s.current h
 
 all_ordered : (t : Listing) (seed n : ℕ) (s : Machine) → run t seed n ≡ Ok s → IsOrdered s.current
-all_ordered t seed = over_run t seed (λ n s. IsOrdered s.current) tt (λ n s m there decided h. moved_ordered s m h)
+all_ordered t seed = over_run t seed (λ n s. IsOrdered s.current) tt (λ n s m streams there decided h. moved_ordered t s m decided h)
 
 pub chain_is_in_order : ChainIsInOrder
 chain_is_in_order t seed n s is = in_order s.current (all_ordered t seed n s is)
@@ -186,24 +193,22 @@ module _ (priority : ℤ) where
   same_turn : (s : Machine) → TakesTurns s s
   same_turn s = unchanged (numbers_of priority s.current)
 
-  moved_turn : (s : Machine) (m : Move) → IsNumbered s → IsOrdered s.current → TakesTurns s (moved s m)
-  moved_turn s (moves.Start count arrivals) h order = same_turn s
-  moved_turn s (moves.Generate place next) h order =
-      with_active_has (TakesTurns s) s.active (λ x. generated s x place next) s (same_turn s) (λ x is. same_turn s)
-  moved_turn s (moves.Pass place) h order = with_active_has (TakesTurns s) s.active (λ x. moved_on s x place) s (same_turn s) (λ x is. same_turn s)
-  moved_turn s (moves.Delay place until) h order = with_active_has (TakesTurns s) s.active (λ x. delayed s x place until) s (same_turn s) (λ x is. same_turn s)
-  moved_turn s (moves.Terminate place count) h order =
-      with_active_has (TakesTurns s) s.active (λ x. terminated s x place count) s (same_turn s) (λ x is. same_turn s)
-  moved_turn s moves.Pick h order =
+  moved_turn : (t : Listing) (s : Machine) (m : Move) → IsDecided t s m → IsNumbered s → IsOrdered s.current → TakesTurns s (moved s m)
+  moved_turn t s (moves.Start count arrivals) decided h order = same_turn s
+  moved_turn t s moves.Command decided h order = same_turn s
+  moved_turn t s (moves.Enter place change fate) decided h order =
+      let P : List Transaction → Type 0 = λ chain. IsFirstInFirstOut (numbers_of priority s.current) (numbers_of priority chain) in
+      subst P (chain_there t s place change fate decided.1) (same_turn s)
+  moved_turn t s moves.Pick decided h order =
       picked_has (TakesTurns s) s s.current (same_turn s)
       (λ x xs is. rw is (picked_turn x xs (λ k. let chain = ap (many (has_number k)) is in let once = h.apart k in omega arith)))
-  moved_turn s (moves.Clock time) h order =
+  moved_turn t s (moves.Clock time) decided h order =
       rw (all_lined_numbers (due time s.future) s.current order)
       (joined (numbers_of priority s.current) (numbers_of priority (due time s.future))
       (come_new s.current (due time s.future) (λ k. let parts = future_parts (has_number k) time s.future in let once = h.apart k in omega arith)))
 
 pub chain_is_first_in_first_out : ChainIsFirstInFirstOut
 chain_is_first_in_first_out t seed n s v well within there is priority =
-    let last = step_moves t seed s v (sym (run_on t seed n s there) ∙ is) in
+    let after = ((step_decides t seed s).runs v (sym (run_on t seed n s there) ∙ is)).0 in
     let P : Machine → Type 0 = λ w. IsFirstInFirstOut (numbers_of priority s.current) (numbers_of priority w.current) in
-    subst P (sym last.2) (moved_turn priority s last.0 (all_numbered t seed well n s there within) (all_ordered t seed n s there))
+    subst P (sym after.is) (moved_turn priority t s after.move after.is_decided (all_numbered t seed well n s there within) (all_ordered t seed n s there))

@@ -1,28 +1,37 @@
 -- The clock and the future chain, move by move and over a run.
-use Rattle.std.proofs.Common.{◌≡◌, ℕ, zero, suc, ◌≤◌, min, not, List, [], ◌∷◌, filter, Option, Some, None, Ok, refl, sym, ap, subst, ◌∙◌, arith, inl, inr}
+use Rattle.std.proofs.Common.{◌≡◌, ℕ, zero, suc, ◌≤◌, nat_le, true, min, not, List, [], ◌∷◌, filter, Option, Some, None, Ok, refl, sym, ap, ◌∙◌, arith, inl, inr}
 use Rattle.std.specs.List.{AllByRecursion}
 use Rattle.std.proofs.lemmas.Bool.{cond_both, cases_lt}
+use Rattle.std.proofs.lemmas.Bool.Decides.{nat_tests}
 use Rattle.std.proofs.lemmas.List.Elements.{All-from_recursion}
 use Rattle.gw_meaning.specs.declared.transaction.Transaction.{Transaction}
 use Rattle.gw_meaning.specs.declared.transaction.Event.{Event}
 use Rattle.gw_meaning.specs.declared.moves.Arrival.{Arrival}
+use Rattle.gw_meaning.specs.declared.moves.Fate.{Fate}
+use Rattle.gw_meaning.specs.declared.moves.Fate.TheVariants as fates
 use Rattle.gw_meaning.specs.declared.moves.Move.{Move}
 use Rattle.gw_meaning.specs.declared.moves.Move.TheVariants as moves
 use Rattle.gw_meaning.specs.Listing.{Listing}
 use Rattle.gw_meaning.specs.Machine.{Machine}
-use Rattle.gw_meaning.specs.Changes.{Making, made, all_made, making_of, generated, moved_on, delayed, terminated, is_due, moved}
+use Rattle.gw_meaning.specs.Changes.{Making, made, all_made, making_of, fated, is_due, moved}
 use Rattle.gw_meaning.specs.Step.{run, sooner, least_time}
-use Rattle.gw_laws.specs.Clock.{ClockNeverGoesBack, NothingIsOverdue}
-use Rattle.gw_laws.proofs.Active.{with_active_has, picked_has}
-use Rattle.gw_laws.proofs.Decided.{IsDecided, IsMaybeAhead, all_and_one}
-use Rattle.gw_laws.proofs.Running.{last_move, over_run}
+use Rattle.gw_frame.proofs.Keeps.{all_with}
+use Rattle.gw_frame.proofs.Decided.{IsComing, IsDecidedFate, IsDecided}
+use Rattle.gw_frame.proofs.Moves.{settled_is, entered_has, picked_has}
+use Rattle.gw_frame.proofs.Running.{IsLast, last_step, over_run}
+use Rattle.gw_laws.specs.Clock.{ClockNeverGoesBack, ClockStaysWithin, NothingIsOverdue}
 
 -- no time lies before this one
 abbrev pub AreAhead : ℕ → List Event → Type 0
 AreAhead clock = AllByRecursion (λ (e : Event). clock ≤ e.time)
 
-abbrev IsOnTime : ℕ → Machine → Type 0
-IsOnTime clock s = (clock ≤ s.clock) × AreAhead s.clock s.future
+-- the clock lies within the horizon, and no time before the clock
+abbrev pub IsInTime : Listing → Machine → Type 0
+IsInTime t s = (s.clock ≤ t.horizon) × AreAhead s.clock s.future
+
+-- the same of a state after one with this clock
+abbrev GoesOn : Listing → ℕ → Machine → Type 0
+GoesOn t clock v = (clock ≤ v.clock) × IsInTime t v
 
 ahead_of_less : (low high : ℕ) (es : List Event) → low ≤ high → AreAhead high es → AreAhead low es
 ahead_of_less low high [] less h = tt
@@ -62,38 +71,45 @@ rest_ahead clock time (e ∷ es) h =
     cond_both (not (is_due time e)) (e ∷ filter (λ e. not (is_due time e)) es) (filter (λ e. not (is_due time e)) es) (AreAhead clock)
     (λ _. (h.0, rest_ahead clock time es h.1)) (λ _. rest_ahead clock time es h.1)
 
-all_made_ahead : (clock : ℕ) (arrivals : List Arrival) (w : Making) → AllByRecursion (λ (a : Arrival). clock ≤ a.time) arrivals → AreAhead clock w.future →
-    AreAhead clock (all_made arrivals w).future
-all_made_ahead clock [] w ahead h = h
-all_made_ahead clock (a ∷ rest) w ahead h = all_made_ahead clock rest (made a w) ahead.1 (all_and_one (λ (e : Event). clock ≤ e.time) w.future _ h ahead.0)
+all_made_ahead : (t : Listing) (s : Machine) (arrivals : List Arrival) (w : Making) → AllByRecursion (IsComing t s) arrivals → AreAhead s.clock w.future →
+    AreAhead s.clock (all_made arrivals w).future
+all_made_ahead t s [] w coming h = h
+all_made_ahead t s (a ∷ rest) w coming h =
+    all_made_ahead t s rest (made a w) coming.1 (all_with (λ (e : Event). s.clock ≤ e.time) w.future _ h (coming.0.ahead, tt))
 
-generated_on_time : (s : Machine) (x : Transaction) (place : ℕ) (next : Option Arrival) → IsMaybeAhead s next → AreAhead s.clock s.future →
-    IsOnTime s.clock (generated s x place next)
-generated_on_time s x place None ahead h = (omega arith, h)
-generated_on_time s x place (Some a) ahead h = (omega arith, all_and_one (λ (e : Event). s.clock ≤ e.time) s.future _ h ahead)
+fated_ahead : (fate : Fate) (x : Transaction) (s : Machine) → IsDecidedFate s fate → AreAhead s.clock s.future → AreAhead s.clock (fated fate x s).future
+fated_ahead fates.Active x s decided h = h
+fated_ahead (fates.Delayed until) x s decided h = all_with (λ (e : Event). s.clock ≤ e.time) s.future _ h (decided, tt)
+fated_ahead (fates.Destroyed count) x s decided h = h
 
 -- each move
-moved_on_time : (t : Listing) (s : Machine) (m : Move) → IsDecided t s m → AreAhead s.clock s.future → IsOnTime s.clock (moved s m)
-moved_on_time t s (moves.Start count arrivals) decided h = (omega arith, all_made_ahead s.clock arrivals (making_of s) decided.ahead h)
-moved_on_time t s (moves.Generate place next) decided h =
-    with_active_has (IsOnTime s.clock) s.active _ s (omega arith, h) (λ x _. generated_on_time s x place next decided h)
-moved_on_time t s (moves.Pass place) decided h =
-    with_active_has (IsOnTime s.clock) s.active (λ x. moved_on s x place) s (omega arith, h) (λ x _. (omega arith, h))
-moved_on_time t s (moves.Delay place until) decided h =
-    with_active_has (IsOnTime s.clock) s.active (λ x. delayed s x place until) s (omega arith, h)
-    (λ x _. (omega arith, all_and_one (λ (e : Event). s.clock ≤ e.time) s.future _ h decided))
-moved_on_time t s (moves.Terminate place count) decided h =
-    with_active_has (IsOnTime s.clock) s.active (λ x. terminated s x place count) s (omega arith, h) (λ x _. (omega arith, h))
-moved_on_time t s moves.Pick decided h = picked_has (IsOnTime s.clock) s s.current (omega arith, h) (λ x xs is. (omega arith, h))
-moved_on_time t s (moves.Clock time) decided h =
-    (least_is_ahead s.clock s.future time decided h, rest_ahead time time s.future (least_is_least s.future time decided))
+fits : (time horizon : ℕ) → nat_le time horizon ≡ true → time ≤ horizon
+fits time horizon is = grind (arith, nat_tests)
+
+moved_goes_on : (t : Listing) (s : Machine) (m : Move) → IsDecided t s m → IsInTime t s → GoesOn t s.clock (moved s m)
+moved_goes_on t s (moves.Start count arrivals) decided h = (omega arith, (h.0, all_made_ahead t s arrivals (making_of s) decided.coming h.1))
+moved_goes_on t s moves.Command decided h = (omega arith, h)
+moved_goes_on t s (moves.Enter place change fate) decided h =
+    let P : Machine → Type 0 = λ v. (v.clock ≡ s.clock) × AreAhead s.clock v.future in
+    let whole : P (moved s (moves.Enter place change fate)) =
+    entered_has P P t s place change fate decided.1 (refl, h.1) (λ x is. ((settled_is s x place change fate).clock, fated_ahead fate _ _ decided.2 h.1))
+    (λ v k. k) (λ a v coming k. (k.0, all_with (λ (e : Event). s.clock ≤ e.time) v.future _ k.1 (coming.ahead, tt))) in
+    rw whole.0 (omega arith, (h.0, whole.1))
+moved_goes_on t s moves.Pick decided h = picked_has (GoesOn t s.clock) s s.current (omega arith, h) (λ x xs is. (omega arith, h))
+moved_goes_on t s (moves.Clock time) decided h = (
+  least_is_ahead s.clock s.future time decided.0 h.1,
+  (fits time t.horizon decided.1, rest_ahead time time s.future (least_is_least s.future time decided.0)),
+)
 
 -- over a run
-pub all_ahead : (t : Listing) (seed n : ℕ) (s : Machine) → run t seed n ≡ Ok s → AreAhead s.clock s.future
-all_ahead t seed = over_run t seed (λ n s. AreAhead s.clock s.future) tt (λ n s m there decided h. (moved_on_time t s m decided h).1)
+all_in_time : (t : Listing) (seed n : ℕ) (s : Machine) → run t seed n ≡ Ok s → IsInTime t s
+all_in_time t seed = over_run t seed (λ n s. IsInTime t s) (omega arith, tt) (λ n s m streams there decided h. (moved_goes_on t s m decided h).1)
+
+pub clock_stays_within : ClockStaysWithin
+clock_stays_within t seed n s is = (all_in_time t seed n s is).0
 
 pub nothing_is_overdue : NothingIsOverdue
-nothing_is_overdue t seed n s is = All-from_recursion (λ (e : Event). s.clock ≤ e.time) s.future (all_ahead t seed n s is)
+nothing_is_overdue t seed n s is = All-from_recursion (λ (e : Event). s.clock ≤ e.time) s.future (all_in_time t seed n s is).1
 
 one_clock : (t : Listing) (seed m n : ℕ) (s v : Machine) → m ≡ n → run t seed m ≡ Ok s → run t seed n ≡ Ok v → s.clock ≤ v.clock
 one_clock t seed m n s v same there is =
@@ -101,12 +117,11 @@ one_clock t seed m n s v same there is =
     let one : s ≡ v = cc in
     rw one (omega arith)
 
-clock_goes_on : (t : Listing) (seed n : ℕ) (v : Machine) → run t seed (suc n) ≡ Ok v → (u : Machine) × (run t seed n ≡ Ok u) × (u.clock ≤ v.clock)
-clock_goes_on t seed n v is =
-    let last = last_move t seed n v is in
-    let u = last.0 in
-    let P : Machine → Type 0 = λ w. u.clock ≤ w.clock in
-    (u, last.1, subst P (sym last.2.2) (moved_on_time t u last.2.0 last.2.1 (all_ahead t seed n u last.1)).0)
+clock_goes_on : (t : Listing) (seed n : ℕ) (v : Machine) (last : IsLast t seed n v) → last.before.clock ≤ v.clock
+clock_goes_on t seed n v last =
+    let after = last.after in
+    let goes = (moved_goes_on t last.before after.move after.is_decided (all_in_time t seed n last.before last.there)).0 in
+    rw after.is goes
 
 pub clock_never_goes_back : ClockNeverGoesBack
 clock_never_goes_back t seed m zero s v before there is = one_clock t seed m zero s v (omega arith) there is
@@ -114,7 +129,7 @@ clock_never_goes_back t seed m (suc n) s v before there is =
     elim (cases_lt n m) [
       | inl last ↦ one_clock t seed m (suc n) s v (omega arith) there is
       | inr earlier ↦
-          let u = clock_goes_on t seed n v is in
-          let first : s.clock ≤ u.0.clock = clock_never_goes_back t seed m n s u.0 earlier there u.1 in
-          omega (arith, u.2)
+          let last = last_step t seed n v is in
+          let first = clock_never_goes_back t seed m n s last.before earlier there last.there in
+          omega (arith, clock_goes_on t seed n v last)
     ]

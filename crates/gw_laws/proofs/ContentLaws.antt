@@ -1,24 +1,25 @@
 -- Each block's content is the number of the transactions that stand in it, move by move and over a run.
-use Rattle.std.proofs.Common.{◌≡◌, ℕ, ◌+◌, ◌-◌, ◌<◌, ◌≤◌, ◌^◌, nat_eq, Bool, true, false, List, [], ◌∷◌, Option, Some, None, Ok, refl, sym, ◌∙◌, arith}
+use Rattle.std.proofs.Common.{◌≡◌, ℕ, ◌+◌, ◌-◌, ◌<◌, ◌≤◌, ◌^◌, nat_eq, Bool, true, false, List, [], ◌∷◌, Some, Ok, refl, ap, sym, ◌∙◌, arith}
 use Rattle.std.proofs.lemmas.Bool.{ne_eqb}
 use Rattle.gw_meaning.specs.declared.transaction.Transaction.{Transaction}
-use Rattle.gw_meaning.specs.declared.transaction.Count.{Count}
 use Rattle.gw_meaning.specs.declared.moves.Arrival.{Arrival}
+use Rattle.gw_meaning.specs.declared.moves.Change.{Change}
+use Rattle.gw_meaning.specs.declared.moves.Fate.{Fate}
 use Rattle.gw_meaning.specs.declared.moves.Move.{Move}
 use Rattle.gw_meaning.specs.declared.moves.Move.TheVariants as moves
 use Rattle.gw_meaning.specs.Listing.{Listing}
 use Rattle.gw_meaning.specs.Machine.{Machine}
-use Rattle.gw_meaning.specs.Changes.{Making, made, all_made, making_of, with_making, newcomer, placed, left, entered, passed_through, started, arrived, generated, moved_on, delayed, terminated, moved}
+use Rattle.gw_meaning.specs.Changes.{Making, made, all_made, making_of, with_making, newcomer, placed, started, moved}
 use Rattle.gw_meaning.specs.Step.{run}
 use Rattle.gw_model.specs.Well.{Well}
 use Rattle.gw_laws.specs.Living.{living}
 use Rattle.gw_laws.specs.Contents.{ContentsAreCounts}
-use Rattle.gw_laws.proofs.Active.{with_active_has, picked_has, in_generate}
-use Rattle.gw_laws.proofs.Counts.{content, content_left, content_entered, content_passed, content_made}
-use Rattle.gw_laws.proofs.Crowd.{one, many, future_many, crowd, many_living, many_is, active_crowd, future_push, picked_crowd, advanced_crowd}
-use Rattle.gw_laws.proofs.Decided.{IsDecided}
+use Rattle.gw_frame.proofs.Decided.{IsDecided}
+use Rattle.gw_frame.proofs.Moves.{settled, settled_is, marked_same, entered_has, picked_has}
+use Rattle.gw_frame.proofs.Running.{over_run}
+use Rattle.gw_laws.proofs.Counts.{content, content_crossed, content_made}
+use Rattle.gw_laws.proofs.Crowd.{one, remains, many, future_many, crowd, many_living, many_is, active_crowd, future_push, settled_crowd, picked_crowd, advanced_crowd}
 use Rattle.gw_laws.proofs.Room.{anyone, all_within}
-use Rattle.gw_laws.proofs.Running.{over_run}
 
 abbrev pub stands_in : ℕ → Transaction → Bool
 stands_in p x = nat_eq x.current p
@@ -39,21 +40,6 @@ crowd_fewer test s =
     let all = many_living anyone s in
     omega arith
 
--- from a block into another, and into one that it does not stay in: others stand as they stood
-went : (cs : List (ℕ × Count)) (from to p rest : ℕ) → content cs p ≡ one (nat_eq from p) + rest → rest < 2 ^ 64 - 1 →
-    content (entered (left cs from) to) p ≡ one (nat_eq to p) + rest
-went cs from to p rest is room =
-    let less = content_left cs from p in
-    let was : content (left cs from) p ≡ rest = omega arith in
-    let more = content_entered (left cs from) to p (omega arith) in
-    omega arith
-
-gone : (cs : List (ℕ × Count)) (from to p rest : ℕ) → content cs p ≡ one (nat_eq from p) + rest → content (passed_through (left cs from) to) p ≡ rest
-gone cs from to p rest is =
-    let less = content_left cs from p in
-    let same = content_passed (left cs from) to p in
-    omega arith
-
 -- a new transaction stands in no block
 made_counted : (a : Arrival) (w : Making) (s : Machine) → IsCounted (with_making w s) → IsCounted (with_making (made a w) s)
 made_counted a w s h p some =
@@ -68,41 +54,26 @@ all_made_counted : (arrivals : List Arrival) (w : Making) (s : Machine) → IsCo
 all_made_counted [] w s h = h
 all_made_counted (a ∷ rest) w s h = all_made_counted rest (made a w) s (made_counted a w s h)
 
-arrived_counted : (next : Option Arrival) (s : Machine) → IsCounted s → IsCounted (arrived next s)
-arrived_counted None s h = h
-arrived_counted (Some a) s h = made_counted a (making_of s) s h
-
--- the active transaction goes into a block, and is there in the new state
-active_went : (s v : Machine) (x : Transaction) (place : ℕ) → crowd anyone s < 2 ^ 64 - 1 → s.active ≡ Some x →
-    v.counts ≡ entered (left s.counts x.current) place →
-    ((p : ℕ) → crowd (stands_in p) v ≡ one (nat_eq place p) + (many (stands_in p) s.current + future_many (stands_in p) s.future)) → IsCounted s → IsCounted v
-active_went s v x place room is counts there h p some =
+-- the active transaction goes into a block
+settled_counted : (s : Machine) (x : Transaction) (place : ℕ) (change : Change) (fate : Fate) → crowd anyone s < 2 ^ 64 - 1 → s.active ≡ Some x →
+    IsCounted s → IsCounted (settled s x place change fate)
+settled_counted s x place change fate room is h p some =
+    let rest = many (stands_in p) s.current + future_many (stands_in p) s.future in
     let was = active_crowd (stands_in p) s x is in
-    let now = there p in
     let fewer = crowd_fewer (stands_in p) s in
     let before = h p some in
-    let whole = went s.counts x.current place p (many (stands_in p) s.current + future_many (stands_in p) s.future) (omega arith) (omega arith) in
-    rw counts (omega arith)
+    let now = settled_crowd (stands_in p) s x place change fate in
+    let here = ap (λ n. remains fate (one (nat_eq n p))) (marked_same change s.clock (placed x place)).1 in
+    let whole = content_crossed fate s.counts x.current place p rest (omega arith) (omega arith) in
+    ap (λ cs. content cs p) (settled_is s x place change fate).counts ∙ omega arith
 
 -- each move
 moved_counted : (t : Listing) (s : Machine) (m : Move) → crowd anyone s < 2 ^ 64 - 1 → IsDecided t s m → IsCounted s → IsCounted (moved s m)
 moved_counted t s (moves.Start count arrivals) room decided h = all_made_counted arrivals (making_of s) (started count s) h
-moved_counted t s (moves.Generate place next) room decided h =
-    with_active_has IsCounted s.active (λ x. generated s x place next) s h
-    (λ x is. arrived_counted next (in_generate s x place) (active_went s (in_generate s x place) x place room is refl (λ p. omega arith) h))
-moved_counted t s (moves.Pass place) room decided h =
-    with_active_has IsCounted s.active (λ x. moved_on s x place) s h (λ x is. active_went s (moved_on s x place) x place room is refl (λ p. omega arith) h)
-moved_counted t s (moves.Delay place until) room decided h =
-    with_active_has IsCounted s.active (λ x. delayed s x place until) s h
-    (λ x is. active_went s (delayed s x place until) x place room is refl
-    (λ p. let push = future_push (stands_in p) s.future (record { time = until; transaction = placed x place }) in omega arith) h)
-moved_counted t s (moves.Terminate place count) room decided h =
-    with_active_has IsCounted s.active (λ x. terminated s x place count) s h
-    (λ x is p some.
-    let was = active_crowd (stands_in p) s x is in
-    let before = h p some in
-    let whole = gone s.counts x.current place p (many (stands_in p) s.current + future_many (stands_in p) s.future) (omega arith) in
-    omega arith)
+moved_counted t s moves.Command room decided h = h
+moved_counted t s (moves.Enter place change fate) room decided h =
+    entered_has IsCounted IsCounted t s place change fate decided.1 h (λ x is. settled_counted s x place change fate room is h) (λ v k. k)
+    (λ a v coming k. made_counted a (making_of v) v k)
 moved_counted t s moves.Pick room decided h =
     picked_has IsCounted s s.current h (λ x xs is p some. h p some ∙ sym (picked_crowd (stands_in p) s x xs decided is))
 moved_counted t s (moves.Clock time) room decided h = λ p some. h p some ∙ sym (advanced_crowd (stands_in p) s time)
@@ -111,7 +82,7 @@ moved_counted t s (moves.Clock time) room decided h = λ p some. h p some ∙ sy
 all_counted : (t : Listing) (seed : ℕ) → Well t → (n : ℕ) (s : Machine) → run t seed n ≡ Ok s → n ≤ t.limit → IsCounted s
 all_counted t seed well =
     over_run t seed (λ n s. n ≤ t.limit → IsCounted s) (λ within p some. refl)
-    (λ n s m there decided h within.
+    (λ n s m streams there decided h within.
     let room = all_within t seed n s well there in
     moved_counted t s m (omega (arith, room.crowd, well.greatest_limit)) decided (h (omega arith)))
 

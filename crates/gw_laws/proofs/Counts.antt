@@ -2,9 +2,11 @@
 use Rattle.std.proofs.Common.{◌≡◌, ℕ, ◌+◌, ◌-◌, ◌<◌, ◌^◌, nat_eq, cond, List, [], ◌∷◌, Option, Some, None, refl, ap, sym, ◌∙◌, arith, inl, inr}
 use Rattle.std.proofs.lemmas.Bool.{cases_eq, eq-eqb, ne_eqb}
 use Rattle.gw_meaning.specs.declared.transaction.Count.{Count}
+use Rattle.gw_meaning.specs.declared.moves.Fate.{Fate}
+use Rattle.gw_meaning.specs.declared.moves.Fate.TheVariants as fates
 use Rattle.gw_meaning.specs.Machine.{count_in, count_at, or_no_count, with_count, raised}
-use Rattle.gw_meaning.specs.Changes.{left_at, left, entered, passed_through, made_one}
-use Rattle.gw_laws.proofs.Crowd.{one}
+use Rattle.gw_meaning.specs.Changes.{left_at, left, content_behind, entered, crossed, made_one}
+use Rattle.gw_laws.proofs.Crowd.{one, remains, remains_less}
 
 -- the count that was set, and the others
 set_here : (cs : List (ℕ × Count)) (q : ℕ) (c : Count) → count_in (with_count cs q c) q ≡ Some c
@@ -48,26 +50,40 @@ left_there : (o : Option Count) (cs : List (ℕ × Count)) (q p : ℕ) → (q �
 left_there None cs q p apart = refl
 left_there (Some c) cs q p apart = content_there cs q p (record c { content = c.content - 1 }) apart
 
-pub content_left : (cs : List (ℕ × Count)) (q p : ℕ) → content (left cs q) p ≡ content cs p - one (nat_eq q p)
+content_left : (cs : List (ℕ × Count)) (q p : ℕ) → content (left cs q) p ≡ content cs p - one (nat_eq q p)
 content_left cs q p =
     elim (cases_eq q p) [
       | inl here ↦ rw (eq-eqb q p here) (rw (← here) (left_here (count_in cs q) cs q refl))
       | inr apart ↦ let same = left_there (count_in cs q) cs q p apart in rw (ne_eqb q p apart) (omega arith)
     ]
 
-pub content_entered : (cs : List (ℕ × Count)) (q p : ℕ) → content cs p < 2 ^ 64 - 1 → content (entered cs q) p ≡ content cs p + one (nat_eq q p)
-content_entered cs q p room =
+behind_is : (fate : Fate) (n : ℕ) → n < 2 ^ 64 - 1 → content_behind fate n ≡ n + remains fate 1
+behind_is fates.Active n room = omega arith
+behind_is (fates.Delayed until) n room = omega arith
+behind_is (fates.Destroyed count) n room = omega arith
+
+content_entered : (fate : Fate) (cs : List (ℕ × Count)) (q p : ℕ) → content cs p < 2 ^ 64 - 1 →
+    content (entered fate cs q) p ≡ content cs p + remains fate (one (nat_eq q p))
+content_entered fate cs q p room =
+    let new : Count = record (count_at cs q) { entries = raised (count_at cs q).entries; content = content_behind fate (content cs q) } in
     elim (cases_eq q p) [
       | inl here ↦
           let fits : content cs q < 2 ^ 64 - 1 = rw here room in
-          let set = content_here cs q (record (count_at cs q) { entries = raised (count_at cs q).entries; content = raised (content cs q) }) in
-          rw (eq-eqb q p here) (rw (← here) (omega arith))
-      | inr apart ↦ let same = content_there cs q p (record (count_at cs q) { entries = raised (count_at cs q).entries; content = raised (content cs q) })
-          apart in rw (ne_eqb q p apart) (omega arith)
+          rw (eq-eqb q p here) (rw (← here) (content_here cs q new ∙ behind_is fate (content cs q) fits))
+      | inr apart ↦
+          let same = content_there cs q p new apart in
+          let none = remains_less fate 0 in
+          rw (ne_eqb q p apart) (omega arith)
     ]
 
-pub content_passed : (cs : List (ℕ × Count)) (q p : ℕ) → content (passed_through cs q) p ≡ content cs p
-content_passed cs q p = content_same cs q p _ refl
+-- from a block into another: others stand as they stood
+pub content_crossed : (fate : Fate) (cs : List (ℕ × Count)) (from to p rest : ℕ) → content cs p ≡ one (nat_eq from p) + rest → rest < 2 ^ 64 - 1 →
+    content (crossed fate cs from to) p ≡ remains fate (one (nat_eq to p)) + rest
+content_crossed fate cs from to p rest is room =
+    let less = content_left cs from p in
+    let was : content (left cs from) p ≡ rest = omega arith in
+    let more = content_entered fate (left cs from) to p (omega arith) in
+    omega arith
 
 pub content_made : (cs : List (ℕ × Count)) (q p : ℕ) → content (made_one cs q) p ≡ content cs p
 content_made cs q p = content_same cs q p _ refl

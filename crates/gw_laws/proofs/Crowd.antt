@@ -1,18 +1,33 @@
 -- How many of the living transactions pass a test: what a move does to the chains, it does not do to their number.
-use Rattle.std.proofs.Common.{◌≡◌, ℕ, ◌+◌, Bool, true, false, cond, not, List, [], ◌∷◌, ◌++◌, map, filter, Option, Some, None, refl, ap, inl, inr, arith}
+use Rattle.std.proofs.Common.{◌≡◌, ℕ, ◌+◌, Bool, true, false, cond, not, ◌≤◌, List, [], ◌∷◌, ◌++◌, map, filter, Option, Some, None, refl, ap, inl, inr, arith}
 use Rattle.std.specs.Prelude.{option_to_list, count_by}
 use Rattle.std.proofs.lemmas.Bool.{cond_both, cases_Bool}
 use Rattle.std.proofs.lemmas.List.Recursion.{is_count_by}
 use Rattle.gw_nums.specs.Range.{is_below}
 use Rattle.gw_meaning.specs.declared.transaction.Transaction.{Transaction}
 use Rattle.gw_meaning.specs.declared.transaction.Event.{Event}
+use Rattle.gw_meaning.specs.declared.moves.Change.{Change}
+use Rattle.gw_meaning.specs.declared.moves.Fate.{Fate}
+use Rattle.gw_meaning.specs.declared.moves.Fate.TheVariants as fates
 use Rattle.gw_meaning.specs.Machine.{Machine}
-use Rattle.gw_meaning.specs.Changes.{lined_up, all_lined_up, is_due, due, picked, advanced}
+use Rattle.gw_meaning.specs.Changes.{lined_up, all_lined_up, is_due, due, placed, marked, fated, picked, advanced}
+use Rattle.gw_frame.proofs.Moves.{settled}
 use Rattle.gw_laws.specs.Living.{living}
 
 -- 1 where a test is passed
 abbrev pub one : Bool → ℕ
 one b = cond b 1 0
+
+-- what a fate leaves of a number that counts the transaction
+abbrev pub remains : Fate → ℕ → ℕ
+remains fates.Active n = n
+remains (fates.Delayed until) n = n
+remains (fates.Destroyed count) n = 0
+
+pub remains_less : (fate : Fate) (n : ℕ) → remains fate n ≤ n
+remains_less fates.Active n = omega arith
+remains_less (fates.Delayed until) n = omega arith
+remains_less (fates.Destroyed count) n = omega arith
 
 module _ (test : Transaction → Bool) where
   -- of a list
@@ -97,4 +112,23 @@ module _ (test : Transaction → Bool) where
   advanced_crowd s time =
       let chains = many_all_lined (due time s.future) s.current in
       let parts = future_parts time s.future in
+      omega arith
+
+  -- so does entering a block, but for a transaction that is destroyed
+  fated_crowd : (fate : Fate) (x : Transaction) (s : Machine) → crowd (fated fate x s) ≡ remains fate (one (test x)) + (many s.current + future_many s.future)
+  fated_crowd fates.Active x s = omega arith
+  fated_crowd (fates.Delayed until) x s = let push = future_push s.future (record { time = until; transaction = x }) in omega arith
+  fated_crowd (fates.Destroyed count) x s = omega arith
+
+  pub settled_crowd : (s : Machine) (x : Transaction) (place : ℕ) (change : Change) (fate : Fate) → crowd (settled s x place change fate) ≡
+      remains fate (one (test (marked change s.clock (placed x place)))) + (many s.current + future_many s.future)
+  settled_crowd s x place change fate = fated_crowd fate (marked change s.clock (placed x place)) _
+
+  pub settled_fewer : (s : Machine) (x : Transaction) (place : ℕ) (change : Change) (fate : Fate) → s.active ≡ Some x →
+      test (marked change s.clock (placed x place)) ≡ test x → crowd (settled s x place change fate) ≤ crowd s
+  settled_fewer s x place change fate is same =
+      let was = active_crowd s x is in
+      let now = settled_crowd s x place change fate in
+      let less = remains_less fate (one (test (marked change s.clock (placed x place)))) in
+      let one' = ap one same in
       omega arith

@@ -1,7 +1,3 @@
-pub mod Results
-pub mod Decided
-pub mod Running
-pub mod Active
 pub mod ClockLaws
 pub mod Crowd
 pub mod Counts

@@ -1,5 +1,5 @@
 -- The numbers of transactions, move by move and over a run: none lives twice, and none lives that was not given yet.
-use Rattle.std.proofs.Common.{◌≡◌, ◌≢◌, ℕ, ◌+◌, ◌-◌, ◌<◌, ◌≤◌, ◌^◌, nat_eq, Bool, List, [], ◌∷◌, length, Option, Some, None, Ok, refl, sym, ◌∙◌, arith, inl, inr}
+use Rattle.std.proofs.Common.{◌≡◌, ◌≢◌, ℕ, ◌+◌, ◌-◌, ◌<◌, ◌≤◌, ◌^◌, nat_eq, Bool, List, [], ◌∷◌, length, Ok, refl, ap, sym, ◌∙◌, arith, inl, inr}
 use Rattle.std.specs.Prelude.{AllPairs}
 use Rattle.std.specs.List.{AllByRecursion}
 use Rattle.std.proofs.lemmas.Bool.{eq-eqb, ne_eqb, cases_eq, cases_lt}
@@ -11,16 +11,16 @@ use Rattle.gw_meaning.specs.declared.moves.Move.{Move}
 use Rattle.gw_meaning.specs.declared.moves.Move.TheVariants as moves
 use Rattle.gw_meaning.specs.Listing.{Listing}
 use Rattle.gw_meaning.specs.Machine.{Machine}
-use Rattle.gw_meaning.specs.Changes.{Making, made, all_made, making_of, with_making, newcomer, placed, started, arrived, generated, moved_on, delayed, terminated, moved}
+use Rattle.gw_meaning.specs.Changes.{Making, made, all_made, making_of, with_making, newcomer, placed, started, moved}
 use Rattle.gw_meaning.specs.Step.{run}
 use Rattle.gw_model.specs.Well.{Well}
 use Rattle.gw_laws.specs.Living.{living}
 use Rattle.gw_laws.specs.Numbering.{NumbersAreApart, NumbersAreGiven}
-use Rattle.gw_laws.proofs.Active.{with_active_has, picked_has, in_generate}
-use Rattle.gw_laws.proofs.Crowd.{one, many, crowd, many_living, active_crowd, future_push, picked_crowd, advanced_crowd}
-use Rattle.gw_laws.proofs.Decided.{IsDecided}
+use Rattle.gw_frame.proofs.Decided.{IsDecided}
+use Rattle.gw_frame.proofs.Moves.{settled, settled_is, marked_same, entered_has, picked_has}
+use Rattle.gw_frame.proofs.Running.{over_run}
+use Rattle.gw_laws.proofs.Crowd.{one, many, crowd, many_living, future_push, settled_fewer, picked_crowd, advanced_crowd}
 use Rattle.gw_laws.proofs.Room.{all_within}
-use Rattle.gw_laws.proofs.Running.{over_run}
 
 abbrev pub has_number : ℕ → Transaction → Bool
 has_number k x = nat_eq x.number k
@@ -61,33 +61,21 @@ all_made_numbered : (arrivals : List Arrival) (w : Making) (s : Machine) → w.n
 all_made_numbered [] w s room h = h
 all_made_numbered (a ∷ rest) w s room h = all_made_numbered rest (made a w) s (omega arith) (made_numbered a w s (omega arith) h)
 
-arrived_numbered : (next : Option Arrival) (s : Machine) → s.next < 2 ^ 64 - 1 → IsNumbered s → IsNumbered (arrived next s)
-arrived_numbered None s room h = h
-arrived_numbered (Some a) s room h = made_numbered a (making_of s) s room h
-
 -- each move
 moved_numbered : (t : Listing) (s : Machine) (m : Move) → s.next + length t.lines < 2 ^ 64 - 1 → IsDecided t s m → IsNumbered s → IsNumbered (moved s m)
 moved_numbered t s (moves.Start count arrivals) room decided h =
     all_made_numbered arrivals (making_of s) (started count s) (omega (arith, decided.few)) (record { apart = h.apart; given = h.given })
-moved_numbered t s (moves.Generate place next) room decided h =
-    with_active_has IsNumbered s.active (λ x. generated s x place next) s h
-    (λ x is. arrived_numbered next (in_generate s x place) (omega arith)
-    (same_numbered s (in_generate s x place) refl (λ k. let was = active_crowd (has_number k) s x is in omega arith) h))
-moved_numbered t s (moves.Pass place) room decided h =
-    with_active_has IsNumbered s.active (λ x. moved_on s x place) s h
-    (λ x is. same_numbered s (moved_on s x place) refl (λ k. let was = active_crowd (has_number k) s x is in omega arith) h)
-moved_numbered t s (moves.Delay place until) room decided h =
-    with_active_has IsNumbered s.active (λ x. delayed s x place until) s h
+moved_numbered t s moves.Command room decided h = record { apart = h.apart; given = h.given }
+moved_numbered t s (moves.Enter place change fate) room decided h =
+    entered_has (λ v. (v.next ≡ s.next) × IsNumbered v) IsNumbered t s place change fate decided.1 h
     (λ x is.
-    same_numbered s (delayed s x place until) refl
-    (λ k.
-    let was = active_crowd (has_number k) s x is in
-    let push = future_push (has_number k) s.future (record { time = until; transaction = placed x place }) in
-    omega arith)
-    h)
-moved_numbered t s (moves.Terminate place count) room decided h =
-    with_active_has IsNumbered s.active (λ x. terminated s x place count) s h
-    (λ x is. same_numbered s (terminated s x place count) refl (λ k. let was = active_crowd (has_number k) s x is in omega arith) h)
+    let v = settled s x place change fate in
+    let next : v.next ≡ s.next = (settled_is s x place change fate).next in (
+      next,
+      same_numbered s v next
+          (λ k. settled_fewer (has_number k) s x place change fate is (ap (λ n. nat_eq n k) (marked_same change s.clock (placed x place)).0)) h,
+    ))
+    (λ v k. k.1) (λ a v coming k. made_numbered a (making_of v) v (omega (arith, k.0)) k.1)
 moved_numbered t s moves.Pick room decided h =
     picked_has IsNumbered s s.current h
     (λ x xs is. record {
@@ -103,9 +91,10 @@ moved_numbered t s (moves.Clock time) room decided h = record {
 pub all_numbered : (t : Listing) (seed : ℕ) → Well t → (n : ℕ) (s : Machine) → run t seed n ≡ Ok s → n ≤ t.limit → IsNumbered s
 all_numbered t seed well =
     over_run t seed (λ n s. n ≤ t.limit → IsNumbered s) (λ within. record { apart = λ k. omega arith; given = λ k above. refl })
-    (λ n s m there decided h within.
+    (λ n s m streams there decided h within.
     let room = all_within t seed n s well there in
-    moved_numbered t s m (omega (arith, room.next, well.greatest_limit, well.statements)) decided (h (omega arith)))
+    let k = moved_numbered t s m (omega (arith, room.next, well.greatest_limit, well.statements)) decided (h (omega arith)) in
+    record { apart = k.apart; given = k.given })
 
 -- what that says of the list of the living
 none_has : (k : ℕ) (xs : List Transaction) → many (has_number k) xs ≡ 0 → AllByRecursion (λ (y : Transaction). k ≢ y.number) xs

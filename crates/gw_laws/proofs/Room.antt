@@ -1,18 +1,18 @@
 -- How far a run comes in so many steps: how many transactions live, and what the next number is.
-use Rattle.std.proofs.Common.{◌≡◌, ℕ, suc, ◌+◌, ◌*◌, ◌≤◌, Bool, true, List, [], ◌∷◌, length, Option, Some, None, Ok, refl, arith}
+use Rattle.std.proofs.Common.{◌≡◌, ℕ, suc, ◌+◌, ◌*◌, ◌≤◌, Bool, true, List, [], ◌∷◌, length, Ok, refl, arith}
 use Rattle.gw_meaning.specs.declared.transaction.Transaction.{Transaction}
 use Rattle.gw_meaning.specs.declared.moves.Arrival.{Arrival}
 use Rattle.gw_meaning.specs.declared.moves.Move.{Move}
 use Rattle.gw_meaning.specs.declared.moves.Move.TheVariants as moves
 use Rattle.gw_meaning.specs.Listing.{Listing}
 use Rattle.gw_meaning.specs.Machine.{Machine}
-use Rattle.gw_meaning.specs.Changes.{Making, made, all_made, making_of, with_making, newcomer, placed, started, arrived, generated, moved_on, delayed, terminated, moved}
+use Rattle.gw_meaning.specs.Changes.{Making, made, all_made, making_of, with_making, newcomer, started, moved}
 use Rattle.gw_meaning.specs.Step.{run}
 use Rattle.gw_model.specs.Well.{Well}
-use Rattle.gw_laws.proofs.Active.{with_active_has, picked_has, in_generate}
-use Rattle.gw_laws.proofs.Crowd.{crowd, active_crowd, future_push, picked_crowd, advanced_crowd}
-use Rattle.gw_laws.proofs.Decided.{IsDecided}
-use Rattle.gw_laws.proofs.Running.{over_run}
+use Rattle.gw_frame.proofs.Decided.{IsDecided}
+use Rattle.gw_frame.proofs.Moves.{settled, settled_is, entered_has, picked_has}
+use Rattle.gw_frame.proofs.Running.{over_run}
+use Rattle.gw_laws.proofs.Crowd.{crowd, future_push, settled_fewer, picked_crowd, advanced_crowd}
 
 abbrev pub anyone : Transaction → Bool
 anyone x = true
@@ -38,10 +38,6 @@ all_made_within most (a ∷ rest) w s h =
     let whole = all_made_within (most + 1) rest (made a w) s (made_within most a w s h) in
     within_more (most + 1 + length rest) (most + suc (length rest)) (with_making (all_made rest (made a w)) s) (omega arith) whole
 
-arrived_within : (most : ℕ) (next : Option Arrival) (s : Machine) → IsWithin most s → IsWithin (most + 1) (arrived next s)
-arrived_within most None s h = record { next = omega (arith, h.next); crowd = omega (arith, h.crowd) }
-arrived_within most (Some a) s h = made_within most a (making_of s) s h
-
 -- a state with no more living transactions, and the same next number
 same_within : (most : ℕ) (s v : Machine) → v.next ≡ s.next → crowd anyone v ≤ crowd anyone s → IsWithin most s → IsWithin most v
 same_within most s v next fewer h = record { next = omega (arith, h.next); crowd = omega (arith, h.crowd) }
@@ -53,29 +49,12 @@ moved_within t s (moves.Start count arrivals) most few decided h =
     let first : IsWithin most (with_making (making_of s) (started count s)) = record { next = h.next; crowd = h.crowd } in
     within_more (most + length arrivals) (most + 2000) (moved s (moves.Start count arrivals)) (omega (arith, decided.few))
     (all_made_within most arrivals (making_of s) (started count s) first)
-moved_within t s (moves.Generate place next) most few decided h =
-    with_active_has (IsWithin (most + 2000)) s.active (λ x. generated s x place next) s (within_more most (most + 2000) s (omega arith) h)
-    (λ x is.
-    let was = active_crowd anyone s x is in
-    let there = in_generate s x place in
-    within_more (most + 1) (most + 2000) (generated s x place next) (omega arith)
-    (arrived_within most next there (same_within most s there refl (omega arith) h)))
-moved_within t s (moves.Pass place) most few decided h =
-    with_active_has (IsWithin (most + 2000)) s.active (λ x. moved_on s x place) s (within_more most (most + 2000) s (omega arith) h)
-    (λ x is.
-    let was = active_crowd anyone s x is in
-    within_more most (most + 2000) (moved_on s x place) (omega arith) (same_within most s (moved_on s x place) refl (omega arith) h))
-moved_within t s (moves.Delay place until) most few decided h =
-    with_active_has (IsWithin (most + 2000)) s.active (λ x. delayed s x place until) s (within_more most (most + 2000) s (omega arith) h)
-    (λ x is.
-    let was = active_crowd anyone s x is in
-    let push = future_push anyone s.future (record { time = until; transaction = placed x place }) in
-    within_more most (most + 2000) (delayed s x place until) (omega arith) (same_within most s (delayed s x place until) refl (omega arith) h))
-moved_within t s (moves.Terminate place count) most few decided h =
-    with_active_has (IsWithin (most + 2000)) s.active (λ x. terminated s x place count) s (within_more most (most + 2000) s (omega arith) h)
-    (λ x is.
-    let was = active_crowd anyone s x is in
-    within_more most (most + 2000) (terminated s x place count) (omega arith) (same_within most s (terminated s x place count) refl (omega arith) h))
+moved_within t s moves.Command most few decided h = record { next = omega (arith, h.next); crowd = omega (arith, h.crowd) }
+moved_within t s (moves.Enter place change fate) most few decided h =
+    entered_has (IsWithin most) (IsWithin (most + 2000)) t s place change fate decided.1 (within_more most (most + 2000) s (omega arith) h)
+    (λ x is. same_within most s (settled s x place change fate) (settled_is s x place change fate).next (settled_fewer anyone s x place change fate is refl) h)
+    (λ v k. within_more most (most + 2000) v (omega arith) k)
+    (λ a v coming k. within_more (most + 1) (most + 2000) (with_making (made a (making_of v)) v) (omega arith) (made_within most a (making_of v) v k))
 moved_within t s moves.Pick most few decided h =
     picked_has (IsWithin (most + 2000)) s s.current (within_more most (most + 2000) s (omega arith) h)
     (λ x xs is.
@@ -89,5 +68,7 @@ moved_within t s (moves.Clock time) most few decided h =
 pub all_within : (t : Listing) (seed n : ℕ) (s : Machine) → Well t → run t seed n ≡ Ok s → IsWithin (2000 * n) s
 all_within t seed n s well is =
     over_run t seed (λ n s. IsWithin (2000 * n) s) (record { next = omega arith; crowd = omega arith })
-    (λ n s m there decided h. within_more (2000 * n + 2000) (2000 * suc n) _ (omega arith) (moved_within t s m (2000 * n) well.statements decided h))
+    (λ n s m streams there decided h.
+    let k = moved_within t s m (2000 * n) well.statements decided h in
+    record { next = omega (arith, k.next); crowd = omega (arith, k.crowd) })
     n s is

@@ -10,6 +10,10 @@ abbrev pub ClockNeverGoesBack : Type 0
 ClockNeverGoesBack =
     (t : Listing) (seed m n : ℕ) (s v : Machine) → m ≤ n → run t seed m ≡ Ok s → run t seed n ≡ Ok v → s.clock ≤ v.clock
 
+-- it stays within the horizon
+abbrev pub ClockStaysWithin : Type 0
+ClockStaysWithin = (t : Listing) (seed n : ℕ) (s : Machine) → run t seed n ≡ Ok s → s.clock ≤ t.horizon
+
 -- no time on the future chain lies before it
 abbrev pub NothingIsOverdue : Type 0
 NothingIsOverdue =

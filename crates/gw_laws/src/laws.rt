@@ -1,6 +1,6 @@
 // Laws of every run from zero.
 ghost use Rattle.gw_laws.specs.Chain.{ChainIsInOrder, ChainIsFirstInFirstOut};
-ghost use Rattle.gw_laws.specs.Clock.{ClockNeverGoesBack, NothingIsOverdue};
+ghost use Rattle.gw_laws.specs.Clock.{ClockNeverGoesBack, ClockStaysWithin, NothingIsOverdue};
 ghost use Rattle.gw_laws.specs.Contents.{ContentsAreCounts};
 ghost use Rattle.gw_laws.specs.Numbering.{NumbersAreApart, NumbersAreGiven};
 
@@ -22,8 +22,9 @@ pub fn contents_are_counts()
     ensures { ContentsAreCounts }
 {}
 
-/// The clock never goes back, and no time on the future chain lies before it.
+/// The clock never goes back and stays within the horizon, and no time on the future chain lies before it.
 pub fn clock_goes_on()
     ensures clock { ClockNeverGoesBack }
+    ensures within { ClockStaysWithin }
     ensures future { NothingIsOverdue }
 {}

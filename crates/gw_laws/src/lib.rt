@@ -1,7 +1,8 @@
 //! What holds of every run from zero, whatever its version: laws above the definition of a step.
 //!
 //! The current chain is in order of priority, and first in first out within. No two transactions have one number.
-//! A block's content is the number of the transactions that stand in it. The clock never goes back.
+//! A block's content is the number of the transactions that stand in it. The clock never goes back, and stays within
+//! the horizon.
 #![tactic(auto)]
 
 mod laws;

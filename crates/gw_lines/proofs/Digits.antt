@@ -8,20 +8,22 @@ use Rattle.std.proofs.lemmas.List.{append-nil}
 use Rattle.gw_lines.specs.Numbers.{number_after, number_of, value_of}
 use Rattle.gw_lines.specs.Spelling.{Digits, first_digit, next_digit, Number, Value, without_sign, with_sign}
 
-fits : (n : ℕ) → n ≤ 1000000000 → nat_le n 1000000000 ≡ true
-fits n h = grind (arith, nat_tests)
+fits : (n most : ℕ) → n ≤ most → nat_le n most ≡ true
+fits n most h = grind (arith, nat_tests)
 
-fits_back : (n : ℕ) → nat_le n 1000000000 ≡ true → n ≤ 1000000000
-fits_back n h = grind (arith, nat_tests)
+fits_back : (n most : ℕ) → nat_le n most ≡ true → n ≤ most
+fits_back n most h = grind (arith, nat_tests)
 
 none_before : (b : ℕ) → 0 * 10 + (b - 48) ≡ b - 48
 none_before b = omega arith
 
-number_on : {text : List ℕ} {n : ℕ} (d : Digits text n) (rest : List ℕ) → n ≤ 1000000000 → number_after 0 (text ++ rest) ≡ number_after n rest
-number_on (first_digit b h) rest small = rw (h, none_before b, fits (b - 48) small) refl
-number_on (next_digit text n b d h) rest small =
-    let e : number_after n (b ∷ rest) ≡ number_after (n * 10 + (b - 48)) rest = rw (h, fits (n * 10 + (b - 48)) small) refl in
-    ap (number_after 0) (append_assoc text (b ∷ []) rest) ∙ number_on d (b ∷ rest) (omega arith) ∙ e
+number_on : {most : ℕ} {text : List ℕ} {n : ℕ} (d : Digits text n) (rest : List ℕ) → n ≤ most
+    → number_after most 0 (text ++ rest) ≡ number_after most n rest
+number_on {most} (first_digit b h) rest small = rw (h, none_before b, fits (b - 48) most small) refl
+number_on {most} (next_digit text n b d h) rest small =
+    let e : number_after most n (b ∷ rest) ≡ number_after most (n * 10 + (b - 48)) rest =
+    rw (h, fits (n * 10 + (b - 48)) most small) refl in
+    ap (number_after most 0) (append_assoc text (b ∷ []) rest) ∙ number_on d (b ∷ rest) (omega arith) ∙ e
 
 pub record Begins (text : List ℕ) : Type 0 where
   pub first : ℕ
@@ -35,38 +37,45 @@ begins (next_digit text n b d h) =
     let ih = begins d in
     record { first = ih.first; others = ih.others ++ b ∷ []; is = ap (λ (t : List ℕ). t ++ b ∷ []) ih.is; digit = ih.digit }
 
-of_after : (text : List ℕ) → Begins text → number_of text ≡ number_after 0 text
-of_after text h = ap number_of h.is ∙ sym (ap (number_after 0) h.is)
+of_after : (most : ℕ) (text : List ℕ) → Begins text → number_of most text ≡ number_after most 0 text
+of_after most text h = ap (number_of most) h.is ∙ sym (ap (number_after most 0) h.is)
 
-pub number_again : (text : List ℕ) (n : ℕ) → Number text n → number_of text ≡ Some n
-number_again text n h = of_after text (begins h.digits) ∙ ap (number_after 0) (sym (append-nil text)) ∙ number_on h.digits [] h.small
+pub number_again : (most : ℕ) (text : List ℕ) (n : ℕ) → Number most text n → number_of most text ≡ Some n
+number_again most text n h =
+    of_after most text (begins h.digits) ∙ ap (number_after most 0) (sym (append-nil text))
+    ∙ number_on h.digits [] h.small
 
 some_is : (m n : ℕ) → (let f : ℕ → Option ℕ = λ x. Some x in f m ≡ f n) → m ≡ n
 some_is m n e = cc
 
-number_taken : (n : ℕ) (front rest : List ℕ) (m : ℕ) → Digits front n → n ≤ 1000000000 → number_after n rest ≡ Some m → Number (front ++ rest) m
-number_taken n front [] m d small e =
+number_taken : (most n : ℕ) (front rest : List ℕ) (m : ℕ) → Digits front n → n ≤ most
+    → number_after most n rest ≡ Some m → Number most (front ++ rest) m
+number_taken most n front [] m d small e =
     let is : n ≡ m = some_is n m e in
-    subst (λ (t : List ℕ). Number t m) (sym (append-nil front)) (subst (λ (k : ℕ). Number front k) is (record { digits = d; small = small }))
-number_taken n front (b ∷ bs) m d small e =
+    subst (λ (t : List ℕ). Number most t m) (sym (append-nil front))
+    (subst (λ (k : ℕ). Number most front k) is (record { digits = d; small = small }))
+number_taken most n front (b ∷ bs) m d small e =
     elim (cases_Bool (is_ascii_digit b)) [
       | inr fails ↦ absurd (let f = rw fails at e in cc)
-      | inl holds ↦ elim (cases_Bool (nat_le (n * 10 + (b - 48)) 1000000000)) [
+      | inl holds ↦ elim (cases_Bool (nat_le (n * 10 + (b - 48)) most)) [
         | inr large ↦ absurd (let f = rw (holds, large) at e in cc)
         | inl le ↦
-            let rest = number_taken (n * 10 + (b - 48)) (front ++ b ∷ []) bs m (next_digit front n b d holds) (fits_back _ le) (rw (holds, le) at e) in
-            subst (λ (t : List ℕ). Number t m) (append_assoc front (b ∷ []) bs) rest
+            let rest = number_taken most (n * 10 + (b - 48)) (front ++ b ∷ []) bs m (next_digit front n b d holds)
+            (fits_back _ most le) (rw (holds, le) at e) in
+            subst (λ (t : List ℕ). Number most t m) (append_assoc front (b ∷ []) bs) rest
       ]
     ]
 
-pub number_found : (text : List ℕ) (m : ℕ) → number_of text ≡ Some m → Number text m
-number_found [] m e = absurd cc
-number_found (b ∷ bs) m e =
+pub number_found : (most : ℕ) (text : List ℕ) (m : ℕ) → number_of most text ≡ Some m → Number most text m
+number_found most [] m e = absurd cc
+number_found most (b ∷ bs) m e =
     elim (cases_Bool (is_ascii_digit b)) [
       | inr fails ↦ absurd (let f = rw fails at e in cc)
-      | inl holds ↦ elim (cases_Bool (nat_le (b - 48) 1000000000)) [
+      | inl holds ↦ elim (cases_Bool (nat_le (b - 48) most)) [
         | inr large ↦ absurd (let f = rw (holds, none_before b, large) at e in cc)
-        | inl le ↦ number_taken (b - 48) (b ∷ []) bs m (first_digit b holds) (fits_back _ le) (rw (holds, none_before b, le) at e)
+        | inl le ↦
+            number_taken most (b - 48) (b ∷ []) bs m (first_digit b holds) (fits_back _ most le)
+            (rw (holds, none_before b, le) at e)
       ]
     ]
 
@@ -79,17 +88,18 @@ value_found [] z e = absurd cc
 value_found (b ∷ bs) z e =
     elim (cases_Bool (b == 45)) [
       | inl holds ↦
-          let m = mapped (λ n. neg_ℤ (pos n)) (number_of bs) z (rw holds at e) in
-          subst (λ (c : ℕ). Value (c ∷ bs) z) (sym (eqb-true b 45 holds)) (subst (λ (v : ℤ). Value (45 ∷ bs) v) m.2 (with_sign bs m.0 (number_found bs m.0 m.1)))
+          let m = mapped (λ n. neg_ℤ (pos n)) (number_of 1000000000 bs) z (rw holds at e) in
+          subst (λ (c : ℕ). Value (c ∷ bs) z) (sym (eqb-true b 45 holds))
+          (subst (λ (v : ℤ). Value (45 ∷ bs) v) m.2 (with_sign bs m.0 (number_found 1000000000 bs m.0 m.1)))
       | inr fails ↦
-          let m = mapped pos (number_of (b ∷ bs)) z (rw fails at e) in
-          subst (λ (v : ℤ). Value (b ∷ bs) v) m.2 (without_sign (b ∷ bs) m.0 (number_found (b ∷ bs) m.0 m.1))
+          let m = mapped pos (number_of 1000000000 (b ∷ bs)) z (rw fails at e) in
+          subst (λ (v : ℤ). Value (b ∷ bs) v) m.2 (without_sign (b ∷ bs) m.0 (number_found 1000000000 (b ∷ bs) m.0 m.1))
     ]
 
 no_sign : (b : ℕ) → is_ascii_digit b ≡ true → (b == 45) ≡ false
 no_sign b h = grind (arith, nat_tests)
 
-plain_value : (text : List ℕ) (n : ℕ) → Begins text → number_of text ≡ Some n → value_of text ≡ Some (pos n)
+plain_value : (text : List ℕ) (n : ℕ) → Begins text → number_of 1000000000 text ≡ Some n → value_of text ≡ Some (pos n)
 plain_value [] n h e = absurd cc
 plain_value (b ∷ bs) n h e =
     let same : b ≡ h.first = let i = h.is in cc in
@@ -97,5 +107,5 @@ plain_value (b ∷ bs) n h e =
     rw (fails, e) refl
 
 pub value_again : {text : List ℕ} {z : ℤ} → Value text z → value_of text ≡ Some z
-value_again (without_sign text n h) = plain_value text n (begins h.digits) (number_again text n h)
-value_again (with_sign text n h) = rw (number_again text n h) refl
+value_again (without_sign text n h) = plain_value text n (begins h.digits) (number_again 1000000000 text n h)
+value_again (with_sign text n h) = rw (number_again 1000000000 text n h) refl

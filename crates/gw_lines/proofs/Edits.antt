@@ -7,16 +7,16 @@ use Rattle.gw_meaning.specs.declared.statement.Statement.{Statement}
 use Rattle.gw_lines.specs.declared.class.Class.TheVariants as class
 use Rattle.gw_lines.specs.declared.fault.LineFault.{LineFault}
 use Rattle.gw_lines.specs.declared.fault.LineFault.TheVariants as faults
-use Rattle.gw_lines.specs.Reading.{◌>>=◌, Fails, Gives}
+use Rattle.gw_lines.specs.Reading.{◌>>=◌, Gives}
 use Rattle.gw_lines.specs.Classes.{front_of, rest_of, tail_of}
 use Rattle.gw_lines.specs.Lines.{line_of, wanted, statement_of}
-use Rattle.gw_lines.specs.Models.{with_byte}
+use Rattle.gw_lines.specs.Classes.{with_byte}
 use Rattle.gw_lines.specs.Spelling.{Spells}
 use Rattle.gw_lines.specs.Faulty.{FirstFault}
 use Rattle.gw_lines.specs.Edits.{edit_lines, SpellsEdit, AreClean, MayGoOn, spelled, misses, is_missing, FaultOfLines, no_line, long_line, wrong_byte, in_first, goes_on, at_the_end, FirstFaultOfEdit, AnswersEdit, short_lines, byte_fault, plain_lines, followed, first_of, edit_in, edit_of}
 use Rattle.gw_lines.specs.Read.{EditsAreRead, EditsAreRefused}
 use Rattle.gw_lines.proofs.Fronts.{front_yes, rest_yes}
-use Rattle.gw_lines.proofs.Operands.{failed, err_is}
+use Rattle.gw_lines.proofs.Results.{failed, err_is, or_memory}
 use Rattle.gw_lines.proofs.Lines.{short_is, spells_found, spells_again}
 use Rattle.gw_lines.proofs.Faults.{long_is, fault_found, fault_again}
 use Rattle.gw_lines.proofs.Whole.{faulty_found, wanted_err}
@@ -28,7 +28,8 @@ one_more b bs e = rw e refl
 
 -- a byte before the first of lines
 put_before : (b : ℕ) (bs : List ℕ) → (b == 124) ≡ false
-    → front_of class.Part (b ∷ bs) ∷ edit_lines (tail_of (rest_of class.Part (b ∷ bs))) ≡ with_byte b (front_of class.Part bs ∷ edit_lines (tail_of (rest_of class.Part bs)))
+    → front_of class.Part (b ∷ bs) ∷ edit_lines (tail_of (rest_of class.Part (b ∷ bs)))
+    ≡ with_byte b (front_of class.Part bs ∷ edit_lines (tail_of (rest_of class.Part bs)))
 put_before b bs e =
     ap (λ (x : List ℕ). x ∷ edit_lines (tail_of (rest_of class.Part (b ∷ bs)))) (front_yes class.Part b bs (ap not e))
     ∙ ap (λ (x : List ℕ). (b ∷ front_of class.Part bs) ∷ edit_lines (tail_of x)) (rest_yes class.Part b bs (ap not e))
@@ -51,7 +52,8 @@ first_part [] some = absurd (some refl)
 first_part (b ∷ bs) some = first_is b bs
 
 -- the statement of a line that others follow
-pub followed_gives : (text line further : List ℕ) → (text ≢ [] → edit_lines text ≡ line ∷ edit_lines further) → (text ≡ [] → (line ≡ []) × (further ≡ [])) → further ≢ [] → first_of (edit_lines text) ≡ followed (statement_of line)
+pub followed_gives : (text line further : List ℕ) → (text ≢ [] → edit_lines text ≡ line ∷ edit_lines further) → (text ≡ [] → (line ≡ []) × (further ≡ []))
+    → further ≢ [] → first_of (edit_lines text) ≡ followed (statement_of line)
 followed_gives [] line further some none e = absurd (e (none refl).1)
 followed_gives (b ∷ bs) line further some none e = ap first_of (some (λ h. cc) ∙ ap (λ (t : List (List ℕ)). line ∷ t) (first_part further e))
 
@@ -115,7 +117,8 @@ byte_cases (Err faults.BadPairs) = inr (refl, λ e. cc)
 byte_cases (Err faults.Memory) = inr (refl, λ e. cc)
 
 none_wanted : (r : Result (Option Statement) LineFault) → r ≡ Ok None → (r >>= wanted) ≡ Err faults.BadByte → ⊥
-none_wanted r n e = let f : failed {A = Statement} faults.UnknownVerb ≡ Err faults.BadByte = sym (ap (λ (x : Result (Option Statement) LineFault). x >>= wanted) n) ∙ e in cc
+none_wanted r n e = let f : failed {A = Statement} faults.UnknownVerb ≡ Err faults.BadByte =
+    sym (ap (λ (x : Result (Option Statement) LineFault). x >>= wanted) n) ∙ e in cc
 
 wrong_is : (line : List ℕ) → IsWrong line → line_of line ≡ Err faults.BadByte
 unfolding statement_of
@@ -192,9 +195,11 @@ missing_cases f = inr refl
 record GoesOn (r : Result Statement LineFault) : Type 0 where
   pub why : ((s : Statement) × (r ≡ Ok s)) ⊎ ((n : ℕ) × (r ≡ Err (faults.MissingOperand n)))
 
-followed_cases : (r : Result Statement LineFault) (f : LineFault) → followed r ≡ Err f → ((f ≡ faults.BadPairs) × GoesOn r) ⊎ ((r ≡ Err f) × (is_missing f ≡ false))
+followed_cases : (r : Result Statement LineFault) (f : LineFault) → followed r ≡ Err f → ((f ≡ faults.BadPairs) × GoesOn r)
+    ⊎ ((r ≡ Err f) × (is_missing f ≡ false))
 followed_cases (Ok s) f e = inl (err_is (failed {A = Statement} faults.BadPairs) f faults.BadPairs e refl, record { why = inl (s, refl) })
-followed_cases (Err (faults.MissingOperand n)) f e = inl (err_is (failed {A = Statement} faults.BadPairs) f faults.BadPairs e refl, record { why = inr (n, refl) })
+followed_cases (Err (faults.MissingOperand n)) f e =
+    inl (err_is (failed {A = Statement} faults.BadPairs) f faults.BadPairs e refl, record { why = inr (n, refl) })
 followed_cases (Err g) f e =
     let same : g ≡ f = err_is (failed {A = Statement} g) g f refl e in
     inr (ap failed same, subst (λ (x : LineFault). is_missing x ≡ false) same refl)
@@ -210,7 +215,8 @@ first_fault : (lines : List (List ℕ)) (f : LineFault) → AreClean lines → f
 first_fault [] f c e = subst (λ (x : LineFault). FaultOfLines [] x) (err_is (failed {A = Statement} faults.UnknownVerb) faults.UnknownVerb f refl e) no_line
 first_fault (line ∷ []) f c e =
     elim (missing_cases f) [
-      | inl m ↦ subst (λ (x : LineFault). FaultOfLines (line ∷ []) x) (sym m.1) (at_the_end line m.0 c (fault_found line (faults.MissingOperand m.0) (e ∙ ap failed m.1)))
+      | inl m ↦ subst (λ (x : LineFault). FaultOfLines (line ∷ []) x) (sym m.1) (at_the_end line m.0 c (fault_found line (faults.MissingOperand m.0) (e
+          ∙ ap failed m.1)))
       | inr m ↦ in_first line [] f c (fault_found line f e) m
     ]
 first_fault (line ∷ next ∷ others) f c e =
@@ -276,25 +282,16 @@ pub edit_found : (text : List ℕ) (r : Result Statement LineFault) → Gives (�
 edit_found text (Ok s) h = edit_spells text s h
 edit_found text (Err f) h = tt
 
-pub edit_only : (text : List ℕ) (r : Result Statement LineFault) → Gives (λ s. s) r (edit_of text) → (s : Statement) → SpellsEdit text s → Gives (λ s. s) r (Ok s)
+pub edit_only : (text : List ℕ) (r : Result Statement LineFault) → Gives (λ s. s) r (edit_of text) → (s : Statement) → SpellsEdit text s
+    → Gives (λ s. s) r (Ok s)
 edit_only text r h s k = subst (λ (x : Result Statement LineFault). Gives (λ s. s) r x) (edit_again text s k) h
 
-fails_with : (text : List ℕ) (f : LineFault) → Fails f (edit_of text) → AnswersEdit text f
-unfolding edit_of
-fails_with text faults.Memory h = tt
-fails_with text faults.TooLong h = lines_fault (edit_lines text) _ h
-fails_with text faults.BadByte h = lines_fault (edit_lines text) _ h
-fails_with text faults.UnknownVerb h = lines_fault (edit_lines text) _ h
-fails_with text faults.BadLabel h = lines_fault (edit_lines text) _ h
-fails_with text (faults.BadOperand n) h = lines_fault (edit_lines text) _ h
-fails_with text (faults.MissingOperand n) h = lines_fault (edit_lines text) _ h
-fails_with text (faults.ExtraOperand n) h = lines_fault (edit_lines text) _ h
-fails_with text faults.BadPairs h = lines_fault (edit_lines text) _ h
-
 pub edit_fault : (text : List ℕ) (r : Result Statement LineFault) → Gives (λ s. s) r (edit_of text) → IfErr r (λ f. AnswersEdit text f)
+unfolding edit_of
 edit_fault text (Ok s) h = tt
-edit_fault text (Err f) h = fails_with text f h
+edit_fault text (Err f) h = or_memory f (lines_fault (edit_lines text) f) h
 
-pub edit_faulty : (text : List ℕ) (r : Result Statement LineFault) → Gives (λ s. s) r (edit_of text) → (f : LineFault) → FirstFaultOfEdit text f → Gives (λ s. s) r (Err f)
+pub edit_faulty : (text : List ℕ) (r : Result Statement LineFault) → Gives (λ s. s) r (edit_of text) → (f : LineFault) → FirstFaultOfEdit text f
+    → Gives (λ s. s) r (Err f)
 unfolding edit_of
 edit_faulty text r h f k = subst (λ (x : Result Statement LineFault). Gives (λ s. s) r x) (fault_in k) h

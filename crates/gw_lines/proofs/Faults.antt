@@ -13,16 +13,15 @@ use Rattle.gw_meaning.specs.declared.statement.Statement.{Statement}
 use Rattle.gw_lines.specs.declared.class.Class.TheVariants as class
 use Rattle.gw_lines.specs.declared.fault.LineFault.{LineFault}
 use Rattle.gw_lines.specs.declared.fault.LineFault.TheVariants as faults
-use Rattle.gw_lines.specs.Reading.{◌>>=◌, Fails, Gives}
+use Rattle.gw_lines.specs.Reading.{◌>>=◌, Gives}
 use Rattle.gw_lines.specs.Classes.{is_in, is_blank, front_of, rest_of, is_nothing, are_plain}
 use Rattle.gw_lines.specs.Bodies.{body_of}
 use Rattle.gw_lines.specs.Lines.{word_of, behind_word, verb_in, is_command, or_bad_label, label_of, plain_of, by_first, by_second, coded_of, fault_without_verb, behind_number, code_of, is_remark, line_in, line_of, statement_of}
 use Rattle.gw_lines.specs.Spelling.{AreIn, Stops, Head, Label, no_label, named, ArePlain}
-use Rattle.gw_lines.specs.Faulty.{is_read, Verbless, one_word, two_words, WordsFault, byte_with_verb, byte_without_verb, no_verb, bad_first_word, bad_label, verb_to_come, operand_fault, FirstFault, too_long, no_statement, in_words, Answers}
+use Rattle.gw_lines.specs.Faulty.{Verbless, one_word, two_words, WordsFault, byte_with_verb, byte_without_verb, no_verb, bad_first_word, bad_label, verb_to_come, operand_fault, FirstFault, too_long, no_statement, in_words, Answers}
 use Rattle.gw_lines.proofs.Fronts.{front_again, rest_again, parts, front_all, rest_stops}
-use Rattle.gw_lines.proofs.Listings.{listing_of}
-use Rattle.gw_lines.proofs.Operands.{failed, err_is}
-use Rattle.gw_lines.proofs.Verbs.{body_fault, body_fault_again, body_to_come}
+use Rattle.gw_lines.proofs.Results.{failed, err_is, or_memory}
+use Rattle.gw_lines.proofs.Bodies.{body_fault, body_fault_again, body_to_come}
 use Rattle.gw_lines.proofs.Heads.{are_plain_upper, none_is, not_none, some_is_not, both_stop, no_word, blank_no_mark, mark_no_blank, head_first, head_second, at_head, head_is, label_again, labelled_head}
 use Rattle.gw_lines.proofs.Lines.{short_is, short_again, cut_of, cut_is, words_of, words_are}
 
@@ -62,9 +61,9 @@ true_false h k = absurd (let e : true ≡ false = sym h ∙ k in cc)
 body_part : {words : List ℕ} {word : Option (List ℕ)} {verb : Verb} {kept : List ℕ} {label : Option (List ℕ)} (f : LineFault)
     → Head words word verb kept → ArePlain word kept → Label word verb label → body_of verb (upper_of kept) ≡ Err f → WordsFault words f
 body_part {words} {word} {verb} {kept} {label} f h p l e =
-    elim (cases_Bool (is_read verb)) [
-      | inl r ↦ let os = listing_of (upper_of kept) in operand_fault words word verb kept label os.0 f h p l r os.1 (body_fault verb os.1 f r e)
-      | inr r ↦ subst (λ (x : LineFault). WordsFault words x) (err_is (body_of verb (upper_of kept)) faults.UnknownVerb f (body_to_come verb (upper_of kept) r) e) (verb_to_come words word verb kept label h p l r)
+    elim (body_fault verb (upper_of kept) f e) [
+      | inl none ↦ subst (λ (x : LineFault). WordsFault words x) none.1 (verb_to_come words word verb kept label h p l none.0)
+      | inr o ↦ operand_fault words word verb kept label f h p l o
     ]
 
 bad_name : (o : Option (List ℕ)) → ((name : List ℕ) × (o ≡ Some name) × (or_bad_label o ≡ Ok name)) ⊎ ((o ≡ None) × (or_bad_label o ≡ Err faults.BadLabel))
@@ -80,7 +79,8 @@ unlabelled verb word (inr n) =
       | inr c ↦ rw (c, n) refl
     ]
 
-label_cases : (verb : Verb) (word : List ℕ) → ((name : List ℕ) × (is_command verb ≡ false) × (name_of word ≡ Some name)) ⊎ ((is_command verb ≡ true) ⊎ (name_of word ≡ None))
+label_cases : (verb : Verb) (word : List ℕ) → ((name : List ℕ) × (is_command verb ≡ false) × (name_of word ≡ Some name))
+    ⊎ ((is_command verb ≡ true) ⊎ (name_of word ≡ None))
 label_cases verb word =
     elim (cases_Bool (is_command verb)) [
       | inl c ↦ inr (inl c)
@@ -93,25 +93,36 @@ label_cases verb word =
 kept_plain : (kept : List ℕ) → are_plain (upper_of kept) ≡ true → are_plain kept ≡ true
 kept_plain kept h = sym (are_plain_upper kept) ∙ h
 
-head_fault : {words : List ℕ} (word : Option (List ℕ)) {verb : Verb} {kept : List ℕ} (f : LineFault) → Head words word verb kept → at_head word verb kept ≡ Err f → WordsFault words f
+head_fault : {words : List ℕ} (word : Option (List ℕ)) {verb : Verb} {kept : List ℕ} (f : LineFault) → Head words word verb kept
+    → at_head word verb kept ≡ Err f → WordsFault words f
 head_fault {words} None {verb} {kept} f h e =
     elim (plain_cases (upper_of kept)) [
-      | inl p ↦ body_part f h (record { first = tt; list = kept_plain kept p.0 }) (no_label verb) (body_failed (body_of verb (upper_of kept)) None (upper_of kept) f (step_ok (plain_of (upper_of kept)) _ (upper_of kept) f p.1 e))
+      | inl p ↦ body_part f h (record {
+        first = tt;
+        list =
+            kept_plain kept p.0;
+      }) (no_label verb)
+          (body_failed (body_of verb (upper_of kept)) None (upper_of kept) f (step_ok (plain_of (upper_of kept)) _ (upper_of kept) f p.1 e))
       | inr p ↦ subst (λ (x : LineFault). WordsFault words x) (sym (step_err (plain_of (upper_of kept)) _ faults.BadByte f p.1 e))
           (byte_with_verb words None verb kept h (λ a. true_false (are_plain_upper kept ∙ a.list) p.0))
     ]
 head_fault {words} (Some word) {verb} {kept} f h e =
     elim (plain_cases word) [
-      | inr w ↦ subst (λ (x : LineFault). WordsFault words x) (sym (step_err (plain_of word) _ faults.BadByte f w.1 e)) (byte_with_verb words (Some word) verb kept h (λ a. true_false a.first w.0))
+      | inr w ↦ subst (λ (x : LineFault). WordsFault words x) (sym (step_err (plain_of word) _ faults.BadByte f w.1 e))
+          (byte_with_verb words (Some word) verb kept h (λ a. true_false a.first w.0))
       | inl w ↦ elim (plain_cases (upper_of kept)) [
-        | inr p ↦ subst (λ (x : LineFault). WordsFault words x) (sym (step_err (plain_of (upper_of kept)) _ faults.BadByte f p.1 (step_ok (plain_of word) _ word f w.1 e)))
+        | inr p ↦ subst (λ (x : LineFault). WordsFault words x)
+            (sym (step_err (plain_of (upper_of kept)) _ faults.BadByte f p.1 (step_ok (plain_of word) _ word f w.1 e)))
             (byte_with_verb words (Some word) verb kept h (λ a. true_false (are_plain_upper kept ∙ a.list) p.0))
         | inl p ↦
             let plain : ArePlain (Some word) kept = record { first = w.0; list = kept_plain kept p.0 } in
             let e2 = step_ok (plain_of (upper_of kept)) _ (upper_of kept) f p.1 (step_ok (plain_of word) _ word f w.1 e) in
             elim (label_cases verb word) [
-              | inl n ↦ body_part f h plain (named word verb n.0 n.1 n.2) (body_failed (body_of verb (upper_of kept)) (Some n.0) (upper_of kept) f (step_ok (label_of verb word) _ n.0 f (label_again verb word n.0 n.1 n.2) e2))
-              | inr b ↦ subst (λ (x : LineFault). WordsFault words x) (sym (step_err (label_of verb word) _ faults.BadLabel f (unlabelled verb word b) e2)) (bad_label words word verb kept h plain b)
+              | inl n ↦ body_part f h plain (named word verb n.0 n.1 n.2)
+                  (body_failed (body_of verb (upper_of kept)) (Some n.0) (upper_of kept) f
+                  (step_ok (label_of verb word) _ n.0 f (label_again verb word n.0 n.1 n.2) e2))
+              | inr b ↦ subst (λ (x : LineFault). WordsFault words x) (sym (step_err (label_of verb word) _ faults.BadLabel f (unlabelled verb word b) e2))
+                  (bad_label words word verb kept h plain b)
             ]
       ]
     ]
@@ -122,11 +133,13 @@ none_behind : (blanks : List ℕ) → AreIn class.Blank blanks → Stops class.M
 none_behind [] h = tt
 none_behind (b ∷ bs) h = ap not (and_parts (is_blank b) (list_all (is_in class.Blank) bs) h).0
 
-verbless_with : (words first second : List ℕ) → word_of words ≡ first → word_of (behind_word words) ≡ second → verb_in first ≡ None → verb_in second ≡ None → coded_of words ≡ Err (fault_without_verb words first second)
+verbless_with : (words first second : List ℕ) → word_of words ≡ first → word_of (behind_word words) ≡ second → verb_in first ≡ None → verb_in second ≡ None
+    → coded_of words ≡ Err (fault_without_verb words first second)
 unfolding coded_of
 verbless_with words first second a b n m =
     ap (λ (o : Option Verb). by_first o words) (ap verb_in a ∙ n) ∙ ap (λ (o : Option Verb). by_second o words) (ap verb_in b ∙ m)
-    ∙ ap (λ (x : List ℕ). failed {A = Statement} (fault_without_verb words x (word_of (behind_word words)))) a ∙ ap (λ (x : List ℕ). failed {A = Statement} (fault_without_verb words first x)) b
+    ∙ ap (λ (x : List ℕ). failed {A = Statement} (fault_without_verb words x (word_of (behind_word words)))) a
+    ∙ ap (λ (x : List ℕ). failed {A = Statement} (fault_without_verb words first x)) b
 
 verbless_is : {words first second : List ℕ} → Verbless words first second → coded_of words ≡ Err (fault_without_verb words first second)
 verbless_is (one_word first blanks m n k) =
@@ -140,32 +153,40 @@ verbless_is (two_words first blanks second rest m n k some w more v s) =
     let t = blank_no_mark blanks (second ++ rest) k some in
     let u = mark_no_blank second rest w more in
     let a : word_of words ≡ first = front_again class.Mark first (blanks ++ (second ++ rest)) m t in
-    let b : behind_word words ≡ second ++ rest = ap (rest_of class.Blank) (rest_again class.Mark first (blanks ++ (second ++ rest)) m t) ∙ rest_again class.Blank blanks (second ++ rest) k u in
+    let b : behind_word words ≡ second ++ rest = ap (rest_of class.Blank) (rest_again class.Mark first (blanks ++ (second ++ rest)) m t)
+    ∙ rest_again class.Blank blanks (second ++ rest) k u in
     verbless_with words first second a (ap word_of b ∙ front_again class.Mark second rest w s) n v
 
-verbless_of : (words : List ℕ) → verb_in (word_of words) ≡ None → verb_in (word_of (behind_word words)) ≡ None → Verbless words (word_of words) (word_of (behind_word words))
+verbless_of : (words : List ℕ) → verb_in (word_of words) ≡ None → verb_in (word_of (behind_word words)) ≡ None
+    → Verbless words (word_of words) (word_of (behind_word words))
 verbless_of words n m =
     let rest = rest_of class.Mark words in
     let blanks = front_of class.Blank rest in
     let second = behind_word words in
     let none_then = λ (e : word_of second ≡ []).
-    (let stop : Stops class.Mark second = subst (λ (t : List ℕ). Stops class.Mark t) (sym (parts class.Mark second ∙ ap (λ (t : List ℕ). t ++ rest_of class.Mark second) e)) (rest_stops class.Mark second) in
+    (let stop : Stops class.Mark second = subst (λ (t : List ℕ). Stops class.Mark t) (sym (parts class.Mark second
+    ∙ ap (λ (t : List ℕ). t ++ rest_of class.Mark second) e)) (rest_stops class.Mark second) in
     both_stop second stop (rest_stops class.Blank rest)) in
     elim (cases_Bool (is_nothing (word_of second))) [
       | inl none ↦
           let e : word_of second ≡ [] = none_is (word_of second) none in
-          let whole : words ≡ word_of words ++ blanks = parts class.Mark words ∙ ap (λ (t : List ℕ). word_of words ++ t) (parts class.Blank rest ∙ ap (λ (t : List ℕ). blanks ++ t) (none_then e) ∙ append-nil blanks) in
+          let whole : words ≡ word_of words ++ blanks = parts class.Mark words
+          ∙ ap (λ (t : List ℕ). word_of words ++ t) (parts class.Blank rest ∙ ap (λ (t : List ℕ). blanks ++ t) (none_then e) ∙ append-nil blanks) in
           subst (λ (t : List ℕ). Verbless words (word_of words) t) (sym e)
-          (subst (λ (t : List ℕ). Verbless t (word_of words) []) (sym whole) (one_word (word_of words) blanks (front_all class.Mark words) n (front_all class.Blank rest)))
+          (subst (λ (t : List ℕ). Verbless t (word_of words) []) (sym whole)
+          (one_word (word_of words) blanks (front_all class.Mark words) n (front_all class.Blank rest)))
       | inr given ↦
           let more = not_none (word_of second) given in
           let some : blanks ≢ [] = λ (e : blanks ≡ []).
           (let same : rest ≡ second = parts class.Blank rest ∙ ap (λ (t : List ℕ). t ++ second) e in
-          let nothing : second ≡ [] = both_stop second (subst (λ (t : List ℕ). Stops class.Mark t) same (rest_stops class.Mark words)) (rest_stops class.Blank rest) in
+          let nothing : second ≡ [] = both_stop second (subst (λ (t : List ℕ). Stops class.Mark t) same (rest_stops class.Mark words))
+          (rest_stops class.Blank rest) in
           more (ap word_of nothing)) in
-          let whole : words ≡ word_of words ++ (blanks ++ (word_of second ++ rest_of class.Mark second)) = parts class.Mark words ∙ ap (λ (t : List ℕ). word_of words ++ t) (parts class.Blank rest ∙ ap (λ (t : List ℕ). blanks ++ t) (parts class.Mark second)) in
+          let whole : words ≡ word_of words ++ (blanks ++ (word_of second ++ rest_of class.Mark second)) = parts class.Mark words
+          ∙ ap (λ (t : List ℕ). word_of words ++ t) (parts class.Blank rest ∙ ap (λ (t : List ℕ). blanks ++ t) (parts class.Mark second)) in
           subst (λ (t : List ℕ). Verbless t (word_of words) (word_of second)) (sym whole)
-          (two_words (word_of words) blanks (word_of second) (rest_of class.Mark second) (front_all class.Mark words) n (front_all class.Blank rest) some (front_all class.Mark second) more m (rest_stops class.Mark second))
+          (two_words (word_of words) blanks (word_of second) (rest_of class.Mark second) (front_all class.Mark words) n (front_all class.Blank rest) some
+          (front_all class.Mark second) more m (rest_stops class.Mark second))
     ]
 
 name_cases : (first : List ℕ) → IsSome (name_of first) ⊎ (name_of first ≡ None)
@@ -192,7 +213,8 @@ which words first second v =
 
 -- ---- words
 
-second_fault : (words : List ℕ) (o : Option Verb) (f : LineFault) → verb_in (word_of words) ≡ None → verb_in (word_of (behind_word words)) ≡ o → coded_of words ≡ Err f → WordsFault words f
+second_fault : (words : List ℕ) (o : Option Verb) (f : LineFault) → verb_in (word_of words) ≡ None → verb_in (word_of (behind_word words)) ≡ o
+    → coded_of words ≡ Err f → WordsFault words f
 second_fault words (Some verb) f n v e = let h = head_second words verb n v in head_fault (Some (word_of words)) f h (sym (head_is h) ∙ e)
 second_fault words None f n v e =
     let b = verbless_of words n v in
@@ -235,9 +257,13 @@ words_again (no_verb words first second v p (inl e)) = verbless_is v ∙ rw (p, 
 words_again (no_verb words first second v p (inr n)) = verbless_is v ∙ rw (p, or_holds (is_nothing second) (is_some (name_of first)) n) refl
 words_again (bad_first_word words first second v p some n) = verbless_is v ∙ rw (p, some_is_not second some, n) refl
 words_again (bad_label words word verb kept h p b) =
-    head_is h ∙ step_on (plain_of word) _ word _ (plain_is word p.first) (step_on (plain_of (upper_of kept)) _ (upper_of kept) _ (plain_is (upper_of kept) (are_plain_upper kept ∙ p.list)) (step_off (label_of verb word) _ faults.BadLabel (unlabelled verb word b)))
-words_again (verb_to_come words word verb kept label h p l r) = head_is h ∙ labelled_head kept p l ∙ step_off (body_of verb (upper_of kept)) _ faults.UnknownVerb (body_to_come verb (upper_of kept) r)
-words_again (operand_fault words word verb kept label os f h p l r k o) = head_is h ∙ labelled_head kept p l ∙ step_off (body_of verb (upper_of kept)) _ f (body_fault_again verb k f r o)
+    head_is h ∙ step_on (plain_of word) _ word _ (plain_is word p.first)
+    (step_on (plain_of (upper_of kept)) _ (upper_of kept) _ (plain_is (upper_of kept) (are_plain_upper kept
+    ∙ p.list)) (step_off (label_of verb word) _ faults.BadLabel (unlabelled verb word b)))
+words_again (verb_to_come words word verb kept label h p l r) = head_is h ∙ labelled_head kept p l
+    ∙ step_off (body_of verb (upper_of kept)) _ faults.UnknownVerb (body_to_come verb (upper_of kept) r)
+words_again (operand_fault words word verb kept label f h p l o) =
+    head_is h ∙ labelled_head kept p l ∙ step_off (body_of verb (upper_of kept)) _ f (body_fault_again (upper_of kept) o)
 
 -- ---- lines
 
@@ -251,14 +277,19 @@ pub fault_found : (text : List ℕ) (f : LineFault) → statement_of text ≡ Er
 unfolding statement_of line_of line_in
 fault_found text f e =
     elim (cases_Bool (nat_lt 250 (length text))) [
-      | inl long ↦ let h : failed {A = Statement} faults.TooLong ≡ Err f = rw long at e in subst (λ (x : LineFault). FirstFault text x) (err_is (failed {A = Statement} faults.TooLong) faults.TooLong f refl h) (too_long text (long_is (length text) long))
+      | inl long ↦ let h : failed {A = Statement} faults.TooLong ≡ Err f = rw long at e in
+          subst (λ (x : LineFault). FirstFault text x) (err_is (failed {A =
+          Statement} faults.TooLong) faults.TooLong f refl h) (too_long text (long_is (length text) long))
       | inr short ↦ elim (cases_Bool (is_remark (code_of text))) [
         | inl remark ↦
             let h : failed {A = Statement} faults.UnknownVerb ≡ Err f = rw (short, remark) at e in
-            subst (λ (x : LineFault). FirstFault text x) (err_is (failed {A = Statement} faults.UnknownVerb) faults.UnknownVerb f refl h) (no_statement text (code_of text) (cut_of text (short_is (length text) short)) remark)
+            subst (λ (x : LineFault). FirstFault text x) (err_is (failed {A =
+            Statement} faults.UnknownVerb) faults.UnknownVerb f refl h)
+            (no_statement text (code_of text) (cut_of text (short_is (length text) short)) remark)
         | inr code ↦
             let w = words_of text (short_is (length text) short) code in
-            in_words text (behind_number (code_of text)) f w (words_fault (behind_number (code_of text)) f (sym (words_are text (behind_number (code_of text)) w) ∙ e))
+            in_words text (behind_number (code_of text)) f w
+            (words_fault (behind_number (code_of text)) f (sym (words_are text (behind_number (code_of text)) w) ∙ e))
       ]
     ]
 
@@ -270,20 +301,10 @@ fault_again (in_words text words f h w) = words_are text words h ∙ words_again
 
 -- ---- the clauses
 
-fails_with : (text : List ℕ) (f : LineFault) → Fails f (statement_of text) → Answers text f
-fails_with text faults.Memory h = tt
-fails_with text faults.TooLong h = fault_found text _ h
-fails_with text faults.BadByte h = fault_found text _ h
-fails_with text faults.UnknownVerb h = fault_found text _ h
-fails_with text faults.BadLabel h = fault_found text _ h
-fails_with text (faults.BadOperand n) h = fault_found text _ h
-fails_with text (faults.MissingOperand n) h = fault_found text _ h
-fails_with text (faults.ExtraOperand n) h = fault_found text _ h
-fails_with text faults.BadPairs h = fault_found text _ h
-
 pub is_fault : (text : List ℕ) (r : Result Statement LineFault) → Gives (λ s. s) r (statement_of text) → IfErr r (λ f. Answers text f)
 is_fault text (Ok s) h = tt
-is_fault text (Err f) h = fails_with text f h
+is_fault text (Err f) h = or_memory f (fault_found text f) h
 
-pub is_faulty : (text : List ℕ) (r : Result Statement LineFault) → Gives (λ s. s) r (statement_of text) → (f : LineFault) → FirstFault text f → Gives (λ s. s) r (Err f)
+pub is_faulty : (text : List ℕ) (r : Result Statement LineFault) → Gives (λ s. s) r (statement_of text) → (f : LineFault) → FirstFault text f
+    → Gives (λ s. s) r (Err f)
 is_faulty text r h f k = subst (λ (x : Result Statement LineFault). Gives (λ s. s) r x) (fault_again k) h

@@ -20,8 +20,8 @@ use Rattle.gw_lines.specs.Lines.{word_of, behind_word, verb_in, is_command, or_b
 use Rattle.gw_lines.specs.Spelling.{AreIn, Stops, Behind, Head, first_word, second_word, Label, no_label, named, ArePlain, Numbering, unnumbered, numbered, Coded}
 use Rattle.gw_lines.proofs.Fronts.{nonzero, not_true, not_false, front_again, rest_again, parts, front_all, rest_stops}
 use Rattle.gw_lines.proofs.Kept.{parted_of, behind_of}
-use Rattle.gw_lines.proofs.Listings.{listing_of}
-use Rattle.gw_lines.proofs.Bodies.{done, ok_is, body_found, body_again}
+use Rattle.gw_lines.proofs.Results.{done, ok_is}
+use Rattle.gw_lines.proofs.Bodies.{body_found, body_again}
 
 -- ---- plain bytes
 
@@ -58,7 +58,8 @@ or_true false b h = h
 
 -- where no blanks stand before it
 no_blanks : (text : List ℕ) → front_of class.Blank text ≡ [] → Stops class.Blank text
-no_blanks text e = subst (λ (t : List ℕ). Stops class.Blank t) (sym (parts class.Blank text ∙ ap (λ (t : List ℕ). t ++ rest_of class.Blank text) e)) (rest_stops class.Blank text)
+no_blanks text e = subst (λ (t : List ℕ). Stops class.Blank t) (sym (parts class.Blank text
+    ∙ ap (λ (t : List ℕ). t ++ rest_of class.Blank text) e)) (rest_stops class.Blank text)
 
 first_none : (code : List ℕ) → front_of class.Digit code ≡ [] → rest_of class.Digit code ≡ code
 first_none code e = sym (parts class.Digit code ∙ ap (λ (t : List ℕ). t ++ rest_of class.Digit code) e)
@@ -68,11 +69,14 @@ unnumbered_code code s =
     let n = unnumbered (front_of class.Digit code) (rest_of class.Digit code) (front_all class.Digit code) (rest_stops class.Digit code) s in
     subst (λ (t : List ℕ). Numbering t t) (sym (parts class.Digit code)) n
 
-numbered_code : (code : List ℕ) → front_of class.Digit code ≢ [] → front_of class.Blank (rest_of class.Digit code) ≢ [] → Numbering code (rest_of class.Blank (rest_of class.Digit code))
+numbered_code : (code : List ℕ) → front_of class.Digit code ≢ [] → front_of class.Blank (rest_of class.Digit code) ≢ []
+    → Numbering code (rest_of class.Blank (rest_of class.Digit code))
 numbered_code code d b =
     let rest = rest_of class.Digit code in
-    let n = numbered (front_of class.Digit code) (front_of class.Blank rest) (rest_of class.Blank rest) (front_all class.Digit code) d (front_all class.Blank rest) b (rest_stops class.Blank rest) in
-    subst (λ (t : List ℕ). Numbering t (rest_of class.Blank rest)) (sym (parts class.Digit code ∙ ap (λ (t : List ℕ). front_of class.Digit code ++ t) (parts class.Blank rest))) n
+    let n = numbered (front_of class.Digit code) (front_of class.Blank rest) (rest_of class.Blank rest) (front_all class.Digit code) d
+    (front_all class.Blank rest) b (rest_stops class.Blank rest) in
+    subst (λ (t : List ℕ). Numbering t (rest_of class.Blank rest)) (sym (parts class.Digit code
+    ∙ ap (λ (t : List ℕ). front_of class.Digit code ++ t) (parts class.Blank rest))) n
 
 pub numbering_of : (code : List ℕ) → Stops class.Blank code → Numbering code (behind_number code)
 unfolding behind_number
@@ -96,13 +100,16 @@ blank_no_digit (b ∷ bs) text h some = a_blank b (and_parts (is_blank b) (list_
 pub numbering_is : {code words : List ℕ} → Numbering code words → behind_number code ≡ words
 unfolding behind_number
 numbering_is (unnumbered digits rest h s t) =
-    let none : is_nothing (front_of class.Blank (rest_of class.Digit (digits ++ rest))) ≡ true = ap is_nothing (ap (front_of class.Blank) (rest_again class.Digit digits rest h s) ∙ front_again class.Blank [] rest refl t) in
+    let none : is_nothing (front_of class.Blank (rest_of class.Digit (digits ++ rest))) ≡ true =
+    ap is_nothing (ap (front_of class.Blank) (rest_again class.Digit digits rest h s) ∙ front_again class.Blank [] rest refl t) in
     rw (or_true (is_nothing (front_of class.Digit (digits ++ rest))) _ none) refl
 numbering_is (numbered digits blanks rest h some k more t) =
     let s : Stops class.Digit (blanks ++ rest) = blank_no_digit blanks rest k more in
     let left : rest_of class.Digit (digits ++ (blanks ++ rest)) ≡ blanks ++ rest = rest_again class.Digit digits (blanks ++ rest) h s in
-    let a : is_nothing (front_of class.Digit (digits ++ (blanks ++ rest))) ≡ false = ap is_nothing (front_again class.Digit digits (blanks ++ rest) h s) ∙ some_is_not digits some in
-    let b : is_nothing (front_of class.Blank (rest_of class.Digit (digits ++ (blanks ++ rest)))) ≡ false = ap is_nothing (ap (front_of class.Blank) left ∙ front_again class.Blank blanks rest k t) ∙ some_is_not blanks more in
+    let a : is_nothing (front_of class.Digit (digits ++ (blanks ++ rest))) ≡ false = ap is_nothing (front_again class.Digit digits (blanks ++ rest) h s)
+    ∙ some_is_not digits some in
+    let b : is_nothing (front_of class.Blank (rest_of class.Digit (digits ++ (blanks ++ rest)))) ≡ false =
+    ap is_nothing (ap (front_of class.Blank) left ∙ front_again class.Blank blanks rest k t) ∙ some_is_not blanks more in
     rw (a, b) (ap (rest_of class.Blank) left ∙ rest_again class.Blank blanks rest k t)
 
 -- ---- the words
@@ -114,20 +121,23 @@ both_stop (b ∷ bs) m s = absurd (let f : true ≡ false = sym (not_false (is_b
 behind_all : (bytes : List ℕ) → Stops class.Mark bytes → Behind bytes (listed_of true (rest_of class.Blank bytes))
 behind_all bytes m =
     let e = parts class.Blank bytes in
-    let b = behind_of (front_of class.Blank bytes) (rest_of class.Blank bytes) (front_all class.Blank bytes) (subst (λ (t : List ℕ). Stops class.Mark t) e m) (rest_stops class.Blank bytes) in
+    let b = behind_of (front_of class.Blank bytes) (rest_of class.Blank bytes) (front_all class.Blank bytes) (subst (λ (t : List ℕ). Stops class.Mark t) e m)
+    (rest_stops class.Blank bytes) in
     subst (λ (t : List ℕ). Behind t (listed_of true (rest_of class.Blank bytes))) (sym e) b
 
 pub head_first : (words : List ℕ) (verb : Verb) → verb_in (word_of words) ≡ Some verb → Head words None verb (listed_of true (behind_word words))
 head_first words verb v =
     let rest = rest_of class.Mark words in
-    let h = first_word (word_of words) rest verb (listed_of true (behind_word words)) (front_all class.Mark words) v (behind_all rest (rest_stops class.Mark words)) in
+    let h = first_word (word_of words) rest verb (listed_of true (behind_word words)) (front_all class.Mark words) v
+    (behind_all rest (rest_stops class.Mark words)) in
     subst (λ (t : List ℕ). Head t None verb (listed_of true (behind_word words))) (sym (parts class.Mark words)) h
 
 pub no_word : verb_in [] ≡ None
 unfolding verb_of
 no_word = refl
 
-pub head_second : (words : List ℕ) (verb : Verb) → verb_in (word_of words) ≡ None → verb_in (word_of (behind_word words)) ≡ Some verb → Head words (Some (word_of words)) verb (listed_of true (behind_word (behind_word words)))
+pub head_second : (words : List ℕ) (verb : Verb) → verb_in (word_of words) ≡ None → verb_in (word_of (behind_word words)) ≡ Some verb
+    → Head words (Some (word_of words)) verb (listed_of true (behind_word (behind_word words)))
 head_second words verb n v =
     let rest = rest_of class.Mark words in
     let blanks = front_of class.Blank rest in
@@ -135,16 +145,20 @@ head_second words verb n v =
     let behind = rest_of class.Mark second in
     let some : blanks ≢ [] = λ (e : blanks ≡ []).
     (let same : rest ≡ second = parts class.Blank rest ∙ ap (λ (t : List ℕ). t ++ second) e in
-    let nothing : second ≡ [] = both_stop second (subst (λ (t : List ℕ). Stops class.Mark t) same (rest_stops class.Mark words)) (rest_stops class.Blank rest) in
+    let nothing : second ≡ [] = both_stop second (subst (λ (t : List ℕ). Stops class.Mark t) same (rest_stops class.Mark words))
+    (rest_stops class.Blank rest) in
     let f : None ≡ Some verb = sym no_word ∙ ap (λ (t : List ℕ). verb_in (word_of t)) (sym nothing) ∙ v in
     absurd cc) in
-    let h = second_word (word_of words) blanks (word_of second) behind verb (listed_of true (behind_word second)) (front_all class.Mark words) n (front_all class.Blank rest) some (front_all class.Mark second) v (behind_all behind (rest_stops class.Mark second)) in
-    let e : words ≡ word_of words ++ (blanks ++ (word_of second ++ behind)) = parts class.Mark words ∙ ap (λ (t : List ℕ). word_of words ++ t) (parts class.Blank rest ∙ ap (λ (t : List ℕ). blanks ++ t) (parts class.Mark second)) in
+    let h = second_word (word_of words) blanks (word_of second) behind verb (listed_of true (behind_word second)) (front_all class.Mark words) n
+    (front_all class.Blank rest) some (front_all class.Mark second) v (behind_all behind (rest_stops class.Mark second)) in
+    let e : words ≡ word_of words ++ (blanks ++ (word_of second ++ behind)) = parts class.Mark words
+    ∙ ap (λ (t : List ℕ). word_of words ++ t) (parts class.Blank rest ∙ ap (λ (t : List ℕ). blanks ++ t) (parts class.Mark second)) in
     subst (λ (t : List ℕ). Head t (Some (word_of words)) verb (listed_of true (behind_word second))) (sym e) h
 
 -- ---- found
 
-made : {o : List ℕ} (label : Option (List ℕ)) (r : Result Body LineFault) (s : Statement) → (r >>= λ body. done (record { label = label; body = body; operands = o })) ≡ Ok s
+made : {o : List ℕ} (label : Option (List ℕ)) (r : Result Body LineFault) (s : Statement)
+    → (r >>= λ body. done (record { label = label; body = body; operands = o })) ≡ Ok s
     → (o ≡ s.operands) × (r ≡ Ok s.body) × (label ≡ s.label)
 made label (Err f) s h = absurd cc
 made {o} label (Ok body) s h =
@@ -156,7 +170,8 @@ record Made (label : Option (List ℕ)) (a : Result (List ℕ) LineFault) (b : L
   pub b_is : b s.operands ≡ Ok s.body
   pub label_is : label ≡ s.label
 
-made_of : (label : Option (List ℕ)) (o : List ℕ) (b : List ℕ → Result Body LineFault) (s : Statement) → (b o >>= λ body. done (record { label = label; body = body; operands = o })) ≡ Ok s → Made label (Ok o) b s
+made_of : (label : Option (List ℕ)) (o : List ℕ) (b : List ℕ → Result Body LineFault) (s : Statement)
+    → (b o >>= λ body. done (record { label = label; body = body; operands = o })) ≡ Ok s → Made label (Ok o) b s
 made_of label o b s h =
     let m = made label (b o) s h in
     record { a_is = ap done m.0; b_is = ap b (sym m.0) ∙ m.1; label_is = m.2 }
@@ -166,7 +181,8 @@ unlabelled_steps : (a : Result (List ℕ) LineFault) (b : List ℕ → Result Bo
 unlabelled_steps (Err f) b s h = absurd cc
 unlabelled_steps (Ok o) b s h = made_of None o b s h
 
-record LabelledSteps (p : Result (List ℕ) LineFault) (a : Result (List ℕ) LineFault) (l : Result (List ℕ) LineFault) (b : List ℕ → Result Body LineFault) (s : Statement) : Type 0 where
+record LabelledSteps (p : Result (List ℕ) LineFault) (a : Result (List ℕ) LineFault) (l : Result (List ℕ) LineFault) (b : List ℕ
+    → Result Body LineFault) (s : Statement) : Type 0 where
   pub word : List ℕ
   pub p_is : p ≡ Ok word
   pub name : List ℕ
@@ -174,7 +190,8 @@ record LabelledSteps (p : Result (List ℕ) LineFault) (a : Result (List ℕ) Li
   pub made : Made (Some name) a b s
 
 labelled_steps : (p a l : Result (List ℕ) LineFault) (b : List ℕ → Result Body LineFault) (s : Statement)
-    → (p >>= λ plain. a >>= λ operands. l >>= λ label. b operands >>= λ body. Ok (record { label = Some label; body = body; operands = operands })) ≡ Ok s → LabelledSteps p a l b s
+    → (p >>= λ plain. a >>= λ operands. l >>= λ label. b operands >>= λ body. Ok (record { label = Some label; body = body; operands = operands })) ≡ Ok s
+    → LabelledSteps p a l b s
 labelled_steps (Err f) a l b s h = absurd cc
 labelled_steps (Ok w) (Err f) l b s h = absurd cc
 labelled_steps (Ok w) (Ok o) (Err f) b s h = absurd cc
@@ -192,13 +209,13 @@ label_ok verb word name e =
       | inr fails ↦ (fails, good_label (name_of word) name (rw fails at e))
     ]
 
-unlabelled_found : (words : List ℕ) (verb : Verb) (s : Statement) → verb_in (word_of words) ≡ Some verb → unlabelled_of verb (behind_word words) ≡ Ok s → Coded words s
+unlabelled_found : (words : List ℕ) (verb : Verb) (s : Statement) → verb_in (word_of words) ≡ Some verb → unlabelled_of verb (behind_word words) ≡ Ok s
+    → Coded words s
 unfolding unlabelled_of operands_of
 unlabelled_found words verb s v e =
     let kept = listed_of true (behind_word words) in
     let m = unlabelled_steps (plain_of (upper_of kept)) (body_of verb) s e in
     let p = plain_found (upper_of kept) s.operands m.a_is in
-    let l = listing_of s.operands in
     record {
       word = None;
       verb = verb;
@@ -207,9 +224,7 @@ unlabelled_found words verb s v e =
       plain = record { first = tt; list = sym (are_plain_upper kept) ∙ p.0 };
       label = subst (λ (x : Option (List ℕ)). Label None verb x) m.label_is (no_label verb);
       listed = sym p.1;
-      operands = l.0;
-      listing = l.1;
-      body = body_found verb s.operands l.0 l.1 s.body m.b_is;
+      body = body_found verb s.operands s.body m.b_is;
     }
 
 labelled_found : (words : List ℕ) (verb : Verb) (s : Statement) → verb_in (word_of words) ≡ None → verb_in (word_of (behind_word words)) ≡ Some verb
@@ -222,7 +237,6 @@ labelled_found words verb s n v e =
     let w = plain_found word m.word m.p_is in
     let p = plain_found (upper_of kept) s.operands m.made.a_is in
     let k = label_ok verb word m.name m.l_is in
-    let l = listing_of s.operands in
     record {
       word = Some word;
       verb = verb;
@@ -231,12 +245,11 @@ labelled_found words verb s n v e =
       plain = record { first = w.0; list = sym (are_plain_upper kept) ∙ p.0 };
       label = subst (λ (x : Option (List ℕ)). Label (Some word) verb x) m.made.label_is (named word verb m.name k.0 k.1);
       listed = sym p.1;
-      operands = l.0;
-      listing = l.1;
-      body = body_found verb s.operands l.0 l.1 s.body m.made.b_is;
+      body = body_found verb s.operands s.body m.made.b_is;
     }
 
-second_found : (words : List ℕ) (o : Option Verb) (s : Statement) → verb_in (word_of words) ≡ None → verb_in (word_of (behind_word words)) ≡ o → by_second o words ≡ Ok s → Coded words s
+second_found : (words : List ℕ) (o : Option Verb) (s : Statement) → verb_in (word_of words) ≡ None → verb_in (word_of (behind_word words)) ≡ o
+    → by_second o words ≡ Ok s → Coded words s
 second_found words None s n v e = absurd cc
 second_found words (Some verb) s n v e = labelled_found words verb s n v e
 
@@ -251,10 +264,21 @@ coded_found words s e = first_found words (verb_in (word_of words)) s refl e
 -- ---- again
 
 abbrev at_head_first : Verb → List ℕ → Result Statement LineFault
-at_head_first verb kept = plain_of (upper_of kept) >>= λ operands. body_of verb operands >>= λ body. Ok (record { label = None; body = body; operands = operands })
+at_head_first verb kept = plain_of (upper_of kept) >>= λ operands. body_of verb operands >>= λ body. Ok (record {
+  label = None;
+  body = body;
+  operands =
+      operands;
+})
 
 abbrev at_head_second : List ℕ → Verb → List ℕ → Result Statement LineFault
-at_head_second word verb kept = plain_of word >>= λ plain. plain_of (upper_of kept) >>= λ operands. label_of verb word >>= λ label. body_of verb operands >>= λ body. Ok (record { label = Some label; body = body; operands = operands })
+at_head_second word verb kept = plain_of word >>= λ plain. plain_of
+    (upper_of kept) >>= λ operands. label_of verb word >>= λ label. body_of verb operands >>= λ body. Ok (record {
+      label = Some label;
+      body = body;
+      operands =
+          operands;
+    })
 
 -- what words with a head give
 abbrev pub at_head : Option (List ℕ) → Verb → List ℕ → Result Statement LineFault
@@ -264,7 +288,8 @@ at_head (Some word) verb kept = at_head_second word verb kept
 behind_is : {behind kept : List ℕ} → Behind behind kept → listed_of true (rest_of class.Blank behind) ≡ kept
 behind_is b =
     let p = parted_of b in
-    ap (λ (t : List ℕ). listed_of true (rest_of class.Blank t)) p.is ∙ ap (listed_of true) (rest_again class.Blank p.blanks p.text p.are_blanks p.begins) ∙ p.keeps
+    ap (λ (t : List ℕ). listed_of true (rest_of class.Blank t)) p.is ∙ ap (listed_of true) (rest_again class.Blank p.blanks p.text p.are_blanks p.begins)
+    ∙ p.keeps
 
 pub blank_no_mark : (blanks text : List ℕ) → AreIn class.Blank blanks → blanks ≢ [] → Stops class.Mark (blanks ++ text)
 blank_no_mark [] text h some = absurd (some refl)
@@ -292,12 +317,17 @@ head_is (second_word label blanks word behind verb kept m n k some w v b) =
     let t = blank_no_mark blanks (word ++ behind) k some in
     let u = mark_no_blank word behind w (a_verb word verb v) in
     let first : word_of words ≡ label = front_again class.Mark label (blanks ++ (word ++ behind)) m t in
-    let second : behind_word words ≡ word ++ behind = ap (rest_of class.Blank) (rest_again class.Mark label (blanks ++ (word ++ behind)) m t) ∙ rest_again class.Blank blanks (word ++ behind) k u in
+    let second : behind_word words ≡ word ++ behind = ap (rest_of class.Blank) (rest_again class.Mark label (blanks ++ (word ++ behind)) m t)
+    ∙ rest_again class.Blank blanks (word ++ behind) k u in
     let none : verb_in (word_of words) ≡ None = ap verb_in first ∙ n in
-    let is : verb_in (word_of (behind_word words)) ≡ Some verb = ap (λ (x : List ℕ). verb_in (word_of x)) second ∙ ap verb_in (front_again class.Mark word behind w s) ∙ v in
-    let rest : behind_word (behind_word words) ≡ rest_of class.Blank behind = ap behind_word second ∙ ap (rest_of class.Blank) (rest_again class.Mark word behind w s) in
+    let is : verb_in (word_of (behind_word words)) ≡ Some verb = ap (λ (x : List ℕ). verb_in (word_of x)) second
+    ∙ ap verb_in (front_again class.Mark word behind w s) ∙ v in
+    let rest : behind_word (behind_word words) ≡ rest_of class.Blank behind = ap behind_word second
+    ∙ ap (rest_of class.Blank) (rest_again class.Mark word behind w s) in
     let keeps : listed_of true (behind_word (behind_word words)) ≡ kept = ap (listed_of true) rest ∙ behind_is b in
-    ap (λ (o : Option Verb). by_first o words) none ∙ ap (λ (o : Option Verb). by_second o words) is ∙ ap (λ (x : List ℕ). at_head_second x verb (listed_of true (behind_word (behind_word words)))) first ∙ ap (λ (x : List ℕ). at_head_second label verb x) keeps
+    ap (λ (o : Option Verb). by_first o words) none ∙ ap (λ (o : Option Verb). by_second o words) is
+    ∙ ap (λ (x : List ℕ). at_head_second x verb (listed_of true (behind_word (behind_word words)))) first
+    ∙ ap (λ (x : List ℕ). at_head_second label verb x) keeps
 
 pub plain_again : (text : List ℕ) → are_plain text ≡ true → plain_of text ≡ Ok text
 plain_again text h = rw h refl
@@ -310,9 +340,10 @@ label_again verb word name c n = rw (c, n) refl
 pub labelled_head : {word : Option (List ℕ)} {verb : Verb} {label : Option (List ℕ)} (kept : List ℕ) → ArePlain word kept → Label word verb label
     → at_head word verb kept ≡ (body_of verb (upper_of kept) >>= λ body. Ok (record { label = label; body = body; operands = upper_of kept }))
 labelled_head kept p (no_label verb) = rw (plain_again (upper_of kept) (are_plain_upper kept ∙ p.list)) refl
-labelled_head kept p (named word verb name c n) = rw (plain_again word p.first, plain_again (upper_of kept) (are_plain_upper kept ∙ p.list), label_again verb word name c n) refl
+labelled_head kept p (named word verb name c n) =
+    rw (plain_again word p.first, plain_again (upper_of kept) (are_plain_upper kept ∙ p.list), label_again verb word name c n) refl
 
 pub coded_again : (words : List ℕ) (s : Statement) → Coded words s → coded_of words ≡ Ok s
 coded_again words s c =
-    let body : body_of c.verb (upper_of c.kept) ≡ Ok s.body = ap (body_of c.verb) (sym c.listed) ∙ body_again c.listing c.body in
+    let body : body_of c.verb (upper_of c.kept) ≡ Ok s.body = ap (body_of c.verb) (sym c.listed) ∙ body_again s.operands c.body in
     head_is c.head ∙ labelled_head c.kept c.plain c.label ∙ rw (body, ← c.listed) refl

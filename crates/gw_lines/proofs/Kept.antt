@@ -60,9 +60,11 @@ written_kept (more_written operand blanks text kept h k w) =
 -- what Written text says of the text's beginning: no blank
 written_begins : {text kept : List ℕ} → Written text kept → Stops class.Blank text
 written_begins none_written = tt
-written_begins (last_written b bs comment h s) = not_true (is_blank b) (and_parts (not (is_blank b)) (not (b == 44)) (and_parts (is_part b) (list_all is_part bs) h).0).0
+written_begins (last_written b bs comment h s) =
+    not_true (is_blank b) (and_parts (not (is_blank b)) (not (b == 44)) (and_parts (is_part b) (list_all is_part bs) h).0).0
 written_begins (more_written [] blanks text kept h k w) = refl
-written_begins (more_written (b ∷ bs) blanks text kept h k w) = not_true (is_blank b) (and_parts (not (is_blank b)) (not (b == 44)) (and_parts (is_part b) (list_all is_part bs) h).0).0
+written_begins (more_written (b ∷ bs) blanks text kept h k w) =
+    not_true (is_blank b) (and_parts (not (is_blank b)) (not (b == 44)) (and_parts (is_part b) (list_all is_part bs) h).0).0
 
 -- what a verb's blanks and operands are, with the blanks apart
 pub record Parted (behind kept : List ℕ) : Type 0 where
@@ -81,7 +83,16 @@ blank_stops (b ∷ bs) text h some = ap not (and_parts (is_blank b) (list_all (i
 pub parted_of : {behind kept : List ℕ} → Behind behind kept → Parted behind kept
 parted_of verb_alone = record { blanks = []; text = []; is = refl; are_blanks = refl; begins = tt; keeps = refl; parted = tt }
 parted_of (verb_operands blanks text kept h some w) =
-    record { blanks = blanks; text = text; is = refl; are_blanks = h; begins = written_begins w; keeps = written_kept w; parted = blank_stops blanks text h some }
+    record {
+      blanks = blanks;
+      text = text;
+      is = refl;
+      are_blanks = h;
+      begins = written_begins w;
+      keeps = written_kept w;
+      parted =
+          blank_stops blanks text h some;
+    }
 
 -- ---- what is kept so is written so
 
@@ -108,7 +119,8 @@ is_part_of b h k = rw (h, k) refl
 
 comma_inside : (text kept : List ℕ) → Open text kept → Inside (44 ∷ text) (44 ∷ kept)
 comma_inside text kept o = record {
-  on = λ b bs h. subst (λ (t : List ℕ). Written (b ∷ bs ++ 44 ∷ t) (b ∷ bs ++ 44 ∷ kept)) (sym o.is) (more_written (b ∷ bs) o.blanks o.rest kept h o.are_blanks o.written);
+  on = λ b bs h. subst (λ (t : List ℕ). Written (b ∷ bs ++ 44 ∷ t) (b ∷ bs ++ 44 ∷ kept)) (sym o.is)
+      (more_written (b ∷ bs) o.blanks o.rest kept h o.are_blanks o.written);
 }
 
 part_inside : (c : ℕ) (text kept : List ℕ) → is_part c ≡ true → Inside text kept → Inside (c ∷ text) (c ∷ kept)
@@ -116,7 +128,8 @@ part_inside c text kept k i = record {
   on = λ b bs h.
       let a = and_parts (is_part b) (list_all is_part bs) h in
       let w = i.on b (bs ++ c ∷ []) (and_from (is_part b) (list_all is_part (bs ++ c ∷ [])) a.0 (longer_parts bs c a.1 k)) in
-      subst (λ (t : List ℕ). Written (b ∷ t) (b ∷ bs ++ c ∷ kept)) (append_assoc bs (c ∷ []) text) (subst (λ (t : List ℕ). Written (b ∷ ((bs ++ c ∷ []) ++ text)) (b ∷ t)) (append_assoc bs (c ∷ []) kept) w);
+      subst (λ (t : List ℕ). Written (b ∷ t) (b ∷ bs ++ c ∷ kept)) (append_assoc bs (c ∷ []) text)
+      (subst (λ (t : List ℕ). Written (b ∷ ((bs ++ c ∷ []) ++ text)) (b ∷ t)) (append_assoc bs (c ∷ []) kept) w);
 }
 
 end_inside : (text : List ℕ) → Stops class.Mark text → Inside text []
@@ -173,7 +186,8 @@ kept_so (b ∷ bs) =
     ]
 
 -- a text that begins with no blank is written as it is kept
-written_from : (text blanks rest kept : List ℕ) → text ≡ blanks ++ rest → AreIn class.Blank blanks → Stops class.Blank text → Written rest kept → Written text kept
+written_from : (text blanks rest kept : List ℕ) → text ≡ blanks ++ rest → AreIn class.Blank blanks → Stops class.Blank text → Written rest kept
+    → Written text kept
 written_from text [] rest kept e h s w = subst (λ (t : List ℕ). Written t kept) (sym e) w
 written_from [] (b ∷ bs) rest kept e h s w = absurd cc
 written_from (c ∷ cs) (b ∷ bs) rest kept e h s w =
@@ -186,7 +200,8 @@ pub written_of : (text : List ℕ) → Stops class.Blank text → Written text (
 written_of text s = let o = (kept_so text).open_ in written_from text o.blanks o.rest (listed_of true text) o.is o.are_blanks s o.written
 
 -- what follows a verb, from its blanks and what is left behind them
-pub behind_of : (blanks text : List ℕ) → AreIn class.Blank blanks → Stops class.Mark (blanks ++ text) → Stops class.Blank text → Behind (blanks ++ text) (listed_of true text)
+pub behind_of : (blanks text : List ℕ) → AreIn class.Blank blanks → Stops class.Mark (blanks ++ text) → Stops class.Blank text
+    → Behind (blanks ++ text) (listed_of true text)
 behind_of [] [] h m s = verb_alone
 behind_of [] (b ∷ bs) h m s = absurd (let f : true ≡ false = sym (not_false (is_blank b) m) ∙ s in cc)
 behind_of (b ∷ bs) text h m s = verb_operands (b ∷ bs) text (listed_of true text) h (λ e. absurd cc) (written_of text s)

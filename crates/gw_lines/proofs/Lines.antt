@@ -11,7 +11,7 @@ use Rattle.gw_lines.specs.Classes.{front_of, rest_of}
 use Rattle.gw_lines.specs.Lines.{coded_of, behind_number, code_of, is_remark, line_in, line_of, wanted, statement_of}
 use Rattle.gw_lines.specs.Spelling.{Stops, Cut, HasWords, Spells}
 use Rattle.gw_lines.proofs.Fronts.{front_again, rest_again, parts, front_all, rest_stops}
-use Rattle.gw_lines.proofs.Bodies.{done}
+use Rattle.gw_lines.proofs.Results.{done}
 use Rattle.gw_lines.proofs.Heads.{numbering_of, numbering_is, coded_found, coded_again}
 
 pub short_is : (n : ℕ) → nat_lt 250 n ≡ false → n ≤ 250
@@ -39,7 +39,8 @@ pub cut_is : (text code : List ℕ) → Cut text code → code_of text ≡ code
 unfolding code_of
 cut_is text code c =
     ap (λ (t : List ℕ). front_of class.Code (rest_of class.Blank t)) c.parts
-    ∙ ap (front_of class.Code) (rest_again class.Blank c.blanks (code ++ c.comment) c.are_blanks c.begins) ∙ front_again class.Code code c.comment c.is_code c.is_comment
+    ∙ ap (front_of class.Code) (rest_again class.Blank c.blanks (code ++ c.comment) c.are_blanks c.begins)
+    ∙ front_again class.Code code c.comment c.is_code c.is_comment
 
 front_stops : (a b : List ℕ) → Stops class.Blank (a ++ b) → Stops class.Blank a
 front_stops [] b h = tt
@@ -90,5 +91,6 @@ pub is_found : (text : List ℕ) (r : Result Statement LineFault) → Gives (λ 
 is_found text (Ok s) h = spells_found text s h
 is_found text (Err f) h = tt
 
-pub is_only : (text : List ℕ) (r : Result Statement LineFault) → Gives (λ s. s) r (statement_of text) → (s : Statement) → Spells text s → Gives (λ s. s) r (Ok s)
+pub is_only : (text : List ℕ) (r : Result Statement LineFault) → Gives (λ s. s) r (statement_of text) → (s : Statement) → Spells text s
+    → Gives (λ s. s) r (Ok s)
 is_only text r h s k = subst (λ (x : Result Statement LineFault). Gives (λ s. s) r x) (spells_again text s k) h

@@ -8,11 +8,11 @@ use Rattle.std.proofs.lemmas.List.{append-nil, nil_from_length}
 use Rattle.gw_meaning.specs.declared.statement.Statement.{Statement}
 use Rattle.gw_lines.specs.declared.class.Class.TheVariants as class
 use Rattle.gw_lines.specs.declared.fault.FaultyLine.{FaultyLine}
-use Rattle.gw_lines.specs.Classes.{is_in, front_of, rest_of, tail_of}
+use Rattle.gw_lines.specs.Classes.{is_in, front_of, rest_of, tail_of, with_byte}
 use Rattle.gw_lines.specs.Spelling.{AreIn, Stops}
 use Rattle.gw_lines.proofs.Fronts.{and_false, not_true, not_false, parts, front_all, rest_stops}
 use Rattle.gw_lines.specs.Reading.{◌>>=◌}
-use Rattle.gw_lines.specs.Models.{lines_of, with_byte, chomped, begins_line_feed}
+use Rattle.gw_lines.specs.Models.{lines_of, chomped, begins_line_feed}
 
 -- statements before those that reading gives
 abbrev pub with_front : List Statement → Result (List Statement) FaultyLine → Result (List Statement) FaultyLine
@@ -33,7 +33,11 @@ lines_front : (front rest : List ℕ) → AreIn class.Line front → lines_of (f
 lines_front [] rest h = refl
 lines_front (b ∷ []) rest h =
     let e = (none_first b [] h).0 in
-    rw e (elim (b == 13) as (λ p. cond (p && true) ([] ∷ lines_of rest) ((b ∷ []) ∷ lines_of rest) ≡ cond p [] (b ∷ []) ∷ lines_of rest) [ true ↦ refl | false ↦ refl ])
+    rw e (elim (b == 13) as (λ p. cond (p && true) ([] ∷ lines_of rest) ((b ∷ []) ∷ lines_of rest) ≡ cond p [] (b ∷ []) ∷ lines_of rest) [
+      | true ↦
+          refl
+      | false ↦ refl
+    ])
 lines_front (b ∷ c ∷ bs) rest h =
     let e = none_first b (c ∷ bs) h in
     let f = none_first c bs e.1 in
@@ -52,22 +56,28 @@ last_of : (bytes front : List ℕ) → bytes ≡ front → AreIn class.Line fron
 last_of bytes [] e h some = absurd (some e)
 last_of bytes (b ∷ bs) e h some = ap lines_of e ∙ lines_last b bs h
 
-first_of : (bytes front rest : List ℕ) → bytes ≡ front ++ rest → AreIn class.Line front → Stops class.Line rest → (length rest == 0) ≡ false → lines_of bytes ≡ chomped front ∷ lines_of (tail_of rest)
+first_of : (bytes front rest : List ℕ) → bytes ≡ front ++ rest → AreIn class.Line front → Stops class.Line rest → (length rest == 0) ≡ false
+    → lines_of bytes ≡ chomped front ∷ lines_of (tail_of rest)
 first_of bytes front [] e h s some = absurd cc
 first_of bytes front (b ∷ bs) e h s some =
     let ten : b ≡ 10 = eqb-true b 10 (not_false (b == 10) s) in
     ap lines_of (e ∙ ap (λ (x : ℕ). front ++ x ∷ bs) ten) ∙ lines_front front bs h
 
 -- a last line that has no end
-pub last_line : (bytes : List ℕ) → (length (rest_of class.Line bytes) == 0) ≡ true → bytes ≢ [] → lines_of bytes ≡ front_of class.Line bytes ∷ lines_of (rest_of class.Line bytes)
+pub last_line : (bytes : List ℕ) → (length (rest_of class.Line bytes) == 0) ≡ true → bytes ≢ []
+    → lines_of bytes ≡ front_of class.Line bytes ∷ lines_of (rest_of class.Line bytes)
 last_line bytes none some =
     let nothing : rest_of class.Line bytes ≡ [] = nil_from_length (rest_of class.Line bytes) (eqb-true _ _ none) in
-    let whole : bytes ≡ front_of class.Line bytes = parts class.Line bytes ∙ ap (λ (x : List ℕ). front_of class.Line bytes ++ x) nothing ∙ append-nil (front_of class.Line bytes) in
-    last_of bytes (front_of class.Line bytes) whole (front_all class.Line bytes) some ∙ ap (λ (x : List ℕ). front_of class.Line bytes ∷ lines_of x) (sym nothing)
+    let whole : bytes ≡ front_of class.Line bytes = parts class.Line bytes ∙ ap (λ (x : List ℕ). front_of class.Line bytes ++ x) nothing
+    ∙ append-nil (front_of class.Line bytes) in
+    last_of bytes (front_of class.Line bytes) whole (front_all class.Line bytes) some
+    ∙ ap (λ (x : List ℕ). front_of class.Line bytes ∷ lines_of x) (sym nothing)
 
 -- a line that has an end
-pub ended_line : (bytes : List ℕ) → (length (rest_of class.Line bytes) == 0) ≡ false → lines_of bytes ≡ chomped (front_of class.Line bytes) ∷ lines_of (tail_of (rest_of class.Line bytes))
-ended_line bytes some = first_of bytes (front_of class.Line bytes) (rest_of class.Line bytes) (parts class.Line bytes) (front_all class.Line bytes) (rest_stops class.Line bytes) some
+pub ended_line : (bytes : List ℕ) → (length (rest_of class.Line bytes) == 0) ≡ false
+    → lines_of bytes ≡ chomped (front_of class.Line bytes) ∷ lines_of (tail_of (rest_of class.Line bytes))
+ended_line bytes some = first_of bytes (front_of class.Line bytes) (rest_of class.Line bytes) (parts class.Line bytes) (front_all class.Line bytes)
+    (rest_stops class.Line bytes) some
 
 -- ---- the carriage return
 

@@ -5,17 +5,15 @@ use Rattle.std.specs.Global.{Vec}
 use Rattle.std.proofs.lemmas.Bool.{cases_Bool}
 use Rattle.gw_meaning.specs.declared.statement.Statement.{Statement}
 use Rattle.gw_lines.specs.declared.fault.LineFault.{LineFault}
-use Rattle.gw_lines.specs.declared.fault.LineFault.TheVariants as faults
 use Rattle.gw_lines.specs.declared.fault.FaultyLine.{FaultyLine}
-use Rattle.gw_lines.specs.Reading.{◌>>=◌, FailsAt, GivesModel}
+use Rattle.gw_lines.specs.Reading.{◌>>=◌, GivesModel}
 use Rattle.gw_lines.specs.Lines.{coded_of, behind_number, code_of, is_remark, line_in, line_of, wanted, statement_of}
 use Rattle.gw_lines.specs.Models.{lines_of, numbered, statements_of, model_of}
 use Rattle.gw_lines.specs.Spelling.{Spells}
 use Rattle.gw_lines.specs.Faulty.{FirstFault}
 use Rattle.gw_lines.specs.Whole.{IsRemark, OfLines, no_lines, remark_line, statement_line, FirstFaulty, faulty_line, behind_remark, behind_statement, SpellsModel, FirstFaultOf, AnswersAt}
 use Rattle.gw_lines.specs.Read.{ModelsAreRead, ModelsAreRefused}
-use Rattle.gw_lines.proofs.Bodies.{done, ok_is}
-use Rattle.gw_lines.proofs.Operands.{failed, err_is}
+use Rattle.gw_lines.proofs.Results.{done, failed, ok_is, err_is, or_memory}
 use Rattle.gw_lines.proofs.Lines.{short_is, short_again, cut_of, cut_is, spells_found, spells_again}
 use Rattle.gw_lines.proofs.Faults.{fault_found, fault_again}
 
@@ -87,11 +85,13 @@ all_is ss ts e = cc
 faulty_same : (d e : FaultyLine) → faulty d ≡ faulty e → d ≡ e
 faulty_same d e h = cc
 
-with_rest : (front : List Statement) (others : Result (List Statement) FaultyLine) (ss : List Statement) → (others >>= λ rest. all (front ++ rest)) ≡ Ok ss → (rest : List Statement) × (others ≡ Ok rest) × (front ++ rest ≡ ss)
+with_rest : (front : List Statement) (others : Result (List Statement) FaultyLine) (ss : List Statement) → (others >>= λ rest. all (front ++ rest)) ≡ Ok ss
+    → (rest : List Statement) × (others ≡ Ok rest) × (front ++ rest ≡ ss)
 with_rest front (Ok rest) ss e = (rest, refl, all_is (front ++ rest) ss e)
 with_rest front (Err x) ss e = absurd cc
 
-rest_failed : (front : List Statement) (others : Result (List Statement) FaultyLine) (x : FaultyLine) → (others >>= λ rest. all (front ++ rest)) ≡ Err x → others ≡ Err x
+rest_failed : (front : List Statement) (others : Result (List Statement) FaultyLine) (x : FaultyLine) → (others >>= λ rest. all (front ++ rest)) ≡ Err x
+    → others ≡ Err x
 rest_failed front (Ok rest) x e = absurd cc
 rest_failed front (Err y) x e = e
 
@@ -119,9 +119,14 @@ next_faulty : (n : ℕ) (line : List ℕ) (lines : List (List ℕ)) (r : Result 
     → (numbered n r >>= λ first. statements_of (n + 1) lines >>= λ others. all (option_to_list first ++ others)) ≡ Err x
     → (statements_of (n + 1) lines ≡ Err x → FirstFaulty (n + 1) lines x) → FirstFaulty n (line ∷ lines) x
 next_faulty n line lines (Ok None) x l e on = behind_remark n line lines x (remark_found line l) (on (rest_failed [] (statements_of (n + 1) lines) x e))
-next_faulty n line lines (Ok (Some s)) x l e on = behind_statement n line lines s x (spelled_found line s l) (on (rest_failed (s ∷ []) (statements_of (n + 1) lines) x e))
+next_faulty n line lines (Ok (Some s)) x l e on =
+    behind_statement n line lines s x (spelled_found line s l) (on (rest_failed (s ∷ []) (statements_of (n + 1) lines) x e))
 next_faulty n line lines (Err f) x l e on =
-    subst (λ (y : FaultyLine). FirstFaulty n (line ∷ lines) y) (faulty_same (record { line = n; fault = f }) x e) (faulty_line n line lines f (no_remark line f l) (faulty_found line f l))
+    subst (λ (y : FaultyLine). FirstFaulty n (line ∷ lines) y) (faulty_same (record {
+      line = n;
+      fault =
+          f;
+    }) x e) (faulty_line n line lines f (no_remark line f l) (faulty_found line f l))
 
 lines_faulty : (n : ℕ) (lines : List (List ℕ)) (x : FaultyLine) → statements_of n lines ≡ Err x → FirstFaulty n lines x
 lines_faulty n [] x e = absurd cc
@@ -144,31 +149,24 @@ models_are_refused bytes e = (lines_faulty 1 (lines_of bytes) e, λ h. faulty_ag
 
 -- ---- the clauses
 
-pub model_found : (bytes : List ℕ) (r : Result (Vec Statement) FaultyLine) → GivesModel (λ v. v.items) r (model_of bytes) → IfOk r (λ v. SpellsModel bytes v.items)
+pub model_found : (bytes : List ℕ) (r : Result (Vec Statement) FaultyLine) → GivesModel (λ v. v.items) r (model_of bytes)
+    → IfOk r (λ v. SpellsModel bytes v.items)
 unfolding model_of
 model_found bytes (Ok v) h = lines_found 1 (lines_of bytes) v.items h
 model_found bytes (Err e) h = tt
 
-pub model_only : (bytes : List ℕ) (r : Result (Vec Statement) FaultyLine) → GivesModel (λ v. v.items) r (model_of bytes) → (ss : List Statement) → SpellsModel bytes ss → GivesModel (λ v. v.items) r (Ok ss)
+pub model_only : (bytes : List ℕ) (r : Result (Vec Statement) FaultyLine) → GivesModel (λ v. v.items) r (model_of bytes) → (ss : List Statement)
+    → SpellsModel bytes ss → GivesModel (λ v. v.items) r (Ok ss)
 unfolding model_of
 model_only bytes r h ss k = subst (λ (x : Result (List Statement) FaultyLine). GivesModel (λ (v : Vec Statement). v.items) r x) (lines_again k 1) h
 
-fails_at : (bytes : List ℕ) (line : ℕ) (f : LineFault) → FailsAt line f (model_of bytes) → AnswersAt bytes line f
+pub model_fault : (bytes : List ℕ) (r : Result (Vec Statement) FaultyLine) → GivesModel (λ v. v.items) r (model_of bytes)
+    → IfErr r (λ e. AnswersAt bytes e.line e.fault)
 unfolding model_of
-fails_at bytes line faults.Memory h = tt
-fails_at bytes line faults.TooLong h = lines_faulty 1 (lines_of bytes) _ h
-fails_at bytes line faults.BadByte h = lines_faulty 1 (lines_of bytes) _ h
-fails_at bytes line faults.UnknownVerb h = lines_faulty 1 (lines_of bytes) _ h
-fails_at bytes line faults.BadLabel h = lines_faulty 1 (lines_of bytes) _ h
-fails_at bytes line (faults.BadOperand n) h = lines_faulty 1 (lines_of bytes) _ h
-fails_at bytes line (faults.MissingOperand n) h = lines_faulty 1 (lines_of bytes) _ h
-fails_at bytes line (faults.ExtraOperand n) h = lines_faulty 1 (lines_of bytes) _ h
-fails_at bytes line faults.BadPairs h = lines_faulty 1 (lines_of bytes) _ h
-
-pub model_fault : (bytes : List ℕ) (r : Result (Vec Statement) FaultyLine) → GivesModel (λ v. v.items) r (model_of bytes) → IfErr r (λ e. AnswersAt bytes e.line e.fault)
 model_fault bytes (Ok v) h = tt
-model_fault bytes (Err e) h = fails_at bytes e.line e.fault h
+model_fault bytes (Err e) h = or_memory e.fault (lines_faulty 1 (lines_of bytes) e) h
 
-pub model_faulty : (bytes : List ℕ) (r : Result (Vec Statement) FaultyLine) → GivesModel (λ v. v.items) r (model_of bytes) → (e : FaultyLine) → FirstFaultOf bytes e → GivesModel (λ v. v.items) r (Err e)
+pub model_faulty : (bytes : List ℕ) (r : Result (Vec Statement) FaultyLine) → GivesModel (λ v. v.items) r (model_of bytes) → (e : FaultyLine)
+    → FirstFaultOf bytes e → GivesModel (λ v. v.items) r (Err e)
 unfolding model_of
 model_faulty bytes r h e k = subst (λ (x : Result (List Statement) FaultyLine). GivesModel (λ (v : Vec Statement). v.items) r x) (faulty_again k) h

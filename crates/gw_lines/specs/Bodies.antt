@@ -1,69 +1,77 @@
--- The operands of each verb. (Manual; the operand table of the profile.)
-use Rattle.std.specs.Prelude.{ℕ, ◌||◌, List, Option, Some, None, Result, Ok, Err, is_some, codes}
+-- The body of a statement as it is made of the operands that were read. (Manual; the operand table of the profile.)
+use Rattle.std.specs.Prelude.{ℕ, zero, suc, Bool, List, [], ◌∷◌, Option, Some, None, Result, Ok, Err, if◌then◌else◌, map}
 use Rattle.gw_names.specs.declared.verb.Verb.{Verb}
 use Rattle.gw_names.specs.declared.verb.Verb.TheVariants as verbs
-use Rattle.gw_meaning.specs.declared.statement.Block.{Block}
+use Rattle.gw_expr.specs.Term.{Term}
 use Rattle.gw_meaning.specs.declared.statement.Block.TheVariants as blocks
-use Rattle.gw_meaning.specs.declared.statement.Command.{Command}
 use Rattle.gw_meaning.specs.declared.statement.Command.TheVariants as commands
 use Rattle.gw_meaning.specs.declared.statement.Body.{Body}
 use Rattle.gw_meaning.specs.declared.statement.Body.TheVariants as bodies
 use Rattle.gw_lines.specs.declared.fault.LineFault.{LineFault}
 use Rattle.gw_lines.specs.declared.fault.LineFault.TheVariants as faults
+use Rattle.gw_lines.specs.declared.form.Form.{Form}
+use Rattle.gw_lines.specs.declared.operand.Operand.{Operand}
+use Rattle.gw_lines.specs.declared.operand.Operand.TheVariants as operands
 use Rattle.gw_lines.specs.Reading.{◌>>=◌}
-use Rattle.gw_lines.specs.Operands.{value_at, count_at, absent_at, key_at, ends_before, needed}
+use Rattle.gw_lines.specs.Forms.{forms_of, lacks}
+use Rattle.gw_lines.specs.Operands.{operands_of}
+use Rattle.gw_lines.specs.Parts.{others_of, parts_of}
 
--- GENERATE A,B,C,D,E: the mean, B still to come, the offset, the limit and the priority; A or D stands there
-unfoldable pub generate_of : List ℕ → Result Block LineFault
-generate_of text = do
-  mean ← value_at 1 text
-  range ← absent_at 2 text
-  offset ← value_at 3 text
-  limit ← value_at 4 text
-  priority ← value_at 5 text
-  end ← ends_before 6 text
-  given ← needed 1 (is_some mean || is_some limit)
-  Ok (blocks.Generate mean offset limit priority)
+-- an operand as a value
+abbrev pub value_in : Option Operand → Option Term
+value_in (Some (operands.Value term)) = Some term
+value_in operand = None
 
--- ADVANCE A,B: the time, and B still to come
-unfoldable pub advance_of : List ℕ → Result Block LineFault
-advance_of text = do
-  time ← value_at 1 text
-  range ← absent_at 2 text
-  end ← ends_before 3 text
-  Ok (blocks.Advance time)
+-- an operand as a whole number
+abbrev pub whole_in : Option Operand → Option ℕ
+whole_in (Some (operands.Whole n)) = Some n
+whole_in operand = None
 
--- TERMINATE A: the count
-unfoldable pub terminate_of : List ℕ → Result Block LineFault
-terminate_of text = do
-  count ← value_at 1 text
-  end ← ends_before 2 text
-  Ok (blocks.Terminate count)
+-- the operand that stands first
+abbrev pub first_of : List (Option Operand) → Option Operand
+first_of [] = None
+first_of (operand ∷ os) = operand
 
-abbrev pub start_with : Option ℕ → Result Command LineFault
-start_with None = Err (faults.MissingOperand 1)
-start_with (Some count) = Ok (commands.Start count)
+-- the operand at a place, from 0
+abbrev pub place : List (Option Operand) → ℕ → Option Operand
+place os zero = first_of os
+place os (suc n) = place (others_of os) n
 
--- START A,B: the count, and NP, which has no effect
-unfoldable pub start_of : List ℕ → Result Command LineFault
-start_of text = do
-  count ← count_at 1 text
-  quiet ← key_at 2 (codes "NP") text
-  end ← ends_before 3 text
-  start_with count
+abbrev pub start_with : Option ℕ → Option Body
+start_with None = None
+start_with (Some count) = Some (bodies.Command (commands.Start count))
 
-abbrev pub block_body : Result Block LineFault → Result Body LineFault
-block_body (Ok block) = Ok (bodies.Block block)
-block_body (Err f) = Err f
+-- the statement of a verb with these operands
+unfoldable pub body_with : Verb → List (Option Operand) → Option Body
+body_with verbs.Generate os =
+    Some (bodies.Block (blocks.Generate
+    (value_in (place os 0)) (value_in (place os 1)) (value_in (place os 2)) (value_in (place os 3))
+    (value_in (place os 4))))
+body_with verbs.Advance os = Some (bodies.Block (blocks.Advance (value_in (place os 0)) (value_in (place os 1))))
+body_with verbs.Terminate os = Some (bodies.Block (blocks.Terminate (value_in (place os 0))))
+body_with verbs.Start os = start_with (whole_in (place os 0))
+body_with verbs.Rmult os = Some (bodies.Command (commands.Rmult (map whole_in os)))
+body_with verb os = None
 
-abbrev pub command_body : Result Command LineFault → Result Body LineFault
-command_body (Ok command) = Ok (bodies.Command command)
-command_body (Err f) = Err f
+abbrev pub or_unknown : Option Body → Result Body LineFault
+or_unknown None = Err faults.UnknownVerb
+or_unknown (Some body) = Ok body
 
--- the verbs that are read so far
+-- what a verb's operands are to have besides their forms
+abbrev pub enough : Bool → Result (Unit {0}) LineFault
+enough lacks = if lacks then Err (faults.MissingOperand 1) else Ok tt
+
+-- the body that parts of these forms are
+unfoldable pub in_forms : Verb → List Form → List (List ℕ) → Result Body LineFault
+in_forms verb forms parts = do
+  os ← operands_of forms parts
+  given ← enough (lacks verb os)
+  or_unknown (body_with verb os)
+
+abbrev pub by_forms : Verb → Option (List Form) → List (List ℕ) → Result Body LineFault
+by_forms verb None parts = Err faults.UnknownVerb
+by_forms verb (Some forms) parts = in_forms verb forms parts
+
+-- the body that an operand list is behind a verb
 unfoldable pub body_of : Verb → List ℕ → Result Body LineFault
-body_of verbs.Generate text = block_body (generate_of text)
-body_of verbs.Advance text = block_body (advance_of text)
-body_of verbs.Terminate text = block_body (terminate_of text)
-body_of verbs.Start text = command_body (start_of text)
-body_of verb text = Err faults.UnknownVerb
+body_of verb text = by_forms verb (forms_of verb) (parts_of text)

@@ -1,4 +1,5 @@
--- Classes of bytes, and what stands at the front of a text. (Manual: blanks, words, operands, comments. Our own: a tab is a blank.)
+-- Classes of bytes, and what stands at the front of a text. (Manual: blanks, words, operands, comments. Our own: a tab
+-- is a blank.)
 use Rattle.std.specs.Prelude.{ℕ, Bool, ◌==◌, ◌||◌, not, List, [], ◌∷◌, length, take, drop, nat_lt}
 use Rattle.std.specs.List.{prefix_len, list_all}
 use Rattle.std.specs.Char.{is_ascii_digit}
@@ -40,3 +41,8 @@ is_plain b = nat_lt b 128
 
 abbrev pub are_plain : List ℕ → Bool
 are_plain bytes = list_all is_plain bytes
+
+-- a byte before the first of lines or parts
+abbrev pub with_byte : ℕ → List (List ℕ) → List (List ℕ)
+with_byte b [] = (b ∷ []) ∷ []
+with_byte b (line ∷ lines) = (b ∷ line) ∷ lines

@@ -1,11 +1,12 @@
--- A statement as the text of an edit, in which `|` ends a line. (Our own; no verb of the language wants further lines yet.)
+-- A statement as the text of an edit, in which `|` ends a line. (Our own; no verb of the language wants further lines
+-- yet.)
 use Rattle.std.specs.Prelude.{ℕ, ◌==◌, ◌<◌, ◌≤◌, ◌≡◌, Bool, true, false, List, [], ◌∷◌, length, Result, Ok, Err, if◌then◌else◌, nat_lt, All, Any}
 use Rattle.gw_meaning.specs.declared.statement.Statement.{Statement}
 use Rattle.gw_lines.specs.declared.fault.LineFault.{LineFault}
 use Rattle.gw_lines.specs.declared.fault.LineFault.TheVariants as faults
-use Rattle.gw_lines.specs.Reading.{◌>>=◌}
+use Rattle.gw_lines.specs.Reading.{◌>>=◌, OrMemory}
 use Rattle.gw_lines.specs.Lines.{line_of, statement_of}
-use Rattle.gw_lines.specs.Models.{with_byte}
+use Rattle.gw_lines.specs.Classes.{with_byte}
 use Rattle.gw_lines.specs.Spelling.{Spells}
 use Rattle.gw_lines.specs.Faulty.{FirstFault}
 
@@ -37,14 +38,19 @@ abbrev pub is_missing : LineFault → Bool
 is_missing (faults.MissingOperand n) = true
 is_missing f = false
 
--- the first fault of lines: length and bytes of any line, then the first line from left to right, then further lines, then a missing operand
+-- the first fault of lines: length and bytes of any line, then the first line from left to right, then further lines,
+-- then a missing operand
 pub data FaultOfLines : List (List ℕ) → LineFault → Type 0 where
   no_line : FaultOfLines [] faults.UnknownVerb
   long_line : (lines : List (List ℕ)) → Any (λ line. 250 < length line) lines → FaultOfLines lines faults.TooLong
-  wrong_byte : (lines : List (List ℕ)) → All (λ line. length line ≤ 250) lines → Any (λ line. FirstFault line faults.BadByte) lines → FaultOfLines lines faults.BadByte
-  in_first : (line : List ℕ) (further : List (List ℕ)) (f : LineFault) → AreClean (line ∷ further) → FirstFault line f → is_missing f ≡ false → FaultOfLines (line ∷ further) f
-  goes_on : (line next : List ℕ) (others : List (List ℕ)) → AreClean (line ∷ next ∷ others) → MayGoOn line → FaultOfLines (line ∷ next ∷ others) faults.BadPairs
-  at_the_end : (line : List ℕ) (n : ℕ) → AreClean (line ∷ []) → FirstFault line (faults.MissingOperand n) → FaultOfLines (line ∷ []) (faults.MissingOperand n)
+  wrong_byte : (lines : List (List ℕ)) → All (λ line. length line ≤ 250) lines
+      → Any (λ line. FirstFault line faults.BadByte) lines → FaultOfLines lines faults.BadByte
+  in_first : (line : List ℕ) (further : List (List ℕ)) (f : LineFault) → AreClean (line ∷ further) → FirstFault line f
+      → is_missing f ≡ false → FaultOfLines (line ∷ further) f
+  goes_on : (line next : List ℕ) (others : List (List ℕ)) → AreClean (line ∷ next ∷ others) → MayGoOn line
+      → FaultOfLines (line ∷ next ∷ others) faults.BadPairs
+  at_the_end : (line : List ℕ) (n : ℕ) → AreClean (line ∷ []) → FirstFault line (faults.MissingOperand n)
+      → FaultOfLines (line ∷ []) (faults.MissingOperand n)
 
 -- the first fault of an edit's text
 abbrev pub FirstFaultOfEdit : List ℕ → LineFault → Type 0
@@ -52,8 +58,7 @@ FirstFaultOfEdit text f = FaultOfLines (edit_lines text) f
 
 -- a fault that was answered is the first one, or memory ran out
 abbrev pub AnswersEdit : List ℕ → LineFault → Type 0
-AnswersEdit text faults.Memory = Unit {0}
-AnswersEdit text f = FirstFaultOfEdit text f
+AnswersEdit text f = OrMemory f (FirstFaultOfEdit text f)
 
 -- ---- as it is read
 

@@ -2,6 +2,8 @@ pub mod Faults
 pub mod Reading
 pub mod Classes
 pub mod Numbers
+pub mod Forms
+pub mod Parts
 pub mod Operands
 pub mod Bodies
 pub mod Lines

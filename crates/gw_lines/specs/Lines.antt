@@ -1,4 +1,5 @@
--- A line as it is read: comment, number, label, verb, operands. (Manual: free format. Our own: the length, the order of faults.)
+-- A line as it is read: comment, number, label, verb, operands. (Manual: free format. Our own: the length, the order of
+-- faults.)
 use Rattle.std.specs.Prelude.{ℕ, ◌==◌, Bool, true, false, ◌||◌, List, [], ◌∷◌, length, Option, Some, None, Result, Ok, Err, is_some, if◌then◌else◌, nat_lt}
 use Rattle.gw_names.specs.declared.verb.Verb.{Verb}
 use Rattle.gw_names.specs.declared.verb.Verb.TheVariants as verbs
@@ -67,7 +68,8 @@ labelled_of word verb bytes = do
 -- the fault of a line with no verb among its first two words
 unfoldable pub fault_without_verb : List ℕ → List ℕ → List ℕ → LineFault
 fault_without_verb code first second =
-    if are_plain code then (if is_nothing second || is_some (name_of first) then faults.UnknownVerb else faults.BadLabel) else faults.BadByte
+    if are_plain code then (if is_nothing second || is_some (name_of first) then faults.UnknownVerb
+    else faults.BadLabel) else faults.BadByte
 
 abbrev pub by_second : Option Verb → List ℕ → Result Statement LineFault
 by_second (Some verb) code = labelled_of (word_of code) verb (behind_word (behind_word code))
@@ -84,7 +86,8 @@ coded_of code = by_first (verb_in (word_of code)) code
 -- what follows a line number, if there is one
 unfoldable pub behind_number : List ℕ → List ℕ
 behind_number code =
-    if is_nothing (front_of class.Digit code) || is_nothing (front_of class.Blank (rest_of class.Digit code)) then code else rest_of class.Blank (rest_of class.Digit code)
+    if is_nothing (front_of class.Digit code) || is_nothing (front_of class.Blank (rest_of class.Digit code)) then code
+    else rest_of class.Blank (rest_of class.Digit code)
 
 -- a line without the blanks before it and the comment behind its `;`
 unfoldable pub code_of : List ℕ → List ℕ

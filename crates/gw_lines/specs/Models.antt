@@ -4,21 +4,19 @@ use Rattle.gw_meaning.specs.declared.statement.Statement.{Statement}
 use Rattle.gw_lines.specs.declared.fault.LineFault.{LineFault}
 use Rattle.gw_lines.specs.declared.fault.FaultyLine.{FaultyLine}
 use Rattle.gw_lines.specs.Reading.{◌>>=◌}
+use Rattle.gw_lines.specs.Classes.{with_byte}
 use Rattle.gw_lines.specs.Lines.{line_of}
-
--- a byte before the first line
-abbrev pub with_byte : ℕ → List (List ℕ) → List (List ℕ)
-with_byte b [] = (b ∷ []) ∷ []
-with_byte b (line ∷ lines) = (b ∷ line) ∷ lines
 
 abbrev pub begins_line_feed : List ℕ → Bool
 begins_line_feed [] = false
 begins_line_feed (b ∷ bs) = b == 10
 
--- the lines of a text: a line feed ends a line, a carriage return right before one is dropped, and the last line may lack it
+-- the lines of a text: a line feed ends a line, a carriage return right before one is dropped, and the last line may
+-- lack it
 abbrev pub lines_of : List ℕ → List (List ℕ)
 lines_of [] = []
-lines_of (b ∷ bs) = if b == 10 then [] ∷ lines_of bs else (if b == 13 && begins_line_feed bs then lines_of bs else with_byte b (lines_of bs))
+lines_of (b ∷ bs) = if b == 10 then [] ∷ lines_of bs
+    else (if b == 13 && begins_line_feed bs then lines_of bs else with_byte b (lines_of bs))
 
 -- a line without the carriage return at its end
 abbrev pub chomped : List ℕ → List ℕ

@@ -1,69 +1,97 @@
--- Operands as they are read: the list as it stands behind a verb, and the n-th operand of a list. (Manual; the forms of the profile.)
-use Rattle.std.specs.Prelude.{ℕ, zero, suc, ◌+◌, ◌-◌, ◌==◌, Bool, true, List, [], ◌∷◌, Option, Some, None, Result, Ok, Err, option_map, if◌then◌else◌, nat_lt}
-use Rattle.std.specs.List.{count_by}
+-- Operands as they are read: the list as it stands behind a verb, and each of its parts by its form. (Manual; the forms
+-- of the profile.)
+use Rattle.std.specs.Prelude.{ℕ, ◌+◌, ◌==◌, Bool, true, List, [], ◌∷◌, ◌++◌, length, Option, Some, None, Result, Ok, Err, option_map, if◌then◌else◌, codes}
 use Rattle.std.specs.Str.{bytes_eq}
-use Rattle.gw_expr.specs.Term.{Term, Constant}
-use Rattle.gw_lines.specs.declared.class.Class.TheVariants as class
+use Rattle.gw_expr.specs.Term.{Constant}
 use Rattle.gw_lines.specs.declared.fault.LineFault.{LineFault}
 use Rattle.gw_lines.specs.declared.fault.LineFault.TheVariants as faults
-use Rattle.gw_lines.specs.Classes.{is_blank, front_of, rest_of, tail_of, is_nothing}
+use Rattle.gw_lines.specs.declared.form.Kind.{Kind}
+use Rattle.gw_lines.specs.declared.form.Kind.TheVariants as kinds
+use Rattle.gw_lines.specs.declared.form.Form.{Form}
+use Rattle.gw_lines.specs.declared.operand.Operand.{Operand}
+use Rattle.gw_lines.specs.declared.operand.Operand.TheVariants as operands
+use Rattle.gw_lines.specs.Reading.{◌>>=◌}
+use Rattle.gw_lines.specs.Classes.{is_blank}
 use Rattle.gw_lines.specs.Numbers.{number_of, value_of, from_one}
+use Rattle.gw_lines.specs.Forms.{is_listed}
+use Rattle.gw_lines.specs.Parts.{split, goes_on, part_of, others_of, is_missing}
 
 -- the operand list that stands here, without the blanks that are skipped: skips says that blanks are
 abbrev pub listed_of : Bool → List ℕ → List ℕ
 listed_of skips [] = []
 listed_of skips (b ∷ bs) = if is_blank b then (if skips then listed_of true bs else []) else b ∷ listed_of (b == 44) bs
 
--- what follows the first comma
-unfoldable pub behind_comma : List ℕ → List ℕ
-behind_comma text = tail_of (rest_of class.Operand text)
+-- ---- one operand
 
--- what follows k commas
-abbrev pub behind_commas : ℕ → List ℕ → List ℕ
-behind_commas zero text = text
-behind_commas (suc k) text = behind_commas k (behind_comma text)
+-- what a text that is not empty is, if it is lawful: `NP` says nothing
+abbrev pub given_in : Kind → List ℕ → Option (Option Operand)
+given_in kinds.Value text = option_map (λ z. Some (operands.Value (Constant z))) (value_of text)
+given_in (kinds.Whole most) text = option_map (λ n. Some (operands.Whole n)) (from_one (number_of most text))
+given_in kinds.Quiet text = if bytes_eq text (codes "NP") then Some None else None
 
--- the n-th operand, from 1: empty where there is none
-unfoldable pub operand_of : ℕ → List ℕ → List ℕ
-operand_of n text = front_of class.Operand (behind_commas (n - 1) text)
+-- what a text is, if it is lawful
+abbrev pub operand_in : Kind → List ℕ → Option (Option Operand)
+operand_in kind [] = Some None
+operand_in kind (b ∷ bs) = given_in kind (b ∷ bs)
 
 -- an operand that was read, or the fault that it is none
-abbrev pub or_bad : {X : Type 0} → ℕ → Option X → Result (Option X) LineFault
+abbrev pub or_bad : ℕ → Option (Option Operand) → Result (List (Option Operand)) LineFault
 or_bad n None = Err (faults.BadOperand n)
-or_bad n (Some x) = Ok (Some x)
+or_bad n (Some operand) = Ok (operand ∷ [])
 
--- a value, or nothing
-abbrev pub value_in : ℕ → List ℕ → Result (Option Term) LineFault
-value_in n [] = Ok None
-value_in n (b ∷ bs) = or_bad n (option_map (λ z. Constant z) (value_of (b ∷ bs)))
+-- the operand that stands here, where the statement lists it
+abbrev pub listed_here : Form → ℕ → Bool → List ℕ → Result (List (Option Operand)) LineFault
+listed_here form n more part = if is_listed form.presence more then or_bad n (operand_in form.kind part) else Ok []
 
--- a whole number from 1, or nothing
-abbrev pub count_in : ℕ → List ℕ → Result (Option ℕ) LineFault
-count_in n [] = Ok None
-count_in n (b ∷ bs) = or_bad n (from_one (number_of (b ∷ bs)))
+-- operands, with the one that stands here
+abbrev pub added : Form → ℕ → Bool → List ℕ → List (Option Operand) → Result (List (Option Operand)) LineFault
+added form n more part os = do
+  here ← listed_here form n more part
+  Ok (os ++ here)
 
--- a key word, or nothing
-abbrev pub is_optional : List ℕ → List ℕ → Bool
-is_optional key [] = true
-is_optional key (b ∷ bs) = bytes_eq (b ∷ bs) key
+-- ---- a list
 
-unfoldable pub value_at : ℕ → List ℕ → Result (Option Term) LineFault
-value_at n text = value_in n (operand_of n text)
+-- the parts that are left: more says that there are some
+abbrev pub left : Bool → List ℕ → List (List ℕ)
+left more text = if more then split text else []
 
-unfoldable pub count_at : ℕ → List ℕ → Result (Option ℕ) LineFault
-count_at n text = count_in n (operand_of n text)
+-- each operand by its form, the first of which has the number n
+abbrev pub each_of : ℕ → List Form → List (List ℕ) → Result (List (Option Operand)) LineFault
+each_of n [] parts = Ok []
+each_of n (form ∷ forms) parts = do
+  here ← listed_here form n (goes_on parts) (part_of parts)
+  others ← each_of (n + 1) forms (others_of parts)
+  Ok (here ++ others)
 
--- an operand whose meaning is still to come
-unfoldable pub absent_at : ℕ → List ℕ → Result (Unit {0}) LineFault
-absent_at n text = if is_nothing (operand_of n text) then Ok tt else Err (faults.BadOperand n)
+-- the number of the first that is missing
+abbrev pub missing_of : ℕ → List Form → List (List ℕ) → Option ℕ
+missing_of n [] parts = None
+missing_of n (form ∷ forms) parts =
+    if is_missing form (part_of parts) then Some n else missing_of (n + 1) forms (others_of parts)
 
-unfoldable pub key_at : ℕ → List ℕ → List ℕ → Result (Unit {0}) LineFault
-key_at n key text = if is_optional key (operand_of n text) then Ok tt else Err (faults.BadOperand n)
+-- the first that is missing, where n is the one that stands here
+abbrev pub missing_after : Option ℕ → Form → ℕ → List ℕ → Option ℕ
+missing_after (Some first) form n part = Some first
+missing_after None form n part = if is_missing form part then Some n else None
 
--- no n-th operand, nor a later one, empty ones too
-unfoldable pub ends_before : ℕ → List ℕ → Result (Unit {0}) LineFault
-ends_before n text = if nat_lt (count_by (λ b. b == 44) text + 1) n then Ok tt else Err (faults.ExtraOperand n)
+-- whether parts stand behind those that have a form
+abbrev pub has_more : List Form → List (List ℕ) → Bool
+has_more [] parts = goes_on parts
+has_more (form ∷ forms) parts = has_more forms (others_of parts)
 
--- an operand that may not be absent
-abbrev pub needed : ℕ → Bool → Result (Unit {0}) LineFault
-needed n given = if given then Ok tt else Err (faults.MissingOperand n)
+-- operands, where none is one too many
+abbrev pub ended : Bool → ℕ → Result (Unit {0}) LineFault
+ended has_more n = if has_more then Err (faults.ExtraOperand n) else Ok tt
+
+-- operands, where none is missing
+abbrev pub complete : Option ℕ → Result (Unit {0}) LineFault
+complete None = Ok tt
+complete (Some n) = Err (faults.MissingOperand n)
+
+-- the operands that parts are
+unfoldable pub operands_of : List Form → List (List ℕ) → Result (List (Option Operand)) LineFault
+operands_of forms parts = do
+  os ← each_of 1 forms parts
+  end ← ended (has_more forms parts) (length forms + 1)
+  given ← complete (missing_of 1 forms parts)
+  Ok os

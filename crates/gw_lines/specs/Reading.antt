@@ -10,10 +10,14 @@ abbrev pub ◌>>=◌ : {A B E : Type 0} → Result A E → (A → Result B E) �
 (Ok x) >>= f = f x
 (Err e) >>= f = Err e
 
+-- memory ran out, or the fact holds of the fault
+abbrev pub OrMemory : LineFault → Type 0 → Type 0
+OrMemory faults.Memory P = Unit {0}
+OrMemory f P = P
+
 -- the fault f is what reading gives, unless memory ran out
 abbrev pub Fails : {Y : Type 0} → LineFault → Result Y LineFault → Type 0
-Fails faults.Memory read = Unit {0}
-Fails f read = read ≡ Err f
+Fails f read = OrMemory f (read ≡ Err f)
 
 -- what a function returned, seen by view, is what reading gives, unless memory ran out
 abbrev pub Gives : {X Y : Type 0} → (X → Y) → Result X LineFault → Result Y LineFault → Type 0
@@ -22,13 +26,11 @@ Gives view (Err f) read = Fails f read
 
 -- a fault found alone is this one, unless memory ran out
 abbrev pub IsFault : LineFault → LineFault → Type 0
-IsFault faults.Memory f = Unit {0}
-IsFault e f = f ≡ e
+IsFault e f = OrMemory e (f ≡ e)
 
 -- the same of a model, whose faults have the number of their line
 abbrev pub FailsAt : {Y : Type 0} → ℕ → LineFault → Result Y FaultyLine → Type 0
-FailsAt line faults.Memory read = Unit {0}
-FailsAt line f read = read ≡ Err (record { line = line; fault = f })
+FailsAt line f read = OrMemory f (read ≡ Err (record { line = line; fault = f }))
 
 abbrev pub GivesModel : {X Y : Type 0} → (X → Y) → Result X FaultyLine → Result Y FaultyLine → Type 0
 GivesModel view (Ok x) read = read ≡ Ok (view x)

@@ -1,73 +1,120 @@
-ghost use Rattle.std.specs.Prelude.{◌≡◌};
+ghost use Rattle.std.specs.Prelude.{◌≡◌, ◌≤◌, length, IfOk};
 ghost use Rattle.gw_lines.specs.Reading.{Gives};
-ghost use Rattle.gw_lines.specs.Bodies.{generate_of, advance_of, terminate_of, start_of, body_of};
+ghost use Rattle.gw_lines.specs.Parts.{others_of, parts_of};
+ghost use Rattle.gw_lines.specs.Bodies.{body_of, in_forms, body_with, first_of, value_in, whole_in};
 
 use crate::fault::LineFault;
-use crate::operand::{absent_at, count_at, ends_before, key_at, needed, value_at};
-use gw_meaning::{Block, Body, Command};
+use crate::form::{Form, forms_of, lacks};
+use crate::operand::Operand;
+use crate::operands::read_operands;
+use gw_expr::Expr;
+use gw_meaning::{Block, Body, Command, Row};
 use gw_names::Verb;
+use std::alloc::{AllocError, Global};
 
 /// The body that a verb's operand list spells, in upper case and without skipped blanks.
 #[tactic(auto, unfolding(crate::specs::Bodies::body_of))]
-pub fn read_body(verb: Verb, text: &[u8]) -> Result<Body, LineFault>
+pub fn read_body(alloc: Global, verb: Verb, text: &[u8]) -> Result<Body, LineFault>
     ensures { Gives (λ b. b) result (body_of verb text.now) }
 {
-    match verb {
-        Verb::Generate => Ok(Body::Block(generate(text)?)),
-        Verb::Advance => Ok(Body::Block(advance(text)?)),
-        Verb::Terminate => Ok(Body::Block(terminate(text)?)),
-        Verb::Start => Ok(Body::Command(start(text)?)),
-        _ => Err(LineFault::UnknownVerb),
+    match forms_of(verb) {
+        Some(forms) => in_forms(alloc, verb, forms, text),
+        None => Err(LineFault::UnknownVerb),
     }
 }
 
-#[tactic(auto, unfolding(crate::specs::Bodies::generate_of))]
-fn generate(text: &[u8]) -> Result<Block, LineFault>
-    ensures { Gives (λ b. b) result (generate_of text.now) }
+#[tactic(auto, unfolding(crate::specs::Bodies::in_forms))]
+fn in_forms(alloc: Global, verb: Verb, forms: &[Form], text: &[u8]) -> Result<Body, LineFault>
+    requires { length forms.now ≤ 7 }
+    ensures { Gives (λ b. b) result (in_forms verb forms.now (parts_of text.now)) }
 {
-    let mean = value_at(1, text)?;
-    absent_at(2, text)?;
-    let offset = value_at(3, text)?;
-    let limit = value_at(4, text)?;
-    let priority = value_at(5, text)?;
-    ends_before(6, text)?;
-    needed(1, mean.is_some() || limit.is_some())?;
-    Ok(Block::Generate {
-        mean,
-        offset,
-        limit,
-        priority,
-    })
+    let operands = read_operands(alloc, forms, text)?;
+    if lacks(verb, &operands) {
+        return Err(LineFault::MissingOperand(1));
+    }
+    match body_with(alloc, verb, operands)? {
+        Some(body) => Ok(body),
+        None => Err(LineFault::UnknownVerb),
+    }
 }
 
-#[tactic(auto, unfolding(crate::specs::Bodies::advance_of))]
-fn advance(text: &[u8]) -> Result<Block, LineFault>
-    ensures { Gives (λ b. b) result (advance_of text.now) }
+/// The body of a verb with these operands, if they have its forms.
+#[tactic(auto, unfolding(crate::specs::Bodies::body_with))]
+fn body_with(
+    alloc: Global,
+    verb: Verb,
+    mut operands: Vec<Option<Operand>>,
+) -> Result<Option<Body>, AllocError>
+    ensures { IfOk result (λ o. o ≡ body_with verb operands.items) }
 {
-    let time = value_at(1, text)?;
-    absent_at(2, text)?;
-    ends_before(3, text)?;
-    Ok(Block::Advance { time })
+    match verb {
+        Verb::Generate => {
+            let mean = value(&mut operands);
+            let range = value(&mut operands);
+            let offset = value(&mut operands);
+            let limit = value(&mut operands);
+            let priority = value(&mut operands);
+            Ok(Some(Body::Block(Block::Generate {
+                mean,
+                range,
+                offset,
+                limit,
+                priority,
+            })))
+        }
+        Verb::Advance => {
+            let mean = value(&mut operands);
+            let range = value(&mut operands);
+            Ok(Some(Body::Block(Block::Advance { mean, range })))
+        }
+        Verb::Terminate => {
+            let count = value(&mut operands);
+            Ok(Some(Body::Block(Block::Terminate { count })))
+        }
+        Verb::Start => match whole_in(next(&mut operands)) {
+            Some(count) => Ok(Some(Body::Command(Command::Start {
+                count: u64::from(count),
+            }))),
+            None => Ok(None),
+        },
+        Verb::Rmult => {
+            let values = operands.into_iter().map(|o| whole_in(o)).collect(alloc)?;
+            Ok(Some(Body::Command(Command::Rmult {
+                values: Row::from_vec(values),
+            })))
+        }
+        _ => Ok(None),
+    }
 }
 
-#[tactic(auto, unfolding(crate::specs::Bodies::terminate_of))]
-fn terminate(text: &[u8]) -> Result<Block, LineFault>
-    ensures { Gives (λ b. b) result (terminate_of text.now) }
+// Takes the first operand.
+fn next(operands: &mut Vec<Option<Operand>>) -> Option<Operand>
+    ensures first { result ≡ first_of operands.old.items }
+    ensures others { operands.new.items ≡ others_of operands.old.items }
 {
-    let count = value_at(1, text)?;
-    ends_before(2, text)?;
-    Ok(Block::Terminate { count })
+    if operands.is_empty() {
+        None
+    } else {
+        operands.remove(0)
+    }
 }
 
-#[tactic(auto, unfolding(crate::specs::Bodies::start_of))]
-fn start(text: &[u8]) -> Result<Command, LineFault>
-    ensures { Gives (λ c. c) result (start_of text.now) }
+// Takes the first operand, as a value.
+fn value(operands: &mut Vec<Option<Operand>>) -> Option<Expr>
+    ensures first { result ≡ value_in (first_of operands.old.items) }
+    ensures others { operands.new.items ≡ others_of operands.old.items }
 {
-    let count = count_at(1, text)?;
-    key_at(2, b"NP", text)?;
-    ends_before(3, text)?;
-    match count {
-        Some(count) => Ok(Command::Start { count }),
-        None => Err(LineFault::MissingOperand(1)),
+    match next(operands) {
+        Some(Operand::Value(value)) => Some(value),
+        Some(Operand::Whole(_)) | None => None,
+    }
+}
+
+fn whole_in(operand: Option<Operand>) -> Option<u32>
+    ensures { result ≡ whole_in operand }
+{
+    match operand {
+        Some(Operand::Whole(n)) => Some(n),
+        Some(Operand::Value(_)) | None => None,
     }
 }

@@ -2,22 +2,28 @@
 //! statements or its first faulty line.
 //!
 //! [`read_statement`] reads one line, [`read_model`] all lines, and [`read_edit`] the text of an edit, in which `|`
-//! ends a line. A line is cut into words (words), its operand list is copied without the blanks that are skipped
-//! (listed), each verb reads its operands from that list (body, operand), and a value is read from its digits
-//! (number). A further verb is a further function of body, and a further form of operand a further case of operand.
-//! What is read is a [`Statement`], which [`Statement::put_text`] lists.
+//! ends a line. A line is cut into words (words), and its operand list is copied without the blanks that are skipped
+//! (listed). What the operands of a verb may be is a list of forms (form). The list is split once, each part is read by
+//! its form (operands, operand, number), and the statement is made of what was read (body). What is read is a
+//! [`Statement`], which [`Statement::put_text`] lists.
+//!
+//! A further verb is a row of `forms_of` and of `body_with` here, of `forms_of`, `fields_of` and `body_with` in the
+//! definitions (Forms, Bodies), and of `built` and `made` in proofs/Rows. A further kind of operand is a case of
+//! `Kind`, of `given` and of `SpellsOperand`, and what proofs/Spelled says of one operand. All else goes by the forms.
 #![tactic(auto)]
 
 mod body;
 mod class;
 mod edit;
 mod fault;
+mod form;
 mod laws;
 mod line;
 mod listed;
 mod model;
 mod number;
 mod operand;
+mod operands;
 mod words;
 
 pub use edit::read_edit;

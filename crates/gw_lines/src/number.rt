@@ -3,12 +3,12 @@ ghost use Rattle.gw_lines.specs.Numbers.{number_of, value_of};
 
 use gw_nums::Val;
 
-const LIMIT: u64 = 1_000_000_000;
+const LIMIT: u32 = 1_000_000_000;
 
-/// The number that digits spell, at most 1,000,000,000.
-pub fn number(text: &[u8]) -> Option<u64>
-    ensures value { result ≡ number_of text.now }
-    ensures bound { IfSome result (λ n. n ≤ 1000000000) }
+/// The number that digits spell, if it is at most `most`.
+pub fn number(most: u32, text: &[u8]) -> Option<u32>
+    ensures value { result ≡ number_of most text.now }
+    ensures bound { IfSome result (λ n. n ≤ most) }
 {
     if text.is_empty() {
         return None;
@@ -19,11 +19,11 @@ pub fn number(text: &[u8]) -> Option<u64>
             return None;
         }
         number = number * 10 + u64::from(*b - b'0');
-        if number > LIMIT {
+        if number > u64::from(most) {
             return None;
         }
     }
-    Some(number)
+    Some(number as u32)
 }
 
 /// The value that a text spells: a number, with one `-` before it or none.
@@ -34,9 +34,9 @@ pub fn value(text: &[u8]) -> Option<Val>
         [] => None,
         [first, digits @ ..] => {
             if *first == b'-' {
-                Val::new(-(number(digits)? as i64))
+                Val::new(-i64::from(number(LIMIT, digits)?))
             } else {
-                Val::new(number(text)? as i64)
+                Val::new(i64::from(number(LIMIT, text)?))
             }
         }
     }

@@ -46,7 +46,7 @@ fn unlabelled(alloc: Global, verb: Verb, bytes: &[u8]) -> Result<Statement, Line
     ensures { Gives (λ s. s) result (unlabelled_of verb bytes.now) }
 {
     let operands = operands(alloc, bytes)?;
-    let body = read_body(verb, &operands)?;
+    let body = read_body(alloc, verb, &operands)?;
     Ok(Statement {
         label: None,
         body,
@@ -63,7 +63,7 @@ fn labelled(alloc: Global, word: &[u8], verb: Verb, bytes: &[u8]) -> Result<Stat
     }
     let operands = operands(alloc, bytes)?;
     let label = label(alloc, verb, word)?;
-    let body = read_body(verb, &operands)?;
+    let body = read_body(alloc, verb, &operands)?;
     Ok(Statement {
         label: Some(label),
         body,

@@ -1,17 +1,15 @@
 ghost use Rattle.std.specs.Prelude.{◌≤◌};
 
-mod examples;
-mod what_if;
+mod refused;
 mod words;
 
 use crate::run::{not_begun, run};
-use examples::EXAMPLES;
 use gw_names::{Key, Name};
 use gw_script::{Bytes, Options, Page, ReadFault, open, session};
+use refused::REFUSED;
 use std::alloc::Global;
 use std::io::ErrorKind;
 use std::test::Fail;
-use what_if::{Part, SPACINGS, WHAT_IFS, text_of};
 
 const ROOM: usize = 100_000;
 
@@ -32,20 +30,10 @@ fn run_on(
     step: usize,
     room: usize,
 ) -> Ended {
-    run_with(alloc, &[], input, read_failure, step, room)
-}
-
-fn run_with(
-    alloc: Global,
-    words: &[&str],
-    input: &[u8],
-    read_failure: Option<u32>,
-    step: usize,
-    room: usize,
-) -> Ended {
     let mut reader = Bytes::new(input, read_failure);
     let mut output = Page::new(alloc, step, room);
     let mut errors = Page::new(alloc, ROOM, ROOM);
+    let words: &[&str] = &[];
     let status = run(alloc, words, no_file, &mut reader, &mut output, &mut errors);
     Ended {
         status,
@@ -60,57 +48,14 @@ fn no_file(_path: &str) -> Result<Bytes<'static>, ReadFault> {
 }
 
 #[test]
-fn examples_have_their_bytes(rt: HostRuntime) {
-    for example in EXAMPLES.iter() {
-        for every in SPACINGS {
-            let words = ["--every", every];
-            let ran = run_with(rt.alloc(), &words, example.input, None, ROOM, ROOM);
-            let name = example.name;
-            assert_eq!(rt; ran.status, example.status, "{name} {every}");
-            let (output, errors) = (ran.output.text.as_slice(), ran.errors.text.as_slice());
-            assert_eq!(rt; output, example.output, "{name} {every}");
-            assert_eq!(rt; errors, example.errors, "{name} {every}");
-        }
+fn refused_models_are_told(rt: HostRuntime) {
+    for refused in REFUSED.iter() {
+        let ran = run_on(rt.alloc(), refused.input, None, ROOM, ROOM);
+        let name = refused.name;
+        assert_eq!(rt; ran.status, 1, "{name}");
+        assert!(rt; ran.output.text.is_empty(), "{name}");
+        assert_eq!(rt; ran.errors.text.as_slice(), refused.errors, "{name}");
     }
-}
-
-#[test]
-fn edited_examples_have_their_bytes(rt: HostRuntime) -> Result<(), Fail> {
-    let alloc = rt.alloc();
-    for example in WHAT_IFS.iter() {
-        for (nth, every) in SPACINGS.iter().enumerate() {
-            let mut words = Vec::from_slice(alloc, &["--every", *every])?;
-            words.extend_from_slice(example.words)?;
-            let mut input = Vec::from_slice(alloc, example.model)?;
-            input.extend_from_slice(example.script)?;
-            let ran = run_with(alloc, &words, &input, None, ROOM, ROOM);
-            let name = example.name;
-            assert_eq!(rt; ran.status, 0, "{name} {every}");
-            let output = output_of(alloc, example.output, nth)?;
-            assert_eq!(rt;
-                ran.output.text.as_slice(),
-                output.as_slice(),
-                "{name} {every}"
-            );
-        }
-    }
-    Ok(())
-}
-
-// An output at the nth spacing.
-fn output_of(alloc: Global, parts: &[Part], nth: usize) -> Result<Vec<u8>, Fail> {
-    let mut output = Vec::new(alloc);
-    for part in parts {
-        match part {
-            Part::Text(text) => output.extend_from_slice(text)?,
-            Part::Report(shown) => output.extend_from_slice(text_of(*shown))?,
-            Part::Unfinished(left) => {
-                let steps = left.get(nth).ok_or("no such spacing")?;
-                output.extend_from_slice(format!(in alloc; "unfinished {steps}\n")?.as_bytes())?;
-            }
-        }
-    }
-    Ok(output)
 }
 
 // The example that the tests of failures use, and how many bytes it has.
@@ -257,6 +202,41 @@ fn copies_and_reports_are_made_where_memory_suffices(rt: HostRuntime) -> Result<
     let statement = copy.statement(1).ok_or("no statement")?.copy(alloc)?;
     assert_eq!(rt; statement.operands.as_slice(), b"10,,3".as_slice());
     Ok(())
+}
+
+// Random arrivals and stays of two kinds of patients.
+const CLINIC: &[u8] =
+    b"GENERATE 10,5\nADVANCE 8,3\nTERMINATE 1\nGENERATE 30,10,15,,2\nADVANCE 20,15\nTERMINATE 1\nSTART 60\n";
+
+#[test]
+fn replications_are_runs_of_their_own(rt: HostRuntime) -> Result<(), Fail> {
+    let alloc = rt.alloc();
+    let mut last = Vec::new(alloc);
+    for number in 2..=33_u64 {
+        let seed = 1_000_003 * number;
+        let options = Options {
+            seed,
+            ..Options::USUAL
+        };
+        let alone = said(alloc, CLINIC, options, b"report 1 1\n");
+        let script = format!(in alloc; "replicate {number} {seed}\nreport {number} 1\n")?;
+        let among = said(alloc, CLINIC, Options::USUAL, script.as_bytes());
+        let report = behind_heading(alone.text.as_slice());
+        assert_eq!(rt; behind_heading(among.text.as_slice()), report, "{number}");
+        assert!(rt; report != last.as_slice(), "{number}");
+        last = Vec::from_slice(alloc, report)?;
+    }
+    Ok(())
+}
+
+// A report behind its heading, which ends at the first blank line.
+fn behind_heading(text: &[u8]) -> &[u8] {
+    for start in 0..text.len() {
+        if text[start..].starts_with(b"\n\n") {
+            return &text[start..];
+        }
+    }
+    text
 }
 
 // Edits that touch nothing read, the middle of a run, and all of it, each with the report behind it.

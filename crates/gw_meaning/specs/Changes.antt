@@ -5,7 +5,12 @@ use Rattle.gw_nums.specs.Range.{is_below}
 use Rattle.gw_meaning.specs.declared.transaction.Transaction.{Transaction}
 use Rattle.gw_meaning.specs.declared.transaction.Event.{Event}
 use Rattle.gw_meaning.specs.declared.transaction.Count.{Count}
+use Rattle.gw_streams.specs.declared.stream.Stream.{Stream}
 use Rattle.gw_meaning.specs.declared.moves.Arrival.{Arrival}
+use Rattle.gw_meaning.specs.declared.moves.Change.{Change}
+use Rattle.gw_meaning.specs.declared.moves.Change.TheVariants as changes
+use Rattle.gw_meaning.specs.declared.moves.Fate.{Fate}
+use Rattle.gw_meaning.specs.declared.moves.Fate.TheVariants as fates
 use Rattle.gw_meaning.specs.declared.moves.Move.{Move}
 use Rattle.gw_meaning.specs.declared.moves.Move.TheVariants as moves
 use Rattle.gw_meaning.specs.Machine.{Machine, raised, count_in, count_at, with_count}
@@ -28,14 +33,21 @@ left_at (Some c) counts place = with_count counts place (record c { content = c.
 abbrev pub left : List (ℕ × Count) → ℕ → List (ℕ × Count)
 left counts place = left_at (count_in counts place) counts place
 
--- the counts after a transaction entered a block, and stays in it or is gone at once
-abbrev pub entered : List (ℕ × Count) → ℕ → List (ℕ × Count)
-entered counts place = let c = count_at counts place in
-    with_count counts place (record c { entries = raised c.entries; content = raised c.content })
+-- the content of a block behind the entry of a transaction, which stays in it or is destroyed
+abbrev pub content_behind : Fate → ℕ → ℕ
+content_behind fates.Active content = raised content
+content_behind (fates.Delayed until) content = raised content
+content_behind (fates.Destroyed count) content = content
 
-abbrev pub passed_through : List (ℕ × Count) → ℕ → List (ℕ × Count)
-passed_through counts place =
-    let c = count_at counts place in with_count counts place (record c { entries = raised c.entries })
+-- the counts after a transaction entered a block
+abbrev pub entered : Fate → List (ℕ × Count) → ℕ → List (ℕ × Count)
+entered fate counts place =
+    let c = count_at counts place in
+    with_count counts place (record c { entries = raised c.entries; content = content_behind fate c.content })
+
+-- the counts after a transaction left one block and entered another
+abbrev pub crossed : Fate → List (ℕ × Count) → ℕ → ℕ → List (ℕ × Count)
+crossed fate counts from to = entered fate (left counts from) to
 
 -- the counts after a GENERATE made one more
 abbrev pub made_one : List (ℕ × Count) → ℕ → List (ℕ × Count)
@@ -89,40 +101,35 @@ started count s = record s { remaining = count; commands = raised s.commands; pr
 abbrev pub arrived : Option Arrival → Machine → Machine
 arrived next s = with_making (maybe_made next (making_of s)) s
 
--- the active transaction x is in its GENERATE, and the next one is made
-abbrev pub generated : Machine → Transaction → ℕ → Option Arrival → Machine
-generated s x place next =
-    arrived next (record s {
-      active = Some (record (placed x place) { mark = s.clock });
-      counts =
-          entered (left s.counts x.current) place;
-    })
+-- what a block changes of its transaction
+abbrev pub marked : Change → ℕ → Transaction → Transaction
+marked changes.Nothing clock x = x
+marked (changes.Generate next) clock x = record x { mark = clock }
 
--- the active transaction x is in a block and stays active
-abbrev pub moved_on : Machine → Transaction → ℕ → Machine
-moved_on s x place = record s { active = Some (placed x place); counts = entered (left s.counts x.current) place }
-
--- the active transaction x is in a block and on the future chain
-abbrev pub delayed : Machine → Transaction → ℕ → ℕ → Machine
-delayed s x place until =
-    record s {
-      active = None;
-      future = s.future ++ record { time = until; transaction = placed x place } ∷ [];
-      counts =
-          entered (left s.counts x.current) place;
-    }
-
--- the active transaction x is gone, and count is taken from the termination count, which completes the START at 0
-abbrev pub terminated : Machine → Transaction → ℕ → ℕ → Machine
-terminated s x place count =
+-- what becomes of the transaction x: it stays active, is on the future chain, or is gone with its count taken from the
+-- termination count, which completes the START at 0
+abbrev pub fated : Fate → Transaction → Machine → Machine
+fated fates.Active x s = record s { active = Some x }
+fated (fates.Delayed until) x s =
+    record s { active = None; future = s.future ++ record { time = until; transaction = x } ∷ [] }
+fated (fates.Destroyed count) x s =
     record s {
       active = None;
       remaining = s.remaining - count;
       complete =
           (if nat_lt count s.remaining then s.complete else raised s.complete);
-      counts =
-          passed_through (left s.counts x.current) place;
     }
+
+-- what a block changes else
+abbrev pub changed : Change → Machine → Machine
+changed changes.Nothing s = s
+changed (changes.Generate next) s = arrived next s
+
+-- the transaction x entered a block
+abbrev pub entering : Machine → Transaction → ℕ → Change → Fate → Machine
+entering s x place change fate =
+    changed change (fated fate (marked change s.clock (placed x place))
+    (record s { counts = crossed fate s.counts x.current place }))
 
 -- the first of the current chain is active
 abbrev pub picked : Machine → List Transaction → Machine
@@ -153,9 +160,11 @@ with_active (Some x) f s = f x
 
 abbrev pub moved : Machine → Move → Machine
 moved s (moves.Start count arrivals) = with_making (all_made arrivals (making_of s)) (started count s)
-moved s (moves.Generate place next) = with_active s.active (λ x. generated s x place next) s
-moved s (moves.Pass place) = with_active s.active (λ x. moved_on s x place) s
-moved s (moves.Delay place until) = with_active s.active (λ x. delayed s x place until) s
-moved s (moves.Terminate place count) = with_active s.active (λ x. terminated s x place count) s
+moved s moves.Command = record s { commands = raised s.commands }
+moved s (moves.Enter place change fate) = with_active s.active (λ x. entering s x place change fate) s
 moved s moves.Pick = picked s s.current
 moved s (moves.Clock time) = advanced s time
+
+-- what a step does: its move, with the streams behind its draws
+abbrev pub decided : Machine → Move → List Stream → Machine
+decided s m streams = record (moved s m) { streams = streams }

@@ -4,11 +4,13 @@ pub mod Listing
 pub mod Numbers
 pub mod Machine
 pub mod Questions
+pub mod Evaluation
 pub mod Changes
 pub mod Step
 pub mod Reads
 pub mod Point
 pub use Rattle.gw_nums.specs.Range
+pub use Rattle.gw_streams.specs.Draws
 pub use Rattle.gw_expr.specs.Term
 pub use Rattle.gw_expr.specs.Stops
 pub use Rattle.gw_names.specs.Words

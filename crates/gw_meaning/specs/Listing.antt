@@ -42,8 +42,8 @@ command_of line = command_of_body line.statement.body
 
 -- whether a statement is a GENERATE
 abbrev pub is_generate_body : Body → Bool
-is_generate_body (bodies.Block (blocks.Generate mean offset limit priority)) = true
-is_generate_body (bodies.Block (blocks.Advance time)) = false
+is_generate_body (bodies.Block (blocks.Generate mean range offset limit priority)) = true
+is_generate_body (bodies.Block (blocks.Advance mean range)) = false
 is_generate_body (bodies.Block (blocks.Terminate count)) = false
 is_generate_body (bodies.Command command) = false
 
@@ -133,6 +133,7 @@ seed_at t number = seed_in t.replications number
 -- how many STARTs there are
 abbrev pub is_start : Command → Bool
 is_start (commands.Start count) = true
+is_start command = false
 
 abbrev pub starts : Listing → ℕ
 starts t = length (filter is_start (filter_map command_of t.lines))

@@ -1,7 +1,10 @@
--- The state of a run: both clocks, the termination count, what is done, the chains and the counts of the blocks.
+-- The state of a run: both clocks, the termination count, what is done, the streams, the chains and the counts of the
+-- blocks.
 -- (Manual; that RESET's clock is kept as a moment is our own.)
 use Rattle.std.specs.Prelude.{◌≡◌, ℕ, ◌+◌, ◌-◌, ◌^◌, Bool, false, ◌==◌, List, [], ◌∷◌, Option, Some, None, if◌then◌else◌, min, length, AllPairs}
 use Rattle.gw_nums.specs.Range.{is_below}
+use Rattle.gw_streams.specs.declared.stream.Stream.{Stream}
+use Rattle.gw_streams.specs.Draws.{untouched}
 use Rattle.gw_meaning.specs.declared.transaction.Transaction.{Transaction}
 use Rattle.gw_meaning.specs.declared.transaction.Event.{Event}
 use Rattle.gw_meaning.specs.declared.transaction.Count.{Count}
@@ -18,6 +21,8 @@ pub record Machine : Type 0 where
   pub complete : ℕ
   -- whether the GENERATEs have their first transactions
   pub primed : Bool
+  -- the random streams
+  pub streams : List Stream
   -- the number of the next transaction
   pub next : ℕ
   pub active : Option Transaction
@@ -41,8 +46,9 @@ zero_state = record {
   commands = 0;
   complete = 0;
   primed = false;
-  next =
-      1;
+  streams =
+      untouched;
+  next = 1;
   active = None;
   current = [];
   future = [];

@@ -1,8 +1,8 @@
 //! What the language means: statements, a version's answers, the state, the questions of a step, the run.
 //!
 //! The definitions stand in `specs/`, in this order: Listing (what a version says), Machine (the state),
-//! Questions (what a step may ask, and programs of questions), Changes (what a move does to a state),
-//! Step (which move it is, and the run), Point (where a report is taken). The types here are the plain data
+//! Questions (what a step may ask, and programs of questions), Evaluation (values and draws), Changes (what a move
+//! does to a state), Step (which move it is, and the run), Point (where a report is taken). The types here are the plain data
 //! that they speak of, and Texts says how a statement is listed.
 #![tactic(auto)]
 
@@ -14,7 +14,7 @@ mod text;
 mod transaction;
 
 pub use item::{End, Item, Outcome};
-pub use moves::{Arrival, Move};
+pub use moves::{Arrival, Change, Fate, Move};
 pub use row::Row;
 pub use statement::{Block, Body, Command, Numbered, Replication, Statement};
 pub use transaction::{Count, Event, Transaction};

@@ -1,5 +1,5 @@
 use crate::row::Row;
-use gw_nums::{Time, Val};
+use gw_nums::{Clock, Time, Val};
 
 /// A transaction that a GENERATE is to make.
 #[derive(Clone, Copy, Debug)]
@@ -11,21 +11,45 @@ pub struct Arrival {
     pub priority: Val,
 }
 
-/// What a step is to do, once its questions are answered.
+/// What a block changes beside the counts of blocks.
+#[derive(Clone, Copy, Debug)]
+pub enum Change {
+    Nothing,
+    /// A GENERATE sets the mark time of its transaction and makes the next one, if any.
+    Generate { next: Option<Arrival> },
+}
+
+/// What becomes of the transaction that entered a block.
+#[derive(Clone, Copy, Debug)]
+pub enum Fate {
+    /// It stays active.
+    Active,
+    /// It goes to the future chain.
+    Delayed { until: Time },
+    /// It is destroyed, and takes `count` from the termination count.
+    Destroyed { count: u64 },
+}
+
+/// What a step does.
 #[derive(Debug, Drop)]
 pub enum Move {
     /// A START of `count` with the first transactions of the GENERATEs, where it is the one that primes them.
-    Start { count: u64, arrivals: Row<Arrival> },
-    /// The active transaction enters its GENERATE, which makes the next one, if any.
-    Generate { place: u64, next: Option<Arrival> },
-    /// The active transaction enters a block and stays active.
-    Pass { place: u64 },
-    /// The active transaction enters a block and goes to the future chain.
-    Delay { place: u64, until: Time },
-    /// The active transaction enters a block that destroys it and takes `count` from the termination count.
-    Terminate { place: u64, count: u64 },
+    Start {
+        count: u64,
+        arrivals: Row<Arrival>,
+    },
+    /// A command that changes nothing but the streams.
+    Command,
+    /// The active transaction enters a block.
+    Enter {
+        place: u64,
+        change: Change,
+        fate: Fate,
+    },
     /// The first transaction of the current chain becomes active.
     Pick,
     /// The clock moves on, and the transactions of that moment go to the current chain.
-    Clock { time: Time },
+    Clock {
+        time: Clock,
+    },
 }

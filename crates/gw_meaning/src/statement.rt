@@ -1,5 +1,5 @@
 ghost use Rattle.std.specs.Prelude.{◌≡◌, IfOk};
-ghost use Rattle.gw_meaning.specs.Statements.{verb_of_block, verb_of_body};
+ghost use Rattle.gw_meaning.specs.Statements.{verb_of_block, verb_of_command, verb_of_body};
 
 use crate::row::Row;
 use gw_expr::Expr;
@@ -25,17 +25,19 @@ pub enum Body {
 /// A block, with the operands that it has. An absent operand is `None`.
 #[derive(Debug, Drop)]
 pub enum Block {
-    /// Makes transactions: `mean` ticks apart, the first after `offset` ticks, at most `limit` of them, each
-    /// with `priority`.
+    /// Makes transactions: `mean` ticks apart, up to `range` more or fewer, the first after `offset` ticks, at most
+    /// `limit` of them, each with `priority`.
     Generate {
         mean: Option<Expr>,
+        range: Option<Expr>,
         offset: Option<Expr>,
         limit: Option<Expr>,
         priority: Option<Expr>,
     },
-    /// Holds a transaction for `time` ticks.
+    /// Holds a transaction for `mean` ticks, up to `range` more or fewer.
     Advance {
-        time: Option<Expr>,
+        mean: Option<Expr>,
+        range: Option<Expr>,
     },
     /// Destroys a transaction, and takes `count` from the termination count.
     Terminate {
@@ -44,10 +46,12 @@ pub enum Block {
 }
 
 /// A command.
-#[derive(Clone, Copy, Debug, PartialEq, Eq)]
+#[derive(Debug, Drop)]
 pub enum Command {
     /// Runs until `count` (1 to 1,000,000,000) is taken away by TERMINATEs.
     Start { count: u64 },
+    /// Sets streams 1 to 7, each to its value (1 to 2,147,483,646) where one is given.
+    Rmult { values: Row<Option<u32>> },
 }
 
 /// A statement of a version with the number of its own, which edits leave alone.
@@ -83,20 +87,47 @@ impl Block {
         match self {
             Block::Generate {
                 mean,
+                range,
                 offset,
                 limit,
                 priority,
             } => Ok(Block::Generate {
                 mean: copy_operand(alloc, mean)?,
+                range: copy_operand(alloc, range)?,
                 offset: copy_operand(alloc, offset)?,
                 limit: copy_operand(alloc, limit)?,
                 priority: copy_operand(alloc, priority)?,
             }),
-            Block::Advance { time } => Ok(Block::Advance {
-                time: copy_operand(alloc, time)?,
+            Block::Advance { mean, range } => Ok(Block::Advance {
+                mean: copy_operand(alloc, mean)?,
+                range: copy_operand(alloc, range)?,
             }),
             Block::Terminate { count } => Ok(Block::Terminate {
                 count: copy_operand(alloc, count)?,
+            }),
+        }
+    }
+}
+
+impl Command {
+    /// The command's verb.
+    pub fn verb(&self) -> Verb
+        ensures { result ≡ verb_of_command self.now }
+    {
+        match self {
+            Command::Start { .. } => Verb::Start,
+            Command::Rmult { .. } => Verb::Rmult,
+        }
+    }
+
+    /// An equal command.
+    pub fn copy(&self, alloc: Global) -> Result<Command, AllocError>
+        ensures { IfOk result (λ c. c ≡ self.now) }
+    {
+        match self {
+            Command::Start { count } => Ok(Command::Start { count: *count }),
+            Command::Rmult { values } => Ok(Command::Rmult {
+                values: Row::from_vec(Vec::from_slice(alloc, values.as_slice())?),
             }),
         }
     }
@@ -109,7 +140,7 @@ impl Body {
     {
         match self {
             Body::Block(block) => block.verb(),
-            Body::Command(Command::Start { .. }) => Verb::Start,
+            Body::Command(command) => command.verb(),
         }
     }
 
@@ -119,7 +150,7 @@ impl Body {
     {
         match self {
             Body::Block(block) => Ok(Body::Block(block.copy(alloc)?)),
-            Body::Command(command) => Ok(Body::Command(*command)),
+            Body::Command(command) => Ok(Body::Command(command.copy(alloc)?)),
         }
     }
 }

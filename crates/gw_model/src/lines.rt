@@ -124,10 +124,10 @@ pub fn block_label(line: &Numbered) -> Option<&Name>
 }
 
 /// The command that the statement is, if it is one.
-pub fn command_of(line: &Numbered) -> Option<Command>
-    ensures { result ≡ command_of line.now }
+pub fn command_of(line: &Numbered) -> Option<&Command>
+    ensures { option_copied result ≡ command_of line.now }
 {
-    match line.statement.body {
+    match &line.statement.body {
         Body::Block(_) => None,
         Body::Command(command) => Some(command),
     }

@@ -10,27 +10,33 @@ use std::alloc::{AllocError, Global};
 pub fn count_blocks(lines: &[Numbered]) -> u64
     ensures { result ≡ length (filter is_block lines.now) }
 {
-    lines.iter().filter(|line| is_block(line)).count() as u64
+    let mut count = 0;
+    for line in lines {
+        if is_block(line) {
+            count += 1;
+        }
+    }
+    count
 }
 
 /// The commands, in order.
 pub fn commands_of(alloc: Global, lines: &[Numbered]) -> Result<Vec<Command>, AllocError>
     ensures { IfOk result (λ commands. commands.items ≡ filter_map command_of lines.now) }
 {
-    lines
-        .iter()
-        .filter_map(|line| command_of(line))
-        .collect(alloc)
+    let mut commands = Vec::new(alloc);
+    for line in lines {
+        if let Some(command) = command_of(line) {
+            commands.push(command.copy(alloc)?)?;
+        }
+    }
+    Ok(commands)
 }
 
 /// The number of STARTs.
 pub fn count_starts(commands: &[Command]) -> u64
     ensures { result ≡ length (filter is_start commands.now) }
 {
-    commands
-        .iter()
-        .filter(|command| is_start(**command))
-        .count() as u64
+    commands.iter().filter(|command| is_start(command)).count() as u64
 }
 
 /// The numbers of the GENERATEs, in order.
@@ -56,10 +62,11 @@ pub fn nth<T>(items: &[T], i: u64) -> Option<&T>
     items.get(i as usize - 1)
 }
 
-fn is_start(command: Command) -> bool
-    ensures { result ≡ is_start command }
+fn is_start(command: &Command) -> bool
+    ensures { result ≡ is_start command.now }
 {
     match command {
         Command::Start { .. } => true,
+        _ => false,
     }
 }

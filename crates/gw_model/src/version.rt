@@ -1,4 +1,4 @@
-ghost use Rattle.std.specs.Prelude.{◌≡◌, ◌≤◌, ◌⊎◌, IfOk, OnOk, IfErr, IfSome, IsTrue, Some, None, option_copied, length, nat_le};
+ghost use Rattle.std.specs.Prelude.{◌≡◌, ◌≤◌, ◌⊎◌, IfOk, OnOk, IfErr, IfSome, IsTrue, Some, None, option_copied, length, nat_le, if◌then◌else◌};
 ghost use Rattle.gw_meaning.specs.Listing.{block_at, after_at, position_at, label_at, command_at, generates_in, statement_at, starts, replication_at, seed_at};
 
 use crate::fault::ModelFault;
@@ -10,7 +10,7 @@ use crate::replications::{has_bad_replication, seed_of};
 use crate::tables::Tables;
 use gw_meaning::{Block, Command, Numbered, Replication, Statement};
 use gw_names::Name;
-use gw_nums::Time;
+use gw_nums::{Clock, Time};
 use std::alloc::{AllocError, Global};
 use std::marker::Model;
 
@@ -303,12 +303,15 @@ impl Version {
         self.horizon
     }
 
-    /// Whether the moment lies within the horizon.
-    pub fn within(&self, time: Time) -> bool
-        ensures value { result ≡ nat_le time self.now.horizon }
-        ensures bound { IsTrue result → time ≤ 1000000000000 }
+    /// The clock at a moment, where that lies within the horizon.
+    pub fn within(&self, time: Time) -> Option<Clock>
+        ensures { result ≡ (if nat_le time self.now.horizon then Some time else None) }
     {
-        time <= self.horizon
+        if time <= self.horizon {
+            Clock::at(time)
+        } else {
+            None
+        }
     }
 
     /// The step limit, 1 to 1,000,000.

@@ -1,6 +1,7 @@
 //! Whole numbers of the product: values, moments of the clock, and their digits.
 //!
-//! A [`Val`] lies in -1,000,000,000 to 1,000,000,000 and a [`Time`] in 0 to 1,001,000,000,000, by their types.
+//! A [`Val`] lies in -1,000,000,000 to 1,000,000,000, a [`Time`] in 0 to 1,001,000,000,000 and a [`Clock`] in 0 to
+//! 1,000,000,000,000, by their types.
 //! Arithmetic is exact or refused, and a number is written as its decimal digits and nothing else.
 #![tactic(auto)]
 
@@ -9,5 +10,5 @@ mod time;
 mod val;
 
 pub use decimal::put_decimal;
-pub use time::{LAST_CLOCK, LAST_TIME, Time};
+pub use time::{Clock, LAST_CLOCK, LAST_TIME, Time};
 pub use val::{ArithmeticFault, GREATEST, Val, add};

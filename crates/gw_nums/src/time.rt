@@ -49,11 +49,52 @@ impl Time {
     {
         self.ticks
     }
+}
+
+/// A moment at which the clock may stand, in ticks from 0 to 1,000,000,000,000.
+#[derive(Clone, Copy, Debug, PartialEq, Eq, PartialOrd, Ord, Hash)]
+pub struct Clock {
+    ticks: u64,
+}
+
+impl Model for Clock {
+    ghost use Rattle.std.specs.Prelude.{ℕ, ◌≤◌};
+
+    ghost Value = { ℕ };
+
+    ghost view = { λ c. c.ticks };
+
+    ghost invariant = { λ c. c.ticks ≤ 1000000000000 };
+
+    ghost inverse = { λ n. record { ticks = n } };
+}
+
+impl Clock {
+    /// The clock at the beginning of a run.
+    pub const ZERO: Clock = Clock { ticks: 0 };
+
+    /// The clock at a moment, up to [`LAST_CLOCK`].
+    pub fn at(time: Time) -> Option<Clock>
+        ensures in_range { IsSome result ↔ (time ≤ 1000000000000) }
+        ensures value { IfSome result (λ c. c ≡ time) }
+    {
+        if time.ticks <= LAST_CLOCK {
+            Some(Clock { ticks: time.ticks })
+        } else {
+            None
+        }
+    }
+
+    /// The moment at which the clock stands.
+    pub fn time(self) -> Time
+        ensures { result ≡ self }
+    {
+        Time { ticks: self.ticks }
+    }
 
     /// The moment `span` ticks later.
     pub fn after(self, span: u64) -> Time
-        requires clock { self ≤ 1000000000000 }
-        requires span { span ≤ 1000000000 }
+        requires { span ≤ 1000000000 }
         ensures { result ≡ self + span }
     {
         Time {

@@ -4,7 +4,7 @@ ghost use Rattle.gw_plain.specs.PlainRuns.{IsRunToEnd};
 
 use gw_meaning::End;
 use gw_model::Version;
-use gw_scan::{State, Tally, Turn, Uses, end_at, step};
+use gw_scan::{Notes, State, Tally, Turn, end_at, step};
 use std::alloc::{AllocError, Global};
 
 /// The state in which a run is over, and its end; none where it goes on at the step limit.
@@ -19,11 +19,11 @@ pub fn plain_run(alloc: Global, version: &Version, seed: u64) -> Result<PlainRun
     ensures { IfOk result (IsRunToEnd version.now seed) }
 {
     let mut state = State::zero(alloc);
-    let mut uses = Uses::new(alloc);
+    let mut notes = Notes::new(alloc);
     let mut tally = Tally::new();
     for _moment in 0..version.limit() {
-        uses.truncate(0);
-        match step(alloc, version, seed, &mut state, &mut uses, &mut tally)? {
+        notes.truncate(0);
+        match step(alloc, version, seed, &mut state, &mut notes, &mut tally)? {
             Turn::Moved => (),
             Turn::Ended(end) => {
                 let end = Some(end);

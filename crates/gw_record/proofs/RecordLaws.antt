@@ -11,7 +11,12 @@ use Rattle.gw_meaning.specs.declared.moves.Move.TheVariants as moves
 use Rattle.gw_meaning.specs.declared.transaction.Transaction.{Transaction}
 use Rattle.gw_meaning.specs.Listing.{Listing}
 use Rattle.gw_meaning.specs.Machine.{Machine, raised}
-use Rattle.gw_meaning.specs.Changes.{moved, with_active, picked}
+use Rattle.gw_streams.specs.declared.stream.Stream.{Stream}
+use Rattle.gw_meaning.specs.declared.moves.Change.{Change}
+use Rattle.gw_meaning.specs.declared.moves.Change.TheVariants as changes
+use Rattle.gw_meaning.specs.declared.moves.Fate.{Fate}
+use Rattle.gw_meaning.specs.declared.moves.Fate.TheVariants as fates
+use Rattle.gw_meaning.specs.Changes.{moved, decided, fated, changed, with_active, picked}
 use Rattle.gw_meaning.specs.Step.{step, step_items, run}
 use Rattle.gw_meaning.specs.Reads.{or_later, is_use, read_from, first_use}
 use Rattle.gw_meaning.proofs.Programs.{run_on}
@@ -148,22 +153,30 @@ complete_done : (b : Bool) (n : ℕ) → cond b n (raised n) ≤ n + 1
 complete_done true n = omega arith
 complete_done false n = grind arith
 
+complete_fated : (fate : Fate) (x : Transaction) (s : Machine) → (fated fate x s).complete ≤ s.complete + 1
+complete_fated fates.Active x s = omega arith
+complete_fated (fates.Delayed until) x s = omega arith
+complete_fated (fates.Destroyed count) x s = complete_done _ s.complete
+
+complete_changed : (change : Change) (s : Machine) (n : ℕ) → s.complete ≤ n + 1 → (changed change s).complete ≤ n + 1
+complete_changed changes.Nothing s n h = h
+complete_changed (changes.Generate next) s n h = h
+
 pub complete_moved : (s : Machine) (m : Move) → (moved s m).complete ≤ s.complete + 1
 complete_moved s (moves.Start count arrivals) = omega arith
-complete_moved s (moves.Generate place next) = complete_active s s.active _ (λ x. omega arith)
-complete_moved s (moves.Pass place) = complete_active s s.active _ (λ x. omega arith)
-complete_moved s (moves.Delay place until) = complete_active s s.active _ (λ x. omega arith)
-complete_moved s (moves.Terminate place count) = complete_active s s.active _ (λ x. complete_done _ s.complete)
+complete_moved s moves.Command = omega arith
+complete_moved s (moves.Enter place change fate) =
+    complete_active s s.active _ (λ x. complete_changed change _ s.complete (complete_fated fate _ _))
 complete_moved s moves.Pick = complete_picked s s.current
 complete_moved s (moves.Clock time) = omega arith
 
 -- a step is made, and the items that it read are noted
 pub made :
-    (t : Listing) (seed : ℕ) (r : Tape) (m : Move) (f : FirstUses) → Records t seed r → IsKeptUp t seed r → r.moment < t.limit →
-    step t seed r.tip ≡ Ok (moved r.tip m) →
+    (t : Listing) (seed : ℕ) (r : Tape) (m : Move) (streams : List Stream) (f : FirstUses) → Records t seed r → IsKeptUp t seed r → r.moment < t.limit →
+    step t seed r.tip ≡ Ok (decided r.tip m streams) →
     ((item : Item) → first_in f item ≡ or_later (first_in r.firsts item) (cond (list_any (is_use item) (step_items t seed r.tip)) (Some r.moment) None)) →
-    AreBelow (r.moment + 1) f.clock_steps → Records t seed (record r { moment = r.moment + 1; tip = moved r.tip m; firsts = f })
-made t seed r m f h up room goes noted clock =
+    AreBelow (r.moment + 1) f.clock_steps → Records t seed (record r { moment = r.moment + 1; tip = decided r.tip m streams; firsts = f })
+made t seed r m streams f h up room goes noted clock =
     let one : r.moment + 1 ≡ suc r.moment = omega arith in
     record {
       tip = ap (λ n. run t seed n) one ∙ (run_on t seed r.moment r.tip h.tip ∙ goes);

@@ -1,20 +1,18 @@
 // One step after another, each kept before it is left.
-ghost use Rattle.std.specs.Prelude.{◌≡◌, ◌+◌, ◌-◌, ◌≤◌, ◌<◌, ◌++◌, ℕ, Ok, IfOk, OnOk, OnErr, [], length, IsTrue, IsFalse};
+ghost use Rattle.std.specs.Prelude.{◌≡◌, ◌+◌, ◌-◌, ◌≤◌, ◌<◌, ◌++◌, ℕ, Ok, IfOk, OnOk, OnErr, length, IsTrue, IsFalse};
 ghost use Rattle.gw_meaning.specs.Listing.{Listing};
-ghost use Rattle.gw_meaning.specs.Changes.{moved};
+ghost use Rattle.gw_meaning.specs.Changes.{decided};
 ghost use Rattle.gw_meaning.specs.Machine.{raised};
 ghost use Rattle.gw_meaning.specs.Step.{step, step_items};
 ghost use Rattle.gw_scan.specs.Stepping.{Counts};
-ghost use Rattle.gw_scan.specs.Moves.{IsInClock};
 ghost use Rattle.gw_record.specs.Steps.{AreBelow};
 ghost use Rattle.gw_record.specs.Tape.{Records, IsKeptUp, IsWanted, IsThere};
 ghost use Rattle.gw_record.specs.Extending.{Goes, Extends, tallied};
 
 use crate::kept::Kept;
 use crate::recorded::Recorded;
-use gw_meaning::Move;
 use gw_model::Version;
-use gw_scan::{Next, Tally, Turn, Uses, next_move};
+use gw_scan::{Decision, Next, Notes, Tally, Turn, next_step};
 use std::alloc::{AllocError, Global};
 
 impl Recorded {
@@ -37,12 +35,12 @@ impl Recorded {
         ensures bound { self.new.moment ≤ self.old.moment + steps }
         ensures tally { tally.new ≡ tallied tally.old (self.new.moment - self.old.moment) }
     {
-        let mut uses = Uses::new(alloc);
+        let mut notes = Notes::new(alloc);
         for made in 0..steps {
             if self.moment >= version.limit() {
                 return Ok(made);
             }
-            match self.go(alloc, version, seed, &mut uses, tally)? {
+            match self.go(alloc, version, seed, &mut notes, tally)? {
                 Turn::Moved => (),
                 Turn::Ended(_) => return Ok(made),
             }
@@ -56,7 +54,7 @@ impl Recorded {
         alloc: Global,
         version: &Version,
         seed: u64,
-        uses: &mut Uses,
+        notes: &mut Notes,
         tally: &mut Tally,
     ) -> Result<Turn, AllocError>
         requires records { Records version.now seed self.old }
@@ -70,11 +68,11 @@ impl Recorded {
     {
         self.keep_state()?;
         self.keep_end()?;
-        uses.truncate(0);
-        match next_move(alloc, version, seed, &self.tip, uses)? {
+        notes.truncate(0);
+        match next_step(alloc, version, seed, &self.tip, notes)? {
             Next::End(end) => Ok(Turn::Ended(end)),
-            Next::Move(next) => {
-                self.make(next, uses, tally)?;
+            Next::Step(next) => {
+                self.make(next, notes, tally)?;
                 Ok(Turn::Moved)
             }
         }
@@ -135,13 +133,13 @@ impl Recorded {
     }
 
     // Makes a step that reads these items, and notes them first.
-    fn make(&mut self, next: Move, uses: &Uses, tally: &mut Tally) -> Result<(), AllocError>
+    fn make(&mut self, next: Decision, notes: &Notes, tally: &mut Tally) -> Result<(), AllocError>
         requires room { self.old.moment < 1000000 }
         requires noted { AreBelow (self.old.moment + 1) self.old.firsts.clock_steps }
-        requires clock { IsInClock next }
         ensures ok { OnOk result ((t : Listing) (seed : ℕ) →
             Records t seed self.old → IsKeptUp t seed self.old → self.old.moment < t.limit →
-            uses.now ≡ step_items t seed self.old.tip → step t seed self.old.tip ≡ Ok (moved self.old.tip next) →
+            notes.now.items ≡ step_items t seed self.old.tip →
+            step t seed self.old.tip ≡ Ok (decided self.old.tip next.step next.streams) →
             Records t seed self.new) }
         ensures moment { OnOk result (self.new.moment ≡ self.old.moment + 1) }
         ensures every { self.new.every ≡ self.old.every }
@@ -149,7 +147,7 @@ impl Recorded {
         ensures err { OnErr result ((t : Listing) (seed : ℕ) → Records t seed self.old → Records t seed self.new) }
         ensures still { OnErr result ((self.new.moment ≡ self.old.moment) × (tally.new ≡ tally.old)) }
     {
-        if let Err(error) = self.firsts.note_all(uses.items(), self.moment) {
+        if let Err(error) = self.firsts.note_all(notes.items(), self.moment) {
             self.firsts.forget(self.moment);
             return Err(error);
         }

@@ -6,7 +6,7 @@ use gw_expr::Expr;
 use gw_meaning::{Block, Body, Command, Item, Replication, Row, Statement};
 use gw_model::Version;
 use gw_nums::{Time, Val};
-use gw_scan::{State, Tally, Uses, step};
+use gw_scan::{Notes, State, Tally, step};
 use std::alloc::Global;
 use std::process::Abort;
 use std::test::Fail;
@@ -18,12 +18,16 @@ fn version(alloc: Global, starts: &[u64]) -> Result<Version, Fail> {
     let mut statements = Vec::new(alloc);
     let generate = Block::Generate {
         mean: constant(10),
+        range: None,
         offset: None,
         limit: None,
         priority: None,
     };
     statements.push(statement(alloc, Body::Block(generate)))?;
-    let advance = Block::Advance { time: constant(3) };
+    let advance = Block::Advance {
+        mean: constant(3),
+        range: None,
+    };
     statements.push(statement(alloc, Body::Block(advance)))?;
     let terminate = Block::Terminate { count: constant(1) };
     statements.push(statement(alloc, Body::Block(terminate)))?;
@@ -74,10 +78,10 @@ fn check_tip(
     run: &Recorded,
 ) -> Result<(), Fail> {
     let mut state = State::zero(alloc);
-    let mut uses = Uses::new(alloc);
+    let mut notes = Notes::new(alloc);
     let mut tally = Tally::new();
     for _ in 0..run.tip() {
-        step(alloc, version, SEED, &mut state, &mut uses, &mut tally)?;
+        step(alloc, version, SEED, &mut state, &mut notes, &mut tally)?;
     }
     assert!(rt; are_alike(&state, run.state()));
     Ok(())

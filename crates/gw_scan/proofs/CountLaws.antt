@@ -1,14 +1,13 @@
--- The definitions' words on counts are those of the map that keeps them.
+-- The definitions' words on counts are those of the table that keeps them.
 use Rattle.std.proofs.Common.{◌≡◌, ℕ, List, [], ◌∷◌, nat_eq, refl}
-use Rattle.std.specs.Map.{lookup}
-use Rattle.indexmap.specs.IndexMap.{insert_entry}
+use Rattle.gw_table.specs.Pairs.{value_in, with_value}
 use Rattle.gw_meaning.specs.declared.transaction.Count.{Count}
 use Rattle.gw_meaning.specs.Machine.{count_in, with_count}
 
-pub count_in_is : (counts : List (ℕ × Count)) (place : ℕ) → count_in counts place ≡ lookup (nat_eq place) counts
+pub count_in_is : (counts : List (ℕ × Count)) (place : ℕ) → count_in counts place ≡ value_in counts place
 count_in_is [] place = refl
 count_in_is (c ∷ cs) place = rw (count_in_is cs place) refl
 
-pub with_count_is : (counts : List (ℕ × Count)) (place : ℕ) (count : Count) → with_count counts place count ≡ insert_entry nat_eq counts place count
+pub with_count_is : (counts : List (ℕ × Count)) (place : ℕ) (count : Count) → with_count counts place count ≡ with_value counts place count
 with_count_is [] place count = refl
 with_count_is (c ∷ cs) place count = rw (with_count_is cs place count) refl

@@ -1,9 +1,10 @@
 pub use Rattle.gw_meaning.specs.Listing
 pub use Rattle.gw_meaning.specs.Machine
 pub use Rattle.gw_meaning.specs.Questions
+pub use Rattle.gw_meaning.specs.Evaluation
 pub use Rattle.gw_meaning.specs.Changes
 pub use Rattle.gw_meaning.specs.Step
 pub use Rattle.gw_meaning.specs.Point
-pub mod Moves
+pub mod Noted
 pub mod Deciding
 pub mod Stepping

@@ -3,17 +3,16 @@ use Rattle.std.specs.Prelude.{◌≡◌, ℕ, Option, Some, None, Result, Ok, Er
 use Rattle.gw_meaning.specs.declared.item.End.{End}
 use Rattle.gw_meaning.specs.Listing.{Listing}
 use Rattle.gw_meaning.specs.Machine.{Machine, raised}
-use Rattle.gw_meaning.specs.Changes.{moved}
+use Rattle.gw_meaning.specs.Changes.{decided}
 use Rattle.gw_meaning.specs.Step.{step}
-use Rattle.gw_scan.specs.Moves.{IsInClock}
 use Rattle.gw_scan.specs.declared.steps.Next.{Next}
 use Rattle.gw_scan.specs.declared.steps.Next.TheVariants as nexts
 use Rattle.gw_scan.specs.declared.steps.Turn.{Turn}
 use Rattle.gw_scan.specs.declared.steps.Turn.TheVariants as turns
 
--- what comes next is the step of the definition, or its end; the clock stays where it may stand
+-- what comes next is the step of the definition, or its end
 abbrev pub Foretells : Listing → ℕ → Machine → Next → Type 0
-Foretells t seed s (nexts.Move m) = (step t seed s ≡ Ok (moved s m)) × IsInClock m
+Foretells t seed s (nexts.Step d) = step t seed s ≡ Ok (decided s d.step d.streams)
 Foretells t seed s (nexts.End end) = step t seed s ≡ Err end
 
 -- moved where the definition goes, to its state; ended where it ends, with nothing changed

@@ -5,8 +5,8 @@ ghost use Rattle.gw_meaning.specs.Step.{arrival_prog, arrival_in_time, arrival_a
 ghost use Rattle.gw_scan.specs.Deciding.{Decides, Comes};
 
 use crate::case::{Case, Halt, ask_block};
+use crate::notes::Notes;
 use crate::state::State;
-use crate::uses::Uses;
 use gw_expr::{Expr, Stop};
 use gw_meaning::{Arrival, Block, End, Row};
 use gw_nums::Val;
@@ -28,18 +28,19 @@ impl State {
     pub(crate) fn arrival(
         &self,
         case: Case,
-        uses: &mut Uses,
+        notes: &mut Notes,
         place: u64,
-        time: &Option<Expr>,
+        mean: &Option<Expr>,
+        range: &Option<Expr>,
         limit: &Option<Expr>,
         priority: &Option<Expr>,
     ) -> Result<Option<Arrival>, Halt>
         ensures { Decides case.entry.version.now case.entry.seed
-            (arrival_prog self.now place (count_at self.now.counts place).made time.now limit.now priority.now)
-            result uses.old uses.new }
+            (arrival_prog self.now place (count_at self.now.counts place).made mean.now range.now limit.now priority.now)
+            result notes.old notes.new }
     {
         if let Some(limit) = limit {
-            let limit = self.value(case, uses, limit)?;
+            let limit = self.value(case, notes, limit)?;
             if limit.is_negative() {
                 return Err(Halt::End(End::Error(Stop::BadCount)));
             }
@@ -47,22 +48,23 @@ impl State {
                 return Ok(None);
             }
         }
-        self.arrival_in_time(case, uses, place, time, priority)
+        self.arrival_in_time(case, notes, place, mean, range, priority)
     }
 
     fn arrival_in_time(
         &self,
         case: Case,
-        uses: &mut Uses,
+        notes: &mut Notes,
         place: u64,
-        time: &Option<Expr>,
+        mean: &Option<Expr>,
+        range: &Option<Expr>,
         priority: &Option<Expr>,
     ) -> Result<Option<Arrival>, Halt>
-        ensures { Decides case.entry.version.now case.entry.seed (arrival_in_time self.now place time.now priority.now)
-            result uses.old uses.new }
+        ensures { Decides case.entry.version.now case.entry.seed
+            (arrival_in_time self.now place mean.now range.now priority.now) result notes.old notes.new }
     {
-        let time = self.value_or_zero(case, uses, time)?;
-        let priority = self.value_or_zero(case, uses, priority)?;
+        let time = self.time(case, notes, mean, range)?;
+        let priority = self.value_or_zero(case, notes, priority)?;
         self.arrival_at(place, time, priority)
     }
 
@@ -87,49 +89,50 @@ impl State {
         &self,
         alloc: Global,
         case: Case,
-        uses: &mut Uses,
+        notes: &mut Notes,
         places: &[u64],
     ) -> Result<Row<Arrival>, Halt>
         ensures { Decides case.entry.version.now case.entry.seed (arrivals_prog self.now places.now [])
-            result uses.old uses.new }
+            result notes.old notes.new }
     {
         let mut arrivals = Vec::new(alloc);
         for place in places {
-            let arrival = self.prime(case, uses, *place)?;
+            let arrival = self.prime(case, notes, *place)?;
             put_if(&mut arrivals, arrival)?;
         }
         Ok(Row::from_vec(arrivals))
     }
 
-    fn prime(&self, case: Case, uses: &mut Uses, place: u64) -> Result<Option<Arrival>, Halt>
-        ensures { Decides case.entry.version.now case.entry.seed (prime_prog self.now place) result uses.old uses.new }
+    fn prime(&self, case: Case, notes: &mut Notes, place: u64) -> Result<Option<Arrival>, Halt>
+        ensures { Decides case.entry.version.now case.entry.seed (prime_prog self.now place) result notes.old notes.new }
     {
-        let block = ask_block(case.version, uses, place)?;
-        self.first_arrival(case, uses, place, block)
+        let block = ask_block(case.version, notes, place)?;
+        self.first_arrival(case, notes, place, block)
     }
 
     fn first_arrival(
         &self,
         case: Case,
-        uses: &mut Uses,
+        notes: &mut Notes,
         place: u64,
         block: Option<&Block>,
     ) -> Result<Option<Arrival>, Halt>
         ensures { Decides case.entry.version.now case.entry.seed
-            (first_arrival self.now place (option_copied block.entry)) result uses.old uses.new }
+            (first_arrival self.now place (option_copied block.entry)) result notes.old notes.new }
     {
         match block {
             Some(
                 Block::Generate {
                     mean,
+                    range,
                     offset,
                     limit,
                     priority,
                 },
-            ) => {
-                let time = if offset.is_some() { offset } else { mean };
-                self.arrival(case, uses, place, time, limit, priority)
-            }
+            ) => match offset {
+                Some(_) => self.arrival(case, notes, place, offset, &None, limit, priority),
+                None => self.arrival(case, notes, place, mean, range, limit, priority),
+            },
             _ => Ok(None),
         }
     }

@@ -1,45 +1,48 @@
 // What a move does to a state: reserve all that grows, then change.
-ghost use Rattle.std.specs.Prelude.{◌≡◌, ◌≤◌, OnOk, OnErr};
+ghost use Rattle.std.specs.Prelude.{◌≡◌, OnOk, OnErr};
 ghost use Rattle.gw_meaning.specs.Machine.{raised};
-ghost use Rattle.gw_meaning.specs.Changes.{moved, placed};
+ghost use Rattle.gw_meaning.specs.Changes.{moved, decided, marked, placed};
 ghost use Rattle.gw_meaning.specs.declared.moves.Move.TheVariants as moves;
-ghost use Rattle.gw_scan.specs.Moves.{IsInClock};
 
 use crate::chains::{count_due, take_due};
-use crate::counts::{cross, cross_out};
+use crate::counts::{cross, reserve_all};
 use crate::making::{make, make_all};
 use crate::state::State;
+use crate::steps::Decision;
 use crate::tally::Tally;
-use gw_meaning::{Arrival, Event, Move, Row, Transaction};
-use gw_nums::Time;
+use gw_meaning::{Arrival, Change, Event, Fate, Move, Row, Transaction};
+use gw_nums::Clock;
 use std::alloc::AllocError;
 
 impl State {
-    /// Makes a move and counts it, or changes nothing where a growth is refused. The clock may be set to at
-    /// most 1,000,000,000,000 ticks, which no move of a version goes beyond.
-    pub fn make(&mut self, step: Move, tally: &mut Tally) -> Result<(), AllocError>
-        requires { IsInClock step }
-        ensures ok { OnOk result (self.new ≡ moved self.old step) }
+    /// Makes a step and counts it, or changes nothing where a growth is refused.
+    pub fn make(&mut self, next: Decision, tally: &mut Tally) -> Result<(), AllocError>
+        ensures ok { OnOk result (self.new ≡ decided self.old next.step next.streams) }
         ensures tally { OnOk result (tally.new ≡ raised tally.old) }
         ensures err { OnErr result ((self.new ≡ self.old) × (tally.new ≡ tally.old)) }
     {
-        self.apply(step)?;
+        self.apply(next.step)?;
+        self.streams = next.streams;
         tally.raise();
         Ok(())
     }
 
     // Makes a move, or changes nothing where a growth is refused.
     fn apply(&mut self, step: Move) -> Result<(), AllocError>
-        requires { IsInClock step }
         ensures ok { OnOk result (self.new ≡ moved self.old step) }
         ensures err { OnErr result (self.new ≡ self.old) }
     {
         match step {
             Move::Start { count, arrivals } => self.start(count, &arrivals),
-            Move::Generate { place, next } => self.generate(place, next),
-            Move::Pass { place } => self.pass(place),
-            Move::Delay { place, until } => self.delay(place, until),
-            Move::Terminate { place, count } => self.terminate(place, count),
+            Move::Command => {
+                self.count_command();
+                Ok(())
+            }
+            Move::Enter {
+                place,
+                change,
+                fate,
+            } => self.enter_block(place, change, fate),
             Move::Pick => {
                 self.pick();
                 Ok(())
@@ -54,7 +57,7 @@ impl State {
     {
         let arrivals = arrivals.as_slice();
         self.future.reserve(arrivals.len())?;
-        self.counts.reserve(arrivals.len())?;
+        reserve_all(&mut self.counts, arrivals)?;
         make_all(&mut self.next, &mut self.future, &mut self.counts, arrivals);
         self.remaining = count;
         self.commands = self.commands.saturating_add(1);
@@ -62,64 +65,49 @@ impl State {
         Ok(())
     }
 
-    fn generate(&mut self, place: u64, next: Option<Arrival>) -> Result<(), AllocError>
-        ensures ok { OnOk result (self.new ≡ moved self.old (moves.Generate place next)) }
+    fn count_command(&mut self)
+        ensures { self.new ≡ moved self.old moves.Command }
+    {
+        self.commands = self.commands.saturating_add(1);
+    }
+
+    fn enter_block(&mut self, place: u64, change: Change, fate: Fate) -> Result<(), AllocError>
+        ensures ok { OnOk result (self.new ≡ moved self.old (moves.Enter place change fate)) }
         ensures err { OnErr result (self.new ≡ self.old) }
     {
-        self.future.reserve(1)?;
-        self.counts.reserve(3)?;
+        self.future.reserve(2)?;
+        self.counts.reserve(place)?;
+        if let Some(x) = &self.active {
+            self.counts.reserve(x.current)?;
+        }
+        if let Change::Generate {
+            next: Some(arrival),
+        } = &change
+        {
+            self.counts.reserve(arrival.place)?;
+        }
         if let Some(x) = self.active.take() {
-            cross(&mut self.counts, x.current, place);
-            self.active = Some(Transaction {
-                mark: self.clock,
-                ..enter(x, place)
-            });
-            if let Some(arrival) = next {
-                make(&mut self.next, &mut self.future, &mut self.counts, arrival);
+            cross(&mut self.counts, x.current, place, &fate);
+            let transaction = mark(&change, self.clock, enter(x, place));
+            match &fate {
+                Fate::Active => self.active = Some(transaction),
+                Fate::Delayed { until } => self.future.push_back_reserved(Event {
+                    time: *until,
+                    transaction,
+                }),
+                Fate::Destroyed { count } => {
+                    if *count >= self.remaining {
+                        self.complete = self.complete.saturating_add(1);
+                    }
+                    self.remaining = self.remaining.saturating_sub(*count);
+                }
             }
-        }
-        Ok(())
-    }
-
-    fn pass(&mut self, place: u64) -> Result<(), AllocError>
-        ensures ok { OnOk result (self.new ≡ moved self.old (moves.Pass place)) }
-        ensures err { OnErr result (self.new ≡ self.old) }
-    {
-        self.counts.reserve(2)?;
-        if let Some(x) = self.active.take() {
-            cross(&mut self.counts, x.current, place);
-            self.active = Some(enter(x, place));
-        }
-        Ok(())
-    }
-
-    fn delay(&mut self, place: u64, until: Time) -> Result<(), AllocError>
-        ensures ok { OnOk result (self.new ≡ moved self.old (moves.Delay place until)) }
-        ensures err { OnErr result (self.new ≡ self.old) }
-    {
-        self.future.reserve(1)?;
-        self.counts.reserve(2)?;
-        if let Some(x) = self.active.take() {
-            cross(&mut self.counts, x.current, place);
-            self.future.push_back_reserved(Event {
-                time: until,
-                transaction: enter(x, place),
-            });
-        }
-        Ok(())
-    }
-
-    fn terminate(&mut self, place: u64, count: u64) -> Result<(), AllocError>
-        ensures ok { OnOk result (self.new ≡ moved self.old (moves.Terminate place count)) }
-        ensures err { OnErr result (self.new ≡ self.old) }
-    {
-        self.counts.reserve(2)?;
-        if let Some(x) = self.active.take() {
-            cross_out(&mut self.counts, x.current, place);
-            if count >= self.remaining {
-                self.complete = self.complete.saturating_add(1);
+            if let Change::Generate {
+                next: Some(arrival),
+            } = &change
+            {
+                make(&mut self.next, &mut self.future, &mut self.counts, *arrival);
             }
-            self.remaining = self.remaining.saturating_sub(count);
         }
         Ok(())
     }
@@ -132,16 +120,28 @@ impl State {
         }
     }
 
-    fn advance(&mut self, time: Time) -> Result<(), AllocError>
-        requires { time ≤ 1000000000000 }
-        ensures ok { OnOk result (self.new ≡ moved self.old (moves.Clock time)) }
+    fn advance(&mut self, clock: Clock) -> Result<(), AllocError>
+        ensures ok { OnOk result (self.new ≡ moved self.old (moves.Clock clock)) }
         ensures err { OnErr result (self.new ≡ self.old) }
     {
-        let count = count_due(&self.future, time);
+        let count = count_due(&self.future, clock.time());
         self.current.reserve(count)?;
-        take_due(&mut self.current, &mut self.future, time);
-        self.clock = time;
+        take_due(&mut self.current, &mut self.future, clock.time());
+        self.clock = clock;
         Ok(())
+    }
+}
+
+// What a block changes of its transaction.
+fn mark(change: &Change, clock: Clock, x: Transaction) -> Transaction
+    ensures { result ≡ marked change.now clock x }
+{
+    match change {
+        Change::Nothing => x,
+        Change::Generate { .. } => Transaction {
+            mark: clock.time(),
+            ..x
+        },
     }
 }
 

@@ -23,6 +23,7 @@ impl State {
             commands: self.commands,
             complete: self.complete,
             primed: self.primed,
+            streams: self.streams,
             next: self.next,
             active,
             current,
@@ -53,5 +54,5 @@ fn copy_future(chain: &VecDeque<Event>) -> Result<VecDeque<Event>, AllocError>
 fn copy_counts(counts: &Counts) -> Result<Counts, AllocError>
     ensures { IfOk result (λ c. c.entries ≡ counts.now.entries) }
 {
-    counts.clone()
+    counts.copy()
 }

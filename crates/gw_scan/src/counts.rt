@@ -1,21 +1,22 @@
 // What is counted at each block, in the order of first use.
-ghost use Rattle.std.specs.Prelude.{◌≡◌, ◌+◌, ◌<◌, ◌≤◌};
-ghost use Rattle.indexmap.specs.IndexMap.{spare};
-ghost use Rattle.gw_meaning.specs.Machine.{count_at, with_count};
-ghost use Rattle.gw_meaning.specs.Changes.{left, entered, passed_through, made_one};
+ghost use Rattle.std.specs.Prelude.{◌≡◌, ◌≤◌, ◌<◌, OnOk, All};
+ghost use Rattle.gw_meaning.specs.declared.moves.Arrival.{Arrival};
+ghost use Rattle.gw_meaning.specs.Machine.{count_at};
+ghost use Rattle.gw_meaning.specs.Changes.{left, crossed, content_behind, made_one};
 
-use gw_meaning::Count;
-use indexmap::IndexMap;
+use gw_meaning::{Arrival, Count, Fate};
+use gw_table::Table;
+use std::alloc::AllocError;
 
-pub type Counts = IndexMap<u64, Count>;
+pub type Counts = Table<Count>;
 
 // What is counted at a block.
 #[tactic(auto, using(crate::proofs::CountLaws::count_in_is))]
 pub fn count_at(counts: &Counts, place: u64) -> Count
     ensures { result ≡ count_at counts.now.entries place }
 {
-    match counts.get(&place) {
-        Some(count) => *count,
+    match counts.get(place) {
+        Some(count) => count,
         None => Count {
             entries: 0,
             content: 0,
@@ -24,76 +25,72 @@ pub fn count_at(counts: &Counts, place: u64) -> Count
     }
 }
 
-// Sets what is counted at a block. It needs room only where nothing was counted there.
-#[tactic(auto, using(crate::proofs::CountLaws::with_count_is))]
-fn set_count(counts: &mut Counts, place: u64, count: Count)
-    requires { 0 < spare counts.old }
-    ensures entries { counts.new.entries ≡ with_count counts.old.entries place count }
-    ensures room { spare counts.old ≤ spare counts.new + 1 }
+// Makes room for the counts of the GENERATEs that are to make these transactions.
+pub fn reserve_all(counts: &mut Counts, arrivals: &[Arrival]) -> Result<(), AllocError>
+    ensures ok { OnOk result (All (λ (a : Arrival). a.place < counts.new.limit) arrivals.now) }
+    ensures entries { counts.new.entries ≡ counts.old.entries }
 {
-    match counts.insert(place, count) {
-        Ok(_) => (),
-        Err(_) => unreachable!(),
+    for arrival in arrivals {
+        counts.reserve(arrival.place)?;
     }
+    Ok(())
 }
 
 // A transaction leaves a block.
-#[tactic(auto, using(crate::proofs::CountLaws::count_in_is))]
+#[tactic(auto, using(crate::proofs::CountLaws::count_in_is, crate::proofs::CountLaws::with_count_is))]
 fn leave(counts: &mut Counts, place: u64)
-    requires { 0 < spare counts.old }
+    requires { place < counts.old.limit }
     ensures entries { counts.new.entries ≡ left counts.old.entries place }
-    ensures room { spare counts.old ≤ spare counts.new + 1 }
+    ensures limit { counts.new.limit ≡ counts.old.limit }
 {
-    if let Some(count) = counts.get(&place) {
+    if let Some(count) = counts.get(place) {
         let count = Count {
             content: count.content.saturating_sub(1),
-            ..*count
+            ..count
         };
-        set_count(counts, place, count);
+        counts.set(place, count);
     }
 }
 
-// A transaction leaves a block and enters another.
-pub fn cross(counts: &mut Counts, from: u64, to: u64)
-    requires { 1 < spare counts.old }
-    ensures entries { counts.new.entries ≡ entered (left counts.old.entries from) to }
-    ensures room { spare counts.old ≤ spare counts.new + 2 }
+// A transaction leaves a block and enters another, in which it stays or where it is destroyed.
+#[tactic(auto, using(crate::proofs::CountLaws::with_count_is))]
+pub fn cross(counts: &mut Counts, from: u64, to: u64, fate: &Fate)
+    requires from { from < counts.old.limit }
+    requires to { to < counts.old.limit }
+    ensures entries { counts.new.entries ≡ crossed fate.now counts.old.entries from to }
+    ensures limit { counts.new.limit ≡ counts.old.limit }
 {
     leave(counts, from);
     let count = count_at(counts, to);
     let count = Count {
         entries: count.entries.saturating_add(1),
-        content: count.content.saturating_add(1),
+        content: content_behind(fate, count.content),
         ..count
     };
-    set_count(counts, to, count);
+    counts.set(to, count);
 }
 
-// A transaction leaves a block and goes through another, which destroys it.
-pub fn cross_out(counts: &mut Counts, from: u64, to: u64)
-    requires { 1 < spare counts.old }
-    ensures entries { counts.new.entries ≡ passed_through (left counts.old.entries from) to }
-    ensures room { spare counts.old ≤ spare counts.new + 2 }
+// The content of a block behind the entry of a transaction.
+fn content_behind(fate: &Fate, content: u64) -> u64
+    ensures { result ≡ content_behind fate.now content }
 {
-    leave(counts, from);
-    let count = count_at(counts, to);
-    let count = Count {
-        entries: count.entries.saturating_add(1),
-        ..count
-    };
-    set_count(counts, to, count);
+    match fate {
+        Fate::Active | Fate::Delayed { .. } => content.saturating_add(1),
+        Fate::Destroyed { .. } => content,
+    }
 }
 
 // A GENERATE made one more.
+#[tactic(auto, using(crate::proofs::CountLaws::with_count_is))]
 pub fn count_made(counts: &mut Counts, place: u64)
-    requires { 0 < spare counts.old }
+    requires { place < counts.old.limit }
     ensures entries { counts.new.entries ≡ made_one counts.old.entries place }
-    ensures room { spare counts.old ≤ spare counts.new + 1 }
+    ensures limit { counts.new.limit ≡ counts.old.limit }
 {
     let count = count_at(counts, place);
     let count = Count {
         made: count.made.saturating_add(1),
         ..count
     };
-    set_count(counts, place, count);
+    counts.set(place, count);
 }

@@ -1,64 +1,69 @@
 // Which move a step is: ask and test, and change nothing.
-ghost use Rattle.std.specs.Prelude.{◌≡◌, None, option_copied, IfOk};
-ghost use Rattle.gw_meaning.specs.Step.{decide, move_prog, command_prog, start_prog, first_arrivals_prog, attempt_prog, try_prog, enter_prog, generate_prog, advance_prog, terminate_prog, pick_prog};
+ghost use Rattle.std.specs.Prelude.{◌≡◌, ◌≤◌, None, option_copied};
+ghost use Rattle.gw_meaning.specs.Step.{move_prog, command_prog, start_prog, first_arrivals_prog, rmult_prog, attempt_prog, try_prog, enter_prog, generate_prog, delay_of, advance_prog, terminate_prog, pick_prog};
 ghost use Rattle.gw_scan.specs.Deciding.{Decides};
-ghost use Rattle.gw_scan.specs.Moves.{IsInClock};
 
 use crate::case::{Case, Halt, ask_after, ask_block, ask_command, ask_generates, ask_within};
 use crate::chains::least_time;
+use crate::notes::Notes;
 use crate::state::State;
-use crate::uses::Uses;
 use gw_expr::{Expr, Stop};
-use gw_meaning::{Arrival, Block, Command, End, Move, Row, Transaction};
+use gw_meaning::{Arrival, Block, Change, Command, End, Fate, Move, Row, Transaction};
 use std::alloc::Global;
 
 impl State {
     // The move of the next step.
-    pub(crate) fn decide(&self, alloc: Global, case: Case, uses: &mut Uses) -> Result<Move, Halt>
-        ensures decides { Decides case.entry.version.now case.entry.seed (decide self.now) result uses.old uses.new }
-        ensures clock { IfOk result IsInClock }
+    pub(crate) fn decide(&self, alloc: Global, case: Case, notes: &mut Notes) -> Result<Move, Halt>
+        ensures { Decides case.entry.version.now case.entry.seed (move_prog self.now self.now.remaining) result notes.old notes.new }
     {
         if self.remaining == 0 {
-            return self.command(alloc, case, uses);
+            return self.command(alloc, case, notes);
         }
         match &self.active {
-            Some(x) => self.attempt(case, uses, x),
-            None => self.pick_or_clock(case, uses),
+            Some(x) => self.attempt(case, notes, x),
+            None => self.pick_or_clock(case, notes),
         }
     }
 
     // No START is under way: the next command.
-    fn command(&self, alloc: Global, case: Case, uses: &mut Uses) -> Result<Move, Halt>
-        ensures decides { Decides case.entry.version.now case.entry.seed (move_prog self.now 0)
-            result uses.old uses.new }
-        ensures clock { IfOk result IsInClock }
+    fn command(&self, alloc: Global, case: Case, notes: &mut Notes) -> Result<Move, Halt>
+        ensures { Decides case.entry.version.now case.entry.seed (move_prog self.now 0)
+            result notes.old notes.new }
     {
-        let command = ask_command(case.version, uses, self.commands.saturating_add(1))?;
-        self.command_of(alloc, case, uses, command)
+        let command = ask_command(case.version, notes, self.commands.saturating_add(1))?;
+        self.command_of(alloc, case, notes, command)
     }
 
     fn command_of(
         &self,
         alloc: Global,
         case: Case,
-        uses: &mut Uses,
-        command: Option<Command>,
+        notes: &mut Notes,
+        command: Option<&Command>,
     ) -> Result<Move, Halt>
-        ensures decides { Decides case.entry.version.now case.entry.seed (command_prog self.now command)
-            result uses.old uses.new }
-        ensures clock { IfOk result IsInClock }
+        ensures { Decides case.entry.version.now case.entry.seed
+            (command_prog self.now (option_copied command.entry)) result notes.old notes.new }
     {
         match command {
-            Some(Command::Start { count }) => self.start_of(alloc, case, uses, count),
+            Some(Command::Start { count }) => self.start_of(alloc, case, notes, *count),
+            Some(Command::Rmult { values }) => {
+                notes.streams.set_all(values.as_slice());
+                Ok(Move::Command)
+            }
             None => Err(Halt::End(End::CommandsDone)),
         }
     }
 
     // A START, with the first transactions of the GENERATEs where it is the one that primes them.
-    fn start_of(&self, alloc: Global, case: Case, uses: &mut Uses, count: u64) -> Result<Move, Halt>
-        ensures decides { Decides case.entry.version.now case.entry.seed (start_prog self.now self.now.primed count)
-            result uses.old uses.new }
-        ensures clock { IfOk result IsInClock }
+    fn start_of(
+        &self,
+        alloc: Global,
+        case: Case,
+        notes: &mut Notes,
+        count: u64,
+    ) -> Result<Move, Halt>
+        ensures { Decides case.entry.version.now case.entry.seed (start_prog self.now self.now.primed count)
+            result notes.old notes.new }
     {
         if self.primed {
             return Ok(Move::Start {
@@ -66,7 +71,7 @@ impl State {
                 arrivals: Row::from_vec(Vec::new(alloc)),
             });
         }
-        let arrivals = self.first_arrivals(alloc, case, uses)?;
+        let arrivals = self.first_arrivals(alloc, case, notes)?;
         Ok(Move::Start { count, arrivals })
     }
 
@@ -74,77 +79,76 @@ impl State {
         &self,
         alloc: Global,
         case: Case,
-        uses: &mut Uses,
+        notes: &mut Notes,
     ) -> Result<Row<Arrival>, Halt>
         ensures { Decides case.entry.version.now case.entry.seed (first_arrivals_prog self.now)
-            result uses.old uses.new }
+            result notes.old notes.new }
     {
-        let places = ask_generates(case.version, uses)?;
-        self.arrivals(alloc, case, uses, places)
+        let places = ask_generates(case.version, notes)?;
+        self.arrivals(alloc, case, notes, places)
     }
 
     // The active transaction x tries its next block.
-    fn attempt(&self, case: Case, uses: &mut Uses, x: &Transaction) -> Result<Move, Halt>
-        ensures decides { Decides case.entry.version.now case.entry.seed (attempt_prog self.now x.now x.now.destination)
-            result uses.old uses.new }
-        ensures clock { IfOk result IsInClock }
+    fn attempt(&self, case: Case, notes: &mut Notes, x: &Transaction) -> Result<Move, Halt>
+        ensures { Decides case.entry.version.now case.entry.seed (attempt_prog self.now x.now x.now.destination)
+            result notes.old notes.new }
     {
         match x.destination {
-            Some(place) => self.try_place(case, uses, x, Some(place)),
-            None => self.try_after(case, uses, x),
+            Some(place) => self.try_place(case, notes, x, Some(place)),
+            None => self.try_after(case, notes, x),
         }
     }
 
-    fn try_after(&self, case: Case, uses: &mut Uses, x: &Transaction) -> Result<Move, Halt>
-        ensures decides { Decides case.entry.version.now case.entry.seed (attempt_prog self.now x.now None)
-            result uses.old uses.new }
-        ensures clock { IfOk result IsInClock }
+    fn try_after(&self, case: Case, notes: &mut Notes, x: &Transaction) -> Result<Move, Halt>
+        ensures { Decides case.entry.version.now case.entry.seed (attempt_prog self.now x.now None)
+            result notes.old notes.new }
     {
-        let place = ask_after(case.version, uses, x.current)?;
-        self.try_place(case, uses, x, place)
+        let place = ask_after(case.version, notes, x.current)?;
+        self.try_place(case, notes, x, place)
     }
 
     fn try_place(
         &self,
         case: Case,
-        uses: &mut Uses,
+        notes: &mut Notes,
         x: &Transaction,
         place: Option<u64>,
     ) -> Result<Move, Halt>
-        ensures decides { Decides case.entry.version.now case.entry.seed (try_prog self.now x.now place)
-            result uses.old uses.new }
-        ensures clock { IfOk result IsInClock }
+        ensures { Decides case.entry.version.now case.entry.seed (try_prog self.now x.now place)
+            result notes.old notes.new }
     {
         let Some(place) = place else {
             return Err(Halt::End(End::Error(Stop::NoNextBlock)));
         };
-        let block = ask_block(case.version, uses, place)?;
-        self.enter(case, uses, x, place, block)
+        let block = ask_block(case.version, notes, place)?;
+        self.enter(case, notes, x, place, block)
     }
 
     fn enter(
         &self,
         case: Case,
-        uses: &mut Uses,
+        notes: &mut Notes,
         x: &Transaction,
         place: u64,
         block: Option<&Block>,
     ) -> Result<Move, Halt>
-        ensures decides { Decides case.entry.version.now case.entry.seed
-            (enter_prog self.now x.now place (option_copied block.entry)) result uses.old uses.new }
-        ensures clock { IfOk result IsInClock }
+        ensures { Decides case.entry.version.now case.entry.seed
+            (enter_prog self.now x.now place (option_copied block.entry)) result notes.old notes.new }
     {
         match block {
             Some(
                 Block::Generate {
                     mean,
+                    range,
                     limit,
                     priority,
                     ..
                 },
-            ) => self.generate_of(case, uses, x, place, mean, limit, priority),
-            Some(Block::Advance { time }) => self.advance_of(case, uses, place, time),
-            Some(Block::Terminate { count }) => self.terminate_of(case, uses, place, count),
+            ) => self.generate_of(case, notes, x, place, mean, range, limit, priority),
+            Some(Block::Advance { mean, range }) => self.advance_of(
+                case, notes, place, mean, range,
+            ),
+            Some(Block::Terminate { count }) => self.terminate_of(case, notes, place, count),
             None => Err(Halt::End(End::Error(Stop::NoNextBlock))),
         }
     }
@@ -152,74 +156,90 @@ impl State {
     fn generate_of(
         &self,
         case: Case,
-        uses: &mut Uses,
+        notes: &mut Notes,
         x: &Transaction,
         place: u64,
         mean: &Option<Expr>,
+        range: &Option<Expr>,
         limit: &Option<Expr>,
         priority: &Option<Expr>,
     ) -> Result<Move, Halt>
-        ensures decides { Decides case.entry.version.now case.entry.seed
-            (generate_prog self.now x.now place mean.now limit.now priority.now) result uses.old uses.new }
-        ensures clock { IfOk result IsInClock }
+        ensures { Decides case.entry.version.now case.entry.seed
+            (generate_prog self.now x.now place mean.now range.now limit.now priority.now) result notes.old notes.new }
     {
         if x.current != 0 {
             return Err(Halt::End(End::Error(Stop::NoNextBlock)));
         }
-        let next = self.arrival(case, uses, place, mean, limit, priority)?;
-        Ok(Move::Generate { place, next })
+        let next = self.arrival(case, notes, place, mean, range, limit, priority)?;
+        Ok(Move::Enter {
+            place,
+            change: Change::Generate { next },
+            fate: Fate::Active,
+        })
     }
 
     fn advance_of(
         &self,
         case: Case,
-        uses: &mut Uses,
+        notes: &mut Notes,
         place: u64,
-        time: &Option<Expr>,
+        mean: &Option<Expr>,
+        range: &Option<Expr>,
     ) -> Result<Move, Halt>
-        ensures decides { Decides case.entry.version.now case.entry.seed (advance_prog self.now place time.now)
-            result uses.old uses.new }
-        ensures clock { IfOk result IsInClock }
+        ensures { Decides case.entry.version.now case.entry.seed (advance_prog self.now place mean.now range.now)
+            result notes.old notes.new }
     {
-        let time = self.value_or_zero(case, uses, time)?;
+        let time = self.time(case, notes, mean, range)?;
         if time.is_negative() {
             return Err(Halt::End(End::Error(Stop::NegativeTime)));
         }
-        match time.magnitude() {
-            0 => Ok(Move::Pass { place }),
-            ticks => Ok(Move::Delay {
-                place,
-                until: self.clock.after(ticks),
-            }),
+        Ok(Move::Enter {
+            place,
+            change: Change::Nothing,
+            fate: self.delay(time.magnitude()),
+        })
+    }
+
+    // What becomes of a transaction that is held so many ticks.
+    fn delay(&self, ticks: u64) -> Fate
+        requires { ticks ≤ 1000000000 }
+        ensures { result ≡ delay_of self.now ticks }
+    {
+        if ticks == 0 {
+            return Fate::Active;
+        }
+        Fate::Delayed {
+            until: self.clock.after(ticks),
         }
     }
 
     fn terminate_of(
         &self,
         case: Case,
-        uses: &mut Uses,
+        notes: &mut Notes,
         place: u64,
         count: &Option<Expr>,
     ) -> Result<Move, Halt>
-        ensures decides { Decides case.entry.version.now case.entry.seed (terminate_prog self.now place count.now)
-            result uses.old uses.new }
-        ensures clock { IfOk result IsInClock }
+        ensures { Decides case.entry.version.now case.entry.seed (terminate_prog self.now place count.now)
+            result notes.old notes.new }
     {
-        let count = self.value_or_zero(case, uses, count)?;
+        let count = self.value_or_zero(case, notes, count)?;
         if count.is_negative() {
             return Err(Halt::End(End::Error(Stop::BadCount)));
         }
-        Ok(Move::Terminate {
+        Ok(Move::Enter {
             place,
-            count: count.magnitude(),
+            change: Change::Nothing,
+            fate: Fate::Destroyed {
+                count: count.magnitude(),
+            },
         })
     }
 
     // None is active: the first of the current chain, or else the least future time.
-    fn pick_or_clock(&self, case: Case, uses: &mut Uses) -> Result<Move, Halt>
-        ensures decides { Decides case.entry.version.now case.entry.seed (pick_prog self.now self.now.current)
-            result uses.old uses.new }
-        ensures clock { IfOk result IsInClock }
+    fn pick_or_clock(&self, case: Case, notes: &mut Notes) -> Result<Move, Halt>
+        ensures { Decides case.entry.version.now case.entry.seed (pick_prog self.now self.now.current)
+            result notes.old notes.new }
     {
         if !self.current.is_empty() {
             return Ok(Move::Pick);
@@ -227,10 +247,9 @@ impl State {
         let Some(time) = least_time(&self.future) else {
             return Err(Halt::End(End::Dry));
         };
-        if ask_within(case.version, uses, time)? {
-            Ok(Move::Clock { time })
-        } else {
-            Err(Halt::End(End::Horizon))
+        match ask_within(case.version, notes, time)? {
+            Some(time) => Ok(Move::Clock { time }),
+            None => Err(Halt::End(End::Horizon)),
         }
     }
 }

@@ -1,7 +1,7 @@
 // The making of transactions.
-ghost use Rattle.std.specs.Prelude.{◌≡◌, ◌+◌, ◌<◌, ◌≤◌, length};
+ghost use Rattle.std.specs.Prelude.{◌≡◌, ◌+◌, ◌<◌, ◌≤◌, length, All};
 ghost use Rattle.std.specs.VecDeque.{deque_len, deque_capacity};
-ghost use Rattle.indexmap.specs.IndexMap.{spare};
+ghost use Rattle.gw_meaning.specs.declared.moves.Arrival.{Arrival};
 ghost use Rattle.gw_meaning.specs.Changes.{making, made, all_made};
 
 use crate::counts::{Counts, count_made};
@@ -12,12 +12,12 @@ use std::collections::VecDeque;
 // Puts a new transaction on the future chain.
 pub fn make(next: &mut u64, future: &mut VecDeque<Event>, counts: &mut Counts, arrival: Arrival)
     requires chain { deque_len future.old < deque_capacity future.old }
-    requires counts { 0 < spare counts.old }
+    requires counts { arrival.place < counts.old.limit }
     ensures made { making next.new future.new.items counts.new.entries ≡
         made arrival (making next.old future.old.items counts.old.entries) }
     ensures len { deque_len future.new ≡ deque_len future.old + 1 }
     ensures chain_room { deque_capacity future.old ≤ deque_capacity future.new }
-    ensures counts_room { spare counts.old ≤ spare counts.new + 1 }
+    ensures limit { counts.new.limit ≡ counts.old.limit }
 {
     let transaction = Transaction {
         number: *next,
@@ -42,7 +42,7 @@ pub fn make_all(
     arrivals: &[Arrival],
 )
     requires chain { deque_len future.old + length arrivals.now ≤ deque_capacity future.old }
-    requires counts { length arrivals.now ≤ spare counts.old }
+    requires counts { All (λ (a : Arrival). a.place < counts.old.limit) arrivals.now }
     ensures { making next.new future.new.items counts.new.entries ≡
         all_made arrivals.now (making next.old future.old.items counts.old.entries) }
 {

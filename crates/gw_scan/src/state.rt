@@ -3,8 +3,9 @@ ghost use Rattle.gw_meaning.specs.Machine.{zero_state, count_at};
 
 use crate::counts::Counts;
 use gw_meaning::{Count, Event, Transaction};
-use gw_nums::Time;
-use indexmap::IndexMap;
+use gw_nums::{Clock, Time};
+use gw_streams::Streams;
+use gw_table::Table;
 use std::alloc::{AllocError, Global};
 use std::collections::VecDeque;
 use std::marker::Model;
@@ -12,12 +13,13 @@ use std::marker::Model;
 /// The state of a run.
 #[derive(Drop)]
 pub struct State {
-    pub(crate) clock: Time,
-    pub(crate) since: Time,
+    pub(crate) clock: Clock,
+    pub(crate) since: Clock,
     pub(crate) remaining: u64,
     pub(crate) commands: u64,
     pub(crate) complete: u64,
     pub(crate) primed: bool,
+    pub(crate) streams: Streams,
     pub(crate) next: u64,
     pub(crate) active: Option<Transaction>,
     pub(crate) current: VecDeque<Transaction>,
@@ -26,7 +28,6 @@ pub struct State {
 }
 
 impl Model for State {
-    ghost use Rattle.std.specs.Prelude.{◌≤◌};
     ghost use Rattle.gw_meaning.specs.Machine.{Machine, AreInOrder};
 
     ghost Value = { Machine };
@@ -38,6 +39,7 @@ impl Model for State {
       commands = s.commands;
       complete = s.complete;
       primed = s.primed;
+      streams = s.streams;
       next = s.next;
       active = s.active;
       current = s.current.items;
@@ -45,7 +47,7 @@ impl Model for State {
       counts = s.counts.entries;
     } };
 
-    ghost invariant = { λ s. (s.clock ≤ 1000000000000) × AreInOrder s.current.items };
+    ghost invariant = { λ s. AreInOrder s.current.items };
 }
 
 impl State {
@@ -54,17 +56,18 @@ impl State {
         ensures { result ≡ zero_state }
     {
         State {
-            clock: Time::ZERO,
-            since: Time::ZERO,
+            clock: Clock::ZERO,
+            since: Clock::ZERO,
             remaining: 0,
             commands: 0,
             complete: 0,
             primed: false,
+            streams: Streams::new(),
             next: 1,
             active: None,
             current: VecDeque::new(alloc),
             future: VecDeque::new(alloc),
-            counts: IndexMap::new(alloc),
+            counts: Table::new(alloc),
         }
     }
 
@@ -72,14 +75,14 @@ impl State {
     pub fn clock(&self) -> Time
         ensures { result ≡ self.now.clock }
     {
-        self.clock
+        self.clock.time()
     }
 
     /// The absolute clock at the last RESET or CLEAR, from which the relative clock counts.
     pub fn since(&self) -> Time
         ensures { result ≡ self.now.since }
     {
-        self.since
+        self.since.time()
     }
 
     /// What is left of the termination count of the START under way, and 0 where none is.

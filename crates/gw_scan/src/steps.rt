@@ -4,11 +4,12 @@ ghost use Rattle.gw_meaning.specs.Step.{step, step_items};
 ghost use Rattle.gw_scan.specs.Stepping.{Foretells, Steps, Counts, EndsAs};
 
 use crate::case::{Case, Halt};
+use crate::notes::Notes;
 use crate::state::State;
 use crate::tally::Tally;
-use crate::uses::Uses;
 use gw_meaning::{End, Move};
 use gw_model::Version;
+use gw_streams::Streams;
 use std::alloc::{AllocError, Global};
 
 /// What a step came to.
@@ -20,11 +21,18 @@ pub enum Turn {
     Ended(End),
 }
 
+/// What a step is to do, and the streams behind its draws.
+#[derive(Debug, Drop)]
+pub struct Decision {
+    pub step: Move,
+    pub streams: Streams,
+}
+
 /// What comes next in a run.
 #[derive(Debug, Drop)]
 pub enum Next {
     /// A step that does this.
-    Move(Move),
+    Step(Decision),
     /// No step: the run ends here.
     End(End),
 }
@@ -36,21 +44,21 @@ pub fn step(
     version: &Version,
     seed: u64,
     state: &mut State,
-    uses: &mut Uses,
+    notes: &mut Notes,
     tally: &mut Tally,
 ) -> Result<Turn, AllocError>
     ensures told { IfOk result (λ turn. Steps (step version.now seed state.old) turn state.old state.new) }
-    ensures uses { IfOk result (λ _. uses.new ≡ uses.old ++ step_items version.now seed state.old) }
+    ensures notes { IfOk result (λ _. notes.new.items ≡ notes.old.items ++ step_items version.now seed state.old) }
     ensures tally { IfOk result (λ turn. Counts turn tally.old tally.new) }
-    ensures err { OnErr result ((state.new ≡ state.old) × (uses.new ≡ uses.old) × (tally.new ≡ tally.old)) }
+    ensures err { OnErr result ((state.new ≡ state.old) × (notes.new.items ≡ notes.old.items) × (tally.new ≡ tally.old)) }
 {
-    let mark = uses.len();
-    match next_move(alloc, version, seed, state, uses)? {
+    let mark = notes.items().len();
+    match next_step(alloc, version, seed, state, notes)? {
         Next::End(end) => Ok(Turn::Ended(end)),
-        Next::Move(next) => match state.make(next, tally) {
+        Next::Step(next) => match state.make(next, tally) {
             Ok(()) => Ok(Turn::Moved),
             Err(error) => {
-                uses.truncate(mark);
+                notes.truncate(mark);
                 Err(error)
             }
         },
@@ -59,26 +67,27 @@ pub fn step(
 
 /// Says what the step of the version with this seed is to do, and notes the items that it reads; or says why
 /// none follows, and notes nothing. [`State::make`] then makes it.
-pub fn next_move(
+pub fn next_step(
     alloc: Global,
     version: &Version,
     seed: u64,
     state: &State,
-    uses: &mut Uses,
+    notes: &mut Notes,
 ) -> Result<Next, AllocError>
     ensures told { IfOk result (Foretells version.now seed state.now) }
-    ensures uses { OnOk result (uses.new ≡ uses.old ++ step_items version.now seed state.now) }
-    ensures err { OnErr result (uses.new ≡ uses.old) }
+    ensures notes { OnOk result (notes.new.items ≡ notes.old.items ++ step_items version.now seed state.now) }
+    ensures err { OnErr result (notes.new.items ≡ notes.old.items) }
 {
-    let mark = uses.len();
-    match state.decide(alloc, Case { version, seed }, uses) {
-        Ok(next) => Ok(Next::Move(next)),
+    let mark = notes.items().len();
+    notes.begin(state);
+    match state.decide(alloc, Case { version, seed }, notes) {
+        Ok(step) => Ok(Next::Step(notes.decision(step))),
         Err(Halt::End(end)) => {
-            uses.truncate(mark);
+            notes.truncate(mark);
             Ok(Next::End(end))
         }
         Err(Halt::Memory) => {
-            uses.truncate(mark);
+            notes.truncate(mark);
             Err(AllocError)
         }
     }
@@ -93,9 +102,9 @@ pub fn end_at(
 ) -> Result<Option<End>, AllocError>
     ensures { IfOk result (EndsAs (step version.now seed state.now)) }
 {
-    let mut uses = Uses::new(alloc);
-    match next_move(alloc, version, seed, state, &mut uses)? {
-        Next::Move(_) => Ok(None),
+    let mut notes = Notes::new(alloc);
+    match next_step(alloc, version, seed, state, &mut notes)? {
+        Next::Step(_) => Ok(None),
         Next::End(end) => Ok(Some(end)),
     }
 }

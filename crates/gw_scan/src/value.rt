@@ -1,21 +1,21 @@
 // The values of operands.
 ghost use Rattle.std.specs.Prelude.{◌≡◌, ◌++◌};
-ghost use Rattle.gw_meaning.specs.Step.{value_prog, value_or_zero};
+ghost use Rattle.gw_meaning.specs.Evaluation.{value_prog, value_or_zero};
 ghost use Rattle.gw_scan.specs.Deciding.{Decides};
 
 use crate::case::{Case, Halt};
+use crate::notes::Notes;
 use crate::state::State;
-use crate::uses::Uses;
 use gw_expr::{Expr, Node};
 use gw_nums::Val;
 
 impl State {
     // The value of an operand.
-    pub(crate) fn value(&self, _case: Case, uses: &mut Uses, operand: &Expr) -> Result<Val, Halt>
+    pub(crate) fn value(&self, _case: Case, notes: &mut Notes, operand: &Expr) -> Result<Val, Halt>
         ensures { Decides _case.entry.version.now _case.entry.seed (value_prog self.now operand.now)
-            result uses.old uses.new }
+            result notes.old notes.new }
     {
-        let _ = uses;
+        let _ = notes;
         match operand.node() {
             Node::Constant(value) => Ok(*value),
         }
@@ -25,14 +25,14 @@ impl State {
     pub(crate) fn value_or_zero(
         &self,
         case: Case,
-        uses: &mut Uses,
+        notes: &mut Notes,
         operand: &Option<Expr>,
     ) -> Result<Val, Halt>
         ensures { Decides case.entry.version.now case.entry.seed (value_or_zero self.now operand.now)
-            result uses.old uses.new }
+            result notes.old notes.new }
     {
         match operand {
-            Some(expr) => self.value(case, uses, expr),
+            Some(expr) => self.value(case, notes, expr),
             None => Ok(Val::ZERO),
         }
     }

@@ -5,7 +5,8 @@ use Rattle.gw_lines.proofs.model.read_lines.Given as goal
 
 -- the statements so far and those of the lines that are left are those of all lines
 abbrev pub invariant-loop-rest : goal.invariant-loop-rest
-invariant-loop-rest l = (l.number + length l.rest ≤ length l.bytes) × (with_front l.statements.items (statements_of (l.number + 1) (lines_of l.rest)) ≡ statements_of 1 (lines_of l.bytes))
+invariant-loop-rest l = (l.number + length l.rest ≤ length l.bytes)
+    × (with_front l.statements.items (statements_of (l.number + 1) (lines_of l.rest)) ≡ statements_of 1 (lines_of l.bytes))
 
 abbrev pub decreases-loop-rest : goal.decreases-loop-rest
 decreases-loop-rest l = length l.rest

@@ -4,4 +4,4 @@ use Rattle.gw_lines.proofs.number.number.Given as goal
 
 -- the digits that are left, behind the number so far, spell the whole
 abbrev pub invariant-loop-b : goal.invariant-loop-b
-invariant-loop-b l = (l.number ≤ 1000000000) × (number_after l.number (drop l.b-index l.text) ≡ number_after 0 l.text)
+invariant-loop-b l = (l.number ≤ l.most) × (number_after l.most l.number (drop l.b-index l.text) ≡ number_after l.most 0 l.text)

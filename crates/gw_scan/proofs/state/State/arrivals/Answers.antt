@@ -2,7 +2,7 @@ use Rattle.std.proofs.Common.{◌≡◌, ◌+◌, ◌<◌, [], Ok, drop, get_or,
 use Rattle.std.proofs.lemmas.List.{drop_more}
 use Rattle.std.proofs.lemmas.Result.{err_from_is_err_and}
 use Rattle.std.proofs.Math.Seq.{drop-length}
-use Rattle.gw_meaning.specs.Questions.{◌>>=◌}
+use Rattle.gw_meaning.specs.Evaluation.{◌~>◌}
 use Rattle.gw_meaning.specs.Step.{arrivals_prog, prime_prog, with_arrival}
 use Rattle.gw_scan.proofs.Binding.{decides_exit, decides_whole, decides_gives}
 use Rattle.gw_scan.proofs.state.State.arrivals.Goals as goal
@@ -16,7 +16,7 @@ returns-in_err-arrival c =
     let made = c.loop-place.arrivals.items in
     let place = get_or places i 0 in
     let h : i < length places = search rules in
-    let whole : arrivals_prog s (drop i places) made ≡ (prime_prog s place >>= (λ a. arrivals_prog s (drop (i + 1) places) (with_arrival a made))) =
+    let whole : arrivals_prog s (drop i places) made ≡ (prime_prog s place ~> (λ a. arrivals_prog s (drop (i + 1) places) (with_arrival a made))) =
     ap (λ ps. arrivals_prog s ps made) (drop_more places i 0 h) in
     c.loop-place.invariant c.from_residual.result _ (decides_exit c.args.case.version.now c.args.case.seed (prime_prog s place)
     (λ a. arrivals_prog s (drop (i + 1) places) (with_arrival a made)) _ _ _ c.in_err-arrival.field-0.0 _ _ whole p.1 p.2 c.in_err-arrival.ensures)
@@ -29,16 +29,16 @@ loop-place-preserved c = λ r all rest.
     let made = c.loop-place.arrivals.items in
     let place = get_or places i 0 in
     let h : i < length places = search rules in
-    let whole : arrivals_prog s (drop i places) made ≡ (prime_prog s place >>= (λ a. arrivals_prog s (drop (i + 1) places) (with_arrival a made))) =
+    let whole : arrivals_prog s (drop i places) made ≡ (prime_prog s place ~> (λ a. arrivals_prog s (drop (i + 1) places) (with_arrival a made))) =
     ap (λ ps. arrivals_prog s ps made) (drop_more places i 0 h) in
     let put : with_arrival c.in_ok-arrival.arrival made ≡ c.put_if.new.arrivals.items = sym c.in_ok-put_if.ensures in
     c.loop-place.invariant r all (decides_whole c.args.case.version.now c.args.case.seed (prime_prog s place)
     (λ a. arrivals_prog s (drop (i + 1) places) (with_arrival a made))
-    _ c.in_ok-arrival.arrival r c.loop-place.uses c.prime.new.uses all whole c.in_ok-arrival.ensures (rw put rest))
+    _ c.in_ok-arrival.arrival r c.loop-place.notes c.prime.new.notes all whole c.in_ok-arrival.ensures (rw put rest))
 
 pub returns : goal.returns
 returns c =
     let last : c.loop-place.place-index ≡ length c.args.places.now = omega arith in
     let end : drop c.loop-place.place-index c.args.places.now ≡ [] = rw last (drop-length c.args.places.now) in
-    rw c.from_vec.ensures (c.loop-place.invariant (Ok c.loop-place.arrivals.items) c.loop-place.uses
-    (rw end (decides_gives c.args.case.version.now c.args.case.seed c.loop-place.arrivals.items c.loop-place.uses)))
+    rw c.from_vec.ensures (c.loop-place.invariant (Ok c.loop-place.arrivals.items) c.loop-place.notes
+    (rw end (decides_gives c.args.case.version.now c.args.case.seed c.loop-place.arrivals.items c.loop-place.notes)))

@@ -5,11 +5,11 @@ use Rattle.gw_meaning.specs.Step.{command_prog}
 use Rattle.gw_scan.proofs.Binding.{decides_asked}
 use Rattle.gw_scan.proofs.state.State.command.Goals as goal
 
-pub returns-clause-decides : goal.returns-clause-decides
-returns-clause-decides c =
+pub returns : goal.returns
+returns c =
     let case = c.args.case in
     let s = c.args.self.now in
     let i : c.saturating_add.result ≡ raised s.commands = c.saturating_add.ensures ∙ ap (λ (m : Machine). raised m.commands) c.self.view_is in
     let noted = rw i at c.in_ok-command.ensures.ok in
     let answer = rw i at c.in_ok-command.ensures.answer in
-    decides_asked case.version.now case.seed (items.Cmd (raised s.commands)) (command_prog s) _ _ _ _ noted (rw (← answer) c.command_of.ensures.decides)
+    decides_asked case.version.now case.seed (items.Cmd (raised s.commands)) (command_prog s) _ _ _ _ noted (rw (← answer) c.command_of.ensures)

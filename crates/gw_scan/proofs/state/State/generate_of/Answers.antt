@@ -1,18 +1,33 @@
-use Rattle.std.proofs.Common.{◌≡◌, refl}
+use Rattle.std.proofs.Common.{◌≡◌, Ok, refl}
 use Rattle.std.proofs.lemmas.Result.{err_from_is_err_and}
 use Rattle.gw_meaning.specs.declared.moves.Move.TheVariants as moves
+use Rattle.gw_meaning.specs.declared.moves.Change.TheVariants as changes
+use Rattle.gw_meaning.specs.declared.moves.Fate.TheVariants as fates
 use Rattle.gw_meaning.specs.Machine.{count_at}
-use Rattle.gw_meaning.specs.Questions.{Gives, ◌>>=◌}
+use Rattle.gw_meaning.specs.Evaluation.{gives, ◌~>◌}
 use Rattle.gw_meaning.specs.Step.{arrival_prog, generate_prog}
-use Rattle.gw_scan.proofs.Binding.{decides_exit}
+use Rattle.gw_scan.proofs.Binding.{decides_exit, decides_whole, decides_gives}
 use Rattle.gw_scan.proofs.state.State.generate_of.Goals as goal
 
-pub returns-in_err-next-clause-decides : goal.returns-in_err-next-clause-decides
-returns-in_err-next-clause-decides c =
+pub returns-in_err-next : goal.returns-in_err-next
+returns-in_err-next c =
     let p = err_from_is_err_and c.from_residual.result c.from_residual.ensures.1 in
     let s = c.args.self.now in
-    let asked = arrival_prog s c.args.place (count_at s.counts c.args.place).made c.args.mean.now c.args.limit.now c.args.priority.now in
-    let whole : generate_prog s c.args.x.now c.args.place c.args.mean.now c.args.limit.now c.args.priority.now ≡
-    (asked >>= (λ next. Gives (moves.Generate c.args.place next))) = rw c.if-x-ne0.false refl in
-    decides_exit c.args.case.version.now c.args.case.seed asked (λ next. Gives (moves.Generate c.args.place next))
+    let asked = arrival_prog s c.args.place (count_at s.counts c.args.place).made c.args.mean.now c.args.range.now c.args.limit.now c.args.priority.now in
+    let whole : generate_prog s c.args.x.now c.args.place c.args.mean.now c.args.range.now c.args.limit.now c.args.priority.now ≡
+    (asked ~> (λ next. gives (moves.Enter c.args.place (changes.Generate next) fates.Active))) = rw c.if-x-ne0.false refl in
+    decides_exit c.args.case.version.now c.args.case.seed asked (λ next. gives (moves.Enter c.args.place (changes.Generate next) fates.Active))
     _ _ _ c.in_err-next.field-0.0 _ _ whole p.1 p.2 c.in_err-next.ensures
+
+pub returns : goal.returns
+returns c =
+    let s = c.args.self.now in
+    let t = c.args.case.version.now in
+    let asked =
+    arrival_prog s c.args.place (count_at s.counts c.args.place).made c.args.mean.now c.args.range.now c.args.limit.now c.args.priority.now in
+    let whole : generate_prog s c.args.x.now c.args.place c.args.mean.now c.args.range.now c.args.limit.now c.args.priority.now ≡
+    (asked ~> (λ next. gives (moves.Enter c.args.place (changes.Generate next) fates.Active))) = rw c.if-x-ne0.false refl in
+    decides_whole t c.args.case.seed asked (λ next. gives (moves.Enter c.args.place (changes.Generate next) fates.Active)) _ c.in_ok-next.next
+    (Ok (moves.Enter c.args.place (changes.Generate c.in_ok-next.next) fates.Active)) c.args.notes.now c.arrival.new.notes c.arrival.new.notes
+    whole c.in_ok-next.ensures
+    (decides_gives t c.args.case.seed (moves.Enter c.args.place (changes.Generate c.in_ok-next.next) fates.Active) c.arrival.new.notes)

@@ -3,8 +3,8 @@ use Rattle.gw_meaning.specs.Step.{try_prog}
 use Rattle.gw_scan.proofs.Binding.{decides_asked}
 use Rattle.gw_scan.proofs.state.State.try_after.Goals as goal
 
-pub returns-clause-decides : goal.returns-clause-decides
-returns-clause-decides c =
+pub returns : goal.returns
+returns c =
     let case = c.args.case in
     decides_asked case.version.now case.seed (items.After c.args.x.now.current) (try_prog c.args.self.now c.args.x.now) _ _ _ _ c.in_ok-place.ensures.ok
-    (rw (← c.in_ok-place.ensures.answer) c.try_place.ensures.decides)
+    (rw (← c.in_ok-place.ensures.answer) c.try_place.ensures)

@@ -3,8 +3,8 @@ use Rattle.gw_meaning.specs.Step.{enter_prog}
 use Rattle.gw_scan.proofs.Binding.{decides_asked}
 use Rattle.gw_scan.proofs.state.State.try_place.Goals as goal
 
-pub returns-clause-decides : goal.returns-clause-decides
-returns-clause-decides c =
+pub returns : goal.returns
+returns c =
     let case = c.args.case in
     rw c.in-Some.is (decides_asked case.version.now case.seed (items.Block c.in-Some.place) (enter_prog c.args.self.now c.args.x.now c.in-Some.place)
-    _ _ _ _ c.in_ok-block.ensures.ok (rw (← c.in_ok-block.ensures.answer) c.enter.ensures.decides))
+    _ _ _ _ c.in_ok-block.ensures.ok (rw (← c.in_ok-block.ensures.answer) c.enter.ensures))

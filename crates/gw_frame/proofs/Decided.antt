@@ -1,0 +1,279 @@
+-- What is known of a move in the state in which it is decided, and of the items that are read for it: one line for each choice,
+-- and no law asks further.
+use Rattle.std.proofs.Common.{◌≡◌, ℕ, zero, suc, ◌+◌, ◌<◌, ◌≤◌, nat_eq, nat_le, Bool, true, false, not, List, [], ◌∷◌, length, Option, Some, None, inr, ℤ, refl, ap, sym, subst, ◌∙◌, append-nil, arith}
+use Rattle.std.specs.List.{AllByRecursion}
+use Rattle.std.proofs.lemmas.Bool.{cond_both}
+use Rattle.std.proofs.lemmas.List.{length-append}
+use Rattle.gw_nums.specs.Range.{is_value, is_negative, magnitude}
+use Rattle.gw_expr.specs.Term.{Term, Constant}
+use Rattle.gw_streams.specs.declared.stream.Stream.{Stream}
+use Rattle.gw_streams.specs.declared.stream.Stream.TheVariants as streams
+use Rattle.gw_streams.specs.Draws.{is_set, stream_at}
+use Rattle.gw_meaning.specs.declared.item.Item.{Item}
+use Rattle.gw_meaning.specs.declared.item.Item.TheVariants as items
+use Rattle.gw_meaning.specs.declared.statement.Block.{Block}
+use Rattle.gw_meaning.specs.declared.statement.Block.TheVariants as blocks
+use Rattle.gw_meaning.specs.declared.statement.Command.{Command}
+use Rattle.gw_meaning.specs.declared.statement.Command.TheVariants as commands
+use Rattle.gw_meaning.specs.declared.statement.Numbered.{Numbered}
+use Rattle.gw_meaning.specs.declared.transaction.Transaction.{Transaction}
+use Rattle.gw_meaning.specs.declared.moves.Arrival.{Arrival}
+use Rattle.gw_meaning.specs.declared.moves.Change.{Change}
+use Rattle.gw_meaning.specs.declared.moves.Change.TheVariants as changes
+use Rattle.gw_meaning.specs.declared.moves.Fate.{Fate}
+use Rattle.gw_meaning.specs.declared.moves.Fate.TheVariants as fates
+use Rattle.gw_meaning.specs.declared.moves.Move.{Move}
+use Rattle.gw_meaning.specs.declared.moves.Move.TheVariants as moves
+use Rattle.gw_meaning.specs.Listing.{Listing, block_at, generates_in, is_generate}
+use Rattle.gw_meaning.specs.Numbers.{AreNumbered}
+use Rattle.gw_meaning.specs.Machine.{Machine, raised, live}
+use Rattle.gw_meaning.specs.Questions.{ask, result_of}
+use Rattle.gw_meaning.specs.Evaluation.{Eval, asks, number_of_draw, draw, value_prog, value_or_zero, spread, sample_within, time_prog}
+use Rattle.gw_meaning.specs.Changes.{decided}
+use Rattle.gw_meaning.specs.Step.{arrival_at, arrival_in_time, arrival_prog, first_of_generate, first_arrival, with_arrival, prime_prog, arrivals_prog, first_arrivals_prog, start_prog, command_prog, generate_prog, delay_of, advance_prog, terminate_prog, enter_prog, try_prog, attempt_prog, least_time, within_prog, clock_prog, pick_prog, scan_prog, move_prog, step_prog}
+use Rattle.gw_frame.specs.Places.{IsPlace, ActiveNames, TransactionNames, ItemNames}
+use Rattle.gw_frame.proofs.Generates.{IsBlockIn, generates_there}
+use Rattle.gw_frame.proofs.Seeds.{uses_seed, ReadsSeed, one_drew, set_first}
+use Rattle.gw_frame.proofs.Keeps.{ProgKeeps, Keeps, all_with, prog_gives, prog_ends, prog_bind, keeps_gives, keeps_ends, keeps_asks, keeps_cond, keeps_stops, keeps_bind}
+
+-- what comes, comes to a block of the version and not before the clock
+pub record IsComing (t : Listing) (s : Machine) (a : Arrival) : Type 0 where
+  pub ahead : s.clock ≤ a.time
+  pub place : IsPlace t a.place
+
+abbrev pub IsComingIfAny : Listing → Machine → Option Arrival → Type 0
+IsComingIfAny t s None = Unit {0}
+IsComingIfAny t s (Some a) = IsComing t s a
+
+-- the first transactions of the GENERATEs
+pub record AreFirst (t : Listing) (s : Machine) (arrivals : List Arrival) : Type 0 where
+  pub coming : AllByRecursion (IsComing t s) arrivals
+  pub few : length arrivals ≤ length t.lines
+
+-- what is known of a change, a fate and a move
+abbrev pub IsDecidedChange : Listing → Machine → Change → Type 0
+IsDecidedChange t s changes.Nothing = Unit {0}
+IsDecidedChange t s (changes.Generate next) = IsComingIfAny t s next
+
+abbrev pub IsDecidedFate : Machine → Fate → Type 0
+IsDecidedFate s fates.Active = Unit {0}
+IsDecidedFate s (fates.Delayed until) = s.clock ≤ until
+IsDecidedFate s (fates.Destroyed count) = Unit {0}
+
+abbrev pub IsDecided : Listing → Machine → Move → Type 0
+IsDecided t s (moves.Start count arrivals) = AreFirst t s arrivals
+IsDecided t s moves.Command = Unit {0}
+IsDecided t s (moves.Enter place change fate) = IsPlace t place × IsDecidedChange t s change × IsDecidedFate s fate
+IsDecided t s moves.Pick = s.active ≡ None
+IsDecided t s (moves.Clock time) = (least_time s.future ≡ Some time) × (nat_le time t.horizon ≡ true)
+
+-- what is known of an item that is read: where the statements have numbers of their own, it names no place but blocks
+abbrev pub IsRead : Listing → Machine → Item → Type 0
+IsRead t s i = AreNumbered t.lines → ActiveNames t s.active → ItemNames t i
+
+-- what is known of the state after a step
+pub record IsAfter (t : Listing) (s v : Machine) : Type 0 where
+  pub move : Move
+  pub streams : List Stream
+  pub is_decided : IsDecided t s move
+  pub is : v ≡ decided s move streams
+
+-- there are no more GENERATEs than statements
+few_generates : (lines : List Numbered) → length (generates_in lines) ≤ length lines
+few_generates [] = omega arith
+few_generates (line ∷ lines) =
+    let rest = few_generates lines in
+    cond_both (is_generate line) (line.number ∷ generates_in lines) (generates_in lines) (λ ns. length ns ≤ suc (length lines)) (λ _. omega arith)
+    (λ _. omega arith)
+
+-- of a value nothing is wanted
+abbrev Whatever : {A : Type 0} → A → Type 0
+Whatever a = Unit {0}
+
+module _ (t : Listing) (seed : ℕ) (s : Machine) where
+  -- what an evaluation gives is decided, and what it reads is read, in this state
+  abbrev Decides : {A : Type 0} → (A → Type 0) → Eval A → Type 0
+  Decides Q p = Keeps t seed (IsRead t s) Q p
+
+  -- values and draws
+  number_decides : (stream : Stream) →
+      ProgKeeps t seed (λ x is. AllByRecursion (IsRead t s) is × (uses_seed is ≡ is_set stream)) (number_of_draw stream)
+  number_decides (streams.Set value) = record { runs = λ x there. (((λ numbered named. tt), tt), refl) }
+  number_decides (streams.At x) = prog_gives (tt, refl)
+
+  draw_decides : (i : ℕ) → i < 7 → Decides Whatever (draw (suc i))
+  draw_decides i kept = record {
+    from = λ before. prog_bind (number_decides (stream_at before (suc i)))
+        (λ x is h. prog_gives (tt, rw append-nil h.0, rw append-nil (one_drew before i x is kept h.1)));
+  }
+
+  value_decides : (term : Term) → Decides Whatever (value_prog s term)
+  value_decides (Constant value) = keeps_gives tt
+
+  value_or_zero_decides : (term : Option Term) → Decides Whatever (value_or_zero s term)
+  value_or_zero_decides None = keeps_gives tt
+  value_or_zero_decides (Some term) = value_decides term
+
+  sample_within_decides : (mean : ℤ) (range : ℕ) → Decides Whatever (sample_within mean range)
+  sample_within_decides mean zero = keeps_gives tt
+  sample_within_decides mean (suc n) =
+      keeps_bind (draw_decides 0 (omega arith)) (λ x h. keeps_cond (is_value (spread mean (suc n) x)) (keeps_gives tt) keeps_ends)
+
+  time_decides : (mean range : Option Term) → Decides Whatever (time_prog s mean range)
+  time_decides mean range = keeps_bind (value_or_zero_decides mean)
+      (λ m h. keeps_bind (value_or_zero_decides range) (λ r k. keeps_stops (is_negative r) _ (sample_within_decides m (magnitude r))))
+
+  -- the next transaction of a GENERATE
+  arrival_at_decides : (place : ℕ) (time priority : ℤ) → IsPlace t place → Decides (IsComingIfAny t s) (arrival_at s place time priority)
+  arrival_at_decides place time priority named =
+      keeps_stops (is_negative time) _ (keeps_stops (nat_le 100000 (live s)) _ (keeps_gives (record { ahead = omega arith; place = named })))
+
+  arrival_in_time_decides : (place : ℕ) (mean range priority : Option Term) → IsPlace t place →
+      Decides (IsComingIfAny t s) (arrival_in_time s place mean range priority)
+  arrival_in_time_decides place mean range priority named =
+      keeps_bind (time_decides mean range) (λ v h. keeps_bind (value_or_zero_decides priority) (λ p k. arrival_at_decides place v p named))
+
+  arrival_decides : (place made : ℕ) (mean range limit priority : Option Term) → IsPlace t place →
+      Decides (IsComingIfAny t s) (arrival_prog s place made mean range limit priority)
+  arrival_decides place made mean range None priority named = arrival_in_time_decides place mean range priority named
+  arrival_decides place made mean range (Some limit) priority named =
+      keeps_bind (value_decides limit)
+      (λ n h. keeps_stops (is_negative n) _
+      (keeps_cond (nat_le (magnitude n) made) (keeps_gives tt) (arrival_in_time_decides place mean range priority named)))
+
+  -- priming
+  first_of_generate_decides : (place : ℕ) (mean range offset limit priority : Option Term) → IsPlace t place →
+      Decides (IsComingIfAny t s) (first_of_generate s place mean range offset limit priority)
+  first_of_generate_decides place mean range None limit priority named = arrival_decides place _ mean range limit priority named
+  first_of_generate_decides place mean range (Some offset) limit priority named = arrival_decides place _ (Some offset) None limit priority named
+
+  first_arrival_decides : (place : ℕ) (block : Option Block) → block_at t place ≡ block → Decides (IsComingIfAny t s) (first_arrival s place block)
+  first_arrival_decides place (Some (blocks.Generate mean range offset limit priority)) is =
+      first_of_generate_decides place mean range offset limit priority (inr (_, is))
+  first_arrival_decides place (Some (blocks.Advance mean range)) is = keeps_gives tt
+  first_arrival_decides place (Some (blocks.Terminate count)) is = keeps_gives tt
+  first_arrival_decides place None is = keeps_gives tt
+
+  with_arrival_coming : (a : Option Arrival) (made : List Arrival) → IsComingIfAny t s a → AllByRecursion (IsComing t s) made →
+      AllByRecursion (IsComing t s) (with_arrival a made)
+  with_arrival_coming None made here all = all
+  with_arrival_coming (Some a) made here all = all_with (IsComing t s) made (a ∷ []) all (here, tt)
+
+  with_arrival_few : (a : Option Arrival) (made : List Arrival) → length (with_arrival a made) ≤ suc (length made)
+  with_arrival_few None made = omega arith
+  with_arrival_few (Some a) made = let longer = length-append made (a ∷ []) in omega arith
+
+  arrivals_decide : (places : List ℕ) (made : List Arrival) → (AreNumbered t.lines → AllByRecursion (IsBlockIn t.lines) places) →
+      AllByRecursion (IsComing t s) made → length made + length places ≤ length t.lines → Decides (AreFirst t s) (arrivals_prog s places made)
+  arrivals_decide [] made named all few = keeps_gives (record { coming = all; few = omega arith })
+  arrivals_decide (place ∷ places) made named all few =
+      keeps_bind (prime_decides place (λ numbered. (named numbered).0))
+      (λ a here.
+      let one = with_arrival_few a made in
+      arrivals_decide places (with_arrival a made) (λ numbered. (named numbered).1) (with_arrival_coming a made here all) (omega arith))
+    where
+      prime_decides : (place : ℕ) → (AreNumbered t.lines → IsBlockIn t.lines place) → Decides (IsComingIfAny t s) (prime_prog s place)
+      prime_decides place there =
+          keeps_asks (items.Block place) refl (λ numbered named. inr (there numbered)) (first_arrival_decides place (block_at t place) refl)
+
+  first_arrivals_decide : Decides (AreFirst t s) (first_arrivals_prog s)
+  first_arrivals_decide =
+      let few = few_generates t.lines in
+      keeps_asks items.Generates refl (λ numbered named. tt) (arrivals_decide (generates_in t.lines) [] (generates_there t.lines) tt (omega arith))
+
+  -- commands
+  start_decides : (primed : Bool) (count : ℕ) → Decides (IsDecided t s) (start_prog s primed count)
+  start_decides true count = keeps_gives (record { coming = tt; few = omega arith })
+  start_decides false count = keeps_bind first_arrivals_decide (λ first h. keeps_gives h)
+
+  -- with a command that sets streams, less is known of them
+  abbrev IsStepped : List Stream → Move × List Stream → List Item → Type 0
+  IsStepped before r is = IsDecided t s r.0 × AllByRecursion (IsRead t s) is × ReadsSeed before r.1 is
+
+  steps : (before : List Stream) (p : Eval Move) → Decides (IsDecided t s) p → ProgKeeps t seed (IsStepped before) (p before)
+  steps before p decides = record {
+    runs = λ r is.
+        (let h = (decides.from before).runs r is in (h.0, h.1, λ seven. (let k = h.2 seven in (k.seven, k.seed))));
+  }
+
+  command_decides : (command : Option Command) (before : List Stream) → ProgKeeps t seed (IsStepped before) (command_prog s command before)
+  command_decides None before = prog_ends
+  command_decides (Some (commands.Start count)) before = steps before (start_prog s s.primed count) (start_decides s.primed count)
+  command_decides (Some (commands.Rmult values)) before =
+      prog_gives (tt, tt, λ seven. (let set = set_first before values in (set.1 ∙ seven, set.0)))
+
+  -- blocks
+  generate_decides : (x : Transaction) (place : ℕ) (mean range limit priority : Option Term) → IsPlace t place →
+      Decides (IsDecided t s) (generate_prog s x place mean range limit priority)
+  generate_decides x place mean range limit priority named =
+      keeps_stops (not (nat_eq x.current 0)) _
+      (keeps_bind (arrival_decides place _ mean range limit priority named) (λ next h. keeps_gives (named, h, tt)))
+
+  delay_decided : (n : ℕ) → IsDecidedFate s (delay_of s n)
+  delay_decided zero = tt
+  delay_decided (suc n) = omega arith
+
+  advance_decides : (place : ℕ) (mean range : Option Term) → IsPlace t place → Decides (IsDecided t s) (advance_prog s place mean range)
+  advance_decides place mean range named =
+      keeps_bind (time_decides mean range) (λ v h. keeps_stops (is_negative v) _ (keeps_gives (named, tt, delay_decided (magnitude v))))
+
+  terminate_decides : (place : ℕ) (count : Option Term) → IsPlace t place → Decides (IsDecided t s) (terminate_prog s place count)
+  terminate_decides place count named =
+      keeps_bind (value_or_zero_decides count) (λ n h. keeps_stops (is_negative n) _ (keeps_gives (named, tt, tt)))
+
+  enter_decides : (x : Transaction) (place : ℕ) (block : Block) → IsPlace t place → Decides (IsDecided t s) (enter_prog s x place (Some block))
+  enter_decides x place (blocks.Generate mean range offset limit priority) named = generate_decides x place mean range limit priority named
+  enter_decides x place (blocks.Advance mean range) named = advance_decides place mean range named
+  enter_decides x place (blocks.Terminate count) named = terminate_decides place count named
+
+  -- attempts: a place that is no block ends the run
+  try_block : (x : Transaction) (place : ℕ) (block : Option Block) → block_at t place ≡ block →
+      Decides (IsDecided t s) (asks (items.Block place) (enter_prog s x place))
+  try_block x place None is =
+      record { from = λ streams. record { runs = λ d there. absurd (let ends = ap (λ o. result_of t seed (enter_prog s x place o streams)) is in cc) } }
+  try_block x place (Some block) is =
+      let there : IsPlace t place = inr (block, is) in
+      keeps_asks (items.Block place) refl (λ numbered named. there)
+      (subst (λ o. Decides (IsDecided t s) (enter_prog s x place o)) (sym is) (enter_decides x place block there))
+
+  try_decides : (x : Transaction) (place : Option ℕ) → Decides (IsDecided t s) (try_prog s x place)
+  try_decides x None = keeps_ends
+  try_decides x (Some place) = try_block x place (block_at t place) refl
+
+  attempt_decides : (x : Transaction) (destination : Option ℕ) → s.active ≡ Some x → Decides (IsDecided t s) (attempt_prog s x destination)
+  attempt_decides x None is =
+      keeps_asks (items.After x.current) refl
+      (λ numbered named. (let here : TransactionNames t x = subst (λ o. ActiveNames t o) is named in here.current)) (try_decides x _)
+  attempt_decides x (Some place) is = try_decides x (Some place)
+
+  -- the clock
+  within_decides : (time : ℕ) (within : Bool) → nat_le time t.horizon ≡ within → least_time s.future ≡ Some time →
+      Decides (IsDecided t s) (within_prog time within)
+  within_decides time true is least = keeps_gives (least, is)
+  within_decides time false is least = keeps_ends
+
+  clock_decides : (time : Option ℕ) → least_time s.future ≡ time → Decides (IsDecided t s) (clock_prog time)
+  clock_decides None least = keeps_ends
+  clock_decides (Some time) least =
+      keeps_asks (items.Within time) refl (λ numbered named. tt) (within_decides time (nat_le time t.horizon) refl least)
+
+  -- the scan
+  pick_decides : (chain : List Transaction) → s.active ≡ None → Decides (IsDecided t s) (pick_prog s chain)
+  pick_decides [] none = clock_decides (least_time s.future) refl
+  pick_decides (x ∷ xs) none = keeps_gives none
+
+  scan_decides : (active : Option Transaction) → s.active ≡ active → Decides (IsDecided t s) (scan_prog s active)
+  scan_decides None is = pick_decides s.current is
+  scan_decides (Some x) is = attempt_decides x x.destination is
+
+  move_decides : (remaining : ℕ) (before : List Stream) → ProgKeeps t seed (IsStepped before) (move_prog s remaining before)
+  move_decides zero before = record {
+    runs = λ r is.
+        (let h = (command_decides (ask t seed (items.Cmd (raised s.commands))) before).runs r is in (h.0, ((λ numbered named. tt), h.1), h.2));
+  }
+  move_decides (suc n) before = steps before (scan_prog s s.active) (scan_decides s.active refl)
+
+  -- the step
+  pub step_decides : ProgKeeps t seed (λ v is. IsAfter t s v × AllByRecursion (IsRead t s) is × ReadsSeed s.streams v.streams is) (step_prog s)
+  step_decides = prog_bind (move_decides s.remaining s.streams)
+      (λ d is h. prog_gives (record { move = d.0; streams = d.1; is_decided = h.0; is = refl }, rw append-nil h.1, rw append-nil h.2))

@@ -1,0 +1,52 @@
+-- What the start has and each decided move keeps, each run from zero has.
+use Rattle.std.proofs.Common.{◌≡◌, ℕ, zero, suc, List, length, Ok, ap, sym, ◌∙◌, subst}
+use Rattle.gw_streams.specs.declared.stream.Stream.{Stream}
+use Rattle.gw_meaning.specs.declared.moves.Move.{Move}
+use Rattle.gw_meaning.specs.Listing.{Listing}
+use Rattle.gw_meaning.specs.Machine.{Machine, zero_state}
+use Rattle.gw_meaning.specs.Changes.{decided}
+use Rattle.gw_meaning.specs.Questions.{items_of}
+use Rattle.gw_meaning.specs.Step.{step, step_prog, run}
+use Rattle.gw_meaning.specs.Reads.{reads}
+use Rattle.gw_meaning.proofs.Programs.{run_on}
+use Rattle.gw_frame.proofs.ReadLaws.{run_before, step_reads, reads_there}
+use Rattle.gw_frame.specs.Seeds.{SeedIsReadAtFirstDraws}
+use Rattle.gw_frame.proofs.Seeds.{uses_seed}
+use Rattle.gw_frame.proofs.Decided.{IsDecided, IsAfter, step_decides}
+
+-- a run of one step more came to a state before, from which the step goes to this one
+pub record IsLast (t : Listing) (seed n : ℕ) (v : Machine) : Type 0 where
+  pub before : Machine
+  pub there : run t seed n ≡ Ok before
+  pub goes : step t seed before ≡ Ok v
+  pub after : IsAfter t before v
+
+module _ (t : Listing) (seed : ℕ) where
+  pub last_step : (n : ℕ) (v : Machine) → run t seed (suc n) ≡ Ok v → IsLast t seed n v
+  last_step n v is =
+      let before = run_before t seed n v is in
+      let goes : step t seed before.0 ≡ Ok v = sym (run_on t seed n before.0 before.1) ∙ is in
+      record { before = before.0; there = before.1; goes = goes; after = ((step_decides t seed before.0).runs v goes).0 }
+
+  pub over_run : (P : ℕ → Machine → Type 0) → P 0 zero_state →
+      ((n : ℕ) (s : Machine) (m : Move) (streams : List Stream) → run t seed n ≡ Ok s → IsDecided t s m → P n s → P (suc n) (decided s m streams)) →
+      (n : ℕ) (s : Machine) → run t seed n ≡ Ok s → P n s
+  over_run P start keeps zero s is = let same : zero_state ≡ s = cc in subst (P 0) same start
+  over_run P start keeps (suc n) v is =
+      let last = last_step n v is in
+      let after = last.after in
+      subst (P (suc n)) (sym after.is)
+      (keeps n last.before after.move after.streams last.there after.is_decided (over_run P start keeps n last.before last.there))
+
+  -- the seven streams, and where the seed is read
+  seven_streams : (n : ℕ) (s : Machine) → run t seed n ≡ Ok s → length s.streams ≡ 7
+  seven_streams zero s is = let same : zero_state ≡ s = cc in ap (λ (v : Machine). length v.streams) (sym same)
+  seven_streams (suc n) v is =
+      let last = last_step n v is in
+      (((step_decides t seed last.before).runs v last.goes).2 (seven_streams n last.before last.there)).0
+
+pub seed_is_read : SeedIsReadAtFirstDraws
+seed_is_read t seed n s v there is =
+    let goes : step t seed s ≡ Ok v = sym (run_on t seed n s there) ∙ is in
+    let read : reads t seed n ≡ items_of t seed (step_prog s) = reads_there t seed n s there ∙ step_reads t seed s v goes in
+    ap uses_seed read ∙ (((step_decides t seed s).runs v goes).2 (seven_streams t seed n s there)).1

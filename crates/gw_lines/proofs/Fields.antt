@@ -1,0 +1,130 @@
+-- The operands of forms, as data: what lists of parts that spell them come down to.
+use Rattle.std.proofs.Common.{◌≡◌, ℕ, ◌&&◌, Bool, true, false, List, [], ◌∷◌, Option, Some, None, refl, ◌∙◌, ◌⊎◌, inl, inr}
+use Rattle.std.specs.Prelude.{map}
+use Rattle.std.proofs.lemmas.Bool.{and_parts}
+use Rattle.gw_expr.specs.Term.{Term, Constant}
+use Rattle.gw_lines.specs.declared.form.Kind.{Kind}
+use Rattle.gw_lines.specs.declared.form.Kind.TheVariants as kinds
+use Rattle.gw_lines.specs.declared.form.Presence.{Presence}
+use Rattle.gw_lines.specs.declared.form.Presence.TheVariants as presences
+use Rattle.gw_lines.specs.declared.form.Form.{Form}
+use Rattle.gw_lines.specs.declared.operand.Operand.{Operand}
+use Rattle.gw_lines.specs.declared.operand.Operand.TheVariants as operands
+use Rattle.gw_lines.specs.Forms.{value, whole}
+use Rattle.gw_lines.specs.Parts.{is_missing}
+use Rattle.gw_lines.specs.Spelling.{SpellsOperand, absent, a_value, a_whole, a_key, SpellsAll, no_form, stands, unwritten}
+
+abbrev pub Data : Kind → Type 0
+Data kinds.Value = Term
+Data (kinds.Whole most) = ℕ
+Data kinds.Quiet = Unit {0}
+
+abbrev pub data_operand : (kind : Kind) → Data kind → Option Operand
+data_operand kinds.Value t = Some (operands.Value t)
+data_operand (kinds.Whole most) n = Some (operands.Whole n)
+data_operand kinds.Quiet u = None
+
+abbrev pub Field : Presence → Kind → Type 0
+Field presences.Required kind = Data kind
+Field presence kind = Option (Data kind)
+
+-- an operand that may be absent; a key word leaves no trace
+abbrev pub maybe : (kind : Kind) → Option (Data kind) → Option Operand
+maybe kinds.Value d = value d
+maybe (kinds.Whole most) d = whole d
+maybe kinds.Quiet d = None
+
+maybe_some : (kind : Kind) (d : Data kind) → maybe kind (Some d) ≡ data_operand kind d
+maybe_some kinds.Value d = refl
+maybe_some (kinds.Whole most) d = refl
+maybe_some kinds.Quiet d = refl
+
+maybe_none : (kind : Kind) → maybe kind None ≡ None
+maybe_none kinds.Value = refl
+maybe_none (kinds.Whole most) = refl
+maybe_none kinds.Quiet = refl
+
+abbrev pub field_operand : (presence : Presence) (kind : Kind) → Field presence kind → Option Operand
+field_operand presences.Required kind d = data_operand kind d
+field_operand presences.Optional kind d = maybe kind d
+field_operand presences.Written kind d = maybe kind d
+
+data_of : {kind : Kind} {text : List ℕ} {o : Option Operand} → SpellsOperand kind text o
+    → ((d : Data kind) × (data_operand kind d ≡ o)) ⊎ ((text ≡ []) × (None ≡ o))
+data_of (absent kind) = inr (refl, refl)
+data_of (a_value text z v) = inl (Constant z, refl)
+data_of (a_whole most text n h from) = inl (n, refl)
+data_of a_key = inl (tt, refl)
+
+maybe_field : (kind : Kind) {P : Type 0} {o : Option Operand}
+    → ((d : Data kind) × (data_operand kind d ≡ o)) ⊎ (P × (None ≡ o))
+    → (d : Option (Data kind)) × (maybe kind d ≡ o)
+maybe_field kind (inl d) = (Some d.0, maybe_some kind d.0 ∙ d.1)
+maybe_field kind (inr none) = (None, maybe_none kind ∙ none.1)
+
+-- the operand of a form is one of its fields
+field : (presence : Presence) {kind : Kind} {text : List ℕ} {o : Option Operand}
+    → is_missing (record { kind = kind; presence = presence }) text ≡ false → SpellsOperand kind text o
+    → (d : Field presence kind) × (field_operand presence kind d ≡ o)
+field presences.Required {kind} {text} {o} given s =
+    elim (data_of s) [
+      | inl d ↦ d
+      | inr none ↦ absurd (let f = rw none.0 at given in cc)
+    ]
+field presences.Optional {kind} given s = maybe_field kind (data_of s)
+field presences.Written {kind} given s = maybe_field kind (data_of s)
+
+-- the operands of forms that all have a place
+abbrev pub Row : List Form → Type 0
+Row [] = Unit {0}
+Row (form ∷ forms) = Field form.presence form.kind × Row forms
+
+abbrev pub row_operands : (forms : List Form) → Row forms → List (Option Operand)
+row_operands [] r = []
+row_operands (form ∷ forms) r = field_operand form.presence form.kind r.0 ∷ row_operands forms r.1
+
+abbrev pub has_place : Presence → Bool
+has_place presences.Written = false
+has_place presence = true
+
+abbrev pub have_places : List Form → Bool
+have_places [] = true
+have_places (form ∷ forms) = has_place form.presence && have_places forms
+
+pub row : {forms : List Form} {parts : List (List ℕ)} {os : List (Option Operand)} → have_places forms ≡ true
+    → SpellsAll forms parts os → (r : Row forms) × (row_operands forms r ≡ os)
+row p no_form = (tt, refl)
+row p (stands form forms parts o os listed given here others) =
+    let a = and_parts (has_place form.presence) (have_places forms) p in
+    let f = field form.presence given here in
+    let r = row a.1 others in
+    ((f.0, r.0), rw (f.1, r.1) refl)
+row p (unwritten form forms os w others) =
+    let a = and_parts (has_place form.presence) (have_places forms) p in
+    absurd (let f = rw w at a.0 in cc)
+
+-- whole numbers, as many as are written
+abbrev pub is_whole : Kind → Bool
+is_whole (kinds.Whole most) = true
+is_whole kind = false
+
+abbrev pub are_whole : List Form → Bool
+are_whole [] = true
+are_whole (form ∷ forms) = is_whole form.kind && are_whole forms
+
+one_whole : {kind : Kind} {text : List ℕ} {o : Option Operand} → is_whole kind ≡ true → SpellsOperand kind text o
+    → (v : Option ℕ) × (whole v ≡ o)
+one_whole w (absent kind) = (None, refl)
+one_whole w (a_value text z v) = absurd cc
+one_whole w (a_whole most text n h from) = (Some n, refl)
+one_whole w a_key = absurd cc
+
+pub wholes : {forms : List Form} {parts : List (List ℕ)} {os : List (Option Operand)} → are_whole forms ≡ true
+    → SpellsAll forms parts os → (values : List (Option ℕ)) × (map whole values ≡ os)
+wholes w no_form = ([], refl)
+wholes w (stands form forms parts o os listed given here others) =
+    let a = and_parts (is_whole form.kind) (are_whole forms) w in
+    let v = one_whole a.0 here in
+    let vs = wholes a.1 others in
+    (v.0 ∷ vs.0, rw (v.1, vs.1) refl)
+wholes w (unwritten form forms os p others) = wholes (and_parts (is_whole form.kind) (are_whole forms) w).1 others

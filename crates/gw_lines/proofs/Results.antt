@@ -1,0 +1,38 @@
+-- What a step of reading gives: one thing, or one fault.
+use Rattle.std.proofs.Common.{◌≡◌, Option, Some, Result, Ok, Err, sym, ◌∙◌}
+use Rattle.gw_lines.specs.declared.fault.LineFault.{LineFault}
+use Rattle.gw_lines.specs.declared.fault.LineFault.TheVariants as faults
+use Rattle.gw_lines.specs.Reading.{OrMemory}
+
+abbrev pub some : {A : Type 0} → A → Option A
+some x = Some x
+
+pub some_is : {A : Type 0} (x y : A) → some x ≡ some y → x ≡ y
+some_is x y e = cc
+
+abbrev pub done : {A : Type 0} → A → Result A LineFault
+done x = Ok x
+
+abbrev pub failed : {A : Type 0} → LineFault → Result A LineFault
+failed f = Err f
+
+pub ok_is : {A : Type 0} (x y : A) → done x ≡ done y → x ≡ y
+ok_is x y e = cc
+
+pub err_is : {A : Type 0} (r : Result A LineFault) (f g : LineFault) → r ≡ Err f → r ≡ Err g → f ≡ g
+err_is {A} r f g h k = let e : failed {A = A} f ≡ failed g = sym h ∙ k in cc
+
+pub not_both : {A B : Type 0} (r : Result A LineFault) (x : A) (f : LineFault) → r ≡ Ok x → r ≡ Err f → B
+not_both r x f h k = absurd (let e : done x ≡ Err f = sym h ∙ k in cc)
+
+-- what follows from a fact follows unless memory ran out
+pub or_memory : (f : LineFault) {P Q : Type 0} → (P → Q) → OrMemory f P → OrMemory f Q
+or_memory faults.Memory on h = tt
+or_memory faults.TooLong on h = on h
+or_memory faults.BadByte on h = on h
+or_memory faults.UnknownVerb on h = on h
+or_memory faults.BadLabel on h = on h
+or_memory (faults.BadOperand n) on h = on h
+or_memory (faults.MissingOperand n) on h = on h
+or_memory (faults.ExtraOperand n) on h = on h
+or_memory faults.BadPairs on h = on h

@@ -1,0 +1,73 @@
+-- A statement is made of its operands, and operands of a verb's forms make a statement. A verb has a row in `built` and a row
+-- in `made`.
+use Rattle.std.proofs.Common.{◌≡◌, ℕ, true, List, [], ◌∷◌, Option, Some, None, refl, ap, subst}
+use Rattle.std.specs.Prelude.{map}
+use Rattle.gw_names.specs.declared.verb.Verb.{Verb}
+use Rattle.gw_names.specs.declared.verb.Verb.TheVariants as verbs
+use Rattle.gw_expr.specs.Term.{Term}
+use Rattle.gw_meaning.specs.declared.statement.Block.TheVariants as blocks
+use Rattle.gw_meaning.specs.declared.statement.Command.TheVariants as commands
+use Rattle.gw_meaning.specs.declared.statement.Body.{Body}
+use Rattle.gw_meaning.specs.declared.statement.Body.TheVariants as bodies
+use Rattle.gw_meaning.specs.Statements.{verb_of_body}
+use Rattle.gw_lines.specs.declared.form.Form.{Form}
+use Rattle.gw_lines.specs.declared.operand.Operand.{Operand}
+use Rattle.gw_lines.specs.Forms.{forms_of, value, whole, fields_of}
+use Rattle.gw_lines.specs.Bodies.{value_in, whole_in, body_with}
+use Rattle.gw_lines.specs.Spelling.{SpellsAll}
+use Rattle.gw_lines.proofs.Fields.{Row, row_operands, have_places, row, wholes}
+
+value_back : (v : Option Term) → value_in (value v) ≡ v
+value_back (Some t) = refl
+value_back None = refl
+
+wholes_back : (values : List (Option ℕ)) → map whole_in (map whole values) ≡ values
+wholes_back [] = refl
+wholes_back (Some n ∷ values) = ap (λ (x : List (Option ℕ)). Some n ∷ x) (wholes_back values)
+wholes_back (None ∷ values) = ap (λ (x : List (Option ℕ)). None ∷ x) (wholes_back values)
+
+-- a statement is made of its operands
+pub built : (body : Body) → body_with (verb_of_body body) (fields_of body) ≡ Some body
+unfolding body_with
+built (bodies.Block (blocks.Generate mean range offset limit priority)) =
+    rw (value_back mean, value_back range, value_back offset, value_back limit, value_back priority) refl
+built (bodies.Block (blocks.Advance mean range)) = rw (value_back mean, value_back range) refl
+built (bodies.Block (blocks.Terminate count)) = rw (value_back count) refl
+built (bodies.Command (commands.Start count)) = refl
+built (bodies.Command (commands.Rmult values)) = rw (wholes_back values) refl
+
+-- ---- each verb's forms make a statement
+
+pub record Made (verb : Verb) (os : List (Option Operand)) : Type 0 where
+  pub body : Body
+  pub verb_is : verb_of_body body ≡ verb
+  pub fields : fields_of body ≡ os
+
+abbrev MadeOf : Verb → Option (List Form) → Type 0
+MadeOf verb None = Unit {0}
+MadeOf verb (Some forms) = (parts : List (List ℕ)) (os : List (Option Operand)) → SpellsAll forms parts os → Made verb os
+
+of_row : (verb : Verb) (forms : List Form) → have_places forms ≡ true
+    → ((r : Row forms) → Made verb (row_operands forms r))
+    → (parts : List (List ℕ)) (os : List (Option Operand)) → SpellsAll forms parts os → Made verb os
+of_row verb forms p make parts os s =
+    let r = row p s in subst (λ (x : List (Option Operand)). Made verb x) r.1 (make r.0)
+
+makes : (body : Body) {os : List (Option Operand)} → fields_of body ≡ os → Made (verb_of_body body) os
+makes body e = record { body = body; verb_is = refl; fields = e }
+
+made : (verb : Verb) → MadeOf verb (forms_of verb)
+made verbs.Generate = of_row verbs.Generate _ refl (λ (m, (r, (o, (l, (p, u))))).
+    (makes (bodies.Block (blocks.Generate m r o l p)) refl))
+made verbs.Advance = of_row verbs.Advance _ refl (λ (m, (r, u)). makes (bodies.Block (blocks.Advance m r)) refl)
+made verbs.Terminate = of_row verbs.Terminate _ refl (λ (c, u). makes (bodies.Block (blocks.Terminate c)) refl)
+made verbs.Start = of_row verbs.Start _ refl (λ (c, (q, u)). makes (bodies.Command (commands.Start c)) refl)
+made verbs.Rmult = λ parts os s. (let vs = wholes refl s in makes (bodies.Command (commands.Rmult vs.0)) vs.1)
+made verb = tt
+
+-- operands of a verb's forms make a statement
+pub made_with : (verb : Verb) (forms : List Form) {parts : List (List ℕ)} {os : List (Option Operand)} → forms_of verb ≡ Some forms
+    → SpellsAll forms parts os → Made verb os
+made_with verb forms {parts} {os} e s =
+    let m : MadeOf verb (Some forms) = subst (λ (x : Option (List Form)). MadeOf verb x) e (made verb) in
+    m parts os s

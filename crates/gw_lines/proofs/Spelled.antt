@@ -1,0 +1,275 @@
+-- Operands by their forms: each list of parts spells operands or has a first fault, and what it spells, or its fault, is what
+-- reading gives.
+use Rattle.std.proofs.Common.{◌≡◌, ℕ, zero, suc, ◌+◌, ◌≤◌, ◌<◌, true, false, List, [], ◌∷◌, ◌++◌, length, Option, Some, None, Ok, Err, refl, sym, ap, subst, ◌⊎◌, inl, inr, arith}
+use Rattle.std.specs.Prelude.{ℤ, option_map, codes}
+use Rattle.std.specs.Str.{bytes_eq}
+use Rattle.std.proofs.lemmas.Bool.{cases_Bool}
+use Rattle.std.proofs.lemmas.Slice.Eq.{bytes_eq-Decides}
+use Rattle.gw_expr.specs.Term.{Constant}
+use Rattle.gw_lines.specs.declared.fault.LineFault.{LineFault}
+use Rattle.gw_lines.specs.declared.fault.LineFault.TheVariants as faults
+use Rattle.gw_lines.specs.declared.form.Kind.{Kind}
+use Rattle.gw_lines.specs.declared.form.Kind.TheVariants as kinds
+use Rattle.gw_lines.specs.declared.form.Presence.{Presence}
+use Rattle.gw_lines.specs.declared.form.Presence.TheVariants as presences
+use Rattle.gw_lines.specs.declared.form.Form.{Form}
+use Rattle.gw_lines.specs.declared.operand.Operand.{Operand}
+use Rattle.gw_lines.specs.declared.operand.Operand.TheVariants as operands
+use Rattle.gw_lines.specs.Numbers.{number_of, value_of, from_one}
+use Rattle.gw_lines.specs.Forms.{is_listed}
+use Rattle.gw_lines.specs.Operands.{operand_in, listed_here, each_of, missing_of, has_more, operands_of}
+use Rattle.gw_lines.specs.Parts.{goes_on, part_of, others_of, is_missing}
+use Rattle.gw_lines.specs.Spelling.{SpellsOperand, absent, a_value, a_whole, a_key, SpellsAll, no_form, stands, unwritten}
+use Rattle.gw_lines.specs.Faulty.{Lawful, FirstBad, bad_here, bad_later, AllLawful, FirstMissing, missing_here, missing_later, FaultOfAll, bad_operand, extra_operand, missing_operand}
+use Rattle.gw_lines.proofs.Results.{some, some_is}
+use Rattle.gw_lines.proofs.Fronts.{nonzero}
+use Rattle.gw_lines.proofs.Digits.{number_found, number_again, value_found, value_again, mapped}
+
+-- ---- one operand: what a further kind adds
+
+from_one_found : (o : Option ℕ) (n : ℕ) → from_one o ≡ Some n → (o ≡ Some n) × (1 ≤ n)
+from_one_found None n e = absurd cc
+from_one_found (Some zero) n e = absurd cc
+from_one_found (Some (suc m)) n e =
+    let i = some_is (suc m) n (rw (nonzero m) at e) in (ap (λ (x : ℕ). Some x) i, omega arith)
+
+from_one_again : (n : ℕ) → 1 ≤ n → from_one (Some n) ≡ Some n
+from_one_again zero h = absurd (omega arith)
+from_one_again (suc n) h = rw (nonzero n) refl
+
+value_is : (text : List ℕ) (o : Option Operand) → option_map (λ z. some (operands.Value (Constant z))) (value_of text) ≡ Some o
+    → SpellsOperand kinds.Value text o
+value_is text o e =
+    let m = mapped (λ z. some (operands.Value (Constant z))) (value_of text) o e in
+    subst (λ (x : Option Operand). SpellsOperand kinds.Value text x) m.2 (a_value text m.0 (value_found text m.0 m.1))
+
+whole_is : (most : ℕ) (text : List ℕ) (o : Option Operand)
+    → option_map (λ n. some (operands.Whole n)) (from_one (number_of most text)) ≡ Some o
+    → SpellsOperand (kinds.Whole most) text o
+whole_is most text o e =
+    let m = mapped (λ n. some (operands.Whole n)) (from_one (number_of most text)) o e in
+    let f = from_one_found (number_of most text) m.0 m.1 in
+    subst (λ (x : Option Operand). SpellsOperand (kinds.Whole most) text x) m.2
+    (a_whole most text m.0 (number_found most text m.0 f.0) f.1)
+
+abbrev none : Option Operand
+none = None
+
+key_is : (text : List ℕ) (o : Option Operand) → bytes_eq text (codes "NP") ≡ true → some none ≡ Some o
+    → SpellsOperand kinds.Quiet text o
+key_is text o h e =
+    subst (λ (t : List ℕ). SpellsOperand kinds.Quiet t o) (sym ((bytes_eq-Decides text (codes "NP")).0 h))
+    (subst (λ (x : Option Operand). SpellsOperand kinds.Quiet (codes "NP") x) (some_is none o e) a_key)
+
+operand_found : (kind : Kind) (text : List ℕ) (o : Option Operand) → operand_in kind text ≡ Some o
+    → SpellsOperand kind text o
+operand_found kind [] o e = subst (λ (x : Option Operand). SpellsOperand kind [] x) (some_is none o e) (absent kind)
+operand_found kinds.Value (b ∷ bs) o e = value_is (b ∷ bs) o e
+operand_found (kinds.Whole most) (b ∷ bs) o e = whole_is most (b ∷ bs) o e
+operand_found kinds.Quiet (b ∷ bs) o e =
+    elim (cases_Bool (bytes_eq (b ∷ bs) (codes "NP"))) [
+      | inl holds ↦ key_is (b ∷ bs) o holds (rw holds at e)
+      | inr fails ↦ absurd (let f = rw fails at e in cc)
+    ]
+
+value_in_again : (text : List ℕ) (z : ℤ) → value_of text ≡ Some z
+    → operand_in kinds.Value text ≡ Some (Some (operands.Value (Constant z)))
+value_in_again [] z e = absurd cc
+value_in_again (b ∷ bs) z e = rw e refl
+
+whole_in_again : (most : ℕ) (text : List ℕ) (n : ℕ) → number_of most text ≡ Some n → 1 ≤ n
+    → operand_in (kinds.Whole most) text ≡ Some (Some (operands.Whole n))
+whole_in_again most [] n e h = absurd cc
+whole_in_again most (b ∷ bs) n e h = rw (e, from_one_again n h) refl
+
+operand_again : {kind : Kind} {text : List ℕ} {o : Option Operand} → SpellsOperand kind text o
+    → operand_in kind text ≡ Some o
+operand_again (absent kind) = refl
+operand_again (a_value text z v) = value_in_again text z (value_again v)
+operand_again (a_whole most text n h from) = whole_in_again most text n (number_again most text n h) from
+operand_again a_key = refl
+
+-- ---- one part
+
+-- a part that is not listed is the empty one behind the last
+unlisted : (presence : Presence) (parts : List (List ℕ)) → is_listed presence (goes_on parts) ≡ false
+    → (presence ≡ presences.Written) × (parts ≡ [])
+unlisted presences.Written [] e = (refl, refl)
+unlisted presences.Written (part ∷ parts) e = absurd cc
+unlisted presence parts e = absurd cc
+
+lawful_by : (kind : Kind) (text : List ℕ) (r : Option (Option Operand)) → operand_in kind text ≡ r
+    → Lawful kind text ⊎ ((operand_in kind text ≡ None) × (Lawful kind text → ⊥))
+lawful_by kind text (Some o) e = inl (o, operand_found kind text o e)
+lawful_by kind text None e = inr (e, λ l. let f = operand_again l.1 in cc)
+
+lawful_or_not : (kind : Kind) (text : List ℕ)
+    → Lawful kind text ⊎ ((operand_in kind text ≡ None) × (Lawful kind text → ⊥))
+lawful_or_not kind text = lawful_by kind text (operand_in kind text) refl
+
+here_lawful : (form : Form) (n : ℕ) (parts : List (List ℕ)) → Lawful form.kind (part_of parts)
+    → (os : List (Option Operand)) × (listed_here form n (goes_on parts) (part_of parts) ≡ Ok os)
+here_lawful form n parts l =
+    elim (cases_Bool (is_listed form.presence (goes_on parts))) [
+      | inl listed ↦ (l.0 ∷ [], rw (listed, operand_again l.1) refl)
+      | inr other ↦ ([], rw other refl)
+    ]
+
+here_bad : (form : Form) (n : ℕ) (parts : List (List ℕ)) → (Lawful form.kind (part_of parts) → ⊥)
+    → listed_here form n (goes_on parts) (part_of parts) ≡ Err (faults.BadOperand n)
+here_bad form n parts never =
+    elim (lawful_or_not form.kind (part_of parts)) [
+      | inl l ↦ absurd (never l)
+      | inr u ↦ elim (cases_Bool (is_listed form.presence (goes_on parts))) [
+        | inl listed ↦ rw (listed, u.0) refl
+        | inr other ↦
+            let none : part_of parts ≡ [] = ap part_of (unlisted form.presence parts other).1 in
+            absurd (never (subst (λ (t : List ℕ). Lawful form.kind t) (sym none) (None, absent form.kind)))
+      ]
+    ]
+
+-- ---- all parts
+
+lawful_or_bad : (n : ℕ) (forms : List Form) (parts : List (List ℕ))
+    → AllLawful forms parts ⊎ ((m : ℕ) × FirstBad n forms parts m)
+lawful_or_bad n [] parts = inl tt
+lawful_or_bad n (form ∷ forms) parts =
+    elim (lawful_or_not form.kind (part_of parts)) [
+      | inr u ↦ inr (n, bad_here n form forms parts u.1)
+      | inl l ↦ elim (lawful_or_bad (n + 1) forms (others_of parts)) [
+        | inl all ↦ inl (l, all)
+        | inr b ↦ inr (b.0, bad_later n form forms parts b.0 l b.1)
+      ]
+    ]
+
+each_bad : {n : ℕ} {forms : List Form} {parts : List (List ℕ)} {m : ℕ} → FirstBad n forms parts m
+    → each_of n forms parts ≡ Err (faults.BadOperand m)
+each_bad (bad_here n form forms parts never) = rw (here_bad form n parts never) refl
+each_bad (bad_later n form forms parts m l b) = rw ((here_lawful form n parts l).1, each_bad b) refl
+
+each_lawful : (n : ℕ) (forms : List Form) (parts : List (List ℕ)) → AllLawful forms parts
+    → (os : List (Option Operand)) × (each_of n forms parts ≡ Ok os)
+each_lawful n [] parts all = ([], refl)
+each_lawful n (form ∷ forms) parts all =
+    let here = here_lawful form n parts all.0 in
+    let others = each_lawful (n + 1) forms (others_of parts) all.1 in
+    (here.0 ++ others.0, rw (here.1, others.1) refl)
+
+-- no part is missing
+abbrev NoneMissing : List Form → List (List ℕ) → Type 0
+NoneMissing [] parts = Unit {0}
+NoneMissing (form ∷ forms) parts = (is_missing form (part_of parts) ≡ false) × NoneMissing forms (others_of parts)
+
+missing_or_not : (n : ℕ) (forms : List Form) (parts : List (List ℕ))
+    → NoneMissing forms parts ⊎ ((m : ℕ) × FirstMissing n forms parts m)
+missing_or_not n [] parts = inl tt
+missing_or_not n (form ∷ forms) parts =
+    elim (cases_Bool (is_missing form (part_of parts))) [
+      | inl here ↦ inr (n, missing_here n form forms parts here)
+      | inr given ↦ elim (missing_or_not (n + 1) forms (others_of parts)) [
+        | inl none ↦ inl (given, none)
+        | inr m ↦ inr (m.0, missing_later n form forms parts m.0 given m.1)
+      ]
+    ]
+
+missing_again : {n : ℕ} {forms : List Form} {parts : List (List ℕ)} {m : ℕ} → FirstMissing n forms parts m
+    → missing_of n forms parts ≡ Some m
+missing_again (missing_here n form forms parts here) = rw here refl
+missing_again (missing_later n form forms parts m given later) = rw given (missing_again later)
+
+more_found : (forms : List Form) (parts : List (List ℕ)) → has_more forms parts ≡ true → length forms < length parts
+more_found [] [] e = absurd cc
+more_found [] (part ∷ parts) e = omega arith
+more_found (form ∷ forms) [] e = let h = more_found forms [] e in absurd (omega arith)
+more_found (form ∷ forms) (part ∷ parts) e = let h = more_found forms parts e in omega arith
+
+no_more_found : (forms : List Form) (parts : List (List ℕ)) → has_more forms parts ≡ false
+    → length parts ≤ length forms
+no_more_found [] [] e = omega arith
+no_more_found [] (part ∷ parts) e = absurd cc
+no_more_found (form ∷ forms) [] e = omega arith
+no_more_found (form ∷ forms) (part ∷ parts) e = let h = no_more_found forms parts e in omega arith
+
+more_again : (forms : List Form) (parts : List (List ℕ)) → length forms < length parts → has_more forms parts ≡ true
+more_again forms parts lt =
+    elim (cases_Bool (has_more forms parts)) [
+      | inl more ↦ more
+      | inr none ↦ let le = no_more_found forms parts none in absurd (omega arith)
+    ]
+
+no_more_again : (forms : List Form) (parts : List (List ℕ)) → length parts ≤ length forms
+    → has_more forms parts ≡ false
+no_more_again forms parts le =
+    elim (cases_Bool (has_more forms parts)) [
+      | inl more ↦ let lt = more_found forms parts more in absurd (omega arith)
+      | inr none ↦ none
+    ]
+
+-- lawful parts, none of them too many or missing, spell operands
+lawful_spells : (forms : List Form) (parts : List (List ℕ)) → AllLawful forms parts → NoneMissing forms parts
+    → has_more forms parts ≡ false → (os : List (Option Operand)) × SpellsAll forms parts os
+lawful_spells [] [] all none e = ([], no_form)
+lawful_spells [] (part ∷ parts) all none e = absurd cc
+lawful_spells (form ∷ forms) parts all none e =
+    let others = lawful_spells forms (others_of parts) all.1 none.1 e in
+    elim (cases_Bool (is_listed form.presence (goes_on parts))) [
+      | inl listed ↦ (all.0.0 ∷ others.0, stands form forms parts all.0.0 others.0 listed none.0 all.0.1 others.1)
+      | inr other ↦
+          let u = unlisted form.presence parts other in
+          let behind = subst (λ (t : List (List ℕ)). SpellsAll forms t others.0) (ap others_of u.1) others.1 in (
+            others.0,
+            subst (λ (t : List (List ℕ)). SpellsAll (form ∷ forms) t others.0) (sym u.1)
+                (unwritten form forms others.0 u.0 behind),
+          )
+    ]
+
+each_spelled : {forms : List Form} {parts : List (List ℕ)} {os : List (Option Operand)} (n : ℕ) → SpellsAll forms parts os
+    → each_of n forms parts ≡ Ok os
+each_spelled n no_form = refl
+each_spelled n (stands form forms parts o os listed given here others) =
+    rw (listed, operand_again here, each_spelled (n + 1) others) refl
+each_spelled n (unwritten form forms os w others) = rw (w, each_spelled (n + 1) others) refl
+
+none_missing : {forms : List Form} {parts : List (List ℕ)} {os : List (Option Operand)} (n : ℕ) → SpellsAll forms parts os
+    → missing_of n forms parts ≡ None
+none_missing n no_form = refl
+none_missing n (stands form forms parts o os listed given here others) = rw given (none_missing (n + 1) others)
+none_missing n (unwritten form forms os w others) = rw w (none_missing (n + 1) others)
+
+none_more : {forms : List Form} {parts : List (List ℕ)} {os : List (Option Operand)} → SpellsAll forms parts os
+    → has_more forms parts ≡ false
+none_more no_form = refl
+none_more (stands form forms parts o os listed given here others) = none_more others
+none_more (unwritten form forms os w others) = none_more others
+
+-- ---- what reading gives
+
+pub operands_spelled : {forms : List Form} {parts : List (List ℕ)} {os : List (Option Operand)} → SpellsAll forms parts os
+    → operands_of forms parts ≡ Ok os
+unfolding operands_of
+operands_spelled s = rw (each_spelled 1 s, none_more s, none_missing 1 s) refl
+
+pub operands_faulted : {forms : List Form} {parts : List (List ℕ)} {f : LineFault} → FaultOfAll forms parts f
+    → operands_of forms parts ≡ Err f
+unfolding operands_of
+operands_faulted (bad_operand forms parts n b) = rw (each_bad b) refl
+operands_faulted (extra_operand forms parts all lt) = rw ((each_lawful 1 forms parts all).1, more_again forms parts lt) refl
+operands_faulted (missing_operand forms parts n all le m) =
+    rw ((each_lawful 1 forms parts all).1, no_more_again forms parts le, missing_again m) refl
+
+-- each list of parts spells operands, or has a first fault
+pub operands_verdict : (forms : List Form) (parts : List (List ℕ))
+    → ((os : List (Option Operand)) × SpellsAll forms parts os) ⊎ ((f : LineFault) × FaultOfAll forms parts f)
+operands_verdict forms parts =
+    elim (lawful_or_bad 1 forms parts) [
+      | inr b ↦ inr (faults.BadOperand b.0, bad_operand forms parts b.0 b.1)
+      | inl all ↦ elim (cases_Bool (has_more forms parts)) [
+        | inl more ↦
+            inr (faults.ExtraOperand (length forms + 1), extra_operand forms parts all (more_found forms parts more))
+        | inr end ↦ elim (missing_or_not 1 forms parts) [
+          | inr m ↦
+              inr (faults.MissingOperand m.0, missing_operand forms parts m.0 all (no_more_found forms parts end) m.1)
+          | inl none ↦ inl (lawful_spells forms parts all none end)
+        ]
+      ]
+    ]

@@ -1,0 +1,88 @@
+-- The table of operands: for each verb what its operands may be, and which operands a statement has. (Manual; the
+-- operand table of the profile.)
+use Rattle.std.specs.Prelude.{ℕ, Bool, true, false, ◌&&◌, List, [], ◌∷◌, Option, Some, None, map, option_map, slice_get}
+use Rattle.gw_names.specs.declared.verb.Verb.{Verb}
+use Rattle.gw_names.specs.declared.verb.Verb.TheVariants as verbs
+use Rattle.gw_expr.specs.Term.{Term}
+use Rattle.gw_meaning.specs.declared.statement.Block.{Block}
+use Rattle.gw_meaning.specs.declared.statement.Block.TheVariants as blocks
+use Rattle.gw_meaning.specs.declared.statement.Command.{Command}
+use Rattle.gw_meaning.specs.declared.statement.Command.TheVariants as commands
+use Rattle.gw_meaning.specs.declared.statement.Body.{Body}
+use Rattle.gw_meaning.specs.declared.statement.Body.TheVariants as bodies
+use Rattle.gw_lines.specs.declared.form.Kind.TheVariants as kinds
+use Rattle.gw_lines.specs.declared.form.Presence.{Presence}
+use Rattle.gw_lines.specs.declared.form.Presence.TheVariants as presences
+use Rattle.gw_lines.specs.declared.form.Form.{Form}
+use Rattle.gw_lines.specs.declared.operand.Operand.{Operand}
+use Rattle.gw_lines.specs.declared.operand.Operand.TheVariants as operands
+
+-- a value, or nothing
+abbrev pub a_value : Form
+a_value = record { kind = kinds.Value; presence = presences.Optional }
+
+-- how many terminations a run takes
+abbrev pub a_count : Form
+a_count = record { kind = kinds.Whole 1000000000; presence = presences.Required }
+
+-- `NP`, or nothing
+abbrev pub a_quiet : Form
+a_quiet = record { kind = kinds.Quiet; presence = presences.Optional }
+
+-- what a stream is set to, or nothing
+abbrev pub a_seed : Form
+a_seed = record { kind = kinds.Whole 2147483646; presence = presences.Written }
+
+-- the forms of each verb's operands, for the verbs that are read so far
+abbrev pub forms_of : Verb → Option (List Form)
+forms_of verbs.Generate = Some (a_value ∷ a_value ∷ a_value ∷ a_value ∷ a_value ∷ [])
+forms_of verbs.Advance = Some (a_value ∷ a_value ∷ [])
+forms_of verbs.Terminate = Some (a_value ∷ [])
+forms_of verbs.Start = Some (a_count ∷ a_quiet ∷ [])
+forms_of verbs.Rmult = Some (a_seed ∷ a_seed ∷ a_seed ∷ a_seed ∷ a_seed ∷ a_seed ∷ a_seed ∷ [])
+forms_of verb = None
+
+abbrev pub value : Option Term → Option Operand
+value v = option_map (λ t. operands.Value t) v
+
+abbrev pub whole : Option ℕ → Option Operand
+whole v = option_map (λ n. operands.Whole n) v
+
+-- the operands that a block has, in the order of its forms
+abbrev pub fields_of_block : Block → List (Option Operand)
+fields_of_block (blocks.Generate mean range offset limit priority) =
+    value mean ∷ value range ∷ value offset ∷ value limit ∷ value priority ∷ []
+fields_of_block (blocks.Advance mean range) = value mean ∷ value range ∷ []
+fields_of_block (blocks.Terminate count) = value count ∷ []
+
+-- the operands that a command has: `NP` leaves no trace
+abbrev pub fields_of_command : Command → List (Option Operand)
+fields_of_command (commands.Start count) = Some (operands.Whole count) ∷ None ∷ []
+fields_of_command (commands.Rmult values) = map whole values
+
+-- the operands that a statement has
+abbrev pub fields_of : Body → List (Option Operand)
+fields_of (bodies.Block block) = fields_of_block block
+fields_of (bodies.Command command) = fields_of_command command
+
+abbrev pub is_no_operand : Option (Option Operand) → Bool
+is_no_operand (Some (Some operand)) = false
+is_no_operand o = true
+
+-- whether there is no operand at a place, from 0
+abbrev pub is_absent : List (Option Operand) → ℕ → Bool
+is_absent os n = is_no_operand (slice_get os n)
+
+-- whether operands lack one, though none of them is required: a GENERATE has a mean or a limit
+abbrev pub lacks : Verb → List (Option Operand) → Bool
+lacks verbs.Generate os = is_absent os 0 && is_absent os 3
+lacks verb os = false
+
+-- whether the statement lists an operand: more says that the list goes on here
+abbrev pub is_listed : Presence → Bool → Bool
+is_listed presences.Written more = more
+is_listed presence more = true
+
+abbrev pub is_required : Presence → Bool
+is_required presences.Required = true
+is_required presence = false

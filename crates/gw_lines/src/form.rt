@@ -1,0 +1,112 @@
+ghost use Rattle.std.specs.Prelude.{◌≡◌, ◌≤◌, IfSome, length};
+ghost use Rattle.std.specs.Option.{option_copied};
+ghost use Rattle.gw_lines.specs.Forms.{forms_of, lacks, is_listed, is_required, is_absent};
+
+use crate::operand::Operand;
+use gw_names::Verb;
+
+/// What an operand may be.
+#[derive(Clone, Copy, Debug, PartialEq, Eq)]
+pub enum Kind {
+    /// A value.
+    Value,
+    /// A whole number from 1 to `most`.
+    Whole { most: u32 },
+    /// The key word `NP`, which has no effect.
+    Quiet,
+}
+
+/// Whether an operand may be absent.
+#[derive(Clone, Copy, Debug, PartialEq, Eq)]
+pub enum Presence {
+    Required,
+    Optional,
+    /// It may be empty, and the statement lists as many operands as are written.
+    Written,
+}
+
+/// What one operand of a verb may be.
+#[derive(Clone, Copy, Debug, PartialEq, Eq)]
+pub struct Form {
+    pub kind: Kind,
+    pub presence: Presence,
+}
+
+/// The forms of a verb's operands, if the verb is read so far.
+pub fn forms_of(verb: Verb) -> Option<&'static [Form]>
+    ensures forms { option_copied result ≡ forms_of verb }
+    ensures few { IfSome result (λ f. length f.now ≤ 7) }
+{
+    match verb {
+        Verb::Generate => Some(&[VALUE, VALUE, VALUE, VALUE, VALUE]),
+        Verb::Advance => Some(&[VALUE, VALUE]),
+        Verb::Terminate => Some(&[VALUE]),
+        Verb::Start => Some(&[COUNT, QUIET]),
+        Verb::Rmult => Some(&[SEED, SEED, SEED, SEED, SEED, SEED, SEED]),
+        _ => None,
+    }
+}
+
+const VALUE: Form = Form {
+    kind: Kind::Value,
+    presence: Presence::Optional,
+};
+
+const COUNT: Form = Form {
+    kind: Kind::Whole {
+        most: 1_000_000_000,
+    },
+    presence: Presence::Required,
+};
+
+const QUIET: Form = Form {
+    kind: Kind::Quiet,
+    presence: Presence::Optional,
+};
+
+const SEED: Form = Form {
+    kind: Kind::Whole {
+        most: 2_147_483_646,
+    },
+    presence: Presence::Written,
+};
+
+/// Whether the operands lack one, though none of them is required: a GENERATE has a mean or a limit.
+pub fn lacks(verb: Verb, operands: &[Option<Operand>]) -> bool
+    ensures { result ≡ lacks verb operands.now }
+{
+    match verb {
+        Verb::Generate => is_absent(operands, 0) && is_absent(operands, 3),
+        _ => false,
+    }
+}
+
+fn is_absent(operands: &[Option<Operand>], place: usize) -> bool
+    ensures { result ≡ is_absent operands.now place }
+{
+    match operands.get(place) {
+        Some(Some(_)) => false,
+        _ => true,
+    }
+}
+
+impl Presence {
+    /// Whether the statement lists the operand: more says that the list goes on here.
+    pub fn is_listed(self, more: bool) -> bool
+        ensures { result ≡ is_listed self more }
+    {
+        match self {
+            Presence::Required | Presence::Optional => true,
+            Presence::Written => more,
+        }
+    }
+
+    pub fn is_required(self) -> bool
+        ensures { result ≡ is_required self }
+    {
+        match self {
+            Presence::Required => true,
+            Presence::Optional | Presence::Written => false,
+        }
+    }
+}

@@ -1,0 +1,79 @@
+-- Values and draws. An evaluation goes from the streams before it to its result and the streams behind it, so draws come
+-- in the order of evaluation. (Manual: operands, and a time of A plus or minus B. Our own: whole numbers, what a draw
+-- stands for, and that the seed is asked for at a stream's first draw alone.)
+use Rattle.std.specs.Prelude.{ℕ, zero, suc, ◌+◌, ◌-◌, ◌*◌, ◌/◌, Bool, true, false, List, Option, Some, None, ℤ, pos, ◌+ℤ◌, ◌-ℤ◌, if◌then◌else◌}
+use Rattle.gw_nums.specs.Range.{is_value, is_negative, magnitude}
+use Rattle.gw_expr.specs.Term.{Term, Constant}
+use Rattle.gw_expr.specs.declared.stop.Stop.{Stop}
+use Rattle.gw_expr.specs.declared.stop.Stop.TheVariants.{NegativeTime, Range}
+use Rattle.gw_streams.specs.declared.stream.Stream.{Stream}
+use Rattle.gw_streams.specs.declared.stream.Stream.TheVariants as streams
+use Rattle.gw_streams.specs.Draws.{next_of, start_of, stream_at, with_stream}
+use Rattle.gw_meaning.specs.declared.item.Item.{Item}
+use Rattle.gw_meaning.specs.declared.item.Item.TheVariants as items
+use Rattle.gw_meaning.specs.declared.item.End.{End}
+use Rattle.gw_meaning.specs.declared.item.End.TheVariants as ends
+use Rattle.gw_meaning.specs.Machine.{Machine}
+use Rattle.gw_meaning.specs.Questions.{Answer, Prog, Gives, Ends, Asks, ◌>>=◌}
+
+-- an evaluation
+abbrev pub Eval : Type 0 → Type 0
+Eval A = List Stream → Prog (A × List Stream)
+
+-- a result without a draw, an end, and a question with what its answer leads to
+abbrev pub gives : {A : Type 0} → A → Eval A
+gives a = λ streams. Gives (a, streams)
+
+abbrev pub ends_with : {A : Type 0} → End → Eval A
+ends_with end = λ streams. Ends end
+
+abbrev pub asks : {A : Type 0} → (i : Item) → (Answer i → Eval A) → Eval A
+asks i k = λ streams. Asks i (λ answer. k answer streams)
+
+infixl 10 ◌~>◌
+-- one evaluation, and with its result another
+abbrev pub ◌~>◌ : {A B : Type 0} → Eval A → (A → Eval B) → Eval B
+p ~> f = λ streams. p streams >>= (λ r. f r.0 r.1)
+
+-- an end where a test holds
+abbrev pub stops_if : {A : Type 0} → Bool → Stop → Eval A → Eval A
+stops_if true stop p = ends_with (ends.Error stop)
+stops_if false stop p = p
+
+-- the number that a stream draws
+abbrev pub number_of_draw : Stream → Prog ℕ
+number_of_draw (streams.Set value) = Asks items.Seed (λ seed. Gives (next_of (start_of value seed)))
+number_of_draw (streams.At x) = Gives (next_of x)
+
+-- a draw from stream j
+abbrev pub draw : ℕ → Eval ℕ
+draw j = λ before. number_of_draw (stream_at before j) >>= (λ x. Gives (x, with_stream before j (streams.At x)))
+
+-- the value of an operand in a state
+abbrev pub value_prog : Machine → Term → Eval ℤ
+value_prog s (Constant value) = gives value
+
+-- the value of an operand that may be absent, which then counts as 0
+abbrev pub value_or_zero : Machine → Option Term → Eval ℤ
+value_or_zero s None = gives (pos 0)
+value_or_zero s (Some term) = value_prog s term
+
+-- where x, from 1 to 2,147,483,646, falls when these are spread evenly over the whole numbers from mean - range to
+-- mean + range
+abbrev pub spread : ℤ → ℕ → ℕ → ℤ
+spread mean range x = (mean -ℤ pos range) +ℤ pos ((x - 1) * (2 * range + 1) / 2147483646)
+
+-- a number, where it is a value
+abbrev pub in_range : ℤ → Eval ℤ
+in_range z = if is_value z then gives z else ends_with (ends.Error Range)
+
+-- a time of mean plus or minus range, which is drawn from stream 1 where the range is above 0
+abbrev pub sample_within : ℤ → ℕ → Eval ℤ
+sample_within mean zero = gives mean
+sample_within mean (suc n) = draw 1 ~> (λ x. in_range (spread mean (suc n) x))
+
+abbrev pub sample : ℤ → ℤ → Eval ℤ
+sample mean range = stops_if (is_negative range) NegativeTime (sample_within mean (magnitude range))
+
+abbrev pub time_prog : Machine → Option Term → Option Term → Eval ℤ
+time_prog s mean range = value_or_zero s mean ~> (λ m. value_or_zero s range ~> (λ r. sample m r))
