@@ -1,12 +1,10 @@
 -- A version with its places renamed is answered alike, and so is the version made anew.
-use Rattle.std.proofs.Common.{◌≡◌, ℕ, zero, suc, ◌+◌, ◌<◌, ◌&&◌, ◌||◌, nat_eq, nat_lt, Bool, true, false, cond, List, [], ◌∷◌, length, filter, Option, Some, None, Result, Ok, Err, refl, ap, ap₂, is_some, option_map, sym, subst, ◌∙◌, arith}
-use Rattle.std.proofs.lemmas.Bool.{ne_eqb}
+use Rattle.std.proofs.Common.{◌≡◌, ℕ, zero, suc, ◌+◌, ◌&&◌, ◌||◌, nat_eq, nat_lt, Bool, true, false, cond, List, [], ◌∷◌, length, filter, Option, Some, None, Result, Ok, Err, refl, ap, ap₂, is_some, option_map, ◌∙◌, arith}
 use Rattle.gw_meaning.specs.declared.item.End.{End}
 use Rattle.gw_meaning.specs.declared.item.Outcome.{Outcome}
 use Rattle.gw_meaning.specs.declared.statement.Statement.{Statement}
 use Rattle.gw_meaning.specs.declared.statement.Numbered.{Numbered}
 use Rattle.gw_meaning.specs.Listing.{Listing, block_of, block_of_body, has_label, labelled_in, is_start, starts, seed_at, seed_in}
-use Rattle.gw_meaning.specs.Numbers.{AreNumbered}
 use Rattle.gw_meaning.specs.Machine.{Machine, zero_state}
 use Rattle.gw_meaning.specs.Step.{step}
 use Rattle.gw_meaning.specs.Point.{outcome_of}
@@ -21,8 +19,8 @@ use Rattle.gw_frame.proofs.RenamedRuns.{renamed_step}
 use Rattle.gw_frame.proofs.Renumbering.{has_renaming}
 use Rattle.gw_report.proofs.Renaming.{renamed_text}
 use Rattle.gw_desk.specs.declared.answer.Answer.TheVariants as answers
-use Rattle.gw_desk.specs.Finding.{Verdict, Point, NoStart, TooLong, with_outcome, at_end, behind, search, verdict}
-use Rattle.gw_desk.specs.Replies.{told, told_of, answer_with, answer_of}
+use Rattle.gw_desk.specs.Finding.{Verdict, Point, NoStart, TooLong, with_outcome, behind, search, verdict}
+use Rattle.gw_desk.specs.Replies.{told, answer_with, answer_of}
 use Rattle.gw_desk.specs.Anew.{anew, SameAnswers, AnsweredAnew, FaultyAnew}
 
 -- a verdict with its state renamed

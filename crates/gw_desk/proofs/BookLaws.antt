@@ -7,7 +7,7 @@ use Rattle.gw_meaning.specs.Numbers.{AreNumbered}
 use Rattle.gw_meaning.specs.Listing.{Listing, seed_in}
 use Rattle.gw_record.specs.Uses.{first_in, nothing_used}
 use Rattle.gw_record.specs.Tape.{Records, blank}
-use Rattle.gw_desk.specs.Book.{Book, IsBook, run_in, IsRunOf, blank_runs}
+use Rattle.gw_desk.specs.Book.{IsBook, run_in, IsRunOf, blank_runs}
 
 nothing_in : (item : Item) → first_in nothing_used item ≡ None
 nothing_in (items.Block place) = refl

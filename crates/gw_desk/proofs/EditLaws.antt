@@ -144,32 +144,41 @@ refuses b e faults.NoSuchReplication room h = (room, h)
 refuses b e faults.ReplicationTwice room h = (room, h)
 refuses b e faults.NoSuchStorage room h = (room, h)
 
--- an edit that is made is accepted, and leaves a desk
-module _ (b : Book) (e : Edit) (u : Listing) (cut runs : List Recording) (all : List Edit) (room : length b.edits < 4096) (made : applied b.version e ≡ Ok u)
-    (h : IsBook b) (rebased : AreRebased b.version e u b.runs cut) (behind : runs ≡ runs_behind b.every u cut) (more : all ≡ b.edits ++ e ∷ []) where
+-- an edit of a desk that is made: the runs are those that it leaves, and it is put behind those before it
+pub record IsMade (b : Book) (e : Edit) (u : Listing) (cut runs : List Recording) (all : List Edit) : Type 0 where
+  pub room : length b.edits < 4096
+  pub made : applied b.version e ≡ Ok u
+  pub desk : IsBook b
+  pub rebased : AreRebased b.version e u b.runs cut
+  pub behind : runs ≡ runs_behind b.every u cut
+  pub more : all ≡ b.edits ++ e ∷ []
+
+-- it is accepted, and leaves a desk
+module _ (b : Book) (e : Edit) (u : Listing) (cut runs : List Recording) (all : List Edit) (m : IsMade b e u cut runs all) where
   abbrev pub edited : Book
   edited = record b { version = u; edits = all; runs = runs }
 
   pub accepts : (n : ℕ) → n ≡ length all → Accepts b e edited n
-  accepts n number = rw behind (record {
-    room = room;
-    version = made;
-    edits = more;
+  accepts n number = rw m.behind (record {
+    room = m.room;
+    version = m.made;
+    edits = m.more;
     number = number;
     every = refl;
     made = refl;
     kept = λ rep a x r was is there.
-        let (s, found, every, kept) = kept_run b.every b.version e u b.runs cut made h.runs rebased rep a x r was is there in
+        let (s, found, every, kept) = kept_run b.every b.version e u b.runs cut m.made m.desk.runs m.rebased rep a x r was is there in
         record { run = s; there = found; every = every; kept = kept };
-    fresh = λ rep x none is. fresh_run b.every b.version e u b.runs cut made h.runs rebased rep x none is;
+    fresh = λ rep x none is. fresh_run b.every b.version e u b.runs cut m.made m.desk.runs m.rebased rep x none is;
   })
 
   pub still_desk : AreNumbered u.lines → IsBook edited
   still_desk numbered =
-      let one_more : length all ≡ length b.edits + 1 = ap length more ∙ length-append b.edits (e ∷ []) in
+      let one_more : length all ≡ length b.edits + 1 = ap length m.more ∙ length-append b.edits (e ∷ []) in
+      let room = m.room in
       record {
-        some = h.some;
+        some = m.desk.some;
         few = omega (arith, room, one_more);
         numbered = numbered;
-        runs = subst (λ xs. AreRuns u b.every xs) (sym behind) (new_runs b.every b.version e u b.runs cut made h.runs rebased);
+        runs = subst (λ xs. AreRuns u b.every xs) (sym m.behind) (new_runs b.every b.version e u b.runs cut m.made m.desk.runs m.rebased);
       }

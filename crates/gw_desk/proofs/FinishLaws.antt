@@ -1,7 +1,6 @@
 -- What the making of missing steps leaves of the desk.
-use Rattle.std.proofs.Common.{◌≡◌, ◌≢◌, ℕ, suc, ◌+◌, ◌-◌, ◌<◌, ◌≤◌, ◌==◌, nat_le, nat_lt, Bool, true, false, cond, List, [], ◌∷◌, length, get_or, set, Some, None, Result, Ok, Err, IfOk, OnOk, refl, sym, ap, subst, ◌∙◌, arith}
+use Rattle.std.proofs.Common.{◌≡◌, ◌≢◌, ℕ, suc, ◌-◌, ◌<◌, ◌≤◌, ◌==◌, nat_lt, Bool, true, false, cond, List, [], ◌∷◌, length, get_or, set, Some, None, Result, Ok, Err, IfOk, refl, sym, ap, subst, ◌∙◌, arith}
 use Rattle.std.proofs.lemmas.Bool.Decides.{nat_tests}
-use Rattle.std.proofs.lemmas.Option.{slice_get-get_or}
 use Rattle.std.specs.List.{position_or_len}
 use Rattle.std.proofs.lemmas.List.Quantifiers.{position-Some}
 use Rattle.std.proofs.lemmas.List.Sums.{fails_before_first}
@@ -16,25 +15,14 @@ use Rattle.gw_desk.specs.declared.recording.Recording.{Recording}
 use Rattle.gw_desk.specs.Looking.{IsOpen}
 use Rattle.gw_desk.specs.Book.{Book, IsBook, run_in, place_in, IsRunOf, AreRuns}
 use Rattle.gw_desk.specs.Finishing.{Finishes, GoesOn}
+use Rattle.gw_desk.specs.Peeking.{IsUnfinished}
+use Rattle.gw_desk.proofs.Looks.{complete_there}
+use Rattle.gw_desk.proofs.PeekLaws.{not_unfinished}
 use Rattle.gw_desk.proofs.RunLaws.{run_in_at, run_in_set}
-
--- where k STARTs are complete at the tip, k were complete at a moment up to it
-complete_there : (t : Listing) (seed k : ℕ) (r : Tape) → Records t seed r → 1 ≤ k → k ≤ r.tip.complete → IsOpen t seed k r.moment → ⊥
-complete_there t seed k r h some enough o = go (nat_le k (length r.ends)) refl where
-  go : (b : Bool) → nat_le k (length r.ends) ≡ b → ⊥
-  go true e =
-      let at : k - 1 + 1 ≡ k = omega (arith, some) in
-      let within : k - 1 < length r.ends = grind (arith, nat_tests) in
-      let end = h.ends (k - 1) (get_or r.ends (k - 1) 0) (slice_get-get_or r.ends (k - 1) 0 within) in
-      o.none (get_or r.ends (k - 1) 0) end.end.state end.below end.end.there (end.end.complete ∙ at)
-  go false e =
-      let one = h.tip_end in
-      let all : r.tip.complete ≡ k = grind (arith, nat_tests) in
-      o.none r.moment r.tip (omega arith) h.tip all
 
 -- where the making of steps stopped the recorded steps decide
 pub reach_shuts : (t : Listing) (seed k : ℕ) (r : Tape) (reach : Reach) → Records t seed r → 1 ≤ k → Reaches t seed k r reach → IsOpen t seed k r.moment → ⊥
-reach_shuts t seed k r reaches.Complete h some enough o = complete_there t seed k r h some enough o
+reach_shuts t seed k r reaches.Complete h some enough o = complete_there t seed k r h some enough o.none
 reach_shuts t seed k r (reaches.Ended end) h some (fewer, ends) o =
     let there : Ok o.state ≡ Ok r.tip = sym o.there ∙ h.tip in
     let same : o.state ≡ r.tip = cc in
@@ -98,12 +86,11 @@ module _ (b : Book) (rep seed place : ℕ) (d : Recording) (new : Tape) (h : IsB
             (record { run = new; there = new_run; every = every; grows = grows; wanted = wanted; made = counted }));
       }
 
-  pub shut : (k : ℕ) (reach : Reach) → Records b.version seed new → 1 ≤ k → Reaches b.version seed k new reach → (r : Tape) → run_in changed rep ≡ Some r →
-      IsOpen b.version seed k r.moment → ⊥
-  shut k reach records some reached r there o =
+  pub reached : (k : ℕ) (reach : Reach) → Reaches b.version seed k new reach → (r : Tape) → run_in changed rep ≡ Some r → Reaches b.version seed k r reach
+  reached k reach h r there =
       let runs : Some r ≡ Some new = sym there ∙ new_run in
       let same : r ≡ new = cc in
-      reach_shuts b.version seed k new reach records some reached (subst (λ (a : Tape). IsOpen b.version seed k a.moment) same o)
+      subst (λ (a : Tape). Reaches b.version seed k a reach) (sym same) h
 
 none_before : (rs : List Recording) (n : ℕ) → place_in rs n ≡ None → run_in rs n ≡ None
 none_before rs n none = go rs (λ k d less. fails_before_first (λ (r : Recording). r.number == n) rs k d
@@ -124,7 +111,14 @@ is_there b rep seed h is none =
     let there = subst (λ o. IsRunOf b.version b.every o (run_in b.runs rep)) is (h.runs rep) in
     subst (λ o. IsRunOf b.version b.every (Some seed) o) (none_before b.runs rep none) there
 
+-- where the making of steps stopped the replication is not unfinished
+pub stopped_shuts : (b : Book) (rep k seed : ℕ) (reach : Reach) → IsBook b → seed_at b.version rep ≡ Some seed → 1 ≤ k →
+    ((r : Tape) → run_in b.runs rep ≡ Some r → Reaches b.version seed k r reach) → (n : ℕ) → IsUnfinished b rep k n → ⊥
+stopped_shuts b rep k seed reach h is some reached n u =
+    let of_run = subst (λ o. IsRunOf b.version b.every (Some seed) o) u.recorded (subst (λ o. IsRunOf b.version b.every o (run_in b.runs rep)) is (h.runs rep)) in
+    not_unfinished b rep k seed u.run is u.recorded (reach_shuts b.version seed k u.run reach of_run.0 some (reached u.run u.recorded)) n u
+
 -- what holds of each answer that is no want of memory
-pub on_each : {A E : Type 0} {X : Type 0} (P : A → Type 0) (result : Result A E) → IfOk result P → ((a : A) → P a → X) → OnOk result X
-on_each P (Ok a) h f = f a h
-on_each P (Err e) h f = tt
+pub on_each : {A E : Type 0} (P Q : A → Type 0) (result : Result A E) → IfOk result P → ((a : A) → P a → Q a) → IfOk result Q
+on_each P Q (Ok a) h f = f a h
+on_each P Q (Err e) h f = tt

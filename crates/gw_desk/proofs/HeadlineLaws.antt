@@ -4,7 +4,6 @@ use Rattle.gw_desk.specs.declared.answer.Answer.{Answer}
 use Rattle.gw_desk.specs.declared.answer.Answer.TheVariants as answers
 use Rattle.gw_desk.specs.declared.play.Event.TheVariants as events
 use Rattle.gw_desk.specs.declared.play.Reply.TheVariants as replies
-use Rattle.gw_desk.specs.declared.answer.Report.{Report}
 use Rattle.gw_desk.specs.Book.{Book, IsBook}
 use Rattle.gw_desk.specs.Replies.{answer_of}
 use Rattle.gw_desk.specs.Peeking.{Peeks, IsAnswer}

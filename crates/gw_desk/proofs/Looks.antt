@@ -1,6 +1,7 @@
 -- What the recorded steps tell is what the search from zero finds.
-use Rattle.std.proofs.Common.{◌≡◌, ℕ, zero, suc, ◌+◌, ◌-◌, ◌<◌, ◌≤◌, ◌==◌, Bool, true, false, cond, Option, Some, None, Result, Ok, Err, inl, inr, refl, sym, ap, ◌∙◌, arith}
+use Rattle.std.proofs.Common.{◌≡◌, ℕ, zero, suc, ◌+◌, ◌-◌, ◌<◌, ◌≤◌, ◌==◌, nat_le, Bool, true, false, cond, length, get_or, Option, Some, None, Result, Ok, Err, inl, inr, refl, sym, ap, ◌∙◌, arith}
 use Rattle.std.proofs.lemmas.Bool.Decides.{nat_tests}
+use Rattle.std.proofs.lemmas.Option.{slice_get-get_or}
 use Rattle.gw_meaning.specs.declared.item.End.{End}
 use Rattle.gw_meaning.specs.declared.item.Outcome.{Outcome}
 use Rattle.gw_meaning.specs.declared.item.Outcome.TheVariants as outcomes
@@ -44,6 +45,20 @@ module _ (t : Listing) (seed k : ℕ) (r : Tape) (h : Records t seed r) where
   complete_now : (f : ℕ) (s : Machine) → s.complete ≡ k → search t seed k f s ≡ Point s outcomes.Complete
   complete_now zero s is = let e : (s.complete == k) ≡ true = grind (arith, nat_tests) in rw e refl
   complete_now (suc f) s is = let e : (s.complete == k) ≡ true = grind (arith, nat_tests) in rw e refl
+
+  -- where k STARTs are complete at the tip, k were complete at a moment up to it
+  pub complete_there : 1 ≤ k → k ≤ r.tip.complete → ((m : ℕ) (s : Machine) → m ≤ r.moment → run t seed m ≡ Ok s → s.complete ≡ k → ⊥) → ⊥
+  complete_there some enough none = go (nat_le k (length r.ends)) refl where
+    go : (b : Bool) → nat_le k (length r.ends) ≡ b → ⊥
+    go true e =
+        let at : k - 1 + 1 ≡ k = omega (arith, some) in
+        let within : k - 1 < length r.ends = grind (arith, nat_tests) in
+        let end = h.ends (k - 1) (get_or r.ends (k - 1) 0) (slice_get-get_or r.ends (k - 1) 0 within) in
+        none (get_or r.ends (k - 1) 0) end.end.state end.below end.end.there (end.end.complete ∙ at)
+    go false e =
+        let one = h.tip_end in
+        let all : r.tip.complete ≡ k = grind (arith, nat_tests) in
+        none r.moment r.tip (omega arith) h.tip all
 
   -- the k-th START is complete at a recorded moment
   pub seen_complete : (m : ℕ) → m ≤ r.moment → IsStartEnd t seed k m → Sees t seed k r (looks.Point m outcomes.Complete)
@@ -90,6 +105,7 @@ module _ (t : Listing) (seed k : ℕ) (r : Tape) (h : Records t seed r) where
     pub seen_open : (u : Machine) → step t seed r.tip ≡ Ok u → r.moment < t.limit → IsOpen t seed k r.moment
     seen_open u goes less = record { below = less; state = r.tip; next = u; there = h.tip; goes = goes; none = λ m s low is done. none m s some low is done }
 
+    -- the step limit is reached
     pub seen_long : (u : Machine) → step t seed r.tip ≡ Ok u → t.limit ≤ r.moment → Sees t seed k r looks.TooLong
     seen_long u goes over =
         let f : t.limit - r.moment ≡ 0 = omega (arith, over) in

@@ -56,8 +56,3 @@ peeks_answer b rep k (answers.Ready report) h shut = inl h.0
 peeks_answer b rep k answers.NoStart h shut = inl h.0
 peeks_answer b rep k answers.TooLong h shut = inl h.0
 peeks_answer b rep k answers.NoReplication h shut = inl h.0
-
--- what is shut for the recorded run is not unfinished
-pub shut_is : (b : Book) (rep k seed : ℕ) → seed_at b.version rep ≡ Some seed →
-    ((r : Tape) → run_in b.runs rep ≡ Some r → IsOpen b.version seed k r.moment → ⊥) → (n : ℕ) → IsUnfinished b rep k n → ⊥
-shut_is b rep k seed is shut n u = not_unfinished b rep k seed u.run is u.recorded (shut u.run u.recorded) n u

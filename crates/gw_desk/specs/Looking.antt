@@ -3,7 +3,9 @@ use Rattle.std.specs.Prelude.{◌≡◌, ℕ, ◌<◌, ◌≤◌, Ok}
 use Rattle.gw_meaning.specs.Listing.{Listing}
 use Rattle.gw_meaning.specs.Machine.{Machine}
 use Rattle.gw_meaning.specs.Step.{step, run}
-use Rattle.gw_record.specs.Tape.{Tape, IsKept}
+use Rattle.gw_record.specs.declared.reach.Reach.{Reach}
+use Rattle.gw_record.specs.Reaching.{Reaches}
+use Rattle.gw_record.specs.Tape.{Tape, Records, IsKept}
 use Rattle.gw_desk.specs.declared.look.Look.{Look}
 use Rattle.gw_desk.specs.declared.look.Look.TheVariants as looks
 use Rattle.gw_desk.specs.Finding.{Point, NoStart, TooLong, verdict}
@@ -26,3 +28,7 @@ Sees t seed k r (looks.Point moment outcome) =
 Sees t seed k r looks.NoStart = (verdict t seed k ≡ NoStart) × (IsOpen t seed k r.moment → ⊥)
 Sees t seed k r looks.TooLong = (verdict t seed k ≡ TooLong) × (IsOpen t seed k r.moment → ⊥)
 Sees t seed k r looks.Open = IsOpen t seed k r.moment
+
+-- the steps of a run were stopped by this on the way to the end of START k
+abbrev pub IsStopped : ℕ → Tape → Reach → Type 0
+IsStopped k r reach = (t : Listing) × (seed : ℕ) × Records t seed r × Reaches t seed k r reach

@@ -1,17 +1,18 @@
 // Queries with the steps that are missing.
-ghost use Rattle.std.specs.Prelude.{◌≡◌, ◌≢◌, ◌≤◌, ℕ, length, Some, OnOk};
-ghost use Rattle.gw_meaning.specs.Listing.{seed_at};
+ghost use Rattle.std.specs.Prelude.{◌≡◌, ◌≢◌, ◌≤◌, ℕ, length, Some, IfOk};
+ghost use Rattle.gw_meaning.specs.Listing.{seed_at, starts};
+ghost use Rattle.gw_record.specs.Reaching.{Reaches};
 ghost use Rattle.gw_record.specs.Tape.{Tape};
 ghost use Rattle.gw_desk.specs.declared.answer.Answer.TheVariants as answers;
 ghost use Rattle.gw_desk.specs.Book.{IsBook, run_in};
-ghost use Rattle.gw_desk.specs.Looking.{IsOpen};
 ghost use Rattle.gw_desk.specs.Replies.{answer_of};
-ghost use Rattle.gw_desk.specs.Peeking.{IsUnfinished, IsAnswer};
+ghost use Rattle.gw_desk.specs.Peeking.{IsUnfinished, Peeks, IsAnswer};
 ghost use Rattle.gw_desk.specs.Finishing.{Finishes, IsMissing};
 
 use crate::answer::Answer;
 use crate::desk::Desk;
-use crate::recording::place_of;
+use crate::look::look_behind;
+use crate::recording::{place_of, run_of};
 use gw_record::Reach;
 use std::alloc::{AllocError, Global};
 
@@ -33,7 +34,7 @@ impl Desk {
             return Answer::NoStart;
         }
         match self.make_steps(alloc, rep, k, seed) {
-            Ok(_) => self.peek(alloc, rep, k),
+            Ok(reach) => self.told_by(alloc, rep, k, seed, reach),
             Err(_) => Answer::Memory,
         }
     }
@@ -50,14 +51,27 @@ impl Desk {
         requires some { 1 ≤ k }
         ensures steps { Finishes self.old rep k self.new }
         ensures desk { IsBook self.new }
-        ensures shut { OnOk result ((r : Tape) → run_in self.new.runs rep ≡ Some r →
-            IsOpen self.new.version seed k r.moment → ⊥) }
+        ensures reached { IfOk result (λ reach. (r : Tape) → run_in self.new.runs rep ≡ Some r →
+            Reaches self.new.version seed k r reach) }
     {
         match place_of(self.runs.as_slice(), rep) {
             Some(place) => {
                 let run = &mut self.runs[place].run;
                 run.reach(alloc, &self.version, seed, k, &mut self.tally)
             }
+            None => unreachable!(),
+        }
+    }
+    // What stopped the steps on the way to the end of a START that there is, as it is answered.
+    fn told_by(&self, alloc: Global, rep: u64, k: u64, seed: u64, reach: Reach) -> Answer
+        requires some { 1 ≤ k }
+        requires there { k ≤ starts self.now.version }
+        requires seed { seed_at self.now.version rep ≡ Some seed }
+        requires reached { (r : Tape) → run_in self.now.runs rep ≡ Some r → Reaches self.now.version seed k r reach }
+        ensures { Peeks self.now rep k result }
+    {
+        match run_of(self.runs.as_slice(), rep) {
+            Some(run) => self.seen(alloc, rep, k, seed, run, look_behind(run, k, reach)),
             None => unreachable!(),
         }
     }

@@ -1,13 +1,15 @@
 // What the recorded steps of a run tell of a START.
-ghost use Rattle.std.specs.Prelude.{◌≡◌, ◌≤◌, None, IfOk};
+ghost use Rattle.std.specs.Prelude.{◌≡◌, ◌≤◌, ℕ, None, IfOk};
+ghost use Rattle.gw_meaning.specs.Listing.{Listing};
 ghost use Rattle.gw_record.specs.Lookups.{IsEndOf};
+ghost use Rattle.gw_record.specs.Reaching.{Reaches};
 ghost use Rattle.gw_record.specs.Tape.{Records};
-ghost use Rattle.gw_desk.specs.Looking.{Sees};
+ghost use Rattle.gw_desk.specs.Looking.{Sees, IsStopped};
 ghost use Rattle.gw_desk.specs.Ending.{seen_at_end};
 
 use gw_meaning::{End, Outcome};
 use gw_model::Version;
-use gw_record::Recorded;
+use gw_record::{Reach, Recorded};
 use gw_scan::end_at;
 use std::alloc::{AllocError, Global};
 
@@ -67,6 +69,26 @@ fn look_at_tip(
                 Ok(Look::TooLong)
             }
         }
+    }
+}
+
+// The same by what stopped the steps on the way to the end of START k: the recorded steps decide.
+pub fn look_behind(run: &Recorded, k: u64, reach: Reach) -> Look
+    requires some { 1 ≤ k }
+    requires stopped { IsStopped k run.now reach }
+    ensures { (t : Listing) (seed : ℕ) → Records t seed run.now → Reaches t seed k run.now reach →
+        Sees t seed k run.now result }
+{
+    match run.start_end(k) {
+        Some(moment) => Look::Point {
+            moment,
+            outcome: Outcome::Complete,
+        },
+        None => match reach {
+            Reach::Complete => unreachable!(),
+            Reach::Ended(end) => seen_at_end(run.tip(), run.state().complete(), k, end),
+            Reach::Limit => Look::TooLong,
+        },
     }
 }
 

@@ -7,6 +7,7 @@ ghost use Rattle.gw_report.specs.Report.{text_of};
 ghost use Rattle.gw_record.specs.Tape.{Records, IsKept};
 ghost use Rattle.gw_desk.specs.declared.answer.Answer.TheVariants as answers;
 ghost use Rattle.gw_desk.specs.Book.{run_in};
+ghost use Rattle.gw_desk.specs.Looking.{Sees};
 ghost use Rattle.gw_desk.specs.Peeking.{Peeks, IsAnswer};
 
 use crate::answer::{Answer, Report};
@@ -46,15 +47,38 @@ impl Desk {
         ensures { Peeks self.now rep k result }
     {
         match look_at(alloc, &self.version, seed, run, k) {
-            Ok(Look::Point { moment, outcome }) => {
+            Ok(look) => self.seen(alloc, rep, k, seed, run, look),
+            Err(_) => Answer::Memory,
+        }
+    }
+
+    // What is seen of a START that there is, as it is answered.
+    pub(crate) fn seen(
+        &self,
+        alloc: Global,
+        rep: u64,
+        k: u64,
+        seed: u64,
+        run: &Recorded,
+        look: Look,
+    ) -> Answer
+        requires some { 1 ≤ k }
+        requires there { k ≤ starts self.now.version }
+        requires seed { seed_at self.now.version rep ≡ Some seed }
+        requires run { run_in self.now.runs rep ≡ Some run.now }
+        requires records { Records self.now.version seed run.now }
+        requires sees { Sees self.now.version seed k run.now look }
+        ensures { Peeks self.now rep k result }
+    {
+        match look {
+            Look::Point { moment, outcome } => {
                 self.printed(alloc, rep, k, seed, run, moment, outcome)
             }
-            Ok(Look::NoStart) => Answer::NoStart,
-            Ok(Look::TooLong) => Answer::TooLong,
-            Ok(Look::Open) => Answer::Unfinished {
+            Look::NoStart => Answer::NoStart,
+            Look::TooLong => Answer::TooLong,
+            Look::Open => Answer::Unfinished {
                 recorded: run.tip(),
             },
-            Err(_) => Answer::Memory,
         }
     }
 

@@ -5,7 +5,7 @@ ghost use Rattle.gw_desk.specs.declared.recording.Recording.{Recording};
 ghost use Rattle.gw_desk.specs.Rebasing.{AreRebased, with_missing};
 
 use crate::recording::{Recording, run_of};
-use gw_edit::{Edit, rebase};
+use gw_edit::{Edit, rebase, touch_of};
 use gw_meaning::Replication;
 use gw_model::Version;
 use gw_record::Recorded;
@@ -17,8 +17,9 @@ pub fn rebase_all(runs: &mut Vec<Recording>, old: &Version, edit: &Edit, new: &V
     ensures len { vec_len runs.new ≡ vec_len runs.old }
     ensures room { vec_capacity runs.new ≡ vec_capacity runs.old }
 {
+    let touch = touch_of(old, edit, new);
     for recording in runs.iter_mut() {
-        rebase(&mut recording.run, old, edit, new, recording.number);
+        rebase(&mut recording.run, old, &touch, recording.number);
     }
 }
 

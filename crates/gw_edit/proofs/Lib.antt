@@ -6,6 +6,7 @@ pub mod SameBlocks
 pub mod ChangeLaws
 pub mod Splits
 pub mod Seeds
+pub mod Made
 pub mod Untouching
 pub mod TouchLaws
 pub mod RebaseLaws

@@ -1,5 +1,5 @@
 -- What is kept of a recorded run behind an edit is the run of the edited version.
-use Rattle.std.proofs.Common.{◌≡◌, ℕ, ◌<◌, ◌≤◌, Bool, true, false, List, [], ◌∷◌, ◌++◌, ◌+◌, ◌||◌, length, Option, Some, None, Ok, sym, ap, refl, arith}
+use Rattle.std.proofs.Common.{◌≡◌, ℕ, ◌<◌, ◌≤◌, Bool, true, false, List, [], ◌∷◌, ◌||◌, Option, Some, None, Ok, refl, sym, ap, ⊎_elim, arith}
 use mathlib.Core.Bool.{true≢false}
 use Rattle.std.specs.List.{list_any, AllByRecursion}
 use Rattle.std.proofs.lemmas.List.Elements.{All-from_recursion}
@@ -7,50 +7,22 @@ use Rattle.gw_meaning.specs.declared.item.Item.{Item}
 use Rattle.gw_meaning.specs.Listing.{Listing, seed_at}
 use Rattle.gw_meaning.specs.Numbers.{AreNumbered}
 use Rattle.gw_meaning.specs.Reads.{first_reading, reads}
-use Rattle.gw_model.specs.Faults.{is_outside}
-use Rattle.gw_model.specs.Spliced.{with_splice}
 use Rattle.gw_frame.specs.Alike.{SameAnswer}
 use Rattle.gw_record.specs.Tape.{Tape, Records}
 use Rattle.gw_record.specs.Carrying.{Carries}
 use Rattle.gw_record.proofs.FirstLaws.{IsFirstReading, first_is}
 use Rattle.gw_edit.specs.declared.edit.Edit.{Edit}
-use Rattle.gw_edit.specs.declared.edit.Edit.TheVariants as edits
 use Rattle.gw_edit.specs.declared.touch.Probe.{Probe}
-use Rattle.gw_edit.specs.Applied.{applied, checked, spelled_by, reseeded, without_number, has_replication}
+use Rattle.gw_edit.specs.Applied.{applied}
 use Rattle.gw_edit.specs.Touching.{touch_of, is_touched}
 use Rattle.gw_edit.specs.Touched.{touched_step}
 use Rattle.gw_edit.specs.Rebasing.{IsKeptOf, IsRebased}
-use Rattle.gw_edit.proofs.Untouching.{checked_gives, spelled_gives, other_side, one_side, untouched_alike}
+use Rattle.gw_edit.proofs.Made.{IsSpliced, IsLeft, made_by}
+use Rattle.gw_edit.proofs.Untouching.{untouched_alike}
 
 -- no edit changes the step limit
-limit_of : (v u : Listing) → v ≡ u → u.limit ≡ v.limit
-limit_of v u same = ap (λ (x : Listing). x.limit) (sym same)
-
 limit_stays : (t : Listing) (e : Edit) (u : Listing) → applied t e ≡ Ok u → u.limit ≡ t.limit
-limit_stays t (edits.Insert place text) u made =
-    let side = other_side (is_outside 1 (length t.lines + 1) place) _ _ u made in
-    let spelled = spelled_gives (spelled_by text) (λ s. with_splice t place false (Some s)) u side.1 in
-    limit_of _ u spelled.1
-limit_stays t (edits.Delete place) u made =
-    let side = other_side (is_outside 1 (length t.lines) place) _ _ u made in
-    limit_of _ u (checked_gives (with_splice t place true None) u side.1)
-limit_stays t (edits.Change place text) u made =
-    let side = other_side (is_outside 1 (length t.lines) place) _ _ u made in
-    let spelled = spelled_gives (spelled_by text) (λ s. with_splice t place true (Some s)) u side.1 in
-    limit_of _ u spelled.1
-limit_stays t (edits.Capacity name amount) u made = absurd cc
-limit_stays t (edits.Seed number seed) u made =
-    let v : Listing = record t { replications = reseeded number seed t.replications } in
-    limit_of v u (checked_gives v u (one_side (has_replication t number) _ (checked v) u made))
-limit_stays t (edits.Replicate number seed) u made =
-    let v : Listing = record t { replications = t.replications ++ record { number = number; seed = seed } ∷ [] } in
-    limit_of v u (checked_gives v u (other_side (has_replication t number) _ (checked v) u made).1)
-limit_stays t (edits.Drop number) u made =
-    let v : Listing = record t { replications = without_number number t.replications } in
-    limit_of v u (checked_gives v u (one_side (has_replication t number) _ (checked v) u made))
-limit_stays t (edits.Horizon time) u made =
-    let v : Listing = record t { horizon = time } in
-    limit_of v u (checked_gives v u made)
+limit_stays t e u made = ⊎_elim (λ (s : IsSpliced t e u). ap (λ (x : Listing). x.limit) (sym s.made)) (λ (l : IsLeft t e u). l.limit) (made_by t e u made)
 
 pub none_touched : (p : Item → Bool) (P : Item → Type 0) → ((i : Item) → p i ≡ false → P i) → (is : List Item) → list_any p is ≡ false → AllByRecursion P is
 none_touched p P f [] h = tt

@@ -1,9 +1,9 @@
--- The seed of a replication where another one comes in or goes out.
+-- The seed of a replication where another one has another seed, comes in or goes out.
 use Rattle.std.proofs.Common.{◌≡◌, ℕ, Bool, true, false, cond, not, List, [], ◌∷◌, ◌++◌, Some, None, ◌==◌, refl, ap, sym, subst, ⊎_elim}
 use Rattle.std.proofs.lemmas.Bool.{cases_Bool, eqb-true}
 use Rattle.gw_meaning.specs.declared.statement.Replication.{Replication}
 use Rattle.gw_meaning.specs.Listing.{seed_in}
-use Rattle.gw_edit.specs.Applied.{without_number}
+use Rattle.gw_edit.specs.Applied.{reseeded, without_number}
 
 -- one comes in behind
 pub seed_in_front : (rs more : List Replication) (number seed : ℕ) → seed_in rs number ≡ Some seed → seed_in (rs ++ more) number ≡ Some seed
@@ -11,6 +11,17 @@ seed_in_front [] more number seed h = absurd cc
 seed_in_front (r ∷ rs) more number seed h =
     (elim (r.number == number) as (λ b. cond b (Some r.seed) (seed_in rs number) ≡ Some seed → cond b (Some r.seed) (seed_in (rs ++ more) number) ≡ Some seed)
     [ true ↦ λ here. here | false ↦ λ rest. seed_in_front rs more number seed rest ]) h
+
+-- one has another seed: the others have theirs
+pub seed_reseeded : (rs : List Replication) (number seed other : ℕ) → (number == other) ≡ false → seed_in (reseeded number seed rs) other ≡ seed_in rs other
+seed_reseeded [] number seed other apart = refl
+seed_reseeded (r ∷ rs) number seed other apart = go (r.number == number) refl (seed_reseeded rs number seed other apart) where
+  go : (b : Bool) → (r.number == number) ≡ b → seed_in (reseeded number seed rs) other ≡ seed_in rs other →
+      seed_in (cond b (record { number = number; seed = seed }) r ∷ reseeded number seed rs) other ≡ cond (r.number == other) (Some r.seed) (seed_in rs other)
+  go true same rest =
+      let not_here : (r.number == other) ≡ false = subst (λ (n : ℕ). (n == other) ≡ false) (sym (eqb-true r.number number same)) apart in
+      rw (apart, not_here) rest
+  go false differs rest = ap (λ o. cond (r.number == other) (Some r.seed) o) rest
 
 -- one goes out: its number has no seed, and the others have theirs
 seed_gone : (rs : List Replication) (number : ℕ) → seed_in (without_number number rs) number ≡ None

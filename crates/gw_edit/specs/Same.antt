@@ -1,14 +1,18 @@
 -- When a block is the block that it was: it has the same verb and the same operands, as they are listed and as they are
 -- read. Its label does not count. (Our own.)
-use Rattle.std.specs.Prelude.{Bool, true, false, ◌&&◌, Option, Some, None}
+use Rattle.std.specs.Prelude.{Bool, true, false, ◌&&◌, List, [], ◌∷◌, Option, Some, None}
 use Rattle.std.specs.Ordering.{int_eq}
 use Rattle.std.specs.Str.{bytes_eq}
+use denote.Enum.Bare.{sameb}
+use Rattle.gw_names.specs.contracts.verb.Verb.{the_type}
+use Rattle.gw_names.specs.declared.verb.Verb.{Verb}
 use Rattle.gw_expr.specs.Term.{Term, Constant}
 use Rattle.gw_meaning.specs.declared.statement.Statement.{Statement}
 use Rattle.gw_meaning.specs.declared.statement.Block.{Block}
 use Rattle.gw_meaning.specs.declared.statement.Block.TheVariants as blocks
 use Rattle.gw_meaning.specs.declared.statement.Body.{Body}
 use Rattle.gw_meaning.specs.declared.statement.Body.TheVariants as bodies
+use Rattle.gw_meaning.specs.Statements.{verb_of_block}
 
 -- two operands
 abbrev pub same_term : Term → Term → Bool
@@ -20,14 +24,26 @@ same_operand None (Some b) = false
 same_operand (Some a) None = false
 same_operand (Some a) (Some b) = same_term a b
 
+abbrev pub same_operands : List (Option Term) → List (Option Term) → Bool
+same_operands [] [] = true
+same_operands [] (b ∷ ys) = false
+same_operands (a ∷ xs) [] = false
+same_operands (a ∷ xs) (b ∷ ys) = same_operand a b && same_operands xs ys
+
+-- a block's operands, A to E; those that its verb does not have are absent
+abbrev pub operands_of : Block → List (Option Term)
+operands_of (blocks.Generate mean range offset limit priority) = mean ∷ range ∷ offset ∷ limit ∷ priority ∷ []
+operands_of (blocks.Advance mean range) = mean ∷ range ∷ None ∷ None ∷ None ∷ []
+operands_of (blocks.Terminate count) = count ∷ None ∷ None ∷ None ∷ None ∷ []
+
+-- two verbs
+unfoldable pub same_verb : Verb → Verb → Bool
+same_verb = sameb the_type
+
 -- two blocks
 abbrev pub same_block : Block → Block → Bool
-same_block (blocks.Generate mean range offset limit priority) (blocks.Generate mean' range' offset' limit' priority') =
-    same_operand mean mean' && same_operand range range' && same_operand offset offset' && same_operand limit limit' &&
-    same_operand priority priority'
-same_block (blocks.Advance mean range) (blocks.Advance mean' range') = same_operand mean mean' && same_operand range range'
-same_block (blocks.Terminate count) (blocks.Terminate count') = same_operand count count'
-same_block block block' = false
+same_block block block' =
+    same_verb (verb_of_block block) (verb_of_block block') && same_operands (operands_of block) (operands_of block')
 
 -- two statements, both blocks
 abbrev pub same_body : Body → Body → Bool

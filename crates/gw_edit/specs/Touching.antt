@@ -88,19 +88,41 @@ same_seed None (Some b) = false
 same_seed (Some a) None = false
 same_seed (Some a) (Some b) = a == b
 
--- what an edit of a version to another touches in a replication: the seed where it differs, and the clock steps beyond
--- the lesser horizon. A capacity touches nothing yet, nor does a replication that comes in or goes out touch another
--- one
+-- what an edit touches: these probes in every replication, and the seed in one of them, if any
+pub record Touching : Type 0 where
+  pub probes : List Probe
+  pub reseeded : Option ℕ
+
+abbrev pub everywhere : List Probe → Touching
+everywhere probes = record { probes = probes; reseeded = None }
+
+-- a replication, where its seed differs
+abbrev pub seed_touching : ℕ → Option ℕ → Option ℕ → Touching
+seed_touching number old new =
+    if same_seed old new then everywhere [] else record { probes = []; reseeded = Some number }
+
+-- an edit of a version to another: the seed of its replication, and the clock steps beyond the lesser horizon. A
+-- capacity touches nothing yet, nor does a replication that comes in or goes out touch another one
+abbrev pub touching_of : Listing → Edit → Listing → Touching
+touching_of t (edits.Insert place text) u = everywhere (splice_probes t place None (nth u.lines place))
+touching_of t (edits.Delete place) u = everywhere (splice_probes t place (nth t.lines place) None)
+touching_of t (edits.Change place text) u = everywhere (splice_probes t place (nth t.lines place) (nth u.lines place))
+touching_of t (edits.Capacity name amount) u = everywhere []
+touching_of t (edits.Seed number seed) u = seed_touching number (seed_at t number) (seed_at u number)
+touching_of t (edits.Replicate number seed) u = everywhere []
+touching_of t (edits.Drop number) u = everywhere []
+touching_of t (edits.Horizon time) u = everywhere (Beyond (min t.horizon u.horizon) ∷ [])
+
+-- what is touched in a replication
+abbrev pub seed_probes : Option ℕ → ℕ → List Probe
+seed_probes None replication = []
+seed_probes (Some number) replication = if number == replication then One Seed ∷ [] else []
+
+abbrev pub touched_in : Touching → ℕ → List Probe
+touched_in touching replication = seed_probes touching.reseeded replication ++ touching.probes
+
 abbrev pub touch_of : Listing → Edit → Listing → ℕ → List Probe
-touch_of t (edits.Insert place text) u replication = splice_probes t place None (nth u.lines place)
-touch_of t (edits.Delete place) u replication = splice_probes t place (nth t.lines place) None
-touch_of t (edits.Change place text) u replication = splice_probes t place (nth t.lines place) (nth u.lines place)
-touch_of t (edits.Capacity name amount) u replication = []
-touch_of t (edits.Seed number seed) u replication =
-    if same_seed (seed_at t replication) (seed_at u replication) then [] else One Seed ∷ []
-touch_of t (edits.Replicate number seed) u replication = []
-touch_of t (edits.Drop number) u replication = []
-touch_of t (edits.Horizon time) u replication = Beyond (min t.horizon u.horizon) ∷ []
+touch_of t e u replication = touched_in (touching_of t e u) replication
 
 -- the probes of a list of places that may be free
 abbrev pub given : List (Option Probe) → List Probe

@@ -1,8 +1,9 @@
 //! Edits of a version.
 //!
-//! [`apply`] gives the version that an edit makes of a version, or its refusal. What the edit touches is a list of
-//! probes: what else the two versions are asked, they answer alike ([`untouched`]). So a recorded run stands as far
-//! as it asked for nothing that is touched ([`touched`]), and [`rebase`] makes it the run of the edited version.
+//! [`apply`] gives the version that an edit makes of a version, or its refusal. What the edit touches ([`touch_of`]) is
+//! a list of probes in each replication: what else the two versions are asked, they answer alike ([`untouched`]). So a
+//! recorded run stands as far as it asked for nothing that is touched ([`touched`]), and [`rebase`] makes it the run of
+//! the edited version.
 #![tactic(auto)]
 
 mod edit;
@@ -24,4 +25,5 @@ pub use fault::EditFault;
 pub use laws::{edit_in_positions, untouched};
 pub use making::apply;
 pub use rebasing::rebase;
+pub use touch::{Touch, touch_of};
 pub use touched_step::touched;

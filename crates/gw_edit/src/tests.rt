@@ -1,5 +1,5 @@
-use crate::touch::{Probe, touch_of};
-use crate::{Edit, EditFault, apply, rebase, touched};
+use crate::touch::{Probe, seed_probe};
+use crate::{Edit, EditFault, apply, rebase, touch_of, touched};
 use gw_lines::read_model;
 use gw_meaning::{Item, Replication, Row};
 use gw_model::Version;
@@ -28,8 +28,8 @@ fn number_at(version: &Version, index: usize) -> Option<u64> {
     }
 }
 
-fn touches(old: &Version, edit: &Edit, new: &Version, replication: u64, probe: Probe) -> bool {
-    let touch = touch_of(old, edit, new, replication);
+fn touches(old: &Version, edit: &Edit, new: &Version, probe: Probe) -> bool {
+    let touch = touch_of(old, edit, new);
     has(&touch.first, &probe) || has(&touch.rest, &probe)
 }
 
@@ -49,8 +49,9 @@ fn edited(alloc: Global, version: &Version, edit: &Edit) -> Result<Version, Fail
 }
 
 fn rebased(run: &mut Recorded, old: &Version, edit: &Edit, new: &Version) -> Option<u64> {
-    let step = touched(run, old, edit, new, 1);
-    rebase(run, old, edit, new, 1);
+    let touch = touch_of(old, edit, new);
+    let step = touched(run, &touch, 1);
+    rebase(run, old, &touch, 1);
     step
 }
 
@@ -74,8 +75,8 @@ fn a_line_comes_in(rt: HostRuntime) -> Result<(), Fail> {
     assert_eq!(rt; number_at(&new, 1), Some(5));
     assert_eq!(rt; number_at(&new, 2), Some(2));
     let front = Probe::One(Item::After(1));
-    assert!(rt; touches(&old, &insert, &new, 1, front));
-    assert!(rt; !touches(&old, &insert, &new, 1, Probe::One(Item::Generates)));
+    assert!(rt; touches(&old, &insert, &new, front));
+    assert!(rt; !touches(&old, &insert, &new, Probe::One(Item::Generates)));
     Ok(())
 }
 
@@ -90,8 +91,8 @@ fn a_line_is_changed(rt: HostRuntime) -> Result<(), Fail> {
     let new = edited(alloc, &old, &change)?;
     assert_eq!(rt; number_at(&new, 0), Some(1));
     assert_eq!(rt; new.starts(), 2);
-    assert!(rt; touches(&old, &change, &new, 1, Probe::CommandsFrom(1)));
-    assert!(rt; touches(&old, &change, &new, 1, Probe::One(Item::Generates)));
+    assert!(rt; touches(&old, &change, &new, Probe::CommandsFrom(1)));
+    assert!(rt; touches(&old, &change, &new, Probe::One(Item::Generates)));
     let deleted = edited(alloc, &new, &Edit::Delete { place: 4 })?;
     assert_eq!(rt; deleted.statements(), 3);
     Ok(())
@@ -113,8 +114,9 @@ fn the_rest_is_edited(rt: HostRuntime) -> Result<(), Fail> {
     };
     let reseeded = edited(alloc, &two, &reseed)?;
     assert_eq!(rt; reseeded.seed(2), Some(8));
-    assert!(rt; touches(&two, &reseed, &reseeded, 2, Probe::One(Item::Seed)));
-    assert!(rt; !touches(&two, &reseed, &reseeded, 1, Probe::One(Item::Seed)));
+    let touch = touch_of(&two, &reseed, &reseeded);
+    assert_eq!(rt; seed_probe(touch.reseeded, 2), Some(Probe::One(Item::Seed)));
+    assert_eq!(rt; seed_probe(touch.reseeded, 1), None);
     let one = edited(alloc, &reseeded, &Edit::Drop { replication: 1 })?;
     assert_eq!(rt;
         one.replication(1),

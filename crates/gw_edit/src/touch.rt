@@ -1,8 +1,8 @@
-ghost use Rattle.std.specs.Prelude.{◌≡◌, ◌++◌, [], ◌∷◌, if◌then◌else◌, Some, None, option_copied};
+ghost use Rattle.std.specs.Prelude.{◌≡◌, ◌++◌, [], ◌∷◌, Some, None, option_copied};
 ghost use Rattle.gw_meaning.specs.declared.item.Item.TheVariants as items;
 ghost use Rattle.gw_meaning.specs.Listing.{is_generate};
 ghost use Rattle.gw_edit.specs.declared.touch.Probe.TheVariants.{One};
-ghost use Rattle.gw_edit.specs.Touching.{touch_of, given, behind, generates_if, block_before, command_from, line_probes, probes_of, splice_probes, block_change, same_seed};
+ghost use Rattle.gw_edit.specs.Touching.{touching_of, seed_touching, seed_probes, everywhere, given, behind, generates_if, block_before, command_from, line_probes, probes_of, splice_probes, block_change, same_seed};
 
 use crate::edit::Edit;
 use crate::lines::{count_commands, is_block, is_generate, last_block, line_at, lines_before};
@@ -23,31 +23,33 @@ pub enum Probe {
     Beyond(Time),
 }
 
-/// What an edit touches: at most eight probes, so that it takes no memory.
+/// What an edit touches: at most eight probes in every replication, and the seed in one of them, if any. It takes no
+/// memory.
 #[derive(Debug, Drop)]
 pub struct Touch {
-    /// Those of the statement that goes, or of an edit of no statement.
-    pub first: Probes,
-    /// Those of the statement that comes in.
-    pub rest: Probes,
+    // Those of the statement that goes, or of an edit of no statement.
+    pub(crate) first: Probes,
+    // Those of the statement that comes in.
+    pub(crate) rest: Probes,
+    // The replication that has another seed.
+    pub(crate) reseeded: Option<u64>,
 }
 
 /// At most four probes.
 pub type Probes = [Option<Probe>; 4];
 
 impl Model for Touch {
-    ghost use Rattle.std.specs.Prelude.{List, ◌++◌};
-    ghost use Rattle.gw_edit.specs.declared.touch.Probe.{Probe};
-    ghost use Rattle.gw_edit.specs.Touching.{given};
+    ghost use Rattle.std.specs.Prelude.{◌++◌};
+    ghost use Rattle.gw_edit.specs.Touching.{Touching, given};
 
-    ghost Value = { List Probe };
+    ghost Value = { Touching };
 
-    ghost view = { λ t. given t.first ++ given t.rest };
+    ghost view = { λ t. record { probes = given t.first ++ given t.rest; reseeded = t.reseeded } };
 }
 
-/// What the edit of a version to a new one touches in the replication with this number.
-pub fn touch_of(old: &Version, edit: &Edit, new: &Version, replication: u64) -> Touch
-    ensures { result ≡ touch_of old.now edit.now new.now replication }
+/// What the edit of a version to a new one touches.
+pub fn touch_of(old: &Version, edit: &Edit, new: &Version) -> Touch
+    ensures { result ≡ touching_of old.now edit.now new.now }
 {
     match edit {
         Edit::Insert { place, .. } => splice_touch(old, *place, None, line_at(new.lines(), *place)),
@@ -58,29 +60,62 @@ pub fn touch_of(old: &Version, edit: &Edit, new: &Version, replication: u64) -> 
             line_at(old.lines(), *place),
             line_at(new.lines(), *place),
         ),
-        Edit::Seed { .. } => seed_touched(old.seed(replication), new.seed(replication)),
+        Edit::Seed { replication, .. } => seed_touch(
+            *replication,
+            old.seed(*replication),
+            new.seed(*replication),
+        ),
         Edit::Horizon { .. } => alone(Some(Probe::Beyond(old.horizon().min(new.horizon())))),
         Edit::Capacity { .. } | Edit::Replicate { .. } | Edit::Drop { .. } => alone(None),
     }
 }
 
-// At most one probe.
-fn alone(probe: Option<Probe>) -> Touch
-    ensures { result ≡ given (probe ∷ []) }
+// At most four probes of a statement that goes, or of no statement, and at most four of one that comes in.
+fn both(first: Probes, rest: Probes) -> Touch
+    ensures { result ≡ everywhere (given first ++ given rest) }
 {
     Touch {
-        first: [probe, None, None, None],
-        rest: [None, None, None, None],
+        first,
+        rest,
+        reseeded: None,
     }
 }
 
-fn seed_touched(old: Option<u64>, new: Option<u64>) -> Touch
-    ensures { result ≡ (if same_seed old new then [] else One items.Seed ∷ []) }
+// At most one probe.
+fn alone(probe: Option<Probe>) -> Touch
+    ensures { result ≡ everywhere (given (probe ∷ [])) }
+{
+    both([probe, None, None, None], [None, None, None, None])
+}
+
+// A replication's seed, before and after.
+fn seed_touch(replication: u64, old: Option<u64>, new: Option<u64>) -> Touch
+    ensures { result ≡ seed_touching replication old new }
 {
     if same_seed(old, new) {
         alone(None)
     } else {
-        alone(Some(Probe::One(Item::Seed)))
+        Touch {
+            first: [None, None, None, None],
+            rest: [None, None, None, None],
+            reseeded: Some(replication),
+        }
+    }
+}
+
+/// The seed, where the replication is the one that has another seed.
+pub fn seed_probe(reseeded: Option<u64>, replication: u64) -> Option<Probe>
+    ensures { given (result ∷ []) ≡ seed_probes reseeded replication }
+{
+    match reseeded {
+        Some(number) => {
+            if number == replication {
+                Some(Probe::One(Item::Seed))
+            } else {
+                None
+            }
+        }
+        None => None,
     }
 }
 
@@ -91,14 +126,15 @@ fn splice_touch(
     goes: Option<&Numbered>,
     comes: Option<&Numbered>,
 ) -> Touch
-    ensures { result ≡ splice_probes version.now place (option_copied goes.entry) (option_copied comes.entry) }
+    ensures { result ≡ everywhere
+        (splice_probes version.now place (option_copied goes.entry) (option_copied comes.entry)) }
 {
     match (goes, comes) {
         (Some(old), Some(new)) => change_touch(version, place, old, new),
-        _ => Touch {
-            first: probes_of(version, place, goes),
-            rest: probes_of(version, place, comes),
-        },
+        _ => both(
+            probes_of(version, place, goes),
+            probes_of(version, place, comes),
+        ),
     }
 }
 
@@ -148,31 +184,31 @@ fn generates_if(other: bool) -> Option<Probe>
 
 // A line that has another statement.
 fn change_touch(version: &Version, place: u64, old: &Numbered, new: &Numbered) -> Touch
-    ensures { result ≡ splice_probes version.now place (Some old.now) (Some new.now) }
+    ensures { result ≡ everywhere (splice_probes version.now place (Some old.now) (Some new.now)) }
 {
     if is_block(old) && is_block(new) {
         block_change(old, new)
     } else {
-        Touch {
-            first: line_probes(version, place, old),
-            rest: line_probes(version, place, new),
-        }
+        both(
+            line_probes(version, place, old),
+            line_probes(version, place, new),
+        )
     }
 }
 
 // A block for a block.
 fn block_change(old: &Numbered, new: &Numbered) -> Touch
-    ensures { result ≡ block_change old.now new.now }
+    ensures { result ≡ everywhere (block_change old.now new.now) }
 {
     if same_statement(&old.statement, &new.statement) {
         alone(None)
     } else {
         let block = Probe::One(Item::Block(old.number));
         let generates = generates_if(is_generate(old) || is_generate(new));
-        Touch {
-            first: [Some(block), generates, None, None],
-            rest: [None, None, None, None],
-        }
+        both(
+            [Some(block), generates, None, None],
+            [None, None, None, None],
+        )
     }
 }
 

@@ -3,32 +3,28 @@ ghost use Rattle.std.specs.Prelude.{◌≡◌, ◌∷◌, [], ℕ};
 ghost use Rattle.gw_meaning.specs.Listing.{Listing};
 ghost use Rattle.gw_meaning.specs.Reads.{first_reading};
 ghost use Rattle.gw_record.specs.Tape.{Records};
-ghost use Rattle.gw_edit.specs.Touching.{touch_of, given, is_probed};
+ghost use Rattle.gw_edit.specs.Touching.{touched_in, given, is_probed};
 ghost use Rattle.gw_edit.specs.Touched.{earlier, touched_step};
 
-use crate::edit::Edit;
-use crate::touch::{Probe, Touch, touch_of};
-use gw_model::Version;
+use crate::touch::{Probe, Touch, seed_probe};
 use gw_record::Recorded;
 
-/// The first recorded step, from 0, that read something that the edit of a version to a new one touches in the
-/// replication with this number, if any did. It takes no memory.
-pub fn touched(
-    run: &Recorded,
-    old: &Version,
-    edit: &Edit,
-    new: &Version,
-    replication: u64,
-) -> Option<u64>
-    ensures { (seed : ℕ) → Records old.now seed run.now →
-        result ≡ touched_step (touch_of old.now edit.now new.now replication) old.now seed run.now }
+/// The first recorded step, from 0, that read something that is touched in the replication with this number, if any
+/// did. It takes no memory.
+pub fn touched(run: &Recorded, touch: &Touch, replication: u64) -> Option<u64>
+    ensures { (t : Listing) (seed : ℕ) → Records t seed run.now →
+        result ≡ touched_step (touched_in touch.now replication) t seed run.now }
 {
-    first_touched(run, &touch_of(old, edit, new, replication))
+    earlier(
+        first_of(run, &seed_probe(touch.reseeded, replication)),
+        first_in_all(run, touch),
+    )
 }
 
-fn first_touched(run: &Recorded, touch: &Touch) -> Option<u64>
+// The same in every replication.
+fn first_in_all(run: &Recorded, touch: &Touch) -> Option<u64>
     ensures { (t : Listing) (seed : ℕ) → Records t seed run.now →
-        result ≡ touched_step touch.now t seed run.now }
+        result ≡ touched_step touch.now.probes t seed run.now }
 {
     earlier(
         first_of_probes(run, &touch.first),

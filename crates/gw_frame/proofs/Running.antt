@@ -1,5 +1,6 @@
 -- What the start has and each decided move keeps, each run from zero has.
-use Rattle.std.proofs.Common.{◌≡◌, ℕ, zero, suc, List, length, Ok, ap, sym, ◌∙◌, subst}
+use Rattle.std.proofs.Common.{◌≡◌, ℕ, zero, suc, ◌≤◌, List, length, Ok, ap, sym, ◌∙◌, subst, arith, inl, inr}
+use Rattle.std.proofs.lemmas.Bool.{cases_lt}
 use Rattle.gw_streams.specs.declared.stream.Stream.{Stream}
 use Rattle.gw_meaning.specs.declared.moves.Move.{Move}
 use Rattle.gw_meaning.specs.Listing.{Listing}
@@ -37,6 +38,27 @@ module _ (t : Listing) (seed : ℕ) where
       let after = last.after in
       subst (P (suc n)) (sym after.is)
       (keeps n last.before after.move after.streams last.there after.is_decided (over_run P start keeps n last.before last.there))
+
+  one_state : (m n : ℕ) (s v : Machine) → m ≡ n → run t seed m ≡ Ok s → run t seed n ≡ Ok v → s ≡ v
+  one_state m n s v same there is = let both : Ok s ≡ Ok v = sym there ∙ (ap (run t seed) same ∙ is) in cc
+
+  -- what a state of a run has and each decided move behind it keeps, each later state has
+  pub over_rest : (P : ℕ → Machine → Type 0) (m : ℕ) (s : Machine) → run t seed m ≡ Ok s → P m s →
+      ((n : ℕ) (u : Machine) (move : Move) (streams : List Stream) → run t seed n ≡ Ok u → IsDecided t u move → P n u → P (suc n) (decided u move streams)) →
+      (n : ℕ) (v : Machine) → m ≤ n → run t seed n ≡ Ok v → P n v
+  over_rest P m s there start keeps zero v before is =
+      let last : m ≡ zero = omega arith in
+      subst (λ k. P k v) last (subst (P m) (one_state m zero s v last there is) start)
+  over_rest P m s there start keeps (suc n) v before is =
+      elim (cases_lt n m) [
+        | inl late ↦ let last : m ≡ suc n = omega arith in subst (λ k. P k v) last (subst (P m) (one_state m (suc n) s v last there is) start)
+        | inr earlier ↦
+            let last = last_step n v is in
+            let after = last.after in
+            subst (P (suc n)) (sym after.is)
+            (keeps n last.before after.move after.streams last.there after.is_decided
+            (over_rest P m s there start keeps n last.before earlier last.there))
+      ]
 
   -- the seven streams, and where the seed is read
   seven_streams : (n : ℕ) (s : Machine) → run t seed n ≡ Ok s → length s.streams ≡ 7

@@ -1,10 +1,10 @@
 -- The current chain, move by move and over a run: in order of priority, and first in first out within.
-use Rattle.std.proofs.Common.{◌≡◌, ℕ, ◌+◌, ◌≤◌, ℤ, nat_eq, Bool, true, false, not, ◌||◌, List, [], ◌∷◌, ◌++◌, filter, Ok, refl, sym, ap, ap₂, subst, ◌∙◌, append-nil, append_assoc, arith, inl, inr}
+use Rattle.std.proofs.Common.{◌≡◌, ℕ, ◌+◌, ◌≤◌, ℤ, nat_eq, Bool, true, false, List, [], ◌∷◌, ◌++◌, Ok, refl, sym, ap, ap₂, subst, ◌∙◌, append-nil, append_assoc, arith, inl, inr}
 use Rattle.std.specs.List.{AllByRecursion}
 use Rattle.std.specs.Ordering.{int_eq}
 use Rattle.std.proofs.lemmas.Bool.{cases_Bool, eq-eqb, false≢true}
 use Rattle.std.proofs.lemmas.Bool.Decides.{Decides-int_eq}
-use Rattle.std.proofs.lemmas.List.Elements.{filter-append}
+use Rattle.std.proofs.lemmas.List.Elements.{All-from_recursion}
 use Rattle.gw_nums.specs.Range.{is_below}
 use Rattle.gw_meaning.specs.declared.transaction.Transaction.{Transaction}
 use Rattle.gw_meaning.specs.declared.moves.Change.{Change}
@@ -48,56 +48,15 @@ all_ordered t seed = over_run t seed (λ n s. IsOrdered s.current) tt (λ n s m 
 pub chain_is_in_order : ChainIsInOrder
 chain_is_in_order t seed n s is = in_order s.current (all_ordered t seed n s is)
 
--- Lists of numbers: what a test keeps of them.
-keeps_all : (test : ℕ → Bool) (ks : List ℕ) → AllByRecursion (λ k. test k ≡ true) ks → filter test ks ≡ ks
-keeps_all test [] h = refl
-keeps_all test (k ∷ ks) h = rw h.0 (ap (λ ms. k ∷ ms) (keeps_all test ks h.1))
-
-keeps_none : (test : ℕ → Bool) (ks : List ℕ) → AllByRecursion (λ k. test k ≡ false) ks → filter test ks ≡ []
-keeps_none test [] h = refl
-keeps_none test (k ∷ ks) h = rw h.0 (keeps_none test ks h.1)
-
-each : {X : Type 0} (P Q : X → Type 0) → ((x : X) → P x → Q x) → (xs : List X) → AllByRecursion P xs → AllByRecursion Q xs
-each P Q on [] h = tt
-each P Q on (x ∷ xs) h = (on x h.0, each P Q on xs h.1)
-
--- each of these numbers is among them, and then among more
-in_longer : (front : List ℕ) (ks : List ℕ) (k : ℕ) → is_in ks k ≡ true → is_in (front ++ ks) k ≡ true
-in_longer [] ks k h = h
-in_longer (f ∷ fs) ks k h = rw (in_longer fs ks k h) (elim (nat_eq f k) as (λ b. (b || true) ≡ true) [ true ↦ refl | false ↦ refl ])
-
-in_front : (ks back : List ℕ) (k : ℕ) → is_in ks k ≡ true → is_in (ks ++ back) k ≡ true
-in_front [] back k h = absurd (false≢true h)
-in_front (f ∷ fs) back k h =
-    elim (cases_Bool (nat_eq f k)) [
-      | inl here ↦ rw here refl
-      | inr other ↦ rw other (in_front fs back k (rw other at h))
-    ]
-
-all_in : (ks : List ℕ) → AllByRecursion (λ k. is_in ks k ≡ true) ks
-all_in [] = tt
-all_in (k ∷ ks) = (rw (eq-eqb k k refl) refl, each (λ j. is_in ks j ≡ true) (λ j. is_in (k ∷ ks) j ≡ true) (λ j h. in_longer (k ∷ []) ks j h) ks (all_in ks))
-
--- those that were there stay, and others come behind them
+-- Lists of numbers: others come behind those that were there, or the first goes.
 joined : (ks more : List ℕ) → AllByRecursion (λ k. is_in ks k ≡ false) more → IsFirstInFirstOut ks (ks ++ more)
-joined ks more new =
-    let stay = keeps_all (is_in (ks ++ more)) ks (each (λ k. is_in ks k ≡ true) (λ k. is_in (ks ++ more) k ≡ true) (in_front ks more) ks (all_in ks)) in
-    let none = keeps_none (λ k. not (is_in ks k)) ks (each (λ k. is_in ks k ≡ true) (λ k. not (is_in ks k) ≡ false) (λ k h. ap not h) ks (all_in ks)) in
-    let come = keeps_all (λ k. not (is_in ks k)) more (each (λ k. is_in ks k ≡ false) (λ k. not (is_in ks k) ≡ true) (λ k h. ap not h) more new) in
-    let both : filter (λ k. not (is_in ks k)) (ks ++ more) ≡ more = filter-append (λ k. not (is_in ks k)) ks more ∙ ap₂ ◌++◌ none come in
-    sym (ap₂ ◌++◌ stay both)
+joined ks more new = (0, more, refl, All-from_recursion (λ k. is_in ks k ≡ false) more new)
 
 unchanged : (ks : List ℕ) → IsFirstInFirstOut ks ks
 unchanged ks = let h = joined ks [] tt in rw append-nil at h
 
--- the first goes, whose number no other has
-first_gone : (k : ℕ) (ks : List ℕ) → is_in ks k ≡ false → IsFirstInFirstOut (k ∷ ks) ks
-first_gone k ks alone =
-    let stay = keeps_all (is_in ks) ks (all_in ks) in
-    let none = keeps_none (λ j. not (is_in (k ∷ ks) j)) ks
-    (each (λ j. is_in ks j ≡ true) (λ j. not (is_in (k ∷ ks) j) ≡ false) (λ j h. ap not (in_longer (k ∷ []) ks j h)) ks (all_in ks)) in
-    let whole : filter (is_in ks) (k ∷ ks) ++ filter (λ j. not (is_in (k ∷ ks) j)) ks ≡ ks ++ [] = rw alone (ap₂ ◌++◌ stay none) in
-    sym (whole ∙ append-nil ks)
+first_gone : (k : ℕ) (ks : List ℕ) → IsFirstInFirstOut (k ∷ ks) ks
+first_gone k ks = (1, [], sym (append-nil ks), All-from_recursion (λ j. is_in (k ∷ ks) j ≡ false) [] tt)
 
 never_below_itself : (a : ℤ) → is_below a a ≡ false
 never_below_itself a = elim (cases_Bool (is_below a a)) [ inl below ↦ below_one_way a a below | inr not' ↦ not' ]
@@ -176,14 +135,10 @@ module _ (priority : ℤ) where
       elim (cases_Bool (has_priority x)) [ inl has ↦ rw has (new, rest) | inr other ↦ rw other rest ]
 
   -- the first of a chain goes
-  picked_turn : (x : Transaction) (xs : List Transaction) → ((k : ℕ) → many (has_number k) (x ∷ xs) ≤ 1) →
-      IsFirstInFirstOut (numbers_of priority (x ∷ xs)) (numbers_of priority xs)
-  picked_turn x xs once =
-      let here = eq-eqb x.number x.number refl in
-      let is : one (has_number x.number x) ≡ 1 = rw here refl in
-      let first = once x.number in
+  picked_turn : (x : Transaction) (xs : List Transaction) → IsFirstInFirstOut (numbers_of priority (x ∷ xs)) (numbers_of priority xs)
+  picked_turn x xs =
       elim (cases_Bool (has_priority x)) [
-        | inl has ↦ rw (first_has x xs has) (first_gone x.number (numbers_of priority xs) (not_there x.number xs (omega arith)))
+        | inl has ↦ rw (first_has x xs has) (first_gone x.number (numbers_of priority xs))
         | inr other ↦ rw (first_other x xs other) (unchanged (numbers_of priority xs))
       ]
 
@@ -201,7 +156,7 @@ module _ (priority : ℤ) where
       subst P (chain_there t s place change fate decided.1) (same_turn s)
   moved_turn t s moves.Pick decided h order =
       picked_has (TakesTurns s) s s.current (same_turn s)
-      (λ x xs is. rw is (picked_turn x xs (λ k. let chain = ap (many (has_number k)) is in let once = h.apart k in omega arith)))
+      (λ x xs is. rw is (picked_turn x xs))
   moved_turn t s (moves.Clock time) decided h order =
       rw (all_lined_numbers (due time s.future) s.current order)
       (joined (numbers_of priority s.current) (numbers_of priority (due time s.future))

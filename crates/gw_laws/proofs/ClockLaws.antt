@@ -1,7 +1,7 @@
 -- The clock and the future chain, move by move and over a run.
-use Rattle.std.proofs.Common.{◌≡◌, ℕ, zero, suc, ◌≤◌, nat_le, true, min, not, List, [], ◌∷◌, filter, Option, Some, None, Ok, refl, sym, ap, ◌∙◌, arith, inl, inr}
+use Rattle.std.proofs.Common.{◌≡◌, ℕ, ◌≤◌, nat_le, true, min, not, List, [], ◌∷◌, filter, Option, Some, None, Ok, refl, arith}
 use Rattle.std.specs.List.{AllByRecursion}
-use Rattle.std.proofs.lemmas.Bool.{cond_both, cases_lt}
+use Rattle.std.proofs.lemmas.Bool.{cond_both}
 use Rattle.std.proofs.lemmas.Bool.Decides.{nat_tests}
 use Rattle.std.proofs.lemmas.List.Elements.{All-from_recursion}
 use Rattle.gw_meaning.specs.declared.transaction.Transaction.{Transaction}
@@ -18,7 +18,7 @@ use Rattle.gw_meaning.specs.Step.{run, sooner, least_time}
 use Rattle.gw_frame.proofs.Keeps.{all_with}
 use Rattle.gw_frame.proofs.Decided.{IsComing, IsDecidedFate, IsDecided}
 use Rattle.gw_frame.proofs.Moves.{settled_is, entered_has, picked_has}
-use Rattle.gw_frame.proofs.Running.{IsLast, last_step, over_run}
+use Rattle.gw_frame.proofs.Running.{over_run, over_rest}
 use Rattle.gw_laws.specs.Clock.{ClockNeverGoesBack, ClockStaysWithin, NothingIsOverdue}
 
 -- no time lies before this one
@@ -111,25 +111,7 @@ clock_stays_within t seed n s is = (all_in_time t seed n s is).0
 pub nothing_is_overdue : NothingIsOverdue
 nothing_is_overdue t seed n s is = All-from_recursion (λ (e : Event). s.clock ≤ e.time) s.future (all_in_time t seed n s is).1
 
-one_clock : (t : Listing) (seed m n : ℕ) (s v : Machine) → m ≡ n → run t seed m ≡ Ok s → run t seed n ≡ Ok v → s.clock ≤ v.clock
-one_clock t seed m n s v same there is =
-    let both : Ok s ≡ Ok v = sym there ∙ (ap (run t seed) same ∙ is) in
-    let one : s ≡ v = cc in
-    rw one (omega arith)
-
-clock_goes_on : (t : Listing) (seed n : ℕ) (v : Machine) (last : IsLast t seed n v) → last.before.clock ≤ v.clock
-clock_goes_on t seed n v last =
-    let after = last.after in
-    let goes = (moved_goes_on t last.before after.move after.is_decided (all_in_time t seed n last.before last.there)).0 in
-    rw after.is goes
-
 pub clock_never_goes_back : ClockNeverGoesBack
-clock_never_goes_back t seed m zero s v before there is = one_clock t seed m zero s v (omega arith) there is
-clock_never_goes_back t seed m (suc n) s v before there is =
-    elim (cases_lt n m) [
-      | inl last ↦ one_clock t seed m (suc n) s v (omega arith) there is
-      | inr earlier ↦
-          let last = last_step t seed n v is in
-          let first = clock_never_goes_back t seed m n s last.before earlier there last.there in
-          omega (arith, clock_goes_on t seed n v last)
-    ]
+clock_never_goes_back t seed m n s v before there is =
+    over_rest t seed (λ i w. s.clock ≤ w.clock) m s there (omega arith)
+    (λ k u move streams at decided h. let goes = (moved_goes_on t u move decided (all_in_time t seed k u at)).0 in omega (arith, h, goes)) n v before is

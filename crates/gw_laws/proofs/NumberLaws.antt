@@ -1,8 +1,8 @@
 -- The numbers of transactions, move by move and over a run: none lives twice, and none lives that was not given yet.
-use Rattle.std.proofs.Common.{◌≡◌, ◌≢◌, ℕ, ◌+◌, ◌-◌, ◌<◌, ◌≤◌, ◌^◌, nat_eq, Bool, List, [], ◌∷◌, length, Ok, refl, ap, sym, ◌∙◌, arith, inl, inr}
+use Rattle.std.proofs.Common.{◌≡◌, ◌≢◌, ℕ, ◌+◌, ◌-◌, ◌<◌, ◌≤◌, ◌^◌, nat_eq, Bool, true, false, List, [], ◌∷◌, length, Ok, refl, ap, sym, ◌∙◌, arith, inl, inr}
 use Rattle.std.specs.Prelude.{AllPairs}
-use Rattle.std.specs.List.{AllByRecursion}
-use Rattle.std.proofs.lemmas.Bool.{eq-eqb, ne_eqb, cases_eq, cases_lt}
+use Rattle.std.specs.List.{AllByRecursion, list_any}
+use Rattle.std.proofs.lemmas.Bool.{cases_Bool, false≢true, eq-eqb, ne_eqb, cases_eq, cases_lt}
 use Rattle.std.proofs.lemmas.List.Elements.{All-from_recursion}
 use Rattle.std.proofs.lemmas.List.Kept.{AllPairs-cons}
 use Rattle.gw_meaning.specs.declared.transaction.Transaction.{Transaction}
@@ -15,10 +15,10 @@ use Rattle.gw_meaning.specs.Changes.{Making, made, all_made, making_of, with_mak
 use Rattle.gw_meaning.specs.Step.{run}
 use Rattle.gw_model.specs.Well.{Well}
 use Rattle.gw_laws.specs.Living.{living}
-use Rattle.gw_laws.specs.Numbering.{NumbersAreApart, NumbersAreGiven}
+use Rattle.gw_laws.specs.Numbering.{NumbersAreApart, NumbersAreGiven, NumbersAreGivenOnce}
 use Rattle.gw_frame.proofs.Decided.{IsDecided}
 use Rattle.gw_frame.proofs.Moves.{settled, settled_is, marked_same, entered_has, picked_has}
-use Rattle.gw_frame.proofs.Running.{over_run}
+use Rattle.gw_frame.proofs.Running.{over_run, over_rest}
 use Rattle.gw_laws.proofs.Crowd.{one, many, crowd, many_living, future_push, settled_fewer, picked_crowd, advanced_crowd}
 use Rattle.gw_laws.proofs.Room.{all_within}
 
@@ -132,3 +132,63 @@ numbers_are_given t seed n s well within is =
     let h = all_numbered t seed well n s is within in
     All-from_recursion (λ (x : Transaction). x.number < s.next) (living s)
     (given_in s.next (living s) (λ k above. many_living (has_number k) s ∙ h.given k above))
+
+-- A number that was given and that no transaction has.
+abbrev IsGone : ℕ → Machine → Type 0
+IsGone k s = (k < s.next) × (crowd (has_number k) s ≡ 0)
+
+module _ (k : ℕ) where
+  made_gone : (a : Arrival) (w : Making) (s : Machine) → w.next < 2 ^ 64 - 1 → IsGone k (with_making w s) → IsGone k (with_making (made a w) s)
+  made_gone a w s room h =
+      let push = future_push (has_number k) w.future (newcomer w.next a) in
+      let other = ne_eqb w.next k (λ same. omega (arith, h.0)) in
+      let is : one (has_number k (newcomer w.next a).transaction) ≡ 0 = rw other refl in
+      (omega (arith, h.0), omega (arith, h.1, push, is))
+
+  all_made_gone : (arrivals : List Arrival) (w : Making) (s : Machine) → w.next + length arrivals < 2 ^ 64 - 1 → IsGone k (with_making w s) →
+      IsGone k (with_making (all_made arrivals w) s)
+  all_made_gone [] w s room h = h
+  all_made_gone (a ∷ rest) w s room h = all_made_gone rest (made a w) s (omega arith) (made_gone a w s (omega arith) h)
+
+  moved_gone : (t : Listing) (s : Machine) (m : Move) → s.next + length t.lines < 2 ^ 64 - 1 → IsDecided t s m → IsGone k s → IsGone k (moved s m)
+  moved_gone t s (moves.Start count arrivals) room decided h =
+      all_made_gone arrivals (making_of s) (started count s) (omega (arith, decided.few)) h
+  moved_gone t s moves.Command room decided h = h
+  moved_gone t s (moves.Enter place change fate) room decided h =
+      entered_has (λ v. (v.next ≡ s.next) × IsGone k v) (IsGone k) t s place change fate decided.1 h
+      (λ x is.
+      let v = settled s x place change fate in
+      let next : v.next ≡ s.next = (settled_is s x place change fate).next in
+      let fewer = settled_fewer (has_number k) s x place change fate is (ap (λ n. nat_eq n k) (marked_same change s.clock (placed x place)).0) in
+      (next, (omega (arith, next, h.0), omega (arith, fewer, h.1))))
+      (λ v g. g.1) (λ a v coming g. made_gone a (making_of v) v (omega (arith, room, g.0)) g.1)
+  moved_gone t s moves.Pick room decided h =
+      picked_has (IsGone k) s s.current h (λ x xs is. let same = picked_crowd (has_number k) s x xs decided is in (h.0, omega (arith, same, h.1)))
+  moved_gone t s (moves.Clock time) room decided h = let same = advanced_crowd (has_number k) s time in (h.0, omega (arith, same, h.1))
+
+  -- what that says of the list of the living
+  not_alive : (xs : List Transaction) → list_any (has_number k) xs ≡ false → many (has_number k) xs ≡ 0
+  not_alive [] none = refl
+  not_alive (x ∷ xs) none =
+      elim (cases_Bool (has_number k x)) [
+        | inl is ↦ absurd (let no : true ≡ false = rw is at none in false≢true (sym no))
+        | inr other ↦ let no_more : one (has_number k x) ≡ 0 = rw other refl in let rest = not_alive xs (rw other at none) in omega arith
+      ]
+
+  alive : (xs : List Transaction) → many (has_number k) xs ≡ 0 → list_any (has_number k) xs ≡ false
+  alive [] none = refl
+  alive (x ∷ xs) none =
+      elim (cases_Bool (has_number k x)) [
+        | inl is ↦ absurd (let one_more : one (has_number k x) ≡ 1 = rw is refl in omega arith)
+        | inr other ↦ rw other (alive xs (omega arith))
+      ]
+
+pub numbers_are_given_once : NumbersAreGivenOnce
+numbers_are_given_once t seed m n s v well before within there is k given gone =
+    let start : IsGone k s = (given, sym (many_living (has_number k) s) ∙ not_alive k (living s) gone) in
+    let rest =
+    over_rest t seed (λ i u. i ≤ t.limit → IsGone k u) m s there (λ early. start)
+    (λ i u move streams at decided h early.
+    let room = all_within t seed i u well at in
+    moved_gone k t u move (omega (arith, room.next, well.greatest_limit, well.statements)) decided (h (omega arith))) n v before is within in
+    alive k (living v) (many_living (has_number k) v ∙ rest.1)

@@ -1,5 +1,5 @@
 -- The current chain over every run from zero: by priority, and first in first out within a priority. (Manual.)
-use Rattle.std.specs.Prelude.{◌≡◌, ℕ, suc, ◌≤◌, ◌==◌, ℤ, Bool, not, List, ◌++◌, Ok, filter, map}
+use Rattle.std.specs.Prelude.{◌≡◌, ℕ, suc, ◌≤◌, ◌==◌, ℤ, Bool, false, List, ◌++◌, Ok, All, drop, filter, map}
 use Rattle.std.specs.List.{list_any}
 use Rattle.std.specs.Ordering.{int_eq}
 use Rattle.gw_meaning.specs.declared.transaction.Transaction.{Transaction}
@@ -21,10 +21,10 @@ numbers_of priority chain =
 abbrev pub is_in : List ℕ → ℕ → Bool
 is_in numbers number = list_any (λ other. other == number) numbers
 
--- first in first out: those that stay keep their order, and those that come stand behind them
+-- first in first out: the first ones go, those behind them keep their order, and others come behind these
 abbrev pub IsFirstInFirstOut : List ℕ → List ℕ → Type 0
 IsFirstInFirstOut before after =
-    after ≡ filter (is_in after) before ++ filter (λ number. not (is_in before number)) after
+    (gone : ℕ) × (come : List ℕ) × (after ≡ drop gone before ++ come) × (All (λ number. is_in before number ≡ false) come)
 
 -- so it is, for each priority, of the chain before and after each step. (Within the step limit, since numbers tell
 -- transactions apart there.)

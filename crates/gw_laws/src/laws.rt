@@ -2,19 +2,20 @@
 ghost use Rattle.gw_laws.specs.Chain.{ChainIsInOrder, ChainIsFirstInFirstOut};
 ghost use Rattle.gw_laws.specs.Clock.{ClockNeverGoesBack, ClockStaysWithin, NothingIsOverdue};
 ghost use Rattle.gw_laws.specs.Contents.{ContentsAreCounts};
-ghost use Rattle.gw_laws.specs.Numbering.{NumbersAreApart, NumbersAreGiven};
+ghost use Rattle.gw_laws.specs.Numbering.{NumbersAreApart, NumbersAreGiven, NumbersAreGivenOnce};
 
-/// The current chain is in order of priority. Of one priority, the transactions that stay on it through a step keep
-/// their order, and those that come stand behind them.
+/// The current chain is in order of priority. Of one priority, the first transactions leave it in a step, those that
+/// stay keep their order, and those that come stand behind them.
 pub fn chain_in_order()
     ensures order { ChainIsInOrder }
     ensures turn { ChainIsFirstInFirstOut }
 {}
 
-/// No two transactions have one number, and each number was given: it is below the next one.
+/// No two transactions have one number, and each number was given: it is below the next one. No number is given twice.
 pub fn numbers_apart()
     ensures apart { NumbersAreApart }
     ensures given { NumbersAreGiven }
+    ensures once { NumbersAreGivenOnce }
 {}
 
 /// A block's content is the number of the transactions that stand in it.

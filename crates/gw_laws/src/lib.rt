@@ -1,6 +1,7 @@
 //! What holds of every run from zero, whatever its version: laws above the definition of a step.
 //!
-//! The current chain is in order of priority, and first in first out within. No two transactions have one number.
+//! The current chain is in order of priority, and first in first out within. No two transactions have one number, and
+//! none is given twice.
 //! A block's content is the number of the transactions that stand in it. The clock never goes back, and stays within
 //! the horizon.
 #![tactic(auto)]

@@ -5,6 +5,7 @@ use Rattle.std.specs.Char.{is_ascii_digit}
 use Rattle.std.proofs.lemmas.Bool.{cases_Bool, eqb-true}
 use Rattle.std.proofs.lemmas.Bool.Decides.{nat_tests}
 use Rattle.std.proofs.lemmas.List.{append-nil}
+use Rattle.gw_lines.proofs.Results.{some_is}
 use Rattle.gw_lines.specs.Numbers.{number_after, number_of, value_of}
 use Rattle.gw_lines.specs.Spelling.{Digits, first_digit, next_digit, Number, Value, without_sign, with_sign}
 
@@ -44,9 +45,6 @@ pub number_again : (most : ℕ) (text : List ℕ) (n : ℕ) → Number most text
 number_again most text n h =
     of_after most text (begins h.digits) ∙ ap (number_after most 0) (sym (append-nil text))
     ∙ number_on h.digits [] h.small
-
-some_is : (m n : ℕ) → (let f : ℕ → Option ℕ = λ x. Some x in f m ≡ f n) → m ≡ n
-some_is m n e = cc
 
 number_taken : (most n : ℕ) (front rest : List ℕ) (m : ℕ) → Digits front n → n ≤ most
     → number_after most n rest ≡ Some m → Number most (front ++ rest) m

@@ -1,24 +1,24 @@
 -- The text of an edit: its lines, what is read is spelled so, what is spelled so is read, and the same of its first fault.
 use Rattle.std.proofs.Common.{◌≡◌, ◌≢◌, ℕ, suc, ◌<◌, ◌≤◌, ◌==◌, not, false, List, [], ◌∷◌, length, Option, None, Result, Ok, Err, refl, sym, ap, subst, ◌∙◌, ◌⊎◌, inl, inr, arith}
-use Rattle.std.specs.Prelude.{IfOk, IfErr, nat_lt, All, Any}
+use Rattle.std.specs.Prelude.{nat_lt, All, Any}
 use Rattle.std.proofs.lemmas.List.Elements.{All-nil, All-cons}
 use Rattle.std.proofs.lemmas.Bool.{cases_Bool}
 use Rattle.gw_meaning.specs.declared.statement.Statement.{Statement}
 use Rattle.gw_lines.specs.declared.class.Class.TheVariants as class
 use Rattle.gw_lines.specs.declared.fault.LineFault.{LineFault}
 use Rattle.gw_lines.specs.declared.fault.LineFault.TheVariants as faults
-use Rattle.gw_lines.specs.Reading.{◌>>=◌, Gives}
+use Rattle.gw_lines.specs.Reading.{◌>>=◌, Fails, Gives}
 use Rattle.gw_lines.specs.Classes.{front_of, rest_of, tail_of}
 use Rattle.gw_lines.specs.Lines.{line_of, wanted, statement_of}
 use Rattle.gw_lines.specs.Classes.{with_byte}
 use Rattle.gw_lines.specs.Spelling.{Spells}
 use Rattle.gw_lines.specs.Faulty.{FirstFault}
-use Rattle.gw_lines.specs.Edits.{edit_lines, SpellsEdit, AreClean, MayGoOn, spelled, misses, is_missing, FaultOfLines, no_line, long_line, wrong_byte, in_first, goes_on, at_the_end, FirstFaultOfEdit, AnswersEdit, short_lines, byte_fault, plain_lines, followed, first_of, edit_in, edit_of}
+use Rattle.gw_lines.specs.Edits.{edit_lines, SpellsEdit, AreClean, MayGoOn, spelled, misses, is_missing, FaultOfLines, no_line, long_line, wrong_byte, in_first, goes_on, at_the_end, short_lines, byte_fault, plain_lines, followed, first_of, edit_in, edit_of}
 use Rattle.gw_lines.specs.Read.{EditsAreRead, EditsAreRefused}
-use Rattle.gw_lines.proofs.Fronts.{front_yes, rest_yes}
-use Rattle.gw_lines.proofs.Results.{failed, err_is, or_memory}
-use Rattle.gw_lines.proofs.Lines.{short_is, spells_found, spells_again}
-use Rattle.gw_lines.proofs.Faults.{long_is, fault_found, fault_again}
+use Rattle.gw_lines.proofs.Fronts.{put_before}
+use Rattle.gw_lines.proofs.Results.{failed, err_is}
+use Rattle.gw_lines.proofs.Lines.{long_is, short_is, spells_found, spells_again}
+use Rattle.gw_lines.proofs.Faults.{fault_found, fault_again}
 use Rattle.gw_lines.proofs.Whole.{faulty_found, wanted_err}
 
 -- ---- the lines of a text
@@ -26,24 +26,20 @@ use Rattle.gw_lines.proofs.Whole.{faulty_found, wanted_err}
 one_more : (b : ℕ) (bs : List ℕ) → (b == 124) ≡ false → edit_lines (b ∷ bs) ≡ with_byte b (edit_lines bs)
 one_more b bs e = rw e refl
 
--- a byte before the first of lines
-put_before : (b : ℕ) (bs : List ℕ) → (b == 124) ≡ false
-    → front_of class.Part (b ∷ bs) ∷ edit_lines (tail_of (rest_of class.Part (b ∷ bs)))
-    ≡ with_byte b (front_of class.Part bs ∷ edit_lines (tail_of (rest_of class.Part bs)))
-put_before b bs e =
-    ap (λ (x : List ℕ). x ∷ edit_lines (tail_of (rest_of class.Part (b ∷ bs)))) (front_yes class.Part b bs (ap not e))
-    ∙ ap (λ (x : List ℕ). (b ∷ front_of class.Part bs) ∷ edit_lines (tail_of x)) (rest_yes class.Part b bs (ap not e))
+-- the lines behind the first, of what it leaves
+abbrev behind : List ℕ → List (List ℕ)
+behind rest = edit_lines (tail_of rest)
 
-first_is : (b : ℕ) (bs : List ℕ) → edit_lines (b ∷ bs) ≡ front_of class.Part (b ∷ bs) ∷ edit_lines (tail_of (rest_of class.Part (b ∷ bs)))
+first_is : (b : ℕ) (bs : List ℕ) → edit_lines (b ∷ bs) ≡ front_of class.Part (b ∷ bs) ∷ behind (rest_of class.Part (b ∷ bs))
 first_is b [] =
     elim (cases_Bool (b == 124)) [
       | inl bar ↦ rw bar refl
-      | inr part ↦ one_more b [] part ∙ sym (put_before b [] part)
+      | inr part ↦ one_more b [] part ∙ sym (put_before class.Part behind b [] (ap not part))
     ]
 first_is b (c ∷ cs) =
     elim (cases_Bool (b == 124)) [
       | inl bar ↦ rw bar refl
-      | inr part ↦ one_more b (c ∷ cs) part ∙ ap (with_byte b) (first_is c cs) ∙ sym (put_before b (c ∷ cs) part)
+      | inr part ↦ one_more b (c ∷ cs) part ∙ ap (with_byte b) (first_is c cs) ∙ sym (put_before class.Part behind b (c ∷ cs) (ap not part))
     ]
 
 -- the first line of a text that is not empty, and the lines behind it
@@ -69,6 +65,13 @@ follows (Err (faults.MissingOperand n)) read h = ap followed h
 follows (Err (faults.ExtraOperand n)) read h = ap followed h
 follows (Err faults.BadPairs) read h = ap followed h
 
+-- ---- the lines, one after another
+
+-- what the lines so far gave, where they leave this of the whole: it is the whole's, or the whole fails so
+abbrev pub SoFar : Result (Unit {0}) LineFault → Result (Unit {0}) LineFault → Result (Unit {0}) LineFault → Type 0
+SoFar (Ok u) left whole = left ≡ whole
+SoFar (Err f) left whole = Fails f whole
+
 -- ---- each line, and some line
 
 any_here : {X : Type 0} (P : X → Type 0) (x : X) (xs : List X) → P x → Any P (x ∷ xs)
@@ -92,16 +95,27 @@ IsWrong line = FirstFault line faults.BadByte
 abbrev IsRight : List ℕ → Type 0
 IsRight line = FirstFault line faults.BadByte → ⊥
 
-short_cases : (lines : List (List ℕ)) → ((short_lines lines ≡ Ok tt) × All IsShort lines) ⊎ ((short_lines lines ≡ Err faults.TooLong) × Any IsLong lines)
-short_cases [] = inl (refl, All-nil IsShort)
-short_cases (line ∷ lines) =
-    elim (cases_Bool (nat_lt 250 (length line))) [
-      | inl long ↦ inr (rw long refl, any_here IsLong line lines (long_is (length line) long))
-      | inr short ↦ elim (short_cases lines) [
-        | inl p ↦ inl (rw short p.0, All-cons IsShort line lines (short_is (length line) short) p.1)
-        | inr p ↦ inr (rw short p.0, any_there IsLong line lines p.1)
+-- what a check of each line gives, by what it gives of the first: none fails, or some line does
+each_cases : {X : Type 0} (P Q : X → Type 0) (check : List X → Result (Unit {0}) LineFault) (f : LineFault) → check [] ≡ Ok tt
+    → ((x : X) (xs : List X) → ((check (x ∷ xs) ≡ check xs) × P x) ⊎ ((check (x ∷ xs) ≡ Err f) × Q x))
+    → (xs : List X) → ((check xs ≡ Ok tt) × All P xs) ⊎ ((check xs ≡ Err f) × Any Q xs)
+each_cases P Q check f none first [] = inl (none, All-nil P)
+each_cases P Q check f none first (x ∷ xs) =
+    elim (first x xs) [
+      | inr here ↦ inr (here.0, any_here Q x xs here.1)
+      | inl here ↦ elim (each_cases P Q check f none first xs) [
+        | inl others ↦ inl (here.0 ∙ others.0, All-cons P x xs here.1 others.1)
+        | inr others ↦ inr (here.0 ∙ others.0, any_there Q x xs others.1)
       ]
     ]
+
+short_cases : (lines : List (List ℕ)) → ((short_lines lines ≡ Ok tt) × All IsShort lines) ⊎ ((short_lines lines ≡ Err faults.TooLong) × Any IsLong lines)
+short_cases =
+    each_cases IsShort IsLong short_lines faults.TooLong refl
+    (λ line lines. elim (cases_Bool (nat_lt 250 (length line))) [
+      | inl long ↦ inr (rw long refl, long_is (length line) long)
+      | inr short ↦ inl (rw short refl, short_is (length line) short)
+    ])
 
 -- a wrong byte, or none
 byte_cases : (r : Result (Option Statement) LineFault) → (r ≡ Err faults.BadByte) ⊎ ((byte_fault r ≡ Ok tt) × (r ≡ Err faults.BadByte → ⊥))
@@ -129,15 +143,12 @@ wrong_is line h =
     ]
 
 plain_cases : (lines : List (List ℕ)) → ((plain_lines lines ≡ Ok tt) × All IsRight lines) ⊎ ((plain_lines lines ≡ Err faults.BadByte) × Any IsWrong lines)
-plain_cases [] = inl (refl, All-nil IsRight)
-plain_cases (line ∷ lines) =
-    elim (byte_cases (line_of line)) [
-      | inl wrong ↦ inr (rw wrong refl, any_here IsWrong line lines (faulty_found line faults.BadByte wrong))
-      | inr right ↦ elim (plain_cases lines) [
-        | inl p ↦ inl (rw right.0 p.0, All-cons IsRight line lines (λ h. right.1 (wrong_is line h)) p.1)
-        | inr p ↦ inr (rw right.0 p.0, any_there IsWrong line lines p.1)
-      ]
-    ]
+plain_cases =
+    each_cases IsRight IsWrong plain_lines faults.BadByte refl
+    (λ line lines. elim (byte_cases (line_of line)) [
+      | inl wrong ↦ inr (rw wrong refl, faulty_found line faults.BadByte wrong)
+      | inr right ↦ inl (rw right.0 refl, λ h. right.1 (wrong_is line h))
+    ])
 
 no_long : (line : List ℕ) → IsShort line → IsLong line → ⊥
 no_long line short long = omega arith
@@ -275,23 +286,3 @@ edits_are_read text s = (edit_spells text s, edit_again text s)
 pub edits_are_refused : EditsAreRefused
 unfolding edit_of
 edits_are_refused text f = (lines_fault (edit_lines text) f, λ h. fault_in h)
-
--- ---- the clauses
-
-pub edit_found : (text : List ℕ) (r : Result Statement LineFault) → Gives (λ s. s) r (edit_of text) → IfOk r (λ s. SpellsEdit text s)
-edit_found text (Ok s) h = edit_spells text s h
-edit_found text (Err f) h = tt
-
-pub edit_only : (text : List ℕ) (r : Result Statement LineFault) → Gives (λ s. s) r (edit_of text) → (s : Statement) → SpellsEdit text s
-    → Gives (λ s. s) r (Ok s)
-edit_only text r h s k = subst (λ (x : Result Statement LineFault). Gives (λ s. s) r x) (edit_again text s k) h
-
-pub edit_fault : (text : List ℕ) (r : Result Statement LineFault) → Gives (λ s. s) r (edit_of text) → IfErr r (λ f. AnswersEdit text f)
-unfolding edit_of
-edit_fault text (Ok s) h = tt
-edit_fault text (Err f) h = or_memory f (lines_fault (edit_lines text) f) h
-
-pub edit_faulty : (text : List ℕ) (r : Result Statement LineFault) → Gives (λ s. s) r (edit_of text) → (f : LineFault) → FirstFaultOfEdit text f
-    → Gives (λ s. s) r (Err f)
-unfolding edit_of
-edit_faulty text r h f k = subst (λ (x : Result Statement LineFault). Gives (λ s. s) r x) (fault_in k) h

@@ -1,10 +1,10 @@
 -- The first fault of a line: what is answered is in the family, and what is in the family is answered.
-use Rattle.std.proofs.Common.{◌≡◌, ◌≢◌, ℕ, ◌<◌, ◌||◌, not, Bool, true, false, List, [], ◌∷◌, ◌++◌, length, Option, Some, None, Result, Ok, Err, refl, sym, ap, subst, ◌∙◌, ◌⊎◌, inl, inr, arith}
-use Rattle.std.specs.Prelude.{IfErr, IsSome, is_some, nat_lt}
+use Rattle.std.proofs.Common.{◌≡◌, ◌≢◌, ℕ, ◌<◌, not, true, false, List, [], ◌∷◌, ◌++◌, length, Option, Some, None, Result, Ok, Err, refl, sym, ap, subst, ◌∙◌, ◌⊎◌, inl, inr, arith}
+use Rattle.std.specs.Prelude.{IsSome, is_some, nat_lt}
 use Rattle.std.specs.List.{list_all}
 use Rattle.std.proofs.lemmas.Bool.Decides.{nat_tests}
 use Rattle.std.proofs.lemmas.List.{append-nil}
-use Rattle.std.proofs.lemmas.Bool.{and_parts, cases_Bool}
+use Rattle.std.proofs.lemmas.Bool.{and_parts, both_ways, cases_Bool}
 use Rattle.gw_names.specs.declared.verb.Verb.{Verb}
 use Rattle.gw_names.specs.Words.{upper_of}
 use Rattle.gw_names.specs.Names.{name_of}
@@ -13,17 +13,17 @@ use Rattle.gw_meaning.specs.declared.statement.Statement.{Statement}
 use Rattle.gw_lines.specs.declared.class.Class.TheVariants as class
 use Rattle.gw_lines.specs.declared.fault.LineFault.{LineFault}
 use Rattle.gw_lines.specs.declared.fault.LineFault.TheVariants as faults
-use Rattle.gw_lines.specs.Reading.{◌>>=◌, Gives}
+use Rattle.gw_lines.specs.Reading.{◌>>=◌}
 use Rattle.gw_lines.specs.Classes.{is_in, is_blank, front_of, rest_of, is_nothing, are_plain}
 use Rattle.gw_lines.specs.Bodies.{body_of}
-use Rattle.gw_lines.specs.Lines.{word_of, behind_word, verb_in, is_command, or_bad_label, label_of, plain_of, by_first, by_second, coded_of, fault_without_verb, behind_number, code_of, is_remark, line_in, line_of, statement_of}
+use Rattle.gw_lines.specs.Lines.{word_of, behind_word, verb_in, is_command, or_bad_label, label_of, plain_of, by_first, by_second, coded_of, fault_without_verb, code_of, line_in, line_of, statement_of}
 use Rattle.gw_lines.specs.Spelling.{AreIn, Stops, Head, Label, no_label, named, ArePlain}
-use Rattle.gw_lines.specs.Faulty.{Verbless, one_word, two_words, WordsFault, byte_with_verb, byte_without_verb, no_verb, bad_first_word, bad_label, verb_to_come, operand_fault, FirstFault, too_long, no_statement, in_words, Answers}
+use Rattle.gw_lines.specs.Faulty.{Verbless, one_word, two_words, WordsFault, byte_with_verb, byte_without_verb, no_verb, bad_first_word, bad_label, verb_to_come, operand_fault, FirstFault, too_long, no_statement, in_words}
 use Rattle.gw_lines.proofs.Fronts.{front_again, rest_again, parts, front_all, rest_stops}
-use Rattle.gw_lines.proofs.Results.{failed, err_is, or_memory}
+use Rattle.gw_lines.proofs.Results.{failed, err_is}
 use Rattle.gw_lines.proofs.Bodies.{body_fault, body_fault_again, body_to_come}
-use Rattle.gw_lines.proofs.Heads.{are_plain_upper, none_is, not_none, some_is_not, both_stop, no_word, blank_no_mark, mark_no_blank, head_first, head_second, at_head, head_is, label_again, labelled_head}
-use Rattle.gw_lines.proofs.Lines.{short_is, short_again, cut_of, cut_is, words_of, words_are}
+use Rattle.gw_lines.proofs.Heads.{are_plain_upper, none_is, not_none, some_is_not, both_stop, no_word, blanks_before, two_are, two_again, head_first, head_second, at_head, head_is, label_again, labelled_head, or_true, plain_again}
+use Rattle.gw_lines.proofs.Lines.{short_again, cut_is, words_are, line_is, is_long, no_words, has_words}
 
 step_ok : {X Y : Type 0} (r : Result X LineFault) (next : X → Result Y LineFault) (x : X) (f : LineFault) → r ≡ Ok x → (r >>= next) ≡ Err f → next x ≡ Err f
 step_ok {X} r next x f p e = sym (ap (λ (t : Result X LineFault). t >>= next) p) ∙ e
@@ -52,9 +52,6 @@ plain_cases t =
       | inl plain ↦ inl (plain, rw plain refl)
       | inr other ↦ inr (other, rw other refl)
     ]
-
-true_false : {b : Bool} {A : Type 0} → b ≡ true → b ≡ false → A
-true_false h k = absurd (let e : true ≡ false = sym h ∙ k in cc)
 
 -- ---- words with a verb
 
@@ -104,16 +101,16 @@ head_fault {words} None {verb} {kept} f h e =
       }) (no_label verb)
           (body_failed (body_of verb (upper_of kept)) None (upper_of kept) f (step_ok (plain_of (upper_of kept)) _ (upper_of kept) f p.1 e))
       | inr p ↦ subst (λ (x : LineFault). WordsFault words x) (sym (step_err (plain_of (upper_of kept)) _ faults.BadByte f p.1 e))
-          (byte_with_verb words None verb kept h (λ a. true_false (are_plain_upper kept ∙ a.list) p.0))
+          (byte_with_verb words None verb kept h (λ a. both_ways _ p.0 (are_plain_upper kept ∙ a.list)))
     ]
 head_fault {words} (Some word) {verb} {kept} f h e =
     elim (plain_cases word) [
       | inr w ↦ subst (λ (x : LineFault). WordsFault words x) (sym (step_err (plain_of word) _ faults.BadByte f w.1 e))
-          (byte_with_verb words (Some word) verb kept h (λ a. true_false a.first w.0))
+          (byte_with_verb words (Some word) verb kept h (λ a. both_ways _ w.0 a.first))
       | inl w ↦ elim (plain_cases (upper_of kept)) [
         | inr p ↦ subst (λ (x : LineFault). WordsFault words x)
             (sym (step_err (plain_of (upper_of kept)) _ faults.BadByte f p.1 (step_ok (plain_of word) _ word f w.1 e)))
-            (byte_with_verb words (Some word) verb kept h (λ a. true_false (are_plain_upper kept ∙ a.list) p.0))
+            (byte_with_verb words (Some word) verb kept h (λ a. both_ways _ p.0 (are_plain_upper kept ∙ a.list)))
         | inl p ↦
             let plain : ArePlain (Some word) kept = record { first = w.0; list = kept_plain kept p.0 } in
             let e2 = step_ok (plain_of (upper_of kept)) _ (upper_of kept) f p.1 (step_ok (plain_of word) _ word f w.1 e) in
@@ -150,12 +147,8 @@ verbless_is (one_word first blanks m n k) =
     verbless_with (first ++ blanks) first [] a b n no_word
 verbless_is (two_words first blanks second rest m n k some w more v s) =
     let words = first ++ (blanks ++ (second ++ rest)) in
-    let t = blank_no_mark blanks (second ++ rest) k some in
-    let u = mark_no_blank second rest w more in
-    let a : word_of words ≡ first = front_again class.Mark first (blanks ++ (second ++ rest)) m t in
-    let b : behind_word words ≡ second ++ rest = ap (rest_of class.Blank) (rest_again class.Mark first (blanks ++ (second ++ rest)) m t)
-    ∙ rest_again class.Blank blanks (second ++ rest) k u in
-    verbless_with words first second a (ap word_of b ∙ front_again class.Mark second rest w s) n v
+    let two = two_again first blanks second rest m k some w more in
+    verbless_with words first second two.0 (ap word_of two.1 ∙ front_again class.Mark second rest w s) n v
 
 verbless_of : (words : List ℕ) → verb_in (word_of words) ≡ None → verb_in (word_of (behind_word words)) ≡ None
     → Verbless words (word_of words) (word_of (behind_word words))
@@ -177,14 +170,8 @@ verbless_of words n m =
           (one_word (word_of words) blanks (front_all class.Mark words) n (front_all class.Blank rest)))
       | inr given ↦
           let more = not_none (word_of second) given in
-          let some : blanks ≢ [] = λ (e : blanks ≡ []).
-          (let same : rest ≡ second = parts class.Blank rest ∙ ap (λ (t : List ℕ). t ++ second) e in
-          let nothing : second ≡ [] = both_stop second (subst (λ (t : List ℕ). Stops class.Mark t) same (rest_stops class.Mark words))
-          (rest_stops class.Blank rest) in
-          more (ap word_of nothing)) in
-          let whole : words ≡ word_of words ++ (blanks ++ (word_of second ++ rest_of class.Mark second)) = parts class.Mark words
-          ∙ ap (λ (t : List ℕ). word_of words ++ t) (parts class.Blank rest ∙ ap (λ (t : List ℕ). blanks ++ t) (parts class.Mark second)) in
-          subst (λ (t : List ℕ). Verbless t (word_of words) (word_of second)) (sym whole)
+          let some : blanks ≢ [] = blanks_before words (λ (nothing : second ≡ []). more (ap word_of nothing)) in
+          subst (λ (t : List ℕ). Verbless t (word_of words) (word_of second)) (sym (two_are words))
           (two_words (word_of words) blanks (word_of second) (rest_of class.Mark second) (front_all class.Mark words) n (front_all class.Blank rest) some
           (front_all class.Mark second) more m (rest_stops class.Mark second))
     ]
@@ -242,23 +229,16 @@ bad_byte_is (Some word) verb kept u =
       ]
     ]
 
-plain_is : (t : List ℕ) → are_plain t ≡ true → plain_of t ≡ Ok t
-plain_is t h = rw h refl
-
-or_holds : (a b : Bool) → b ≡ true → (a || b) ≡ true
-or_holds true b h = refl
-or_holds false b h = h
-
 pub words_again : {words : List ℕ} {f : LineFault} → WordsFault words f → coded_of words ≡ Err f
 unfolding fault_without_verb
 words_again (byte_with_verb words word verb kept h u) = head_is h ∙ bad_byte_is word verb kept u
 words_again (byte_without_verb words first second v p) = verbless_is v ∙ rw p refl
 words_again (no_verb words first second v p (inl e)) = verbless_is v ∙ rw (p, e) refl
-words_again (no_verb words first second v p (inr n)) = verbless_is v ∙ rw (p, or_holds (is_nothing second) (is_some (name_of first)) n) refl
+words_again (no_verb words first second v p (inr n)) = verbless_is v ∙ rw (p, or_true (is_nothing second) (is_some (name_of first)) n) refl
 words_again (bad_first_word words first second v p some n) = verbless_is v ∙ rw (p, some_is_not second some, n) refl
 words_again (bad_label words word verb kept h p b) =
-    head_is h ∙ step_on (plain_of word) _ word _ (plain_is word p.first)
-    (step_on (plain_of (upper_of kept)) _ (upper_of kept) _ (plain_is (upper_of kept) (are_plain_upper kept
+    head_is h ∙ step_on (plain_of word) _ word _ (plain_again word p.first)
+    (step_on (plain_of (upper_of kept)) _ (upper_of kept) _ (plain_again (upper_of kept) (are_plain_upper kept
     ∙ p.list)) (step_off (label_of verb word) _ faults.BadLabel (unlabelled verb word b)))
 words_again (verb_to_come words word verb kept label h p l r) = head_is h ∙ labelled_head kept p l
     ∙ step_off (body_of verb (upper_of kept)) _ faults.UnknownVerb (body_to_come verb (upper_of kept) r)
@@ -267,30 +247,19 @@ words_again (operand_fault words word verb kept label f h p l o) =
 
 -- ---- lines
 
-pub long_is : (n : ℕ) → nat_lt 250 n ≡ true → 250 < n
-long_is n h = grind (arith, nat_tests)
-
 long_again : (n : ℕ) → 250 < n → nat_lt 250 n ≡ true
 long_again n h = grind (arith, nat_tests)
 
 pub fault_found : (text : List ℕ) (f : LineFault) → statement_of text ≡ Err f → FirstFault text f
-unfolding statement_of line_of line_in
+unfolding statement_of
 fault_found text f e =
-    elim (cases_Bool (nat_lt 250 (length text))) [
-      | inl long ↦ let h : failed {A = Statement} faults.TooLong ≡ Err f = rw long at e in
-          subst (λ (x : LineFault). FirstFault text x) (err_is (failed {A =
-          Statement} faults.TooLong) faults.TooLong f refl h) (too_long text (long_is (length text) long))
-      | inr short ↦ elim (cases_Bool (is_remark (code_of text))) [
-        | inl remark ↦
-            let h : failed {A = Statement} faults.UnknownVerb ≡ Err f = rw (short, remark) at e in
-            subst (λ (x : LineFault). FirstFault text x) (err_is (failed {A =
-            Statement} faults.UnknownVerb) faults.UnknownVerb f refl h)
-            (no_statement text (code_of text) (cut_of text (short_is (length text) short)) remark)
-        | inr code ↦
-            let w = words_of text (short_is (length text) short) code in
-            in_words text (behind_number (code_of text)) f w
-            (words_fault (behind_number (code_of text)) f (sym (words_are text (behind_number (code_of text)) w) ∙ e))
-      ]
+    elim (line_is text) [
+      | is_long long given ↦ let h : failed {A = Statement} faults.TooLong ≡ Err f = rw given at e in
+          subst (λ (x : LineFault). FirstFault text x) (err_is (failed {A = Statement} faults.TooLong) faults.TooLong f refl h) (too_long text long)
+      | no_words cut remark given ↦ let h : failed {A = Statement} faults.UnknownVerb ≡ Err f = rw given at e in
+          subst (λ (x : LineFault). FirstFault text x) (err_is (failed {A = Statement} faults.UnknownVerb) faults.UnknownVerb f refl h)
+          (no_statement text (code_of text) cut remark)
+      | has_words words has given ↦ in_words text words f has (words_fault words f (sym (words_are text words has) ∙ e))
     ]
 
 pub fault_again : {text : List ℕ} {f : LineFault} → FirstFault text f → statement_of text ≡ Err f
@@ -298,13 +267,3 @@ unfolding statement_of line_of line_in
 fault_again (too_long text h) = rw (long_again (length text) h) refl
 fault_again (no_statement text code c r) = rw (short_again (length text) c.short, cut_is text code c, r) refl
 fault_again (in_words text words f h w) = words_are text words h ∙ words_again w
-
--- ---- the clauses
-
-pub is_fault : (text : List ℕ) (r : Result Statement LineFault) → Gives (λ s. s) r (statement_of text) → IfErr r (λ f. Answers text f)
-is_fault text (Ok s) h = tt
-is_fault text (Err f) h = or_memory f (fault_found text f) h
-
-pub is_faulty : (text : List ℕ) (r : Result Statement LineFault) → Gives (λ s. s) r (statement_of text) → (f : LineFault) → FirstFault text f
-    → Gives (λ s. s) r (Err f)
-is_faulty text r h f k = subst (λ (x : Result Statement LineFault). Gives (λ s. s) r x) (fault_again k) h

@@ -1,11 +1,12 @@
 -- What stands at the front of a text, and what is left behind it.
-use Rattle.std.proofs.Common.{◌≡◌, ℕ, suc, ◌+◌, ◌==◌, Bool, true, false, not, ◌&&◌, List, [], ◌∷◌, ◌++◌, refl, sym, ap, ◌∙◌, inl, inr, arith}
+use Rattle.std.proofs.Common.{◌≡◌, ◌≢◌, ℕ, suc, ◌+◌, ◌==◌, Bool, true, false, not, ◌&&◌, List, [], ◌∷◌, ◌++◌, refl, sym, ap, ◌∙◌, inl, inr, arith}
 use Rattle.std.specs.List.{prefix_len, list_all}
 use Rattle.std.proofs.lemmas.Bool.Decides.{nat_tests}
 use Rattle.std.proofs.lemmas.List.{take-append-drop}
 use Rattle.std.proofs.lemmas.Bool.{and_from, and_parts, cases_Bool}
 use Rattle.gw_lines.specs.declared.class.Class.{Class}
-use Rattle.gw_lines.specs.Classes.{is_in, front_of, rest_of}
+use Rattle.gw_lines.specs.declared.class.Class.TheVariants as class
+use Rattle.gw_lines.specs.Classes.{is_in, is_blank, front_of, rest_of, with_byte}
 use Rattle.gw_lines.specs.Spelling.{AreIn, Stops}
 
 pub and_false : (a : Bool) → (a && false) ≡ false
@@ -37,6 +38,13 @@ rest_yes class b bs h = rw (h, one_plus (prefix_len (is_in class) bs)) refl
 
 rest_no : (class : Class) (b : ℕ) (bs : List ℕ) → is_in class b ≡ false → rest_of class (b ∷ bs) ≡ b ∷ bs
 rest_no class b bs h = rw h refl
+
+-- a byte of the class before the first piece, where the pieces behind that are a function of what it leaves
+pub put_before : (class : Class) (behind : List ℕ → List (List ℕ)) (b : ℕ) (bs : List ℕ) → is_in class b ≡ true
+    → front_of class (b ∷ bs) ∷ behind (rest_of class (b ∷ bs)) ≡ with_byte b (front_of class bs ∷ behind (rest_of class bs))
+put_before class behind b bs h =
+    ap (λ (x : List ℕ). x ∷ behind (rest_of class (b ∷ bs))) (front_yes class b bs h)
+    ∙ ap (λ (x : List ℕ). (b ∷ front_of class bs) ∷ behind x) (rest_yes class b bs h)
 
 -- what was put before a byte of another class stands at the front
 pub front_again : (class : Class) (text rest : List ℕ) → AreIn class text → Stops class rest → front_of class (text ++ rest) ≡ text
@@ -72,3 +80,8 @@ rest_stops class (b ∷ bs) =
       | inl y ↦ rw (rest_yes class b bs y) (rest_stops class bs)
       | inr n ↦ rw (rest_no class b bs n) n
     ]
+
+-- blanks are no bytes of words
+pub blank_no_mark : (blanks text : List ℕ) → AreIn class.Blank blanks → blanks ≢ [] → Stops class.Mark (blanks ++ text)
+blank_no_mark [] text h some = absurd (some refl)
+blank_no_mark (b ∷ bs) text h some = ap not (and_parts (is_blank b) (list_all (is_in class.Blank) bs) h).0

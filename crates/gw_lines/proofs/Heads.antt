@@ -2,7 +2,7 @@
 use Rattle.std.proofs.Common.{◌≡◌, ◌≢◌, ℕ, ◌||◌, not, Bool, true, false, List, [], ◌∷◌, ◌++◌, length, Option, Some, None, Result, Ok, Err, refl, sym, ap, subst, ◌∙◌, inl, inr, arith}
 use Rattle.std.specs.List.{list_all}
 use Rattle.std.specs.Char.{to_ascii_uppercase}
-use Rattle.std.proofs.lemmas.Bool.{and_parts, cases_Bool, eqb-true}
+use Rattle.std.proofs.lemmas.Bool.{and_parts, both_ways, cases_Bool, eqb-true}
 use Rattle.std.proofs.lemmas.Bool.Decides.{nat_tests}
 use Rattle.std.proofs.lemmas.List.{nil_from_length}
 use Rattle.gw_names.specs.declared.verb.Verb.{Verb}
@@ -18,7 +18,7 @@ use Rattle.gw_lines.specs.Operands.{listed_of}
 use Rattle.gw_lines.specs.Bodies.{body_of}
 use Rattle.gw_lines.specs.Lines.{word_of, behind_word, verb_in, is_command, or_bad_label, label_of, plain_of, operands_of, unlabelled_of, labelled_of, by_first, by_second, coded_of, behind_number}
 use Rattle.gw_lines.specs.Spelling.{AreIn, Stops, Behind, Head, first_word, second_word, Label, no_label, named, ArePlain, Numbering, unnumbered, numbered, Coded}
-use Rattle.gw_lines.proofs.Fronts.{nonzero, not_true, not_false, front_again, rest_again, parts, front_all, rest_stops}
+use Rattle.gw_lines.proofs.Fronts.{nonzero, not_true, not_false, front_again, rest_again, parts, front_all, rest_stops, blank_no_mark}
 use Rattle.gw_lines.proofs.Kept.{parted_of, behind_of}
 use Rattle.gw_lines.proofs.Results.{done, ok_is}
 use Rattle.gw_lines.proofs.Bodies.{body_found, body_again}
@@ -52,7 +52,7 @@ pub not_none : (text : List ℕ) → is_nothing text ≡ false → text ≢ []
 not_none [] h e = absurd cc
 not_none (b ∷ bs) h e = absurd cc
 
-or_true : (a b : Bool) → b ≡ true → (a || b) ≡ true
+pub or_true : (a b : Bool) → b ≡ true → (a || b) ≡ true
 or_true true b h = refl
 or_true false b h = h
 
@@ -116,7 +116,7 @@ numbering_is (numbered digits blanks rest h some k more t) =
 
 pub both_stop : (text : List ℕ) → Stops class.Mark text → Stops class.Blank text → text ≡ []
 both_stop [] m s = refl
-both_stop (b ∷ bs) m s = absurd (let f : true ≡ false = sym (not_false (is_blank b) m) ∙ s in cc)
+both_stop (b ∷ bs) m s = absurd (both_ways (is_blank b) s (not_false (is_blank b) m))
 
 behind_all : (bytes : List ℕ) → Stops class.Mark bytes → Behind bytes (listed_of true (rest_of class.Blank bytes))
 behind_all bytes m =
@@ -136,6 +136,22 @@ pub no_word : verb_in [] ≡ None
 unfolding verb_of
 no_word = refl
 
+-- a second word has blanks before it
+pub blanks_before : (words : List ℕ) → behind_word words ≢ [] → front_of class.Blank (rest_of class.Mark words) ≢ []
+blanks_before words some e =
+    let rest = rest_of class.Mark words in
+    let second = behind_word words in
+    let same : rest ≡ second = parts class.Blank rest ∙ ap (λ (t : List ℕ). t ++ second) e in
+    some (both_stop second (subst (λ (t : List ℕ). Stops class.Mark t) same (rest_stops class.Mark words)) (rest_stops class.Blank rest))
+
+-- the first two words and what stands around them
+pub two_are : (words : List ℕ) → words
+    ≡ word_of words ++ (front_of class.Blank (rest_of class.Mark words) ++ (word_of (behind_word words) ++ rest_of class.Mark (behind_word words)))
+two_are words =
+    let rest = rest_of class.Mark words in
+    parts class.Mark words ∙ ap (λ (t : List ℕ). word_of words ++ t) (parts class.Blank rest
+    ∙ ap (λ (t : List ℕ). front_of class.Blank rest ++ t) (parts class.Mark (behind_word words)))
+
 pub head_second : (words : List ℕ) (verb : Verb) → verb_in (word_of words) ≡ None → verb_in (word_of (behind_word words)) ≡ Some verb
     → Head words (Some (word_of words)) verb (listed_of true (behind_word (behind_word words)))
 head_second words verb n v =
@@ -143,17 +159,12 @@ head_second words verb n v =
     let blanks = front_of class.Blank rest in
     let second = behind_word words in
     let behind = rest_of class.Mark second in
-    let some : blanks ≢ [] = λ (e : blanks ≡ []).
-    (let same : rest ≡ second = parts class.Blank rest ∙ ap (λ (t : List ℕ). t ++ second) e in
-    let nothing : second ≡ [] = both_stop second (subst (λ (t : List ℕ). Stops class.Mark t) same (rest_stops class.Mark words))
-    (rest_stops class.Blank rest) in
-    let f : None ≡ Some verb = sym no_word ∙ ap (λ (t : List ℕ). verb_in (word_of t)) (sym nothing) ∙ v in
-    absurd cc) in
+    let some : blanks ≢ [] = blanks_before words (λ (nothing : second ≡ []).
+    (let f : None ≡ Some verb = sym no_word ∙ ap (λ (t : List ℕ). verb_in (word_of t)) (sym nothing) ∙ v in
+    absurd cc)) in
     let h = second_word (word_of words) blanks (word_of second) behind verb (listed_of true (behind_word second)) (front_all class.Mark words) n
     (front_all class.Blank rest) some (front_all class.Mark second) v (behind_all behind (rest_stops class.Mark second)) in
-    let e : words ≡ word_of words ++ (blanks ++ (word_of second ++ behind)) = parts class.Mark words
-    ∙ ap (λ (t : List ℕ). word_of words ++ t) (parts class.Blank rest ∙ ap (λ (t : List ℕ). blanks ++ t) (parts class.Mark second)) in
-    subst (λ (t : List ℕ). Head t (Some (word_of words)) verb (listed_of true (behind_word second))) (sym e) h
+    subst (λ (t : List ℕ). Head t (Some (word_of words)) verb (listed_of true (behind_word second))) (sym (two_are words)) h
 
 -- ---- found
 
@@ -291,13 +302,20 @@ behind_is b =
     ap (λ (t : List ℕ). listed_of true (rest_of class.Blank t)) p.is ∙ ap (listed_of true) (rest_again class.Blank p.blanks p.text p.are_blanks p.begins)
     ∙ p.keeps
 
-pub blank_no_mark : (blanks text : List ℕ) → AreIn class.Blank blanks → blanks ≢ [] → Stops class.Mark (blanks ++ text)
-blank_no_mark [] text h some = absurd (some refl)
-blank_no_mark (b ∷ bs) text h some = ap not (and_parts (is_blank b) (list_all (is_in class.Blank) bs) h).0
-
-pub mark_no_blank : (word behind : List ℕ) → AreIn class.Mark word → word ≢ [] → Stops class.Blank (word ++ behind)
+mark_no_blank : (word behind : List ℕ) → AreIn class.Mark word → word ≢ [] → Stops class.Blank (word ++ behind)
 mark_no_blank [] behind h some = absurd (some refl)
 mark_no_blank (b ∷ bs) behind h some = not_true (is_blank b) (and_parts (not (is_blank b)) (list_all (is_in class.Mark) bs) h).0
+
+-- two words that were put together
+pub two_again : (first blanks second rest : List ℕ) → AreIn class.Mark first → AreIn class.Blank blanks → blanks ≢ [] → AreIn class.Mark second → second ≢ []
+    → (word_of (first ++ (blanks ++ (second ++ rest))) ≡ first) × (behind_word (first ++ (blanks ++ (second ++ rest))) ≡ second ++ rest)
+two_again first blanks second rest m k some w more =
+    let t = blank_no_mark blanks (second ++ rest) k some in
+    let u = mark_no_blank second rest w more in (
+      front_again class.Mark first (blanks ++ (second ++ rest)) m t,
+      ap (rest_of class.Blank) (rest_again class.Mark first (blanks ++ (second ++ rest)) m t)
+          ∙ rest_again class.Blank blanks (second ++ rest) k u,
+    )
 
 a_verb : (word : List ℕ) (verb : Verb) → verb_in word ≡ Some verb → word ≢ []
 a_verb word verb v e = let f : None ≡ Some verb = sym no_word ∙ ap verb_in (sym e) ∙ v in absurd cc
@@ -314,11 +332,9 @@ head_is (first_word word behind verb kept m v b) =
 head_is (second_word label blanks word behind verb kept m n k some w v b) =
     let words = label ++ (blanks ++ (word ++ behind)) in
     let s = (parted_of b).parted in
-    let t = blank_no_mark blanks (word ++ behind) k some in
-    let u = mark_no_blank word behind w (a_verb word verb v) in
-    let first : word_of words ≡ label = front_again class.Mark label (blanks ++ (word ++ behind)) m t in
-    let second : behind_word words ≡ word ++ behind = ap (rest_of class.Blank) (rest_again class.Mark label (blanks ++ (word ++ behind)) m t)
-    ∙ rest_again class.Blank blanks (word ++ behind) k u in
+    let two = two_again label blanks word behind m k some w (a_verb word verb v) in
+    let first : word_of words ≡ label = two.0 in
+    let second : behind_word words ≡ word ++ behind = two.1 in
     let none : verb_in (word_of words) ≡ None = ap verb_in first ∙ n in
     let is : verb_in (word_of (behind_word words)) ≡ Some verb = ap (λ (x : List ℕ). verb_in (word_of x)) second
     ∙ ap verb_in (front_again class.Mark word behind w s) ∙ v in

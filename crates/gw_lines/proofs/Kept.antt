@@ -1,13 +1,13 @@
 -- The operand list as it is written and as it is kept.
-use Rattle.std.proofs.Common.{◌≡◌, ◌≢◌, ℕ, ◌==◌, not, Bool, true, false, List, [], ◌∷◌, ◌++◌, refl, sym, ap, subst, ◌∙◌, append_assoc, inl, inr}
+use Rattle.std.proofs.Common.{◌≡◌, ℕ, ◌==◌, not, Bool, true, false, List, [], ◌∷◌, ◌++◌, refl, sym, ap, subst, ◌∙◌, append_assoc, inl, inr}
 use Rattle.std.specs.List.{list_all}
-use Rattle.std.proofs.lemmas.Bool.{and_from, and_parts, cases_Bool, eqb-true}
+use Rattle.std.proofs.lemmas.Bool.{and_from, and_parts, both_ways, cases_Bool, eqb-true}
 use Rattle.std.proofs.lemmas.List.{append-nil}
 use Rattle.gw_lines.specs.declared.class.Class.TheVariants as class
 use Rattle.gw_lines.specs.Classes.{is_in, is_blank}
 use Rattle.gw_lines.specs.Operands.{listed_of}
 use Rattle.gw_lines.specs.Spelling.{AreIn, Stops, is_part, Written, none_written, last_written, more_written, Behind, verb_alone, verb_operands}
-use Rattle.gw_lines.proofs.Fronts.{not_true, not_false}
+use Rattle.gw_lines.proofs.Fronts.{not_true, not_false, blank_no_mark}
 
 -- ---- one byte
 
@@ -76,10 +76,6 @@ pub record Parted (behind kept : List ℕ) : Type 0 where
   pub keeps : listed_of true text ≡ kept
   pub parted : Stops class.Mark behind
 
-blank_stops : (blanks text : List ℕ) → AreIn class.Blank blanks → blanks ≢ [] → Stops class.Mark (blanks ++ text)
-blank_stops [] text h some = absurd (some refl)
-blank_stops (b ∷ bs) text h some = ap not (and_parts (is_blank b) (list_all (is_in class.Blank) bs) h).0
-
 pub parted_of : {behind kept : List ℕ} → Behind behind kept → Parted behind kept
 parted_of verb_alone = record { blanks = []; text = []; is = refl; are_blanks = refl; begins = tt; keeps = refl; parted = tt }
 parted_of (verb_operands blanks text kept h some w) =
@@ -91,7 +87,7 @@ parted_of (verb_operands blanks text kept h some w) =
       begins = written_begins w;
       keeps = written_kept w;
       parted =
-          blank_stops blanks text h some;
+          blank_no_mark blanks text h some;
     }
 
 -- ---- what is kept so is written so
@@ -194,7 +190,7 @@ written_from (c ∷ cs) (b ∷ bs) rest kept e h s w =
     let same : c ≡ b = cc in
     let holds : is_blank b ≡ true = (and_parts (is_blank b) (list_all (is_in class.Blank) bs) h).0 in
     let fails : is_blank b ≡ false = subst (λ (x : ℕ). is_blank x ≡ false) same s in
-    absurd (let f : true ≡ false = sym holds ∙ fails in cc)
+    absurd (both_ways (is_blank b) fails holds)
 
 pub written_of : (text : List ℕ) → Stops class.Blank text → Written text (listed_of true text)
 written_of text s = let o = (kept_so text).open_ in written_from text o.blanks o.rest (listed_of true text) o.is o.are_blanks s o.written
@@ -203,5 +199,5 @@ written_of text s = let o = (kept_so text).open_ in written_from text o.blanks o
 pub behind_of : (blanks text : List ℕ) → AreIn class.Blank blanks → Stops class.Mark (blanks ++ text) → Stops class.Blank text
     → Behind (blanks ++ text) (listed_of true text)
 behind_of [] [] h m s = verb_alone
-behind_of [] (b ∷ bs) h m s = absurd (let f : true ≡ false = sym (not_false (is_blank b) m) ∙ s in cc)
+behind_of [] (b ∷ bs) h m s = absurd (both_ways (is_blank b) s (not_false (is_blank b) m))
 behind_of (b ∷ bs) text h m s = verb_operands (b ∷ bs) text (listed_of true text) h (λ e. absurd cc) (written_of text s)

@@ -1,12 +1,13 @@
 -- A line: what is read is spelled so, and what is spelled so is read.
-use Rattle.std.proofs.Common.{◌≡◌, ℕ, ◌≤◌, false, List, [], ◌∷◌, ◌++◌, length, Some, Result, Ok, Err, refl, ap, subst, ◌∙◌, inl, inr, arith}
-use Rattle.std.specs.Prelude.{IfOk, nat_lt}
+use Rattle.std.proofs.Common.{◌≡◌, ℕ, ◌≤◌, false, List, [], ◌∷◌, ◌++◌, length, Some, Result, Ok, Err, refl, ap, subst, ◌∙◌, inl, inr, arith, ◌<◌, true, None}
+use Rattle.std.specs.Prelude.{nat_lt}
 use Rattle.std.proofs.lemmas.Bool.Decides.{nat_tests}
 use Rattle.std.proofs.lemmas.Bool.{cases_Bool}
 use Rattle.gw_meaning.specs.declared.statement.Statement.{Statement}
 use Rattle.gw_lines.specs.declared.class.Class.TheVariants as class
 use Rattle.gw_lines.specs.declared.fault.LineFault.{LineFault}
-use Rattle.gw_lines.specs.Reading.{◌>>=◌, Gives}
+use Rattle.gw_lines.specs.declared.fault.LineFault.TheVariants as faults
+use Rattle.gw_lines.specs.Reading.{◌>>=◌}
 use Rattle.gw_lines.specs.Classes.{front_of, rest_of}
 use Rattle.gw_lines.specs.Lines.{coded_of, behind_number, code_of, is_remark, line_in, line_of, wanted, statement_of}
 use Rattle.gw_lines.specs.Spelling.{Stops, Cut, HasWords, Spells}
@@ -16,6 +17,9 @@ use Rattle.gw_lines.proofs.Heads.{numbering_of, numbering_is, coded_found, coded
 
 pub short_is : (n : ℕ) → nat_lt 250 n ≡ false → n ≤ 250
 short_is n h = grind (arith, nat_tests)
+
+pub long_is : (n : ℕ) → nat_lt 250 n ≡ true → 250 < n
+long_is n h = grind (arith, nat_tests)
 
 pub short_again : (n : ℕ) → n ≤ 250 → nat_lt 250 n ≡ false
 short_again n h = grind (arith, nat_tests)
@@ -51,24 +55,35 @@ words_of text h r =
     let c = cut_of text h in
     record { code = code_of text; cut = c; is_statement = r; numbering = numbering_of (code_of text) (front_stops (code_of text) c.comment c.begins) }
 
+-- what a line is, and what it gives
+pub data LineIs (text : List ℕ) : Type 0 where
+  is_long : 250 < length text → line_of text ≡ Err faults.TooLong → LineIs text
+  no_words : Cut text (code_of text) → is_remark (code_of text) ≡ true → line_of text ≡ Ok None → LineIs text
+  has_words : (words : List ℕ) → HasWords text words → line_of text ≡ (coded_of words >>= λ s. done (Some s)) → LineIs text
+
+pub line_is : (text : List ℕ) → LineIs text
+unfolding line_of line_in
+line_is text =
+    elim (cases_Bool (nat_lt 250 (length text))) [
+      | inl long ↦ is_long (long_is (length text) long) (rw long refl)
+      | inr short ↦ let fits = short_is (length text) short in
+          elim (cases_Bool (is_remark (code_of text))) [
+            | inl remark ↦ no_words (cut_of text fits) remark (rw (short, remark) refl)
+            | inr code ↦ has_words (behind_number (code_of text)) (words_of text fits code) (rw (short, code) refl)
+          ]
+    ]
+
 one_given : (r : Result Statement LineFault) (s : Statement) → (r >>= λ x. done (Some x)) >>= wanted ≡ Ok s → r ≡ Ok s
 one_given (Ok x) s e = e
 one_given (Err f) s e = absurd cc
 
 pub spells_found : (text : List ℕ) (s : Statement) → statement_of text ≡ Ok s → Spells text s
-unfolding statement_of line_of line_in
+unfolding statement_of
 spells_found text s e =
-    elim (cases_Bool (nat_lt 250 (length text))) [
-      | inl long ↦ absurd (let f = rw long at e in cc)
-      | inr short ↦ elim (cases_Bool (is_remark (code_of text))) [
-        | inl remark ↦ absurd (let f = rw (short, remark) at e in cc)
-        | inr code ↦
-            record {
-              words = behind_number (code_of text);
-              has_words = words_of text (short_is (length text) short) code;
-              coded = coded_found (behind_number (code_of text)) s (one_given (coded_of (behind_number (code_of text))) s (rw (short, code) at e));
-            }
-      ]
+    elim (line_is text) [
+      | is_long long given ↦ absurd (let f = rw given at e in cc)
+      | no_words cut remark given ↦ absurd (let f = rw given at e in cc)
+      | has_words words has given ↦ record { words = words; has_words = has; coded = coded_found words s (one_given (coded_of words) s (rw given at e)) }
     ]
 
 given_again : (r : Result Statement LineFault) → (r >>= λ x. done (Some x)) >>= wanted ≡ r
@@ -84,13 +99,3 @@ words_are text words h =
 
 pub spells_again : (text : List ℕ) (s : Statement) → Spells text s → statement_of text ≡ Ok s
 spells_again text s h = words_are text h.words h.has_words ∙ coded_again h.words s h.coded
-
--- ---- the clauses
-
-pub is_found : (text : List ℕ) (r : Result Statement LineFault) → Gives (λ s. s) r (statement_of text) → IfOk r (λ s. Spells text s)
-is_found text (Ok s) h = spells_found text s h
-is_found text (Err f) h = tt
-
-pub is_only : (text : List ℕ) (r : Result Statement LineFault) → Gives (λ s. s) r (statement_of text) → (s : Statement) → Spells text s
-    → Gives (λ s. s) r (Ok s)
-is_only text r h s k = subst (λ (x : Result Statement LineFault). Gives (λ s. s) r x) (spells_again text s k) h

@@ -65,13 +65,13 @@ first_of bytes front (b ∷ bs) e h s some =
 
 -- a last line that has no end
 pub last_line : (bytes : List ℕ) → (length (rest_of class.Line bytes) == 0) ≡ true → bytes ≢ []
-    → lines_of bytes ≡ front_of class.Line bytes ∷ lines_of (rest_of class.Line bytes)
+    → lines_of bytes ≡ front_of class.Line bytes ∷ lines_of (tail_of (rest_of class.Line bytes))
 last_line bytes none some =
     let nothing : rest_of class.Line bytes ≡ [] = nil_from_length (rest_of class.Line bytes) (eqb-true _ _ none) in
     let whole : bytes ≡ front_of class.Line bytes = parts class.Line bytes ∙ ap (λ (x : List ℕ). front_of class.Line bytes ++ x) nothing
     ∙ append-nil (front_of class.Line bytes) in
     last_of bytes (front_of class.Line bytes) whole (front_all class.Line bytes) some
-    ∙ ap (λ (x : List ℕ). front_of class.Line bytes ∷ lines_of x) (sym nothing)
+    ∙ ap (λ (x : List ℕ). front_of class.Line bytes ∷ lines_of (tail_of x)) (sym nothing)
 
 -- a line that has an end
 pub ended_line : (bytes : List ℕ) → (length (rest_of class.Line bytes) == 0) ≡ false

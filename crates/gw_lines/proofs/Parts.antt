@@ -12,18 +12,11 @@ use Rattle.gw_lines.specs.Classes.{front_of, rest_of, tail_of, is_nothing, with_
 use Rattle.gw_lines.specs.Operands.{left, listed_here, added, each_of, missing_of, missing_after, has_more}
 use Rattle.gw_lines.specs.Parts.{split, parts_of, goes_on, part_of, others_of, is_missing}
 use Rattle.gw_lines.proofs.Results.{ok_is, or_memory}
-use Rattle.gw_lines.proofs.Fronts.{nonzero, front_yes, rest_yes}
+use Rattle.gw_lines.proofs.Fronts.{nonzero, put_before}
 
 -- what is left behind the first part, where this stands behind it
 abbrev pub behind : List ℕ → List (List ℕ)
 behind rest = left (not (is_nothing rest)) (tail_of rest)
-
-put_before : (b : ℕ) (bs : List ℕ) → (b == 44) ≡ false
-    → front_of class.Operand (b ∷ bs) ∷ behind (rest_of class.Operand (b ∷ bs))
-    ≡ with_byte b (front_of class.Operand bs ∷ behind (rest_of class.Operand bs))
-put_before b bs e =
-    ap (λ (x : List ℕ). x ∷ behind (rest_of class.Operand (b ∷ bs))) (front_yes class.Operand b bs (ap not e))
-    ∙ ap (λ (x : List ℕ). (b ∷ front_of class.Operand bs) ∷ behind x) (rest_yes class.Operand b bs (ap not e))
 
 one_more : (b : ℕ) (bs : List ℕ) → (b == 44) ≡ false → split (b ∷ bs) ≡ with_byte b (split bs)
 one_more b bs e = rw e refl
@@ -35,7 +28,7 @@ split_first [] = refl
 split_first (b ∷ bs) =
     elim (cases_Bool (b == 44)) [
       | inl comma ↦ rw (comma, nonzero (length bs)) refl
-      | inr other ↦ one_more b bs other ∙ ap (with_byte b) (split_first bs) ∙ sym (put_before b bs other)
+      | inr other ↦ one_more b bs other ∙ ap (with_byte b) (split_first bs) ∙ sym (put_before class.Operand behind b bs (ap not other))
     ]
 
 -- what is left of a text that was not begun are its parts

@@ -1,8 +1,10 @@
 -- What a step of reading gives: one thing, or one fault.
-use Rattle.std.proofs.Common.{◌≡◌, Option, Some, Result, Ok, Err, sym, ◌∙◌}
+use Rattle.std.proofs.Common.{◌≡◌, Option, Some, Result, Ok, Err, sym, subst, ◌∙◌}
+use Rattle.std.specs.Prelude.{IfOk, IfErr}
+use Rattle.gw_meaning.specs.declared.statement.Statement.{Statement}
 use Rattle.gw_lines.specs.declared.fault.LineFault.{LineFault}
 use Rattle.gw_lines.specs.declared.fault.LineFault.TheVariants as faults
-use Rattle.gw_lines.specs.Reading.{OrMemory}
+use Rattle.gw_lines.specs.Reading.{Gives, OrMemory}
 
 abbrev pub some : {A : Type 0} → A → Option A
 some x = Some x
@@ -36,3 +38,16 @@ or_memory (faults.BadOperand n) on h = on h
 or_memory (faults.MissingOperand n) on h = on h
 or_memory (faults.ExtraOperand n) on h = on h
 or_memory faults.BadPairs on h = on h
+
+-- what follows of the statement that a function answers, or of its fault, from what reading gives
+pub gives_found : (P : Statement → Type 0) (r read : Result Statement LineFault) → ((s : Statement) → read ≡ Ok s → P s) → Gives (λ s. s) r read → IfOk r P
+gives_found P (Ok s) read on h = on s h
+gives_found P (Err f) read on h = tt
+
+pub gives_fault : (P : LineFault → Type 0) (r read : Result Statement LineFault) → ((f : LineFault) → read ≡ Err f → P f) → Gives (λ s. s) r read
+    → IfErr r (λ f. OrMemory f (P f))
+gives_fault P (Ok s) read on h = tt
+gives_fault P (Err f) read on h = or_memory f (on f) h
+
+pub gives_same : (r read other : Result Statement LineFault) → read ≡ other → Gives (λ s. s) r read → Gives (λ s. s) r other
+gives_same r read other e h = subst (λ (x : Result Statement LineFault). Gives (λ s. s) r x) e h

@@ -1,20 +1,19 @@
 -- A model: what is read is spelled so, what is spelled so is read, and the same of its first faulty line.
 use Rattle.std.proofs.Common.{◌≡◌, ℕ, ◌+◌, List, [], ◌∷◌, ◌++◌, length, Option, Some, None, Result, Ok, Err, refl, sym, ap, subst, ◌∙◌, ◌⊎◌, inl, inr}
-use Rattle.std.specs.Prelude.{IfOk, IfErr, option_to_list, nat_lt}
+use Rattle.std.specs.Prelude.{IfOk, IfErr, option_to_list}
 use Rattle.std.specs.Global.{Vec}
-use Rattle.std.proofs.lemmas.Bool.{cases_Bool}
 use Rattle.gw_meaning.specs.declared.statement.Statement.{Statement}
 use Rattle.gw_lines.specs.declared.fault.LineFault.{LineFault}
 use Rattle.gw_lines.specs.declared.fault.FaultyLine.{FaultyLine}
 use Rattle.gw_lines.specs.Reading.{◌>>=◌, GivesModel}
-use Rattle.gw_lines.specs.Lines.{coded_of, behind_number, code_of, is_remark, line_in, line_of, wanted, statement_of}
+use Rattle.gw_lines.specs.Lines.{coded_of, code_of, line_in, line_of, wanted, statement_of}
 use Rattle.gw_lines.specs.Models.{lines_of, numbered, statements_of, model_of}
 use Rattle.gw_lines.specs.Spelling.{Spells}
 use Rattle.gw_lines.specs.Faulty.{FirstFault}
 use Rattle.gw_lines.specs.Whole.{IsRemark, OfLines, no_lines, remark_line, statement_line, FirstFaulty, faulty_line, behind_remark, behind_statement, SpellsModel, FirstFaultOf, AnswersAt}
 use Rattle.gw_lines.specs.Read.{ModelsAreRead, ModelsAreRefused}
 use Rattle.gw_lines.proofs.Results.{done, failed, ok_is, err_is, or_memory}
-use Rattle.gw_lines.proofs.Lines.{short_is, short_again, cut_of, cut_is, spells_found, spells_again}
+use Rattle.gw_lines.proofs.Lines.{short_again, cut_is, spells_found, spells_again, line_is, is_long, no_words, has_words}
 use Rattle.gw_lines.proofs.Faults.{fault_found, fault_again}
 
 -- ---- one line
@@ -28,14 +27,11 @@ not_none (Ok s) e = let i = ok_is (Some s) None e in cc
 not_none (Err f) e = cc
 
 remark_found : (line : List ℕ) → line_of line ≡ Ok None → IsRemark line
-unfolding line_of line_in
 remark_found line e =
-    elim (cases_Bool (nat_lt 250 (length line))) [
-      | inl long ↦ absurd (let f = rw long at e in cc)
-      | inr short ↦ elim (cases_Bool (is_remark (code_of line))) [
-        | inl remark ↦ record { code = code_of line; cut = cut_of line (short_is (length line) short); remark = remark }
-        | inr code ↦ absurd (not_none (coded_of (behind_number (code_of line))) (rw (short, code) at e))
-      ]
+    elim (line_is line) [
+      | is_long long given ↦ absurd (let f = rw given at e in cc)
+      | no_words cut remark given ↦ record { code = code_of line; cut = cut; remark = remark }
+      | has_words words has given ↦ absurd (not_none (coded_of words) (sym given ∙ e))
     ]
 
 wanted_some : (r : Result (Option Statement) LineFault) (s : Statement) → (r >>= wanted) ≡ Ok s → r ≡ Ok (Some s)

@@ -1,5 +1,5 @@
-ghost use Rattle.std.specs.Prelude.{◌≡◌};
-ghost use Rattle.gw_lines.specs.Classes.{is_in, front_of, rest_of, is_blank, tail_of, are_plain};
+ghost use Rattle.std.specs.Prelude.{◌≡◌, ◌≢◌, ◌<◌, [], length, not};
+ghost use Rattle.gw_lines.specs.Classes.{is_in, front_of, rest_of, is_blank, is_nothing, tail_of, are_plain};
 
 /// What the bytes of one part of a line have in common.
 #[derive(Clone, Copy, Debug, PartialEq, Eq)]
@@ -55,8 +55,20 @@ pub fn span(class: Class, bytes: &[u8]) -> (&[u8], &[u8])
     bytes.split_at(n)
 }
 
-/// What follows the first byte.
-pub fn tail(bytes: &[u8]) -> &[u8]
+/// The first piece of a text, whether a byte that is not of the class ends it, and what stands behind that byte.
+pub fn piece(class: Class, text: &[u8]) -> (&[u8], bool, &[u8])
+    ensures front { result.0.now ≡ front_of class text.now }
+    ensures ended { result.1 ≡ not (is_nothing (rest_of class text.now)) }
+    ensures behind { result.2.now ≡ tail_of (rest_of class text.now) }
+    // A text that is not empty is left with less.
+    ensures shorter { text.now ≢ [] → length result.2.now < length text.now }
+{
+    let (front, rest) = span(class, text);
+    (front, !rest.is_empty(), tail(rest))
+}
+
+// What follows the first byte.
+fn tail(bytes: &[u8]) -> &[u8]
     ensures { result.now ≡ tail_of bytes.now }
 {
     match bytes {

@@ -1,9 +1,9 @@
-ghost use Rattle.std.specs.Prelude.{◌≡◌, ◌≢◌, ◌<◌, ◌∷◌, [], length, IfOk, IfErr};
-ghost use Rattle.gw_lines.specs.Reading.{Gives};
+ghost use Rattle.std.specs.Prelude.{◌≡◌, ◌≢◌, ◌<◌, ◌∷◌, [], length, IfOk, OnOk, IfErr};
+ghost use Rattle.gw_lines.specs.Reading.{Fails, Gives};
 ghost use Rattle.gw_lines.specs.Lines.{line_of};
-ghost use Rattle.gw_lines.specs.Edits.{SpellsEdit, FirstFaultOfEdit, AnswersEdit, edit_lines, short_lines, byte_fault, plain_lines, followed, first_of, edit_of};
+ghost use Rattle.gw_lines.specs.Edits.{SpellsEdit, FirstFaultOfEdit, AnswersEdit, edit_lines, byte_fault, followed, first_of, edit_in, edit_of};
 
-use crate::class::{Class, span, tail};
+use crate::class::{Class, piece};
 use crate::fault::LineFault;
 use crate::line::{LONGEST, read_line, read_statement};
 use gw_meaning::Statement;
@@ -34,37 +34,29 @@ pub fn read_edit(alloc: Global, text: &[u8]) -> Result<Statement, LineFault>
 fn read_lines(alloc: Global, text: &[u8]) -> Result<Statement, LineFault>
     ensures { Gives (λ s. s) result (edit_of text.now) }
 {
-    short_lines(text)?;
-    plain_lines(alloc, text)?;
+    clean_lines(alloc, text)?;
     first_statement(alloc, text)
 }
 
-// Nothing, where no line is too long.
-fn short_lines(text: &[u8]) -> Result<(), LineFault>
-    ensures { Gives (λ u. u) result (short_lines (edit_lines text.now)) }
+// Nothing, where no line is too long and none has a wrong byte. The length of any line comes first.
+fn clean_lines(alloc: Global, text: &[u8]) -> Result<(), LineFault>
+    // Where that is so, the lines give what the first of them does.
+    ensures clean { OnOk result (edit_in (edit_lines text.now) ≡ first_of (edit_lines text.now)) }
+    ensures fault { IfErr result (λ f. Fails f (edit_in (edit_lines text.now))) }
 {
+    let mut plain = Ok(());
     let mut rest = text;
     while !rest.is_empty() {
-        let (line, after) = first_line(rest);
+        let (line, further) = first_line(rest);
         if line.len() > LONGEST {
             return Err(LineFault::TooLong);
         }
-        rest = after;
+        if plain.is_ok() {
+            plain = plain_line(alloc, line);
+        }
+        rest = further;
     }
-    Ok(())
-}
-
-// Nothing, where no line has a wrong byte.
-fn plain_lines(alloc: Global, text: &[u8]) -> Result<(), LineFault>
-    ensures { Gives (λ u. u) result (plain_lines (edit_lines text.now)) }
-{
-    let mut rest = text;
-    while !rest.is_empty() {
-        let (line, after) = first_line(rest);
-        plain_line(alloc, line)?;
-        rest = after;
-    }
-    Ok(())
+    plain
 }
 
 fn plain_line(alloc: Global, line: &[u8]) -> Result<(), LineFault>
@@ -107,6 +99,6 @@ fn first_line(text: &[u8]) -> (&[u8], &[u8])
     ensures none { text.now ≡ [] → (result.0.now ≡ []) × (result.1.now ≡ []) }
     ensures shorter { text.now ≢ [] → length result.1.now < length text.now }
 {
-    let (line, rest) = span(Class::Part, text);
-    (line, tail(rest))
+    let (line, _, further) = piece(Class::Part, text);
+    (line, further)
 }

@@ -3,7 +3,7 @@ ghost use Rattle.gw_lines.specs.Reading.{GivesModel};
 ghost use Rattle.gw_lines.specs.Whole.{SpellsModel, FirstFaultOf, AnswersAt};
 ghost use Rattle.gw_lines.specs.Models.{lines_of, model_of, added, chomped};
 
-use crate::class::{Class, span, tail};
+use crate::class::{Class, piece};
 use crate::fault::{FaultyLine, LineFault};
 use crate::line::read_line;
 use gw_meaning::Statement;
@@ -68,12 +68,8 @@ fn first_line(bytes: &[u8]) -> (&[u8], &[u8])
     ensures lines { bytes.now ≢ [] → lines_of bytes.now ≡ result.0.now ∷ lines_of result.1.now }
     ensures shorter { bytes.now ≢ [] → length result.1.now < length bytes.now }
 {
-    let (line, rest) = span(Class::Line, bytes);
-    if rest.is_empty() {
-        (line, rest)
-    } else {
-        (chomped(line), tail(rest))
-    }
+    let (line, ended, further) = piece(Class::Line, bytes);
+    (if ended { chomped(line) } else { line }, further)
 }
 
 // A line without the carriage return at its end.

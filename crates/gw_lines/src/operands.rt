@@ -3,7 +3,7 @@ ghost use Rattle.gw_lines.specs.Reading.{Gives};
 ghost use Rattle.gw_lines.specs.Operands.{left, added, each_of, missing_of, has_more, operands_of, missing_after};
 ghost use Rattle.gw_lines.specs.Parts.{parts_of, goes_on, part_of, others_of};
 
-use crate::class::{Class, span, tail};
+use crate::class::{Class, piece};
 use crate::fault::LineFault;
 use crate::form::Form;
 use crate::operand::{Operand, operand_in};
@@ -75,8 +75,7 @@ fn first_part(more: bool, rest: &[u8]) -> (&[u8], bool, &[u8])
     ensures others { left result.1 result.2.now ≡ others_of (left more rest.now) }
 {
     if more {
-        let (part, after) = span(Class::Operand, rest);
-        (part, !after.is_empty(), tail(after))
+        piece(Class::Operand, rest)
     } else {
         (b"", false, rest)
     }

@@ -1,10 +1,10 @@
 -- a version without a fault is what a version may be, and the other way round
-use Rattle.std.proofs.Common.{◌≡◌, ℕ, refl, false, ◌≤◌, length, Option, None, IfErr, Result, Ok, Err, nat_lt}
+use Rattle.std.proofs.Common.{◌≡◌, ℕ, refl, false, ◌≤◌, length, Option, None, nat_lt, inl, inr}
 use Rattle.std.specs.List.{list_any}
-use Rattle.std.proofs.lemmas.Bool.{ltb-false, le-ltb}
+use Rattle.std.proofs.lemmas.Bool.{ltb-false, le-ltb, cases_Bool}
 use Rattle.gw_meaning.specs.Listing.{Listing}
 use Rattle.gw_meaning.specs.declared.statement.Replication.{Replication}
-use Rattle.gw_model.specs.Faults.{fault_of, is_too_long, has_bad_replication, is_bad_horizon, has_label_twice, is_bad_replication, has_number_twice, is_outside, IsFault}
+use Rattle.gw_model.specs.Faults.{fault_of, is_too_long, has_bad_replication, is_bad_horizon, has_label_twice, label_fault_of, is_bad_replication, has_number_twice, is_outside, IsFault}
 use Rattle.gw_model.specs.declared.fault.ModelFault.{ModelFault}
 use Rattle.gw_model.specs.declared.fault.ModelFault.TheVariants.{TooMany, BadSeed, BadHorizon, LabelTwice, Memory}
 use Rattle.gw_model.specs.Well.{Well, IsSeeded}
@@ -32,7 +32,7 @@ unseeded r s =
     (outside 1 2147483646 r.seed s.least_seed s.greatest_seed) (outside 1 1000000000 r.number s.least_number s.greatest_number)
 
 -- where no test of the scan holds, the version is well-formed
-pub well_from : (t : Listing) → is_too_long t.lines t.replications ≡ false → has_bad_replication t.replications ≡ false →
+well_from : (t : Listing) → is_too_long t.lines t.replications ≡ false → has_bad_replication t.replications ≡ false →
     is_bad_horizon t.horizon t.limit ≡ false → has_label_twice t.lines ≡ false → Well t
 well_from t long bad limits twice =
     let sizes = or_parts (nat_lt 2000 (length t.lines)) (nat_lt 32 (length t.replications)) long in
@@ -51,6 +51,20 @@ well_from t long bad limits twice =
       greatest_limit = limit.1;
       labels_apart = labels_apart t.lines twice;
     }
+
+-- a version without a fault is well-formed, where its labels are looked at last
+pub well_left : (t : Listing) → fault_of t ≡ label_fault_of t.lines → has_label_twice t.lines ≡ false → Well t
+well_left t left twice =
+    elim (cases_Bool (is_too_long t.lines t.replications)) [
+      | inl long ↦ absurd (let f = rw (long, twice) at left in cc)
+      | inr long ↦ elim (cases_Bool (has_bad_replication t.replications)) [
+        | inl bad ↦ absurd (let f = rw (long, bad, twice) at left in cc)
+        | inr bad ↦ elim (cases_Bool (is_bad_horizon t.horizon t.limit)) [
+          | inl limits ↦ absurd (let f = rw (long, bad, limits, twice) at left in cc)
+          | inr limits ↦ well_from t long bad limits twice
+        ]
+      ]
+    ]
 
 -- a well-formed version has no fault
 pub no_fault : (t : Listing) → Well t → fault_of t ≡ None
@@ -73,8 +87,3 @@ memory_alone first BadSeed e h = cc
 memory_alone first BadHorizon e h = cc
 memory_alone first LabelTwice e h = cc
 memory_alone first Memory e h = refl
-
--- a well-formed version is refused for memory alone
-pub only_memory : {X : Type 0} (t : Listing) → Well t → (result : Result X ModelFault) → IfErr result (IsFault (fault_of t)) → IfErr result (λ f. f ≡ Memory)
-only_memory t w (Ok x) h = tt
-only_memory t w (Err f) h = memory_alone (fault_of t) f (no_fault t w) h

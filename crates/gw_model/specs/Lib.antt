@@ -2,5 +2,6 @@ pub mod Listed
 pub mod Spliced
 pub mod Faults
 pub mod Well
+pub mod Made
 pub mod Tables
 pub use Rattle.gw_meaning.specs.Listing

@@ -9,6 +9,8 @@ mod lines;
 mod lists;
 mod places;
 mod replications;
+mod settings;
+mod tabled;
 mod tables;
 mod version;
 

@@ -68,15 +68,6 @@ fn greatest_number(lines: &[Numbered]) -> u64
     greatest
 }
 
-/// Equal lines.
-pub fn copy_lines(alloc: Global, lines: &[Numbered]) -> Result<Vec<Numbered>, AllocError>
-    ensures { IfOk result (λ copies. copies.items ≡ lines.now) }
-{
-    let mut copies = Vec::new(alloc);
-    copy_behind(alloc, &mut copies, lines)?;
-    Ok(copies)
-}
-
 // Puts equal lines behind those that are made.
 fn copy_behind(
     alloc: Global,

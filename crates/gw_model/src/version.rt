@@ -2,24 +2,24 @@ ghost use Rattle.std.specs.Prelude.{◌≡◌, ◌≤◌, ◌⊎◌, IfOk, OnOk,
 ghost use Rattle.gw_meaning.specs.Listing.{block_at, after_at, position_at, label_at, command_at, generates_in, statement_at, starts, replication_at, seed_at};
 
 use crate::fault::ModelFault;
-use crate::limits::{is_bad_horizon, is_too_long};
-use crate::lines::{block_of, copy_lines, number, spliced};
+use crate::lines::{block_of, number, spliced};
 use crate::lists::nth;
 use crate::places::{after_of, line_of, position_of};
-use crate::replications::{has_bad_replication, seed_of};
-use crate::tables::Tables;
+use crate::replications::seed_of;
+use crate::settings::checked_horizon;
+use crate::tabled::Tabled;
 use gw_meaning::{Block, Command, Numbered, Replication, Statement};
 use gw_names::Name;
 use gw_nums::{Clock, Time};
 use std::alloc::{AllocError, Global};
 use std::marker::Model;
+use std::sync::Arc;
 
 /// A version of a model: at most 2,000 statements with the numbers of their own, from 1, of which no two are one; a
 /// horizon; at most 32 replications with their seeds; and a step limit. Each version has no model fault.
 #[derive(Debug, Drop)]
 pub struct Version {
-    lines: Vec<Numbered>,
-    tables: Tables,
+    tabled: Arc<Tabled>,
     horizon: Time,
     replications: Vec<Replication>,
     limit: u64,
@@ -31,18 +31,12 @@ impl Model for Version {
     ghost Value = { Listing };
 
     ghost use Rattle.gw_model.specs.Tables.{IsKept};
+    ghost use Rattle.gw_model.specs.Listed.{listing_of};
 
-    ghost view = { λ v. record {
-      lines = v.lines.items;
-      horizon = v.horizon;
-      replications =
-          v.replications.items;
-      limit = v.limit;
-    } };
+    ghost view = { λ v. listing_of v.tabled.value.lines.items v.horizon v.replications.items v.limit };
 
-    ghost invariant = { λ v. IsKept (record
-        { lines = v.lines.items; horizon = v.horizon; replications = v.replications.items; limit = v.limit })
-        v.tables };
+    ghost invariant = { λ v. IsKept (listing_of v.tabled.value.lines.items v.horizon v.replications.items v.limit)
+        v.tabled.value.tables };
 }
 
 impl Version {
@@ -52,6 +46,7 @@ impl Version {
     ghost use Rattle.gw_model.specs.Well.{Well};
     ghost use Rattle.gw_model.specs.declared.fault.ModelFault.TheVariants.{Memory};
     ghost use Rattle.gw_model.specs.Listed.{listed, listing_of, blocks};
+    ghost use Rattle.gw_model.specs.Made.{Makes};
     ghost use Rattle.gw_model.specs.Spliced.{with_splice};
 
     /// The version with these statements, which get the numbers 1, 2, 3 and so on, and these replications in
@@ -94,15 +89,16 @@ impl Version {
         ensures fault { IfErr result (λ f. IsFault (fault_of (with_splice self.now position goes comes)) f) }
         ensures only { Well (with_splice self.now position goes comes) → IfErr result (λ f. f ≡ Memory) }
     {
-        let lines = spliced(alloc, self.lines.as_slice(), position, goes, comes)?;
+        let lines = spliced(alloc, self.tabled.lines.as_slice(), position, goes, comes)?;
         let replications = Vec::from_slice(alloc, self.replications.as_slice())?;
         Version::from_lines(alloc, lines, self.horizon.ticks(), replications, self.limit)
     }
 
-    /// The version with these replications in place of its own. The faults are those of `new`.
+    /// The version with these replications in place of its own. Both share the statements, so that nothing is copied.
+    /// The faults are those of `new`.
     pub fn with_replications(
         &self,
-        alloc: Global,
+        _alloc: Global,
         replications: Vec<Replication>,
     ) -> Result<Version, ModelFault>
         ensures value { IfOk result (λ v. v ≡ record self.now { replications = replications.items }) }
@@ -112,11 +108,10 @@ impl Version {
             (λ f. IsFault (fault_of (record self.now { replications = replications.items })) f) }
         ensures only { Well (record self.now { replications = replications.items }) → IfErr result (λ f. f ≡ Memory) }
     {
-        let lines = copy_lines(alloc, self.lines.as_slice())?;
-        Version::from_lines(alloc, lines, self.horizon.ticks(), replications, self.limit)
+        self.with_settings(self.horizon.ticks(), replications, self.limit)
     }
 
-    /// The version with this horizon in place of its own. The faults are those of `new`.
+    /// The version with this horizon in place of its own. Both share the statements. The faults are those of `new`.
     pub fn with_horizon(&self, alloc: Global, horizon: u64) -> Result<Version, ModelFault>
         ensures value { IfOk result (λ v. v ≡ record self.now { horizon = horizon }) }
         ensures found { IfOk result (λ v. Well v) }
@@ -124,9 +119,8 @@ impl Version {
         ensures fault { IfErr result (λ f. IsFault (fault_of (record self.now { horizon = horizon })) f) }
         ensures only { Well (record self.now { horizon = horizon }) → IfErr result (λ f. f ≡ Memory) }
     {
-        let lines = copy_lines(alloc, self.lines.as_slice())?;
         let replications = Vec::from_slice(alloc, self.replications.as_slice())?;
-        Version::from_lines(alloc, lines, horizon, replications, self.limit)
+        self.with_settings(horizon, replications, self.limit)
     }
 
     // The version with these lines, or the first fault.
@@ -138,51 +132,62 @@ impl Version {
         limit: u64,
     ) -> Result<Version, ModelFault>
         requires { AreNumbered lines.items }
-        ensures value { IfOk result (λ v. v ≡ listing_of lines.items horizon replications.items limit) }
-        ensures found { IfOk result (λ v. Well v) }
-        ensures none { OnOk result (fault_of (listing_of lines.items horizon replications.items limit) ≡ None) }
-        ensures fault { IfErr result (λ f. IsFault (fault_of (listing_of lines.items horizon replications.items limit))
-            f) }
-        ensures only { Well (listing_of lines.items horizon replications.items limit) → IfErr result (λ f. f ≡ Memory) }
+        ensures { Makes (listing_of lines.items horizon replications.items limit) result }
     {
-        if is_too_long(lines.as_slice(), replications.as_slice()) {
-            return Err(ModelFault::TooMany);
-        }
-        if has_bad_replication(replications.as_slice()) {
-            return Err(ModelFault::BadSeed);
-        }
-        let Some(time) = Time::new(horizon) else {
-            return Err(ModelFault::BadHorizon);
-        };
-        if is_bad_horizon(horizon, limit) {
-            return Err(ModelFault::BadHorizon);
-        }
-        let tables = Tables::new(alloc, lines.as_slice())?;
+        let horizon = checked_horizon(lines.as_slice(), horizon, replications.as_slice(), limit)?;
+        let tabled = Arc::new(alloc, Tabled::new(alloc, lines)?)?;
         Ok(Version {
-            lines,
-            tables,
-            horizon: time,
+            tabled,
+            horizon,
             replications,
             limit,
         })
     }
 
-    /// An equal version. Its lines have no fault, so only memory can be refused.
+    // The version with these settings and the statements of this one, which both then share; or the first fault.
+    fn with_settings(
+        &self,
+        horizon: u64,
+        replications: Vec<Replication>,
+        limit: u64,
+    ) -> Result<Version, ModelFault>
+        ensures { Makes (listing_of self.now.lines horizon replications.items limit) result }
+    {
+        let horizon = checked_horizon(
+            self.tabled.lines.as_slice(),
+            horizon,
+            replications.as_slice(),
+            limit,
+        )?;
+        Ok(Version {
+            tabled: Arc::try_clone(&self.tabled)?,
+            horizon,
+            replications,
+            limit,
+        })
+    }
+
+    /// An equal version. Both share the statements. It has no fault, so only memory can be refused.
     pub fn copy(&self, alloc: Global) -> Result<Version, AllocError>
         ensures { IfOk result (λ v. v ≡ self.now) }
     {
-        let lines = copy_lines(alloc, self.lines.as_slice())?;
-        let replications = Vec::from_slice(alloc, self.replications.as_slice())?;
-        Version::from_lines(alloc, lines, self.horizon.ticks(), replications, self.limit).map_err(
-            |_| AllocError,
-        )
+        Ok(Version {
+            tabled: Arc::try_clone(&self.tabled)?,
+            horizon: self.horizon,
+            replications: Vec::from_slice(alloc, self.replications.as_slice())?,
+            limit: self.limit,
+        })
     }
 
     /// The block with this number.
     pub fn block(&self, number: u64) -> Option<&Block>
         ensures { option_copied result ≡ block_at self.now number }
     {
-        match line_of(self.lines.as_slice(), self.tables.places.as_slice(), number) {
+        match line_of(
+            self.tabled.lines.as_slice(),
+            self.tabled.tables.places.as_slice(),
+            number,
+        ) {
             Some(line) => block_of(line),
             None => None,
         }
@@ -192,42 +197,42 @@ impl Version {
     pub fn after(&self, number: u64) -> Option<u64>
         ensures { result ≡ after_at self.now number }
     {
-        after_of(self.tables.places.as_slice(), number)
+        after_of(self.tabled.tables.places.as_slice(), number)
     }
 
     /// The position of the block with this number, from 1, among the blocks.
     pub fn position(&self, number: u64) -> Option<u64>
         ensures { result ≡ position_at self.now number }
     {
-        position_of(self.tables.places.as_slice(), number)
+        position_of(self.tabled.tables.places.as_slice(), number)
     }
 
     /// The number of the block with this label.
     pub fn label(&self, name: &Name) -> Option<u64>
         ensures { result ≡ label_at self.now name.now }
     {
-        self.tables.labels.get(name).copied()
+        self.tabled.tables.labels.get(name).copied()
     }
 
     /// The i-th command, from 1.
     pub fn command(&self, i: u64) -> Option<&Command>
         ensures { option_copied result ≡ command_at self.now i }
     {
-        nth(self.tables.commands.as_slice(), i)
+        nth(self.tabled.tables.commands.as_slice(), i)
     }
 
     /// The numbers of the GENERATEs, in order.
     pub fn generates(&self) -> &[u64]
         ensures { result.now ≡ generates_in self.now.lines }
     {
-        self.tables.generates.as_slice()
+        self.tabled.tables.generates.as_slice()
     }
 
     /// The i-th statement, from 1.
     pub fn statement(&self, i: u64) -> Option<&Statement>
         ensures { option_copied result ≡ statement_at self.now i }
     {
-        match nth(self.lines.as_slice(), i) {
+        match nth(self.tabled.lines.as_slice(), i) {
             Some(line) => Some(&line.statement),
             None => None,
         }
@@ -238,7 +243,7 @@ impl Version {
         ensures value { result ≡ length self.now.lines }
         ensures bound { result ≤ 2000 }
     {
-        self.lines.len()
+        self.tabled.lines.len()
     }
 
     /// The statements with their numbers, in order.
@@ -246,7 +251,7 @@ impl Version {
         ensures value { result.now ≡ self.now.lines }
         ensures well { Well self.now }
     {
-        self.lines.as_slice()
+        self.tabled.lines.as_slice()
     }
 
     /// Each statement has a number of its own, from 1.
@@ -254,21 +259,21 @@ impl Version {
         ensures { AreNumbered self.now.lines }
     {
         // A version is made so.
-        let _ = &self.lines;
+        let _ = &self.tabled.lines;
     }
 
     /// How many blocks there are.
     pub fn blocks(&self) -> u64
         ensures { result ≡ blocks self.now }
     {
-        self.tables.blocks
+        self.tabled.tables.blocks
     }
 
     /// How many STARTs there are.
     pub fn starts(&self) -> u64
         ensures { result ≡ starts self.now }
     {
-        self.tables.starts
+        self.tabled.tables.starts
     }
 
     /// The i-th replication, from 1, in the order of adding.

@@ -1,5 +1,5 @@
 -- The report of a version with its places renamed is the report.
-use Rattle.std.proofs.Common.{◌≡◌, ℕ, suc, Bool, true, false, cond, List, [], ◌∷◌, ◌++◌, map, filter, length, Option, Some, None, is_some, option_map, option_and_then, option_to_list, unwrap_or, refl, ap, ap₂, subst, ◌∙◌}
+use Rattle.std.proofs.Common.{◌≡◌, ℕ, suc, true, false, cond, List, [], ◌∷◌, ◌++◌, map, filter, length, Option, Some, None, is_some, option_map, option_to_list, unwrap_or, refl, ap, ap₂, ◌∙◌}
 use Rattle.std.specs.Prelude.{decimal, nat_le}
 use Rattle.std.specs.List.{flat_map}
 use Rattle.gw_meaning.specs.declared.statement.Block.{Block}
@@ -7,8 +7,7 @@ use Rattle.gw_meaning.specs.declared.statement.Statement.{Statement}
 use Rattle.gw_meaning.specs.declared.statement.Numbered.{Numbered}
 use Rattle.gw_meaning.specs.declared.transaction.Transaction.{Transaction}
 use Rattle.gw_meaning.specs.declared.transaction.Event.{Event}
-use Rattle.gw_meaning.specs.declared.transaction.Count.{Count}
-use Rattle.gw_meaning.specs.Listing.{Listing, block_of, block_of_body, is_block, position_at, after_at, seed_in}
+use Rattle.gw_meaning.specs.Listing.{Listing, block_of, block_of_body, is_block, seed_in}
 use Rattle.gw_meaning.specs.Machine.{Machine, count_at}
 use Rattle.gw_frame.specs.Moved.{moved_machine, moved_transaction, moved_event, moved_count}
 use Rattle.gw_frame.specs.Renamed.{AreRenamed, IsRenamed}
@@ -16,7 +15,7 @@ use Rattle.gw_frame.proofs.MovedLists.{count_at_moved, cond_under}
 use Rattle.gw_frame.proofs.Renaming.{after_renamed, position_renamed}
 use Rattle.gw_report.specs.Layout.{section_of, table_of}
 use Rattle.gw_report.specs.Cells.{signed}
-use Rattle.gw_report.specs.Chains.{place_of, next_number, line_of, put_by, ordered_by, by_time, current_line, future_line, current_columns, future_columns, current_text, future_text}
+use Rattle.gw_report.specs.Chains.{place_of, next_number, line_of, put_by, by_time, current_line, future_line, current_columns, future_columns, current_text, future_text}
 use Rattle.gw_report.specs.Blocks.{label_text, name_lines_of, name_lines, block_line, block_lines_of, block_lines, name_columns, block_columns, names_text, blocks_text}
 use Rattle.gw_report.specs.Report.{seed_of, title_text, head_columns, head_text, text_of}
 use Rattle.gw_report.specs.Renamed.{RenamedText}

@@ -2,7 +2,8 @@ ghost use Rattle.std.specs.Prelude.{◌≡◌, ◌++◌, ◌∷◌, OnOk, [], ma
 ghost use Rattle.gw_report.specs.Layout.{blanks, cell_of, row_of, heading_of};
 ghost use Rattle.gw_report.specs.Cells.{column_of, text_of_cell, signed};
 
-use gw_nums::{Val, put_decimal};
+use gw_nums::Val;
+use itoa::Buffer;
 use std::alloc::AllocError;
 
 /// The side of its column on which a text stands.
@@ -73,20 +74,16 @@ fn put_cell(out: &mut Vec<u8>, column: &Column, cell: &Cell) -> Result<(), Alloc
 fn put_number(out: &mut Vec<u8>, column: &Column, number: u64) -> Result<(), AllocError>
     ensures { OnOk result (out.new.items ≡ out.old.items ++ cell_of (column_of column.now) (decimal number)) }
 {
-    let mut digits = Vec::new(*out.allocator());
-    put_decimal(&mut digits, number)?;
-    put_text(out, column, digits.as_slice())
+    let mut digits = Buffer::new();
+    put_text(out, column, digits.format(number).as_bytes())
 }
 
+#[tactic(auto, using(crate::proofs::Rows::signed_is))]
 fn put_signed(out: &mut Vec<u8>, column: &Column, value: Val) -> Result<(), AllocError>
     ensures { OnOk result (out.new.items ≡ out.old.items ++ cell_of (column_of column.now) (signed value)) }
 {
-    let mut digits = Vec::new(*out.allocator());
-    if value.is_negative() {
-        digits.push(b'-')?;
-    }
-    put_decimal(&mut digits, value.magnitude())?;
-    put_text(out, column, digits.as_slice())
+    let mut digits = Buffer::new();
+    put_text(out, column, digits.format(value.get()).as_bytes())
 }
 
 fn put_text(out: &mut Vec<u8>, column: &Column, text: &[u8]) -> Result<(), AllocError>

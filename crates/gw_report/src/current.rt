@@ -34,8 +34,11 @@ fn current_lines(alloc: Global, version: &Version, state: &State) -> Result<Vec<
 {
     let mut lines = Vec::new(alloc);
     put_active(&mut lines, version, state.active())?;
-    for transaction in state.current() {
-        put_waiting(&mut lines, version, transaction)?;
+    let chain = state.current();
+    for index in 0..chain.len() {
+        if let Some(transaction) = chain.get(index) {
+            put_waiting(&mut lines, version, transaction)?;
+        }
     }
     Ok(lines)
 }

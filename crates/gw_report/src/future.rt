@@ -7,9 +7,8 @@ use crate::line::put_line;
 use crate::section::put_section;
 use gw_meaning::Event;
 use gw_model::Version;
-use gw_scan::State;
+use gw_scan::{FutureChain, State};
 use std::alloc::{AllocError, Global};
-use std::collections::VecDeque;
 
 const FUTURE_COLUMNS: [Column; 5] = [
     Column(b"FEC XN", 8, Side::Right),
@@ -31,7 +30,7 @@ pub fn put_future(out: &mut Vec<u8>, version: &Version, state: &State) -> Result
 fn future_lines(
     alloc: Global,
     version: &Version,
-    future: &VecDeque<Event>,
+    future: &FutureChain,
 ) -> Result<Vec<u8>, AllocError>
     ensures { IfOk result (λ lines. lines.items ≡
         rows_of future_columns (map (future_line version.now) (by_time future.now.items))) }
@@ -51,10 +50,24 @@ fn future_lines(
 }
 
 // The events by time, and at equal times in the order of coming.
-fn by_time(alloc: Global, future: &VecDeque<Event>) -> Result<Vec<&Event>, AllocError>
+fn by_time(alloc: Global, future: &FutureChain) -> Result<Vec<&Event>, AllocError>
     ensures { IfOk result (λ events. map (λ e. e.now) events.items ≡ by_time future.now.items) }
 {
-    let mut events: Vec<&Event> = future.iter().collect(alloc)?;
+    let mut events = in_order_of_coming(alloc, future)?;
     events.sort_by_key(|event| event.time.ticks())?;
+    Ok(events)
+}
+
+// The events in the order of coming.
+fn in_order_of_coming(alloc: Global, future: &FutureChain) -> Result<Vec<&Event>, AllocError>
+    ensures { IfOk result (λ events. map (λ e. e.now) events.items ≡ future.now.items) }
+{
+    let count = future.len();
+    let mut events = Vec::with_capacity(alloc, count)?;
+    for index in 0..count {
+        if let Some(event) = future.get(index) {
+            events.push(event)?;
+        }
+    }
     Ok(events)
 }

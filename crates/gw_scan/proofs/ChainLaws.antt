@@ -1,5 +1,5 @@
 -- Laws of the lists behind the chains.
-use Rattle.std.proofs.Common.{◌≡◌, ℕ, suc, ◌+◌, ◌<◌, true, false, not, List, [], ◌∷◌, ◌++◌, length, get_or, take, drop, insert, refl, sym, ap, subst, ◌∙◌, filter, append_assoc, if◌then◌else◌}
+use Rattle.std.proofs.Common.{◌≡◌, ℕ, suc, ◌+◌, ◌<◌, true, false, not, List, [], ◌∷◌, Option, None, Some, option_to_list, ◌++◌, length, get_or, take, drop, insert, refl, sym, ap, subst, ◌∙◌, filter, append_assoc, if◌then◌else◌}
 use Rattle.std.proofs.lemmas.List.{drop_more, take_more, take-append-drop}
 use Rattle.gw_nums.specs.Range.{is_below}
 use Rattle.gw_meaning.specs.declared.transaction.Transaction.{Transaction}
@@ -16,8 +16,9 @@ item_drop xs i x h is = drop_more xs i x h ∙ ap (λ y. y ∷ drop (i + 1) xs) 
 pub lined_up_in_order : (x : Transaction) (xs : List Transaction) → AreInOrder xs → AreInOrder (lined_up x xs)
 lined_up_in_order x xs h = in_order (lined_up x xs) (ordered_lined x xs (ordered xs h))
 
-pub rest_in_order : (x : Transaction) (xs whole : List Transaction) → whole ≡ x ∷ xs → AreInOrder whole → AreInOrder xs
-rest_in_order x xs whole is h = in_order xs (ordered (x ∷ xs) (subst AreInOrder is h)).1
+pub rest_in_order : (first : Option Transaction) (xs whole : List Transaction) → whole ≡ option_to_list first ++ xs → AreInOrder whole → AreInOrder xs
+rest_in_order None xs whole is h = subst AreInOrder is h
+rest_in_order (Some x) xs whole is h = in_order xs (ordered (x ∷ xs) (subst AreInOrder is h)).1
 
 -- behind the item at i of a chain in order, where it is not of lower priority and those after it are
 pub lined_up_at : (x : Transaction) (xs : List Transaction) (i : ℕ) (y : Transaction) → AreInOrder xs → i < length xs → y ≡ get_or xs i y →

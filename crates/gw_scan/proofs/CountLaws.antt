@@ -1,5 +1,5 @@
 -- The definitions' words on counts are those of the table that keeps them.
-use Rattle.std.proofs.Common.{◌≡◌, ℕ, List, [], ◌∷◌, nat_eq, refl}
+use Rattle.std.proofs.Common.{◌≡◌, ℕ, List, [], ◌∷◌, refl}
 use Rattle.gw_table.specs.Pairs.{value_in, with_value}
 use Rattle.gw_meaning.specs.declared.transaction.Count.{Count}
 use Rattle.gw_meaning.specs.Machine.{count_in, with_count}

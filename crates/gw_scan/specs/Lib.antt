@@ -5,6 +5,7 @@ pub use Rattle.gw_meaning.specs.Evaluation
 pub use Rattle.gw_meaning.specs.Changes
 pub use Rattle.gw_meaning.specs.Step
 pub use Rattle.gw_meaning.specs.Point
+pub mod Parts
 pub mod Noted
 pub mod Deciding
 pub mod Stepping

@@ -79,7 +79,7 @@ impl State {
         }
         Ok(Some(Arrival {
             place,
-            time: self.clock.after(time.magnitude()),
+            time: self.clocks.clock().after(time.magnitude()),
             priority,
         }))
     }

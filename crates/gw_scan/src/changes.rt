@@ -4,8 +4,6 @@ ghost use Rattle.gw_meaning.specs.Machine.{raised};
 ghost use Rattle.gw_meaning.specs.Changes.{moved, decided, marked, placed};
 ghost use Rattle.gw_meaning.specs.declared.moves.Move.TheVariants as moves;
 
-use crate::chains::{count_due, take_due};
-use crate::counts::{cross, reserve_all};
 use crate::making::{make, make_all};
 use crate::state::State;
 use crate::steps::Decision;
@@ -57,18 +55,16 @@ impl State {
     {
         let arrivals = arrivals.as_slice();
         self.future.reserve(arrivals.len())?;
-        reserve_all(&mut self.counts, arrivals)?;
+        self.counts.reserve_all(arrivals)?;
         make_all(&mut self.next, &mut self.future, &mut self.counts, arrivals);
-        self.remaining = count;
-        self.commands = self.commands.saturating_add(1);
-        self.primed = true;
+        self.progress.start(count);
         Ok(())
     }
 
     fn count_command(&mut self)
         ensures { self.new ≡ moved self.old moves.Command }
     {
-        self.commands = self.commands.saturating_add(1);
+        self.progress.count_command();
     }
 
     fn enter_block(&mut self, place: u64, change: Change, fate: Fate) -> Result<(), AllocError>
@@ -87,20 +83,15 @@ impl State {
             self.counts.reserve(arrival.place)?;
         }
         if let Some(x) = self.active.take() {
-            cross(&mut self.counts, x.current, place, &fate);
-            let transaction = mark(&change, self.clock, enter(x, place));
+            self.counts.cross(x.current, place, &fate);
+            let transaction = mark(&change, self.clocks.clock(), enter(x, place));
             match &fate {
                 Fate::Active => self.active = Some(transaction),
-                Fate::Delayed { until } => self.future.push_back_reserved(Event {
+                Fate::Delayed { until } => self.future.put(Event {
                     time: *until,
                     transaction,
                 }),
-                Fate::Destroyed { count } => {
-                    if *count >= self.remaining {
-                        self.complete = self.complete.saturating_add(1);
-                    }
-                    self.remaining = self.remaining.saturating_sub(*count);
-                }
+                Fate::Destroyed { count } => self.progress.count_down(*count),
             }
             if let Change::Generate {
                 next: Some(arrival),
@@ -115,7 +106,7 @@ impl State {
     fn pick(&mut self)
         ensures { self.new ≡ moved self.old moves.Pick }
     {
-        if let Some(x) = self.current.pop_front() {
+        if let Some(x) = self.current.take_first() {
             self.active = Some(x);
         }
     }
@@ -124,10 +115,10 @@ impl State {
         ensures ok { OnOk result (self.new ≡ moved self.old (moves.Clock clock)) }
         ensures err { OnErr result (self.new ≡ self.old) }
     {
-        let count = count_due(&self.future, clock.time());
+        let count = self.future.count_due(clock.time());
         self.current.reserve(count)?;
-        take_due(&mut self.current, &mut self.future, clock.time());
-        self.clock = clock;
+        self.future.take_due(&mut self.current, clock.time());
+        self.clocks.advance(clock);
         Ok(())
     }
 }

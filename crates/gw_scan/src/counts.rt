@@ -1,73 +1,129 @@
-// What is counted at each block, in the order of first use.
-ghost use Rattle.std.specs.Prelude.{◌≡◌, ◌≤◌, ◌<◌, OnOk, All};
+ghost use Rattle.std.specs.Prelude.{◌≡◌, ◌<◌, ◌≤◌, [], All, IfOk, OnOk};
 ghost use Rattle.gw_meaning.specs.declared.moves.Arrival.{Arrival};
 ghost use Rattle.gw_meaning.specs.Machine.{count_at};
 ghost use Rattle.gw_meaning.specs.Changes.{left, crossed, content_behind, made_one};
 
 use gw_meaning::{Arrival, Count, Fate};
 use gw_table::Table;
-use std::alloc::AllocError;
+use std::alloc::{AllocError, Global};
+use std::marker::Model;
 
-pub type Counts = Table<Count>;
-
-// What is counted at a block.
-#[tactic(auto, using(crate::proofs::CountLaws::count_in_is))]
-pub fn count_at(counts: &Counts, place: u64) -> Count
-    ensures { result ≡ count_at counts.now.entries place }
-{
-    match counts.get(place) {
-        Some(count) => count,
-        None => Count {
-            entries: 0,
-            content: 0,
-            made: 0,
-        },
-    }
+/// What is counted at each block, in the order of first use.
+#[derive(Drop)]
+pub struct Counts {
+    table: Table<Count>,
 }
 
-// Makes room for the counts of the GENERATEs that are to make these transactions.
-pub fn reserve_all(counts: &mut Counts, arrivals: &[Arrival]) -> Result<(), AllocError>
-    ensures ok { OnOk result (All (λ (a : Arrival). a.place < counts.new.limit) arrivals.now) }
-    ensures entries { counts.new.entries ≡ counts.old.entries }
-{
-    for arrival in arrivals {
-        counts.reserve(arrival.place)?;
-    }
-    Ok(())
+impl Model for Counts {
+    ghost use Rattle.gw_table.specs.Pairs.{Pairs};
+    ghost use Rattle.gw_meaning.specs.declared.transaction.Count.{Count};
+
+    ghost Value = { Pairs Count };
+
+    ghost view = { λ c. c.table };
 }
 
-// A transaction leaves a block.
-#[tactic(auto, using(crate::proofs::CountLaws::count_in_is, crate::proofs::CountLaws::with_count_is))]
-fn leave(counts: &mut Counts, place: u64)
-    requires { place < counts.old.limit }
-    ensures entries { counts.new.entries ≡ left counts.old.entries place }
-    ensures limit { counts.new.limit ≡ counts.old.limit }
-{
-    if let Some(count) = counts.get(place) {
+impl Counts {
+    // Nothing is counted yet.
+    pub fn new(alloc: Global) -> Counts
+        ensures { result.entries ≡ [] }
+    {
+        Counts {
+            table: Table::new(alloc),
+        }
+    }
+
+    // What is counted at a block.
+    #[tactic(auto, using(crate::proofs::CountLaws::count_in_is))]
+    pub fn at(&self, place: u64) -> Count
+        ensures { result ≡ count_at self.now.entries place }
+    {
+        match self.table.get(place) {
+            Some(count) => count,
+            None => Count {
+                entries: 0,
+                content: 0,
+                made: 0,
+            },
+        }
+    }
+
+    // Makes room for the count of a block, for good.
+    pub fn reserve(&mut self, place: u64) -> Result<(), AllocError>
+        ensures ok { OnOk result (place < self.new.limit) }
+        ensures entries { self.new.entries ≡ self.old.entries }
+        ensures limit { self.old.limit ≤ self.new.limit }
+    {
+        self.table.reserve(place)
+    }
+
+    // Makes room for the counts of the GENERATEs that are to make these transactions.
+    pub fn reserve_all(&mut self, arrivals: &[Arrival]) -> Result<(), AllocError>
+        ensures ok { OnOk result (All (λ (a : Arrival). a.place < self.new.limit) arrivals.now) }
+        ensures entries { self.new.entries ≡ self.old.entries }
+    {
+        for arrival in arrivals {
+            self.reserve(arrival.place)?;
+        }
+        Ok(())
+    }
+
+    // A transaction leaves a block.
+    #[tactic(auto, using(crate::proofs::CountLaws::count_in_is, crate::proofs::CountLaws::with_count_is))]
+    fn leave(&mut self, place: u64)
+        requires { place < self.old.limit }
+        ensures entries { self.new.entries ≡ left self.old.entries place }
+        ensures limit { self.new.limit ≡ self.old.limit }
+    {
+        if let Some(count) = self.table.get(place) {
+            let count = Count {
+                content: count.content.saturating_sub(1),
+                ..count
+            };
+            self.table.set(place, count);
+        }
+    }
+
+    // A transaction leaves a block and enters another, in which it stays or where it is destroyed.
+    #[tactic(auto, using(crate::proofs::CountLaws::with_count_is))]
+    pub fn cross(&mut self, from: u64, to: u64, fate: &Fate)
+        requires from { from < self.old.limit }
+        requires to { to < self.old.limit }
+        ensures entries { self.new.entries ≡ crossed fate.now self.old.entries from to }
+        ensures limit { self.new.limit ≡ self.old.limit }
+    {
+        self.leave(from);
+        let count = self.at(to);
         let count = Count {
-            content: count.content.saturating_sub(1),
+            entries: count.entries.saturating_add(1),
+            content: content_behind(fate, count.content),
             ..count
         };
-        counts.set(place, count);
+        self.table.set(to, count);
     }
-}
 
-// A transaction leaves a block and enters another, in which it stays or where it is destroyed.
-#[tactic(auto, using(crate::proofs::CountLaws::with_count_is))]
-pub fn cross(counts: &mut Counts, from: u64, to: u64, fate: &Fate)
-    requires from { from < counts.old.limit }
-    requires to { to < counts.old.limit }
-    ensures entries { counts.new.entries ≡ crossed fate.now counts.old.entries from to }
-    ensures limit { counts.new.limit ≡ counts.old.limit }
-{
-    leave(counts, from);
-    let count = count_at(counts, to);
-    let count = Count {
-        entries: count.entries.saturating_add(1),
-        content: content_behind(fate, count.content),
-        ..count
-    };
-    counts.set(to, count);
+    // A GENERATE made one more.
+    #[tactic(auto, using(crate::proofs::CountLaws::with_count_is))]
+    pub fn count_made(&mut self, place: u64)
+        requires { place < self.old.limit }
+        ensures entries { self.new.entries ≡ made_one self.old.entries place }
+        ensures limit { self.new.limit ≡ self.old.limit }
+    {
+        let count = self.at(place);
+        let count = Count {
+            made: count.made.saturating_add(1),
+            ..count
+        };
+        self.table.set(place, count);
+    }
+
+    // Equal counts.
+    pub fn copy(&self) -> Result<Counts, AllocError>
+        ensures { IfOk result (λ c. c.entries ≡ self.now.entries) }
+    {
+        let table = self.table.copy()?;
+        Ok(Counts { table })
+    }
 }
 
 // The content of a block behind the entry of a transaction.
@@ -78,19 +134,4 @@ fn content_behind(fate: &Fate, content: u64) -> u64
         Fate::Active | Fate::Delayed { .. } => content.saturating_add(1),
         Fate::Destroyed { .. } => content,
     }
-}
-
-// A GENERATE made one more.
-#[tactic(auto, using(crate::proofs::CountLaws::with_count_is))]
-pub fn count_made(counts: &mut Counts, place: u64)
-    requires { place < counts.old.limit }
-    ensures entries { counts.new.entries ≡ made_one counts.old.entries place }
-    ensures limit { counts.new.limit ≡ counts.old.limit }
-{
-    let count = count_at(counts, place);
-    let count = Count {
-        made: count.made.saturating_add(1),
-        ..count
-    };
-    counts.set(place, count);
 }

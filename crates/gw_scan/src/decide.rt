@@ -4,7 +4,6 @@ ghost use Rattle.gw_meaning.specs.Step.{move_prog, command_prog, start_prog, fir
 ghost use Rattle.gw_scan.specs.Deciding.{Decides};
 
 use crate::case::{Case, Halt, ask_after, ask_block, ask_command, ask_generates, ask_within};
-use crate::chains::least_time;
 use crate::notes::Notes;
 use crate::state::State;
 use gw_expr::{Expr, Stop};
@@ -16,7 +15,7 @@ impl State {
     pub(crate) fn decide(&self, alloc: Global, case: Case, notes: &mut Notes) -> Result<Move, Halt>
         ensures { Decides case.entry.version.now case.entry.seed (move_prog self.now self.now.remaining) result notes.old notes.new }
     {
-        if self.remaining == 0 {
+        if self.progress.remaining() == 0 {
             return self.command(alloc, case, notes);
         }
         match &self.active {
@@ -30,7 +29,11 @@ impl State {
         ensures { Decides case.entry.version.now case.entry.seed (move_prog self.now 0)
             result notes.old notes.new }
     {
-        let command = ask_command(case.version, notes, self.commands.saturating_add(1))?;
+        let command = ask_command(
+            case.version,
+            notes,
+            self.progress.commands().saturating_add(1),
+        )?;
         self.command_of(alloc, case, notes, command)
     }
 
@@ -65,7 +68,7 @@ impl State {
         ensures { Decides case.entry.version.now case.entry.seed (start_prog self.now self.now.primed count)
             result notes.old notes.new }
     {
-        if self.primed {
+        if self.progress.is_primed() {
             return Ok(Move::Start {
                 count,
                 arrivals: Row::from_vec(Vec::new(alloc)),
@@ -209,7 +212,7 @@ impl State {
             return Fate::Active;
         }
         Fate::Delayed {
-            until: self.clock.after(ticks),
+            until: self.clocks.clock().after(ticks),
         }
     }
 
@@ -244,7 +247,7 @@ impl State {
         if !self.current.is_empty() {
             return Ok(Move::Pick);
         }
-        let Some(time) = least_time(&self.future) else {
+        let Some(time) = self.future.least_time() else {
             return Err(Halt::End(End::Dry));
         };
         match ask_within(case.version, notes, time)? {

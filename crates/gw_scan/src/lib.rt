@@ -6,20 +6,25 @@
 
 mod arrival;
 mod case;
-mod chains;
 mod changes;
+mod clocks;
 mod copy;
 mod counts;
+mod current;
 mod decide;
 mod draws;
+mod future;
 mod making;
 mod notes;
+mod progress;
 mod state;
 mod steps;
 mod tally;
 mod value;
 
 pub use case::{Case, Halt};
+pub use current::CurrentChain;
+pub use future::FutureChain;
 pub use notes::Notes;
 pub use state::State;
 pub use steps::{Decision, Next, Turn, end_at, next_step, step};

@@ -1,44 +1,42 @@
 ghost use Rattle.std.specs.Prelude.{◌≡◌, IfOk, option_copied};
 ghost use Rattle.gw_meaning.specs.Machine.{zero_state, count_at};
 
+use crate::clocks::Clocks;
 use crate::counts::Counts;
-use gw_meaning::{Count, Event, Transaction};
-use gw_nums::{Clock, Time};
+use crate::current::CurrentChain;
+use crate::future::FutureChain;
+use crate::progress::Progress;
+use gw_meaning::{Count, Transaction};
+use gw_nums::Time;
 use gw_streams::Streams;
-use gw_table::Table;
-use std::alloc::{AllocError, Global};
-use std::collections::VecDeque;
+use std::alloc::Global;
 use std::marker::Model;
 
-/// The state of a run.
+/// The state of a run, in parts.
 #[derive(Drop)]
 pub struct State {
-    pub(crate) clock: Clock,
-    pub(crate) since: Clock,
-    pub(crate) remaining: u64,
-    pub(crate) commands: u64,
-    pub(crate) complete: u64,
-    pub(crate) primed: bool,
+    pub(crate) clocks: Clocks,
+    pub(crate) progress: Progress,
     pub(crate) streams: Streams,
     pub(crate) next: u64,
     pub(crate) active: Option<Transaction>,
-    pub(crate) current: VecDeque<Transaction>,
-    pub(crate) future: VecDeque<Event>,
+    pub(crate) current: CurrentChain,
+    pub(crate) future: FutureChain,
     pub(crate) counts: Counts,
 }
 
 impl Model for State {
-    ghost use Rattle.gw_meaning.specs.Machine.{Machine, AreInOrder};
+    ghost use Rattle.gw_meaning.specs.Machine.{Machine};
 
     ghost Value = { Machine };
 
     ghost view = { λ s. record {
-      clock = s.clock;
-      since = s.since;
-      remaining = s.remaining;
-      commands = s.commands;
-      complete = s.complete;
-      primed = s.primed;
+      clock = s.clocks.clock;
+      since = s.clocks.since;
+      remaining = s.progress.remaining;
+      commands = s.progress.commands;
+      complete = s.progress.complete;
+      primed = s.progress.primed;
       streams = s.streams;
       next = s.next;
       active = s.active;
@@ -46,8 +44,6 @@ impl Model for State {
       future = s.future.items;
       counts = s.counts.entries;
     } };
-
-    ghost invariant = { λ s. AreInOrder s.current.items };
 }
 
 impl State {
@@ -56,18 +52,14 @@ impl State {
         ensures { result ≡ zero_state }
     {
         State {
-            clock: Clock::ZERO,
-            since: Clock::ZERO,
-            remaining: 0,
-            commands: 0,
-            complete: 0,
-            primed: false,
+            clocks: Clocks::zero(),
+            progress: Progress::zero(),
             streams: Streams::new(),
             next: 1,
             active: None,
-            current: VecDeque::new(alloc),
-            future: VecDeque::new(alloc),
-            counts: Table::new(alloc),
+            current: CurrentChain::new(alloc),
+            future: FutureChain::new(alloc),
+            counts: Counts::new(alloc),
         }
     }
 
@@ -75,35 +67,35 @@ impl State {
     pub fn clock(&self) -> Time
         ensures { result ≡ self.now.clock }
     {
-        self.clock.time()
+        self.clocks.clock().time()
     }
 
     /// The absolute clock at the last RESET or CLEAR, from which the relative clock counts.
     pub fn since(&self) -> Time
         ensures { result ≡ self.now.since }
     {
-        self.since.time()
+        self.clocks.since().time()
     }
 
     /// What is left of the termination count of the START under way, and 0 where none is.
     pub fn remaining(&self) -> u64
         ensures { result ≡ self.now.remaining }
     {
-        self.remaining
+        self.progress.remaining()
     }
 
     /// How many commands are done.
     pub fn commands(&self) -> u64
         ensures { result ≡ self.now.commands }
     {
-        self.commands
+        self.progress.commands()
     }
 
     /// How many STARTs are complete.
     pub fn complete(&self) -> u64
         ensures { result ≡ self.now.complete }
     {
-        self.complete
+        self.progress.complete()
     }
 
     /// The active transaction.
@@ -114,14 +106,14 @@ impl State {
     }
 
     /// The current chain, in order.
-    pub fn current(&self) -> &VecDeque<Transaction>
+    pub fn current(&self) -> &CurrentChain
         ensures { result.now.items ≡ self.now.current }
     {
         &self.current
     }
 
     /// The future chain, in the order of coming onto it.
-    pub fn future(&self) -> &VecDeque<Event>
+    pub fn future(&self) -> &FutureChain
         ensures { result.now.items ≡ self.now.future }
     {
         &self.future
@@ -131,6 +123,6 @@ impl State {
     pub fn count(&self, place: u64) -> Count
         ensures { result ≡ count_at self.now.counts place }
     {
-        crate::counts::count_at(&self.counts, place)
+        self.counts.at(place)
     }
 }

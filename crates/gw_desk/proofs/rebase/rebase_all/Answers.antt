@@ -14,7 +14,7 @@ loop-recording-preserved c =
     let i = c.loop-recording.recording-index in
     let y = c.recording-item.result in
     let x : Recording = record { number = (get_or cur i y).number; run = c.rebase.new.run } in
-    let now : IsRebasedRecording t e u (get_or cur i y) x = record { number = refl; run = c.rebase.ensures } in
+    let now : IsRebasedRecording t e u (get_or cur i y) x = record { number = refl; run = c.rebase.ensures e u c.touch_of-touch.ensures } in
     record {
       count = search rules;
       done = one_more t e u c.args.runs.now.items cur i x known.count (search rules) known.done known.rest y now;

@@ -1,15 +1,20 @@
-use Rattle.std.proofs.Common.{◌≡◌, ◌==◌, length, true, false}
+use Rattle.std.proofs.Common.{◌≡◌, true, false, sym, ◌∙◌}
 use Rattle.gw_lines.specs.declared.class.Class.TheVariants as class
-use Rattle.gw_lines.specs.Classes.{rest_of}
+use Rattle.gw_lines.specs.Classes.{is_nothing, rest_of}
+use Rattle.gw_lines.proofs.Fronts.{not_true, not_false}
 use Rattle.gw_lines.proofs.Models.{last_line, ended_line}
 use Rattle.gw_lines.proofs.model.first_line.Goals as goal
+use Rattle.gw_lines.proofs.model.first_line.Goals.{then-ended, else-ended}
 
-pub returns-then-is_empty-clause-lines : goal.returns-then-is_empty-clause-lines
-returns-then-is_empty-clause-lines c =
-    let none : (length (rest_of class.Line c.args.bytes.now) == 0) ≡ true = rw (← c.span.ensures.rest) cc in
-    λ some. rw (c.span.ensures.front, c.span.ensures.rest) (last_line c.args.bytes.now none some)
-
-pub returns-else-is_empty-clause-lines : goal.returns-else-is_empty-clause-lines
-returns-else-is_empty-clause-lines c =
-    let left : (length (rest_of class.Line c.args.bytes.now) == 0) ≡ false = rw (← c.span.ensures.rest) cc in
-    λ some. rw (c.chomped.ensures, c.tail.ensures, c.span.ensures.front, c.span.ensures.rest) (ended_line c.args.bytes.now left)
+pub returns-clause-lines : goal.returns-clause-lines
+returns-clause-lines c =
+    let bytes = c.args.bytes.now in
+    let is = c.piece-ended.ensures in
+    λ some. elim c.if-ended.branch [
+      | then-ended w ↦
+          let left : is_nothing (rest_of class.Line bytes) ≡ false = not_true _ (sym is.ended ∙ w.if-ended.true) in
+          rw (w.result-is, w.chomped.ensures, is.front, is.behind) (ended_line bytes left)
+      | else-ended w ↦
+          let none : is_nothing (rest_of class.Line bytes) ≡ true = not_false _ (sym is.ended ∙ w.if-ended.false) in
+          rw (w.result-is, is.front, is.behind) (last_line bytes none some)
+    ]

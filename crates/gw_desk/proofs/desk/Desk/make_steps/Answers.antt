@@ -1,6 +1,6 @@
 use Rattle.std.proofs.Common.{sym}
 use Rattle.gw_record.specs.Reaching.{Reaches}
-use Rattle.gw_desk.proofs.FinishLaws.{old_records, still_book, finishes, shut, is_there, on_each}
+use Rattle.gw_desk.proofs.FinishLaws.{old_records, still_book, finishes, reached, is_there, on_each}
 use Rattle.gw_desk.proofs.desk.Desk.make_steps.Goals as goal
 
 pub reach-requires : goal.reach-requires
@@ -37,10 +37,10 @@ returns-clause-desk c =
     still_book _ c.args.rep c.args.seed c.in-Some.place c.index_mut.result.now c.reach.new.self c.self.invariant seed (sym found)
     c.index_mut.ensures.value c.reach.new.tally c.reach.ensures.records c.reach.ensures.every
 
-pub returns-clause-shut : goal.returns-clause-shut
-returns-clause-shut c =
+pub returns-clause-reached : goal.returns-clause-reached
+returns-clause-reached c =
     let seed = rw (← c.self.view_is) at c.requires.seed in
     let found = rw c.as_slice.ensures.value at c.in-Some.ensures.place in
-    on_each (Reaches c.self.inside.version c.args.seed c.args.k c.reach.new.self) c.reach.result c.reach.ensures.reached
-    (λ reach reached. shut _ c.args.rep c.args.seed c.in-Some.place c.index_mut.result.now c.reach.new.self c.self.invariant seed (sym found)
-    c.index_mut.ensures.value c.args.k reach c.reach.ensures.records c.requires.some reached)
+    on_each (Reaches c.self.inside.version c.args.seed c.args.k c.reach.new.self) _ c.reach.result c.reach.ensures.reached
+    (λ reach h. reached _ c.args.rep c.args.seed c.in-Some.place c.index_mut.result.now c.reach.new.self c.self.invariant seed (sym found)
+    c.index_mut.ensures.value c.args.k reach h)

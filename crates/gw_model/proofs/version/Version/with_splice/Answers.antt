@@ -7,7 +7,7 @@ use Rattle.gw_model.proofs.version.Version.with_splice.Goals as goal
 
 pub from_lines-requires : goal.from_lines-requires
 from_lines-requires c =
-    let lines = c.self.inside.lines.items in
+    let lines = c.self.inside.tabled.value.lines.items in
     let t : Listing = c.args.self.now in
     let same : t.lines ≡ lines = search rules in
     let there : c.args.goes ≡ true → c.args.position ≤ length lines =

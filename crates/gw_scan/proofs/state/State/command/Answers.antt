@@ -9,7 +9,8 @@ pub returns : goal.returns
 returns c =
     let case = c.args.case in
     let s = c.args.self.now in
-    let i : c.saturating_add.result ≡ raised s.commands = c.saturating_add.ensures ∙ ap (λ (m : Machine). raised m.commands) c.self.view_is in
+    let done : c.commands.result ≡ s.commands = c.commands.ensures ∙ ap (λ (m : Machine). m.commands) c.self.view_is in
+    let i : c.saturating_add.result ≡ raised s.commands = c.saturating_add.ensures ∙ ap raised done in
     let noted = rw i at c.in_ok-command.ensures.ok in
     let answer = rw i at c.in_ok-command.ensures.answer in
     decides_asked case.version.now case.seed (items.Cmd (raised s.commands)) (command_prog s) _ _ _ _ noted (rw (← answer) c.command_of.ensures)

@@ -1,9 +1,0 @@
-use Rattle.std.proofs.Common.{◌≡◌, ℕ, ◌<◌, slice_index_or}
-use Rattle.gw_meaning.specs.declared.moves.Arrival.{Arrival}
-use Rattle.gw_scan.proofs.counts.reserve_all.Given as goal
-
-abbrev pub invariant-loop-arrival : goal.invariant-loop-arrival
-invariant-loop-arrival l = record {
-  entries : l.counts.entries ≡ l.fn.counts.entries;
-  places : (k : ℕ) (d : Arrival) → k < l.arrival-index → (slice_index_or l.arrivals k d).place < l.counts.limit;
-}
