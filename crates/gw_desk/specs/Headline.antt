@@ -14,7 +14,8 @@ use Rattle.gw_desk.specs.Replies.{answer_of}
 use Rattle.gw_desk.specs.Anew.{anew}
 use Rattle.gw_desk.specs.Playing.{Plays}
 
--- a query of a version behind n accepted edits is answered as the version made anew is, run from zero; or memory was refused
+-- a query of a version behind n accepted edits is answered as the version made anew is, run from zero; or memory was
+-- refused
 abbrev pub IsRight : Listing → ℕ → ℕ → ℕ → Answer → Type 0
 IsRight t n rep k answers.Memory = Unit {0}
 IsRight t n rep k answer = answer ≡ answer_of (anew t) n rep k

@@ -14,7 +14,7 @@ use Rattle.gw_edit.specs.declared.touch.Probe.{Probe}
 use Rattle.gw_edit.specs.declared.touch.Probe.TheVariants.{One, CommandsFrom, Beyond}
 use Rattle.gw_edit.specs.Same.{same_statement}
 
--- whether a probe is of an item: of that one, of a command from the first one on, of a later moment than the last one
+-- whether a probe is of an item: of that one, of a command from the first one on, of a later time than the last one
 abbrev pub is_probed : Probe → Item → Bool
 is_probed (One item) i = is_use item i
 is_probed (CommandsFrom first) i = is_command_use first i

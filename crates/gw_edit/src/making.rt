@@ -64,7 +64,7 @@ fn reseed(alloc: Global, version: &Version, number: u64, seed: u64) -> Result<Ve
     if version.seed(number).is_none() {
         return Err(EditFault::NoSuchReplication);
     }
-    with_replications(alloc, version, reseeded(alloc, version, number, seed)?)
+    with_replications(version, reseeded(alloc, version, number, seed)?)
 }
 
 fn replicate(alloc: Global, version: &Version, number: u64, seed: u64) -> Result<Version, EditFault>
@@ -73,11 +73,7 @@ fn replicate(alloc: Global, version: &Version, number: u64, seed: u64) -> Result
     if version.seed(number).is_some() {
         return Err(EditFault::ReplicationTwice);
     }
-    with_replications(
-        alloc,
-        version,
-        with_replication(alloc, version, number, seed)?,
-    )
+    with_replications(version, with_replication(alloc, version, number, seed)?)
 }
 
 fn drop_replication(alloc: Global, version: &Version, number: u64) -> Result<Version, EditFault>
@@ -86,7 +82,7 @@ fn drop_replication(alloc: Global, version: &Version, number: u64) -> Result<Ver
     if version.seed(number).is_none() {
         return Err(EditFault::NoSuchReplication);
     }
-    with_replications(alloc, version, without_number(alloc, version, number)?)
+    with_replications(version, without_number(alloc, version, number)?)
 }
 
 #[tactic(auto, using(crate::proofs::Checking::refused_by), unfolding(crate::specs::Applied::checked))]
@@ -122,13 +118,12 @@ fn splice(
 // The version with other replications, unless it has a fault.
 #[tactic(auto, using(crate::proofs::Checking::refused_by), unfolding(crate::specs::Applied::checked))]
 fn with_replications(
-    alloc: Global,
     version: &Version,
     replications: Vec<Replication>,
 ) -> Result<Version, EditFault>
     ensures { Gives result (checked (record version.now { replications = replications.items })) }
 {
-    match version.with_replications(alloc, replications) {
+    match version.with_replications(replications) {
         Ok(new) => Ok(new),
         Err(fault) => Err(of_model(fault)),
     }

@@ -12,14 +12,14 @@ use gw_model::Version;
 use gw_nums::Time;
 use std::marker::Model;
 
-/// Items that a run may have asked for. Blocks go by the numbers of their statements.
+/// Items that a run may have asked for. Blocks go by their statement ids.
 #[derive(Debug, Drop, PartialEq, Eq)]
 pub enum Probe {
     /// This item.
     One(Item),
     /// This command and all behind it, by their positions from 1.
     CommandsFrom(u64),
-    /// The clock steps beyond this moment.
+    /// The clock steps beyond this time.
     Beyond(Time),
 }
 

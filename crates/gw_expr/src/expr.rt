@@ -11,8 +11,10 @@ pub struct Expr {
     node: Node,
 }
 
+/// What an operand is.
 #[derive(Debug, Drop)]
 pub enum Node {
+    /// A whole number.
     Constant(Val),
 }
 

@@ -31,7 +31,7 @@ use Rattle.gw_meaning.specs.Questions.{ask, result_of}
 use Rattle.gw_meaning.specs.Evaluation.{Eval, asks, number_of_draw, draw, value_prog, value_or_zero, spread, sample_within, time_prog}
 use Rattle.gw_meaning.specs.Changes.{decided}
 use Rattle.gw_meaning.specs.Step.{arrival_at, arrival_in_time, arrival_prog, first_of_generate, first_arrival, with_arrival, prime_prog, arrivals_prog, first_arrivals_prog, start_prog, command_prog, generate_prog, delay_of, advance_prog, terminate_prog, enter_prog, try_prog, attempt_prog, least_time, within_prog, clock_prog, pick_prog, scan_prog, move_prog, step_prog}
-use Rattle.gw_frame.specs.Places.{IsPlace, ActiveNames, TransactionNames, ItemNames}
+use Rattle.gw_frame.specs.BlockIds.{IsBlockId, ActiveNames, TransactionNames, ItemNames}
 use Rattle.gw_frame.proofs.Generates.{IsBlockIn, generates_there}
 use Rattle.gw_frame.proofs.Seeds.{uses_seed, ReadsSeed, one_drew, set_first}
 use Rattle.gw_frame.proofs.Keeps.{ProgKeeps, Keeps, all_with, prog_gives, prog_ends, prog_bind, keeps_gives, keeps_ends, keeps_asks, keeps_cond, keeps_stops, keeps_bind}
@@ -39,7 +39,7 @@ use Rattle.gw_frame.proofs.Keeps.{ProgKeeps, Keeps, all_with, prog_gives, prog_e
 -- what comes, comes to a block of the version and not before the clock
 pub record IsComing (t : Listing) (s : Machine) (a : Arrival) : Type 0 where
   pub ahead : s.clock ≤ a.time
-  pub place : IsPlace t a.place
+  pub id : IsBlockId t a.id
 
 abbrev pub IsComingIfAny : Listing → Machine → Option Arrival → Type 0
 IsComingIfAny t s None = Unit {0}
@@ -63,11 +63,11 @@ IsDecidedFate s (fates.Destroyed count) = Unit {0}
 abbrev pub IsDecided : Listing → Machine → Move → Type 0
 IsDecided t s (moves.Start count arrivals) = AreFirst t s arrivals
 IsDecided t s moves.Command = Unit {0}
-IsDecided t s (moves.Enter place change fate) = IsPlace t place × IsDecidedChange t s change × IsDecidedFate s fate
+IsDecided t s (moves.Enter id change fate) = IsBlockId t id × IsDecidedChange t s change × IsDecidedFate s fate
 IsDecided t s moves.Pick = s.active ≡ None
 IsDecided t s (moves.Clock time) = (least_time s.future ≡ Some time) × (nat_le time t.horizon ≡ true)
 
--- what is known of an item that is read: where the statements have numbers of their own, it names no place but blocks
+-- what is known of an item that is read: where the statements have numbers of their own, it names no id but those of blocks
 abbrev pub IsRead : Listing → Machine → Item → Type 0
 IsRead t s i = AreNumbered t.lines → ActiveNames t s.active → ItemNames t i
 
@@ -124,35 +124,35 @@ module _ (t : Listing) (seed : ℕ) (s : Machine) where
       (λ m h. keeps_bind (value_or_zero_decides range) (λ r k. keeps_stops (is_negative r) _ (sample_within_decides m (magnitude r))))
 
   -- the next transaction of a GENERATE
-  arrival_at_decides : (place : ℕ) (time priority : ℤ) → IsPlace t place → Decides (IsComingIfAny t s) (arrival_at s place time priority)
-  arrival_at_decides place time priority named =
-      keeps_stops (is_negative time) _ (keeps_stops (nat_le 100000 (live s)) _ (keeps_gives (record { ahead = omega arith; place = named })))
+  arrival_at_decides : (id : ℕ) (time priority : ℤ) → IsBlockId t id → Decides (IsComingIfAny t s) (arrival_at s id time priority)
+  arrival_at_decides id time priority named =
+      keeps_stops (is_negative time) _ (keeps_stops (nat_le 100000 (live s)) _ (keeps_gives (record { ahead = omega arith; id = named })))
 
-  arrival_in_time_decides : (place : ℕ) (mean range priority : Option Term) → IsPlace t place →
-      Decides (IsComingIfAny t s) (arrival_in_time s place mean range priority)
-  arrival_in_time_decides place mean range priority named =
-      keeps_bind (time_decides mean range) (λ v h. keeps_bind (value_or_zero_decides priority) (λ p k. arrival_at_decides place v p named))
+  arrival_in_time_decides : (id : ℕ) (mean range priority : Option Term) → IsBlockId t id →
+      Decides (IsComingIfAny t s) (arrival_in_time s id mean range priority)
+  arrival_in_time_decides id mean range priority named =
+      keeps_bind (time_decides mean range) (λ v h. keeps_bind (value_or_zero_decides priority) (λ p k. arrival_at_decides id v p named))
 
-  arrival_decides : (place made : ℕ) (mean range limit priority : Option Term) → IsPlace t place →
-      Decides (IsComingIfAny t s) (arrival_prog s place made mean range limit priority)
-  arrival_decides place made mean range None priority named = arrival_in_time_decides place mean range priority named
-  arrival_decides place made mean range (Some limit) priority named =
+  arrival_decides : (id made : ℕ) (mean range limit priority : Option Term) → IsBlockId t id →
+      Decides (IsComingIfAny t s) (arrival_prog s id made mean range limit priority)
+  arrival_decides id made mean range None priority named = arrival_in_time_decides id mean range priority named
+  arrival_decides id made mean range (Some limit) priority named =
       keeps_bind (value_decides limit)
       (λ n h. keeps_stops (is_negative n) _
-      (keeps_cond (nat_le (magnitude n) made) (keeps_gives tt) (arrival_in_time_decides place mean range priority named)))
+      (keeps_cond (nat_le (magnitude n) made) (keeps_gives tt) (arrival_in_time_decides id mean range priority named)))
 
   -- priming
-  first_of_generate_decides : (place : ℕ) (mean range offset limit priority : Option Term) → IsPlace t place →
-      Decides (IsComingIfAny t s) (first_of_generate s place mean range offset limit priority)
-  first_of_generate_decides place mean range None limit priority named = arrival_decides place _ mean range limit priority named
-  first_of_generate_decides place mean range (Some offset) limit priority named = arrival_decides place _ (Some offset) None limit priority named
+  first_of_generate_decides : (id : ℕ) (mean range offset limit priority : Option Term) → IsBlockId t id →
+      Decides (IsComingIfAny t s) (first_of_generate s id mean range offset limit priority)
+  first_of_generate_decides id mean range None limit priority named = arrival_decides id _ mean range limit priority named
+  first_of_generate_decides id mean range (Some offset) limit priority named = arrival_decides id _ (Some offset) None limit priority named
 
-  first_arrival_decides : (place : ℕ) (block : Option Block) → block_at t place ≡ block → Decides (IsComingIfAny t s) (first_arrival s place block)
-  first_arrival_decides place (Some (blocks.Generate mean range offset limit priority)) is =
-      first_of_generate_decides place mean range offset limit priority (inr (_, is))
-  first_arrival_decides place (Some (blocks.Advance mean range)) is = keeps_gives tt
-  first_arrival_decides place (Some (blocks.Terminate count)) is = keeps_gives tt
-  first_arrival_decides place None is = keeps_gives tt
+  first_arrival_decides : (id : ℕ) (block : Option Block) → block_at t id ≡ block → Decides (IsComingIfAny t s) (first_arrival s id block)
+  first_arrival_decides id (Some (blocks.Generate mean range offset limit priority)) is =
+      first_of_generate_decides id mean range offset limit priority (inr (_, is))
+  first_arrival_decides id (Some (blocks.Advance mean range)) is = keeps_gives tt
+  first_arrival_decides id (Some (blocks.Terminate count)) is = keeps_gives tt
+  first_arrival_decides id None is = keeps_gives tt
 
   with_arrival_coming : (a : Option Arrival) (made : List Arrival) → IsComingIfAny t s a → AllByRecursion (IsComing t s) made →
       AllByRecursion (IsComing t s) (with_arrival a made)
@@ -163,18 +163,18 @@ module _ (t : Listing) (seed : ℕ) (s : Machine) where
   with_arrival_few None made = omega arith
   with_arrival_few (Some a) made = let longer = length-append made (a ∷ []) in omega arith
 
-  arrivals_decide : (places : List ℕ) (made : List Arrival) → (AreNumbered t.lines → AllByRecursion (IsBlockIn t.lines) places) →
-      AllByRecursion (IsComing t s) made → length made + length places ≤ length t.lines → Decides (AreFirst t s) (arrivals_prog s places made)
+  arrivals_decide : (ids : List ℕ) (made : List Arrival) → (AreNumbered t.lines → AllByRecursion (IsBlockIn t.lines) ids) →
+      AllByRecursion (IsComing t s) made → length made + length ids ≤ length t.lines → Decides (AreFirst t s) (arrivals_prog s ids made)
   arrivals_decide [] made named all few = keeps_gives (record { coming = all; few = omega arith })
-  arrivals_decide (place ∷ places) made named all few =
-      keeps_bind (prime_decides place (λ numbered. (named numbered).0))
+  arrivals_decide (id ∷ ids) made named all few =
+      keeps_bind (prime_decides id (λ numbered. (named numbered).0))
       (λ a here.
       let one = with_arrival_few a made in
-      arrivals_decide places (with_arrival a made) (λ numbered. (named numbered).1) (with_arrival_coming a made here all) (omega arith))
+      arrivals_decide ids (with_arrival a made) (λ numbered. (named numbered).1) (with_arrival_coming a made here all) (omega arith))
     where
-      prime_decides : (place : ℕ) → (AreNumbered t.lines → IsBlockIn t.lines place) → Decides (IsComingIfAny t s) (prime_prog s place)
-      prime_decides place there =
-          keeps_asks (items.Block place) refl (λ numbered named. inr (there numbered)) (first_arrival_decides place (block_at t place) refl)
+      prime_decides : (id : ℕ) → (AreNumbered t.lines → IsBlockIn t.lines id) → Decides (IsComingIfAny t s) (prime_prog s id)
+      prime_decides id there =
+          keeps_asks (items.Block id) refl (λ numbered named. inr (there numbered)) (first_arrival_decides id (block_at t id) refl)
 
   first_arrivals_decide : Decides (AreFirst t s) (first_arrivals_prog s)
   first_arrivals_decide =
@@ -203,48 +203,48 @@ module _ (t : Listing) (seed : ℕ) (s : Machine) where
       prog_gives (tt, tt, λ seven. (let set = set_first before values in (set.1 ∙ seven, set.0)))
 
   -- blocks
-  generate_decides : (x : Transaction) (place : ℕ) (mean range limit priority : Option Term) → IsPlace t place →
-      Decides (IsDecided t s) (generate_prog s x place mean range limit priority)
-  generate_decides x place mean range limit priority named =
+  generate_decides : (x : Transaction) (id : ℕ) (mean range limit priority : Option Term) → IsBlockId t id →
+      Decides (IsDecided t s) (generate_prog s x id mean range limit priority)
+  generate_decides x id mean range limit priority named =
       keeps_stops (not (nat_eq x.current 0)) _
-      (keeps_bind (arrival_decides place _ mean range limit priority named) (λ next h. keeps_gives (named, h, tt)))
+      (keeps_bind (arrival_decides id _ mean range limit priority named) (λ next h. keeps_gives (named, h, tt)))
 
   delay_decided : (n : ℕ) → IsDecidedFate s (delay_of s n)
   delay_decided zero = tt
   delay_decided (suc n) = omega arith
 
-  advance_decides : (place : ℕ) (mean range : Option Term) → IsPlace t place → Decides (IsDecided t s) (advance_prog s place mean range)
-  advance_decides place mean range named =
+  advance_decides : (id : ℕ) (mean range : Option Term) → IsBlockId t id → Decides (IsDecided t s) (advance_prog s id mean range)
+  advance_decides id mean range named =
       keeps_bind (time_decides mean range) (λ v h. keeps_stops (is_negative v) _ (keeps_gives (named, tt, delay_decided (magnitude v))))
 
-  terminate_decides : (place : ℕ) (count : Option Term) → IsPlace t place → Decides (IsDecided t s) (terminate_prog s place count)
-  terminate_decides place count named =
+  terminate_decides : (id : ℕ) (count : Option Term) → IsBlockId t id → Decides (IsDecided t s) (terminate_prog s id count)
+  terminate_decides id count named =
       keeps_bind (value_or_zero_decides count) (λ n h. keeps_stops (is_negative n) _ (keeps_gives (named, tt, tt)))
 
-  enter_decides : (x : Transaction) (place : ℕ) (block : Block) → IsPlace t place → Decides (IsDecided t s) (enter_prog s x place (Some block))
-  enter_decides x place (blocks.Generate mean range offset limit priority) named = generate_decides x place mean range limit priority named
-  enter_decides x place (blocks.Advance mean range) named = advance_decides place mean range named
-  enter_decides x place (blocks.Terminate count) named = terminate_decides place count named
+  enter_decides : (x : Transaction) (id : ℕ) (block : Block) → IsBlockId t id → Decides (IsDecided t s) (enter_prog s x id (Some block))
+  enter_decides x id (blocks.Generate mean range offset limit priority) named = generate_decides x id mean range limit priority named
+  enter_decides x id (blocks.Advance mean range) named = advance_decides id mean range named
+  enter_decides x id (blocks.Terminate count) named = terminate_decides id count named
 
-  -- attempts: a place that is no block ends the run
-  try_block : (x : Transaction) (place : ℕ) (block : Option Block) → block_at t place ≡ block →
-      Decides (IsDecided t s) (asks (items.Block place) (enter_prog s x place))
-  try_block x place None is =
-      record { from = λ streams. record { runs = λ d there. absurd (let ends = ap (λ o. result_of t seed (enter_prog s x place o streams)) is in cc) } }
-  try_block x place (Some block) is =
-      let there : IsPlace t place = inr (block, is) in
-      keeps_asks (items.Block place) refl (λ numbered named. there)
-      (subst (λ o. Decides (IsDecided t s) (enter_prog s x place o)) (sym is) (enter_decides x place block there))
+  -- attempts: an id that is no block ends the run
+  try_block : (x : Transaction) (id : ℕ) (block : Option Block) → block_at t id ≡ block →
+      Decides (IsDecided t s) (asks (items.Block id) (enter_prog s x id))
+  try_block x id None is =
+      record { from = λ streams. record { runs = λ d there. absurd (let ends = ap (λ o. result_of t seed (enter_prog s x id o streams)) is in cc) } }
+  try_block x id (Some block) is =
+      let there : IsBlockId t id = inr (block, is) in
+      keeps_asks (items.Block id) refl (λ numbered named. there)
+      (subst (λ o. Decides (IsDecided t s) (enter_prog s x id o)) (sym is) (enter_decides x id block there))
 
-  try_decides : (x : Transaction) (place : Option ℕ) → Decides (IsDecided t s) (try_prog s x place)
+  try_decides : (x : Transaction) (id : Option ℕ) → Decides (IsDecided t s) (try_prog s x id)
   try_decides x None = keeps_ends
-  try_decides x (Some place) = try_block x place (block_at t place) refl
+  try_decides x (Some id) = try_block x id (block_at t id) refl
 
   attempt_decides : (x : Transaction) (destination : Option ℕ) → s.active ≡ Some x → Decides (IsDecided t s) (attempt_prog s x destination)
   attempt_decides x None is =
       keeps_asks (items.After x.current) refl
       (λ numbered named. (let here : TransactionNames t x = subst (λ o. ActiveNames t o) is named in here.current)) (try_decides x _)
-  attempt_decides x (Some place) is = try_decides x (Some place)
+  attempt_decides x (Some id) is = try_decides x (Some id)
 
   -- the clock
   within_decides : (time : ℕ) (within : Bool) → nat_le time t.horizon ≡ within → least_time s.future ≡ Some time →

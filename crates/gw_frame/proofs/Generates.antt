@@ -1,4 +1,4 @@
--- The places of the GENERATEs of a version are blocks of it.
+-- The ids of the GENERATEs of a version are blocks of it.
 use Rattle.std.proofs.Common.{◌≡◌, ℕ, nat_eq, true, List, [], ◌∷◌, Some, None, option_and_then, inl, inr, refl, ap, subst}
 use Rattle.std.specs.List.{AllByRecursion}
 use Rattle.std.proofs.lemmas.Bool.{cases_Bool, cond_both, eq-eqb, eqb-true}

@@ -16,9 +16,9 @@ use Rattle.gw_frame.specs.Moved.{IsMove, moved_transaction, moved_event, moved_c
 use Rattle.gw_frame.proofs.MovedLists.{made_one_moved, crossed_moved, all_lined_up_moved, due_moved, later_moved}
 
 module _ (move : ℕ → ℕ) where
-  -- what is to be made, what a block changes, and a move, with their places moved
+  -- what is to be made, what a block changes, and a move, with their ids moved
   abbrev pub moved_arrival : Arrival → Arrival
-  moved_arrival a = record a { place = move a.place }
+  moved_arrival a = record a { id = move a.id }
 
   abbrev pub moved_change : Change → Change
   moved_change changes.Nothing = changes.Nothing
@@ -27,7 +27,7 @@ module _ (move : ℕ → ℕ) where
   abbrev pub moved_move : Move → Move
   moved_move (moves.Start count arrivals) = moves.Start count (map moved_arrival arrivals)
   moved_move moves.Command = moves.Command
-  moved_move (moves.Enter place change fate) = moves.Enter (move place) (moved_change change) fate
+  moved_move (moves.Enter id change fate) = moves.Enter (move id) (moved_change change) fate
   moved_move moves.Pick = moves.Pick
   moved_move (moves.Clock time) = moves.Clock time
 
@@ -42,7 +42,7 @@ module _ (move : ℕ → ℕ) (is : IsMove move) where
   made_moved a w =
       ap₂ (making (raised w.next))
       (ap (λ e. map (moved_event move) w.future ++ e ∷ []) (newcomer_moved w.next a) ∙ sym (map-append (moved_event move) w.future (newcomer w.next a ∷ [])))
-      (made_one_moved move is w.counts a.place)
+      (made_one_moved move is w.counts a.id)
 
   maybe_made_moved : (next : Option Arrival) (w : Making) →
       maybe_made (option_map (moved_arrival move) next) (moved_making move w) ≡ moved_making move (maybe_made next w)
@@ -78,13 +78,13 @@ module _ (move : ℕ → ℕ) (is : IsMove move) where
   changed_moved changes.Nothing s = refl
   changed_moved (changes.Generate next) s = arrived_moved next s
 
-  entering_moved : (s : Machine) (x : Transaction) (place : ℕ) (change : Change) (fate : Fate) →
-      entering (moved_machine move s) (moved_transaction move x) (move place) (moved_change move change) fate ≡
-      moved_machine move (entering s x place change fate)
-  entering_moved s x place change fate =
-      let there : Machine = record s { counts = crossed fate s.counts x.current place } in
-      let y = marked change s.clock (placed x place) in
-      rw (crossed_moved move is fate s.counts x.current place, marked_moved change s.clock (placed x place), fated_moved fate y there)
+  entering_moved : (s : Machine) (x : Transaction) (id : ℕ) (change : Change) (fate : Fate) →
+      entering (moved_machine move s) (moved_transaction move x) (move id) (moved_change move change) fate ≡
+      moved_machine move (entering s x id change fate)
+  entering_moved s x id change fate =
+      let there : Machine = record s { counts = crossed fate s.counts x.current id } in
+      let y = marked change s.clock (placed x id) in
+      rw (crossed_moved move is fate s.counts x.current id, marked_moved change s.clock (placed x id), fated_moved fate y there)
       (changed_moved change (fated fate y there))
 
   picked_moved : (s : Machine) (xs : List Transaction) → picked (moved_machine move s) (map (moved_transaction move) xs) ≡ moved_machine move (picked s xs)
@@ -103,7 +103,7 @@ module _ (move : ℕ → ℕ) (is : IsMove move) where
   moved_moved : (s : Machine) (m : Move) → moved (moved_machine move s) (moved_move move m) ≡ moved_machine move (moved s m)
   moved_moved s (moves.Start count arrivals) = started_moved s count arrivals
   moved_moved s moves.Command = refl
-  moved_moved s (moves.Enter place change fate) = with_active_moved s s.active _ _ (λ x. entering_moved s x place change fate)
+  moved_moved s (moves.Enter id change fate) = with_active_moved s s.active _ _ (λ x. entering_moved s x id change fate)
   moved_moved s moves.Pick = picked_moved s s.current
   moved_moved s (moves.Clock time) = advanced_moved s time
 

@@ -16,46 +16,46 @@ cond_under f true x y v w yes' no' = yes'
 cond_under f false x y v w yes' no' = no'
 
 module _ (move : ℕ → ℕ) (is : IsMove move) where
-  -- moved places are equal where the places are
+  -- moved ids are equal where the ids are
   pub eq_moved : (p q : ℕ) → nat_eq (move p) (move q) ≡ nat_eq p q
   eq_moved p q = same_from_decides (nat_eq (move p) (move q)) (nat_eq p q)
       (Decides-like (nat_eq (move p) (move q)) (is.apart p q) (ap move) (Decides-eqb (move p) (move q))) (Decides-eqb p q)
 
-  -- a moved place is no block where the place is none
+  -- a moved id is no block where the id is none
   pub none_moved : (p : ℕ) → nat_eq (move p) 0 ≡ nat_eq p 0
   none_moved p = let P : ℕ → Type 0 = λ z. nat_eq (move p) z ≡ nat_eq p 0 in subst P is.none (eq_moved p 0)
 
-  count_in_moved : (cs : List (ℕ × Count)) (place : ℕ) → count_in (map (moved_count move) cs) (move place) ≡ count_in cs place
-  count_in_moved [] place = refl
-  count_in_moved (c ∷ cs) place = rw (eq_moved place c.0) (ap (λ o. cond (nat_eq place c.0) (Some c.1) o) (count_in_moved cs place))
+  count_in_moved : (cs : List (ℕ × Count)) (id : ℕ) → count_in (map (moved_count move) cs) (move id) ≡ count_in cs id
+  count_in_moved [] id = refl
+  count_in_moved (c ∷ cs) id = rw (eq_moved id c.0) (ap (λ o. cond (nat_eq id c.0) (Some c.1) o) (count_in_moved cs id))
 
-  pub count_at_moved : (cs : List (ℕ × Count)) (place : ℕ) → count_at (map (moved_count move) cs) (move place) ≡ count_at cs place
-  count_at_moved cs place = ap or_no_count (count_in_moved cs place)
+  pub count_at_moved : (cs : List (ℕ × Count)) (id : ℕ) → count_at (map (moved_count move) cs) (move id) ≡ count_at cs id
+  count_at_moved cs id = ap or_no_count (count_in_moved cs id)
 
-  with_count_moved : (cs : List (ℕ × Count)) (place : ℕ) (c : Count) →
-      with_count (map (moved_count move) cs) (move place) c ≡ map (moved_count move) (with_count cs place c)
-  with_count_moved [] place c = refl
-  with_count_moved (d ∷ ds) place c = rw (eq_moved place d.0)
-      (cond_under (map (moved_count move)) (nat_eq place d.0) _ _ _ _ refl (ap (λ cs. moved_count move d ∷ cs) (with_count_moved ds place c)))
+  with_count_moved : (cs : List (ℕ × Count)) (id : ℕ) (c : Count) →
+      with_count (map (moved_count move) cs) (move id) c ≡ map (moved_count move) (with_count cs id c)
+  with_count_moved [] id c = refl
+  with_count_moved (d ∷ ds) id c = rw (eq_moved id d.0)
+      (cond_under (map (moved_count move)) (nat_eq id d.0) _ _ _ _ refl (ap (λ cs. moved_count move d ∷ cs) (with_count_moved ds id c)))
 
-  left_at_moved : (o : Option Count) (cs : List (ℕ × Count)) (place : ℕ) →
-      left_at o (map (moved_count move) cs) (move place) ≡ map (moved_count move) (left_at o cs place)
-  left_at_moved None cs place = refl
-  left_at_moved (Some c) cs place = with_count_moved cs place _
+  left_at_moved : (o : Option Count) (cs : List (ℕ × Count)) (id : ℕ) →
+      left_at o (map (moved_count move) cs) (move id) ≡ map (moved_count move) (left_at o cs id)
+  left_at_moved None cs id = refl
+  left_at_moved (Some c) cs id = with_count_moved cs id _
 
-  left_moved : (cs : List (ℕ × Count)) (place : ℕ) → left (map (moved_count move) cs) (move place) ≡ map (moved_count move) (left cs place)
-  left_moved cs place = rw (count_in_moved cs place) (left_at_moved (count_in cs place) cs place)
+  left_moved : (cs : List (ℕ × Count)) (id : ℕ) → left (map (moved_count move) cs) (move id) ≡ map (moved_count move) (left cs id)
+  left_moved cs id = rw (count_in_moved cs id) (left_at_moved (count_in cs id) cs id)
 
-  entered_moved : (fate : Fate) (cs : List (ℕ × Count)) (place : ℕ) →
-      entered fate (map (moved_count move) cs) (move place) ≡ map (moved_count move) (entered fate cs place)
-  entered_moved fate cs place = rw (count_at_moved cs place) (with_count_moved cs place _)
+  entered_moved : (fate : Fate) (cs : List (ℕ × Count)) (id : ℕ) →
+      entered fate (map (moved_count move) cs) (move id) ≡ map (moved_count move) (entered fate cs id)
+  entered_moved fate cs id = rw (count_at_moved cs id) (with_count_moved cs id _)
 
   pub crossed_moved : (fate : Fate) (cs : List (ℕ × Count)) (from to : ℕ) →
       crossed fate (map (moved_count move) cs) (move from) (move to) ≡ map (moved_count move) (crossed fate cs from to)
   crossed_moved fate cs from to = rw (left_moved cs from) (entered_moved fate (left cs from) to)
 
-  pub made_one_moved : (cs : List (ℕ × Count)) (place : ℕ) → made_one (map (moved_count move) cs) (move place) ≡ map (moved_count move) (made_one cs place)
-  made_one_moved cs place = rw (count_at_moved cs place) (with_count_moved cs place _)
+  pub made_one_moved : (cs : List (ℕ × Count)) (id : ℕ) → made_one (map (moved_count move) cs) (move id) ≡ map (moved_count move) (made_one cs id)
+  made_one_moved cs id = rw (count_at_moved cs id) (with_count_moved cs id _)
 
 module _ (move : ℕ → ℕ) where
   pub lined_up_moved : (x : Transaction) (ys : List Transaction) →

@@ -68,61 +68,61 @@ module _ (move : ℕ → ℕ) (is : IsMove move) where
   least_time_moved (e ∷ es) = ap (sooner e.time) (least_time_moved es)
 
   -- arrivals
-  arrival_at_follows : (s : Machine) (place : ℕ) (time priority : ℤ) →
-      Follows move arrival_if_any (arrival_at s place time priority) (arrival_at (moved_machine move s) (move place) time priority)
-  arrival_at_follows s place time priority =
+  arrival_at_follows : (s : Machine) (id : ℕ) (time priority : ℤ) →
+      Follows move arrival_if_any (arrival_at s id time priority) (arrival_at (moved_machine move s) (move id) time priority)
+  arrival_at_follows s id time priority =
       follows_stops (is_negative time) _ (rw (live_moved s) (follows_stops (nat_le 100000 (live s)) _ (follows_gives refl)))
 
-  arrival_in_time_follows : (s : Machine) (place : ℕ) (mean range priority : Option Term) →
-      Follows move arrival_if_any (arrival_in_time s place mean range priority) (arrival_in_time (moved_machine move s) (move place) mean range priority)
-  arrival_in_time_follows s place mean range priority =
-      follows_bind _ (time_follows s mean range) (λ t. follows_bind _ (value_or_zero_follows s priority) (λ p. arrival_at_follows s place t p))
+  arrival_in_time_follows : (s : Machine) (id : ℕ) (mean range priority : Option Term) →
+      Follows move arrival_if_any (arrival_in_time s id mean range priority) (arrival_in_time (moved_machine move s) (move id) mean range priority)
+  arrival_in_time_follows s id mean range priority =
+      follows_bind _ (time_follows s mean range) (λ t. follows_bind _ (value_or_zero_follows s priority) (λ p. arrival_at_follows s id t p))
 
-  arrival_within_follows : (s : Machine) (place made : ℕ) (mean range priority : Option Term) (n : ℤ) →
-      Follows move arrival_if_any (arrival_within s place made mean range priority n)
-      (arrival_within (moved_machine move s) (move place) made mean range priority n)
-  arrival_within_follows s place made mean range priority n = follows_stops (is_negative n) _
-      (follows_cond (nat_le (magnitude n) made) (follows_gives refl) (arrival_in_time_follows s place mean range priority))
+  arrival_within_follows : (s : Machine) (id made : ℕ) (mean range priority : Option Term) (n : ℤ) →
+      Follows move arrival_if_any (arrival_within s id made mean range priority n)
+      (arrival_within (moved_machine move s) (move id) made mean range priority n)
+  arrival_within_follows s id made mean range priority n = follows_stops (is_negative n) _
+      (follows_cond (nat_le (magnitude n) made) (follows_gives refl) (arrival_in_time_follows s id mean range priority))
 
-  arrival_follows : (s : Machine) (place made : ℕ) (mean range limit priority : Option Term) →
-      Follows move arrival_if_any (arrival_prog s place made mean range limit priority)
-      (arrival_prog (moved_machine move s) (move place) made mean range limit priority)
-  arrival_follows s place made mean range None priority = arrival_in_time_follows s place mean range priority
-  arrival_follows s place made mean range (Some limit) priority =
-      follows_bind _ (value_follows s limit) (λ n. arrival_within_follows s place made mean range priority n)
+  arrival_follows : (s : Machine) (id made : ℕ) (mean range limit priority : Option Term) →
+      Follows move arrival_if_any (arrival_prog s id made mean range limit priority)
+      (arrival_prog (moved_machine move s) (move id) made mean range limit priority)
+  arrival_follows s id made mean range None priority = arrival_in_time_follows s id mean range priority
+  arrival_follows s id made mean range (Some limit) priority =
+      follows_bind _ (value_follows s limit) (λ n. arrival_within_follows s id made mean range priority n)
 
   -- priming
-  first_of_generate_follows : (s : Machine) (place : ℕ) (mean range offset limit priority : Option Term) →
-      Follows move arrival_if_any (first_of_generate s place mean range offset limit priority)
-      (first_of_generate (moved_machine move s) (move place) mean range offset limit priority)
-  first_of_generate_follows s place mean range None limit priority =
-      rw (count_at_moved move is s.counts place) (arrival_follows s place (count_at s.counts place).made mean range limit priority)
-  first_of_generate_follows s place mean range (Some offset) limit priority =
-      rw (count_at_moved move is s.counts place) (arrival_follows s place (count_at s.counts place).made (Some offset) None limit priority)
+  first_of_generate_follows : (s : Machine) (id : ℕ) (mean range offset limit priority : Option Term) →
+      Follows move arrival_if_any (first_of_generate s id mean range offset limit priority)
+      (first_of_generate (moved_machine move s) (move id) mean range offset limit priority)
+  first_of_generate_follows s id mean range None limit priority =
+      rw (count_at_moved move is s.counts id) (arrival_follows s id (count_at s.counts id).made mean range limit priority)
+  first_of_generate_follows s id mean range (Some offset) limit priority =
+      rw (count_at_moved move is s.counts id) (arrival_follows s id (count_at s.counts id).made (Some offset) None limit priority)
 
-  first_arrival_follows : (s : Machine) (place : ℕ) (block : Option Block) →
-      Follows move arrival_if_any (first_arrival s place block) (first_arrival (moved_machine move s) (move place) block)
-  first_arrival_follows s place (Some (blocks.Generate mean range offset limit priority)) =
-      first_of_generate_follows s place mean range offset limit priority
-  first_arrival_follows s place (Some (blocks.Advance mean range)) = follows_gives refl
-  first_arrival_follows s place (Some (blocks.Terminate count)) = follows_gives refl
-  first_arrival_follows s place None = follows_gives refl
+  first_arrival_follows : (s : Machine) (id : ℕ) (block : Option Block) →
+      Follows move arrival_if_any (first_arrival s id block) (first_arrival (moved_machine move s) (move id) block)
+  first_arrival_follows s id (Some (blocks.Generate mean range offset limit priority)) =
+      first_of_generate_follows s id mean range offset limit priority
+  first_arrival_follows s id (Some (blocks.Advance mean range)) = follows_gives refl
+  first_arrival_follows s id (Some (blocks.Terminate count)) = follows_gives refl
+  first_arrival_follows s id None = follows_gives refl
 
   with_arrival_moved : (a : Option Arrival) (made : List Arrival) →
       with_arrival (arrival_if_any a) (map (moved_arrival move) made) ≡ map (moved_arrival move) (with_arrival a made)
   with_arrival_moved None made = refl
   with_arrival_moved (Some a) made = sym (map-append (moved_arrival move) made (a ∷ []))
 
-  arrivals_follow : (s : Machine) (places : List ℕ) (made : List Arrival) →
-      Follows move (map (moved_arrival move)) (arrivals_prog s places made)
-      (arrivals_prog (moved_machine move s) (map move places) (map (moved_arrival move) made))
+  arrivals_follow : (s : Machine) (ids : List ℕ) (made : List Arrival) →
+      Follows move (map (moved_arrival move)) (arrivals_prog s ids made)
+      (arrivals_prog (moved_machine move s) (map move ids) (map (moved_arrival move) made))
   arrivals_follow s [] made = follows_gives refl
-  arrivals_follow s (place ∷ places) made =
-      follows_bind _ (follows_asks (items.Block place) (first_arrival_follows s place))
-      (λ a. rw (with_arrival_moved a made) (arrivals_follow s places (with_arrival a made)))
+  arrivals_follow s (id ∷ ids) made =
+      follows_bind _ (follows_asks (items.Block id) (first_arrival_follows s id))
+      (λ a. rw (with_arrival_moved a made) (arrivals_follow s ids (with_arrival a made)))
 
   first_arrivals_follow : (s : Machine) → Follows move (map (moved_arrival move)) (first_arrivals_prog s) (first_arrivals_prog (moved_machine move s))
-  first_arrivals_follow s = follows_asks items.Generates (λ places. arrivals_follow s places [])
+  first_arrivals_follow s = follows_asks items.Generates (λ ids. arrivals_follow s ids [])
 
   -- commands
   start_follows : (s : Machine) (primed : Bool) (count : ℕ) →
@@ -137,40 +137,40 @@ module _ (move : ℕ → ℕ) (is : IsMove move) where
   command_follows s (Some (commands.Rmult values)) = record { from = λ streams. prog_gives refl }
 
   -- blocks
-  generate_follows : (s : Machine) (x : Transaction) (place : ℕ) (mean range limit priority : Option Term) →
-      Follows move (moved_move move) (generate_prog s x place mean range limit priority)
-      (generate_prog (moved_machine move s) (moved_transaction move x) (move place) mean range limit priority)
-  generate_follows s x place mean range limit priority =
-      rw (none_moved move is x.current, count_at_moved move is s.counts place)
+  generate_follows : (s : Machine) (x : Transaction) (id : ℕ) (mean range limit priority : Option Term) →
+      Follows move (moved_move move) (generate_prog s x id mean range limit priority)
+      (generate_prog (moved_machine move s) (moved_transaction move x) (move id) mean range limit priority)
+  generate_follows s x id mean range limit priority =
+      rw (none_moved move is x.current, count_at_moved move is s.counts id)
       (follows_stops (not (nat_eq x.current 0)) _
-      (follows_bind _ (arrival_follows s place (count_at s.counts place).made mean range limit priority) (λ next. follows_gives refl)))
+      (follows_bind _ (arrival_follows s id (count_at s.counts id).made mean range limit priority) (λ next. follows_gives refl)))
 
-  advance_follows : (s : Machine) (place : ℕ) (mean range : Option Term) →
-      Follows move (moved_move move) (advance_prog s place mean range) (advance_prog (moved_machine move s) (move place) mean range)
-  advance_follows s place mean range = follows_bind _ (time_follows s mean range) (λ t. follows_stops (is_negative t) _ (follows_gives refl))
+  advance_follows : (s : Machine) (id : ℕ) (mean range : Option Term) →
+      Follows move (moved_move move) (advance_prog s id mean range) (advance_prog (moved_machine move s) (move id) mean range)
+  advance_follows s id mean range = follows_bind _ (time_follows s mean range) (λ t. follows_stops (is_negative t) _ (follows_gives refl))
 
-  terminate_follows : (s : Machine) (place : ℕ) (count : Option Term) →
-      Follows move (moved_move move) (terminate_prog s place count) (terminate_prog (moved_machine move s) (move place) count)
-  terminate_follows s place count = follows_bind _ (value_or_zero_follows s count) (λ n. follows_stops (is_negative n) _ (follows_gives refl))
+  terminate_follows : (s : Machine) (id : ℕ) (count : Option Term) →
+      Follows move (moved_move move) (terminate_prog s id count) (terminate_prog (moved_machine move s) (move id) count)
+  terminate_follows s id count = follows_bind _ (value_or_zero_follows s count) (λ n. follows_stops (is_negative n) _ (follows_gives refl))
 
-  enter_follows : (s : Machine) (x : Transaction) (place : ℕ) (block : Option Block) →
-      Follows move (moved_move move) (enter_prog s x place block) (enter_prog (moved_machine move s) (moved_transaction move x) (move place) block)
-  enter_follows s x place None = follows_ends
-  enter_follows s x place (Some (blocks.Generate mean range offset limit priority)) = generate_follows s x place mean range limit priority
-  enter_follows s x place (Some (blocks.Advance mean range)) = advance_follows s place mean range
-  enter_follows s x place (Some (blocks.Terminate count)) = terminate_follows s place count
+  enter_follows : (s : Machine) (x : Transaction) (id : ℕ) (block : Option Block) →
+      Follows move (moved_move move) (enter_prog s x id block) (enter_prog (moved_machine move s) (moved_transaction move x) (move id) block)
+  enter_follows s x id None = follows_ends
+  enter_follows s x id (Some (blocks.Generate mean range offset limit priority)) = generate_follows s x id mean range limit priority
+  enter_follows s x id (Some (blocks.Advance mean range)) = advance_follows s id mean range
+  enter_follows s x id (Some (blocks.Terminate count)) = terminate_follows s id count
 
   -- attempts
-  try_follows : (s : Machine) (x : Transaction) (place : Option ℕ) →
-      Follows move (moved_move move) (try_prog s x place) (try_prog (moved_machine move s) (moved_transaction move x) (option_map move place))
+  try_follows : (s : Machine) (x : Transaction) (id : Option ℕ) →
+      Follows move (moved_move move) (try_prog s x id) (try_prog (moved_machine move s) (moved_transaction move x) (option_map move id))
   try_follows s x None = follows_ends
-  try_follows s x (Some place) = follows_asks (items.Block place) (enter_follows s x place)
+  try_follows s x (Some id) = follows_asks (items.Block id) (enter_follows s x id)
 
   attempt_follows : (s : Machine) (x : Transaction) (destination : Option ℕ) →
       Follows move (moved_move move) (attempt_prog s x destination)
       (attempt_prog (moved_machine move s) (moved_transaction move x) (option_map move destination))
   attempt_follows s x None = follows_asks (items.After x.current) (try_follows s x)
-  attempt_follows s x (Some place) = try_follows s x (Some place)
+  attempt_follows s x (Some id) = try_follows s x (Some id)
 
   -- the clock
   within_follows : (time : ℕ) (within : Bool) → Follows move (moved_move move) (within_prog time within) (within_prog time within)

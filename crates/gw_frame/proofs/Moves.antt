@@ -15,8 +15,8 @@ use Rattle.gw_frame.proofs.Decided.{IsComing, IsDecidedChange}
 
 -- the transaction x in its block, before the block changes anything else
 abbrev pub settled : Machine → Transaction → ℕ → Change → Fate → Machine
-settled s x place change fate =
-    fated fate (marked change s.clock (placed x place)) (record s { counts = crossed fate s.counts x.current place })
+settled s x id change fate =
+    fated fate (marked change s.clock (placed x id)) (record s { counts = crossed fate s.counts x.current id })
 
 -- what a mark and a fate leave alone
 pub marked_same : (change : Change) (clock : ℕ) (x : Transaction) →
@@ -24,16 +24,16 @@ pub marked_same : (change : Change) (clock : ℕ) (x : Transaction) →
 marked_same changes.Nothing clock x = (refl, refl, refl)
 marked_same (changes.Generate next) clock x = (refl, refl, refl)
 
-pub record IsSettled (s : Machine) (x : Transaction) (place : ℕ) (fate : Fate) (v : Machine) : Type 0 where
+pub record IsSettled (s : Machine) (x : Transaction) (id : ℕ) (fate : Fate) (v : Machine) : Type 0 where
   pub clock : v.clock ≡ s.clock
   pub next : v.next ≡ s.next
   pub current : v.current ≡ s.current
-  pub counts : v.counts ≡ crossed fate s.counts x.current place
+  pub counts : v.counts ≡ crossed fate s.counts x.current id
 
-pub settled_is : (s : Machine) (x : Transaction) (place : ℕ) (change : Change) (fate : Fate) → IsSettled s x place fate (settled s x place change fate)
-settled_is s x place change fates.Active = record { clock = refl; next = refl; current = refl; counts = refl }
-settled_is s x place change (fates.Delayed until) = record { clock = refl; next = refl; current = refl; counts = refl }
-settled_is s x place change (fates.Destroyed count) = record { clock = refl; next = refl; current = refl; counts = refl }
+pub settled_is : (s : Machine) (x : Transaction) (id : ℕ) (change : Change) (fate : Fate) → IsSettled s x id fate (settled s x id change fate)
+settled_is s x id change fates.Active = record { clock = refl; next = refl; current = refl; counts = refl }
+settled_is s x id change (fates.Delayed until) = record { clock = refl; next = refl; current = refl; counts = refl }
+settled_is s x id change (fates.Destroyed count) = record { clock = refl; next = refl; current = refl; counts = refl }
 
 -- where P holds of the settled state, Q holds behind the block, if it holds with one more transaction made and with none
 changed_has : (P Q : Machine → Type 0) (t : Listing) (s : Machine) (change : Change) (v : Machine) → IsDecidedChange t s change → P v → (P v → Q v) →
@@ -47,12 +47,12 @@ with_active_has : (P : Machine → Type 0) (o : Option Transaction) (f : Transac
 with_active_has P None f s none some = none
 with_active_has P (Some x) f s none some = some x refl
 
-pub entered_has : (P Q : Machine → Type 0) (t : Listing) (s : Machine) (place : ℕ) (change : Change) (fate : Fate) → IsDecidedChange t s change → Q s →
-    ((x : Transaction) → s.active ≡ Some x → P (settled s x place change fate)) → ((v : Machine) → P v → Q v) →
-    ((a : Arrival) (v : Machine) → IsComing t s a → P v → Q (with_making (made a (making_of v)) v)) → Q (moved s (moves.Enter place change fate))
-entered_has P Q t s place change fate coming stays enters none one =
-    with_active_has Q s.active (λ x. entering s x place change fate) s stays
-    (λ x is. let v = settled s x place change fate in changed_has P Q t s change v coming (enters x is) (none v) (λ a. one a v))
+pub entered_has : (P Q : Machine → Type 0) (t : Listing) (s : Machine) (id : ℕ) (change : Change) (fate : Fate) → IsDecidedChange t s change → Q s →
+    ((x : Transaction) → s.active ≡ Some x → P (settled s x id change fate)) → ((v : Machine) → P v → Q v) →
+    ((a : Arrival) (v : Machine) → IsComing t s a → P v → Q (with_making (made a (making_of v)) v)) → Q (moved s (moves.Enter id change fate))
+entered_has P Q t s id change fate coming stays enters none one =
+    with_active_has Q s.active (λ x. entering s x id change fate) s stays
+    (λ x is. let v = settled s x id change fate in changed_has P Q t s change v coming (enters x is) (none v) (λ a. one a v))
 
 pub picked_has : (P : Machine → Type 0) (s : Machine) (chain : List Transaction) → P s →
     ((x : Transaction) (xs : List Transaction) → chain ≡ x ∷ xs → P (picked s (x ∷ xs))) → P (picked s chain)

@@ -16,7 +16,7 @@ use Rattle.gw_meaning.specs.declared.moves.Move.TheVariants as moves
 use Rattle.gw_meaning.specs.Listing.{Listing}
 use Rattle.gw_meaning.specs.Machine.{Machine, count_in, with_count}
 use Rattle.gw_meaning.specs.Changes.{lined_up, all_lined_up, left_at, left, is_due, due, Making, made, all_made, making_of, with_making, started, placed, fated, moved}
-use Rattle.gw_frame.specs.Places.{IsPlace, TransactionNames, ActiveNames, EventNames, CountNames, StateNames, ItemNames, StatesNameBlocks, StepsReadBlocks}
+use Rattle.gw_frame.specs.BlockIds.{IsBlockId, TransactionNames, ActiveNames, EventNames, CountNames, StateNames, ItemNames, StatesNameBlocks, StepsReadBlocks}
 use Rattle.gw_frame.proofs.Keeps.{all_with}
 use Rattle.gw_frame.proofs.Decided.{IsComing, IsDecided, IsRead, step_decides}
 use Rattle.gw_frame.proofs.Moves.{settled, marked_same, entered_has, picked_has}
@@ -29,18 +29,18 @@ all_cond P true xs ys h k = h
 all_cond P false xs ys h k = k
 
 module _ (t : Listing) where
-  with_count_names : (cs : List (ℕ × Count)) (place : ℕ) (c : Count) → IsPlace t place → AllByRecursion (CountNames t) cs →
-      AllByRecursion (CountNames t) (with_count cs place c)
-  with_count_names [] place c named all = (named, tt)
-  with_count_names (d ∷ ds) place c named all = all_cond (CountNames t) (nat_eq place d.0) _ _ (all.0, all.1) (all.0, with_count_names ds place c named all.1)
+  with_count_names : (cs : List (ℕ × Count)) (id : ℕ) (c : Count) → IsBlockId t id → AllByRecursion (CountNames t) cs →
+      AllByRecursion (CountNames t) (with_count cs id c)
+  with_count_names [] id c named all = (named, tt)
+  with_count_names (d ∷ ds) id c named all = all_cond (CountNames t) (nat_eq id d.0) _ _ (all.0, all.1) (all.0, with_count_names ds id c named all.1)
 
-  left_at_names : (o : Option Count) (cs : List (ℕ × Count)) (place : ℕ) → IsPlace t place → AllByRecursion (CountNames t) cs →
-      AllByRecursion (CountNames t) (left_at o cs place)
-  left_at_names None cs place named all = all
-  left_at_names (Some c) cs place named all = with_count_names cs place _ named all
+  left_at_names : (o : Option Count) (cs : List (ℕ × Count)) (id : ℕ) → IsBlockId t id → AllByRecursion (CountNames t) cs →
+      AllByRecursion (CountNames t) (left_at o cs id)
+  left_at_names None cs id named all = all
+  left_at_names (Some c) cs id named all = with_count_names cs id _ named all
 
-  left_names : (cs : List (ℕ × Count)) (place : ℕ) → IsPlace t place → AllByRecursion (CountNames t) cs → AllByRecursion (CountNames t) (left cs place)
-  left_names cs place named all = left_at_names (count_in cs place) cs place named all
+  left_names : (cs : List (ℕ × Count)) (id : ℕ) → IsBlockId t id → AllByRecursion (CountNames t) cs → AllByRecursion (CountNames t) (left cs id)
+  left_names cs id named all = left_at_names (count_in cs id) cs id named all
 
   lined_up_names : (x : Transaction) (ys : List Transaction) → TransactionNames t x → AllByRecursion (TransactionNames t) ys →
       AllByRecursion (TransactionNames t) (lined_up x ys)
@@ -68,8 +68,8 @@ module _ (t : Listing) where
   made_names s a w v coming h = record {
     active = h.active;
     current = h.current;
-    future = all_with (EventNames t) w.future _ h.future (record { current = inl refl; destination = coming.place }, tt);
-    counts = with_count_names w.counts a.place _ coming.place h.counts;
+    future = all_with (EventNames t) w.future _ h.future (record { current = inl refl; destination = coming.id }, tt);
+    counts = with_count_names w.counts a.id _ coming.id h.counts;
   }
 
   all_made_names : (s : Machine) (arrivals : List Arrival) (w : Making) (v : Machine) → AllByRecursion (IsComing t s) arrivals →
@@ -84,11 +84,11 @@ module _ (t : Listing) where
       record { active = tt; current = h.current; future = all_with (EventNames t) s.future _ h.future (named, tt); counts = h.counts }
   fated_names (fates.Destroyed count) x s named h = record { active = tt; current = h.current; future = h.future; counts = h.counts }
 
-  settled_names : (s : Machine) (x : Transaction) (place : ℕ) (change : Change) (fate : Fate) → StateNames t s → TransactionNames t x → IsPlace t place →
-      StateNames t (settled s x place change fate)
-  settled_names s x place change fate h moving named =
-      let same = marked_same change s.clock (placed x place) in
-      let counts = with_count_names (left s.counts x.current) place _ named (left_names s.counts x.current moving.current h.counts) in
+  settled_names : (s : Machine) (x : Transaction) (id : ℕ) (change : Change) (fate : Fate) → StateNames t s → TransactionNames t x → IsBlockId t id →
+      StateNames t (settled s x id change fate)
+  settled_names s x id change fate h moving named =
+      let same = marked_same change s.clock (placed x id) in
+      let counts = with_count_names (left s.counts x.current) id _ named (left_names s.counts x.current moving.current h.counts) in
       fated_names fate _ _ (record { current = rw same.1 named; destination = rw same.2 tt })
       (record { active = h.active; current = h.current; future = h.future; counts = counts })
 
@@ -97,9 +97,9 @@ module _ (t : Listing) where
   moved_names s (moves.Start count arrivals) decided h = all_made_names s arrivals (making_of s) (started count s) decided.coming
       (record { active = h.active; current = h.current; future = h.future; counts = h.counts })
   moved_names s moves.Command decided h = record { active = h.active; current = h.current; future = h.future; counts = h.counts }
-  moved_names s (moves.Enter place change fate) decided h =
-      entered_has (StateNames t) (StateNames t) t s place change fate decided.1 h
-      (λ x is. settled_names s x place change fate h (let here : ActiveNames t (Some x) = subst (λ o. ActiveNames t o) is h.active in here) decided.0)
+  moved_names s (moves.Enter id change fate) decided h =
+      entered_has (StateNames t) (StateNames t) t s id change fate decided.1 h
+      (λ x is. settled_names s x id change fate h (let here : ActiveNames t (Some x) = subst (λ o. ActiveNames t o) is h.active in here) decided.0)
       (λ v k. k) (λ a v coming k. made_names s a (making_of v) v coming k)
   moved_names s moves.Pick decided h = picked_has (StateNames t) s s.current h
       (λ x xs is. (let all : AllByRecursion (TransactionNames t) (x ∷ xs) = subst (λ chain. AllByRecursion (TransactionNames t) chain) is h.current in

@@ -10,16 +10,16 @@ use Rattle.gw_meaning.specs.Machine.{Machine}
 use Rattle.gw_meaning.specs.Step.{step, run}
 use Rattle.gw_meaning.specs.Reads.{reads}
 use Rattle.gw_frame.specs.Moved.{moved_item, moved_transaction, moved_event, moved_count, moved_machine}
-use Rattle.gw_frame.specs.Places.{IsPlace, IsPlaceIfAny, TransactionNames, ActiveNames, EventNames, CountNames, StateNames, ItemNames}
+use Rattle.gw_frame.specs.BlockIds.{IsBlockId, IsIdIfAny, TransactionNames, ActiveNames, EventNames, CountNames, StateNames, ItemNames}
 use Rattle.gw_frame.specs.Positions.{position_of, shifted, FrameInPositions}
 use Rattle.gw_frame.proofs.ReadLaws.{unseen_reads}
 use Rattle.gw_frame.proofs.Running.{last_step}
 use Rattle.gw_frame.proofs.PlacedStates.{run_names, reads_names}
 use Rattle.gw_frame.proofs.PositionLaws.{position_shifts}
 
--- f does to each place of both versions what g and then h do
-module _ (t u : Listing) (f g h : ℕ → ℕ) (same : (p : ℕ) → IsPlace t p → IsPlace u p → f p ≡ h (g p)) where
-  maybe_same : (o : Option ℕ) → IsPlaceIfAny t o → IsPlaceIfAny u o → option_map f o ≡ option_map h (option_map g o)
+-- f does to each id of both versions what g and then h do
+module _ (t u : Listing) (f g h : ℕ → ℕ) (same : (p : ℕ) → IsBlockId t p → IsBlockId u p → f p ≡ h (g p)) where
+  maybe_same : (o : Option ℕ) → IsIdIfAny t o → IsIdIfAny u o → option_map f o ≡ option_map h (option_map g o)
   maybe_same None there also = refl
   maybe_same (Some p) there also = ap (λ q. Some q) (same p there also)
 
@@ -85,7 +85,7 @@ frame_in_positions t seed u new_seed n s front goes comes back splice first seco
       state_same t u (position_of u) (position_of t) move same s (run_names t seed n s first there) (run_names u new_seed n s second unseen.0),
       λ j below. reads_same same unseen.0 j below (unseen.1 j below),
     ) where
-      reads_same : ((p : ℕ) → IsPlace t p → IsPlace u p → position_of u p ≡ shifted front goes comes (position_of t p)) → run u new_seed n ≡ Ok s → (j : ℕ) →
+      reads_same : ((p : ℕ) → IsBlockId t p → IsBlockId u p → position_of u p ≡ shifted front goes comes (position_of t p)) → run u new_seed n ≡ Ok s → (j : ℕ) →
           j < n → reads u new_seed j ≡ reads t seed j → map (moved_item (position_of u)) (reads u new_seed j) ≡
           map (moved_item (shifted front goes comes)) (map (moved_item (position_of t)) (reads t seed j))
       reads_same same also j below reads_alike =

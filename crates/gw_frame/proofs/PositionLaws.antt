@@ -1,4 +1,4 @@
--- Where a place is a block of both versions, its position moves as the splice says.
+-- Where an id is a block of both versions, its position moves as the splice says.
 use Rattle.std.proofs.Common.{◌≡◌, ℕ, suc, ◌+◌, ◌-◌, ◌≤◌, nat_eq, nat_le, Bool, true, false, cond, List, [], ◌∷◌, ◌++◌, length, filter, Option, Some, None, is_some, option_and_then, unwrap_or, ◌⊎◌, inl, inr, refl, ap, sym, subst, ◌∙◌, arith}
 use Rattle.std.proofs.lemmas.Bool.{eqb-true}
 use Rattle.std.proofs.lemmas.Bool.Decides.{nat_tests}
@@ -7,8 +7,8 @@ use Rattle.gw_meaning.specs.declared.statement.Numbered.{Numbered}
 use Rattle.gw_meaning.specs.Listing.{Listing, is_block, block_of, line_in, position_in}
 use Rattle.gw_meaning.specs.Numbers.{AreNumbered}
 use Rattle.gw_frame.specs.Positions.{position_of, IsSplice, count_blocks, shifted}
-use Rattle.gw_frame.proofs.Renumbering.{behind, no_place}
-use Rattle.gw_frame.specs.Places.{IsPlace}
+use Rattle.gw_frame.proofs.Renumbering.{behind, no_id}
+use Rattle.gw_frame.specs.BlockIds.{IsBlockId}
 
 -- the block that lines have under a number
 abbrev block_in : List Numbered → ℕ → Option Block
@@ -60,7 +60,7 @@ stands : (lines : List Numbered) (p : ℕ) (x : Block) → block_in lines p ≡ 
 stands [] p x there = absurd cc
 stands (line ∷ lines) p x there = stands_by line lines p x there (λ behind. stands lines p x behind) (nat_eq line.number p) refl
 
--- a place in at most one line and a back: the line's, or the back's
+-- an id in at most one line and a back: the line's, or the back's
 pub record IsLine (lines : List Numbered) (p : ℕ) (x : Block) : Type 0 where
   pub line : Numbered
   pub alone : lines ≡ line ∷ []
@@ -195,10 +195,10 @@ none_shifts front goes comes = by_number (count_blocks front) (count_blocks goes
   by_number n g c = grind (arith, nat_tests)
 
 position_none : (t : Listing) (p : ℕ) → AreNumbered t.lines → p ≡ 0 → position_of t p ≡ 0
-position_none t p numbered is = ap (position_of t) is ∙ ap (λ o. unwrap_or o 0) (no_position 0 t.lines 0 (no_place t.lines numbered))
+position_none t p numbered is = ap (position_of t) is ∙ ap (λ o. unwrap_or o 0) (no_position 0 t.lines 0 (no_id t.lines numbered))
 
 pub position_shifts : (t u : Listing) (front goes comes back : List Numbered) → IsSplice t u front goes comes back → AreNumbered t.lines → AreNumbered u.lines →
-    (p : ℕ) → IsPlace t p → IsPlace u p → position_of u p ≡ shifted front goes comes (position_of t p)
+    (p : ℕ) → IsBlockId t p → IsBlockId u p → position_of u p ≡ shifted front goes comes (position_of t p)
 position_shifts t u front goes comes back splice first second p (inl is) there =
     position_none u p second is ∙ (none_shifts front goes comes ∙ ap (shifted front goes comes) (sym (position_none t p first is)))
 position_shifts t u front goes comes back splice first second p (inr found) (inl is) =

@@ -1,4 +1,4 @@
--- The run of a version with its places renamed.
+-- The run of a version with its ids renamed.
 use Rattle.std.proofs.Common.{◌≡◌, ℕ, Result, Ok, Err, refl, ◌∙◌}
 use Rattle.gw_meaning.specs.declared.item.End.{End}
 use Rattle.gw_meaning.specs.Machine.{Machine}

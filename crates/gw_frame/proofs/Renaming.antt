@@ -1,4 +1,4 @@
--- A version with its places renamed answers renamed, and two versions with the same statements are one renamed.
+-- A version with its ids renamed answers renamed, and two versions with the same statements are one renamed.
 use Rattle.std.proofs.Common.{◌≡◌, ℕ, ◌+◌, nat_eq, nat_le, Bool, true, false, cond, List, [], ◌∷◌, map, Option, Some, None, is_some, option_map, option_and_then, filter_map, refl, ap, ap₂, ◌∙◌}
 use Rattle.std.specs.List.{cons_option}
 use Rattle.gw_meaning.specs.declared.item.Item.TheVariants as items
@@ -77,8 +77,8 @@ commands_renamed move (l ∷ ls) [] r = absurd r
 commands_renamed move (l ∷ ls) (m ∷ ms) r = ap₂ cons_option (ap (λ (s : Statement). command_of_body s.body) r.1) (commands_renamed move ls ms r.2)
 
 pub renamed_answers : RenamedAnswers
-renamed_answers move t u seed r (items.Block place) = block_renamed move r.is_move t.lines u.lines r.lines place
-renamed_answers move t u seed r (items.After place) = after_renamed move r.is_move t.lines u.lines r.lines place
+renamed_answers move t u seed r (items.Block id) = block_renamed move r.is_move t.lines u.lines r.lines id
+renamed_answers move t u seed r (items.After id) = after_renamed move r.is_move t.lines u.lines r.lines id
 renamed_answers move t u seed r items.Generates = generates_renamed move r.is_move t.lines u.lines r.lines
 renamed_answers move t u seed r (items.Cmd i) = ap (λ cs. nth cs i) (commands_renamed move t.lines u.lines r.lines)
 renamed_answers move t u seed r items.Seed = refl

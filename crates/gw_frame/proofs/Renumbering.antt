@@ -1,5 +1,5 @@
--- Two versions with the same statements are one with its places renamed: a place of the first goes to that of the second, and
--- what is no place goes beyond all of them.
+-- Two versions with the same statements are one with its ids renamed: an id of the first goes to that of the second, and
+-- what is no id goes beyond all of them.
 use Rattle.std.proofs.Common.{◌≡◌, ℕ, zero, suc, ◌+◌, ◌≤◌, max, nat_eq, Bool, true, false, cond, List, [], ◌∷◌, Option, Some, None, ◌⊎◌, inl, inr, refl, sym, subst, ◌∙◌, arith}
 use Rattle.std.proofs.lemmas.Bool.{eq-eqb, eqb-true, ne_eqb}
 use Rattle.gw_meaning.specs.declared.statement.Numbered.{Numbered}
@@ -50,7 +50,7 @@ in_first (l ∷ ls) (m ∷ ms) p n some none =
     let apart = behind (nat_eq l.number p) l (line_in ls p) none in
     elim (ahead (nat_eq l.number p) m.number n (number_for ls ms p) some) [ inl h ↦ cc | inr h ↦ in_first ls ms p n h.1 apart.1 ]
 
--- it is one of the second list's, and leads back to one place only
+-- it is one of the second list's, and leads back to one id only
 within : (ls ms : List Numbered) (p n : ℕ) → AreNumbered ms → number_for ls ms p ≡ Some n → (1 ≤ n) × (n ≤ greatest ms)
 within [] ms p n numbered some = absurd cc
 within (l ∷ ls) [] p n numbered some = absurd cc
@@ -75,7 +75,7 @@ leads_back (l ∷ ls) (m ∷ ms) p q n numbered some other =
       ]
     ]
 
--- no place becomes 0, and no two become one
+-- no id becomes 0, and no two become one
 named_some : (bound p : ℕ) (o : Option ℕ) → 1 ≤ p → ((n : ℕ) → o ≡ Some n → (1 ≤ n) × (n ≤ bound)) → renamed_by bound p o ≡ 0 → ⊥
 named_some bound p None some bounds none = omega arith
 named_some bound p (Some n) some bounds none = let least = (bounds n refl).0 in omega arith
@@ -98,18 +98,18 @@ renaming_apart ls ms numbered (suc p) (suc q) same =
     named_apart (greatest ms) (suc p) (suc q) (number_for ls ms (suc p)) (number_for ls ms (suc q)) (omega arith) (omega arith)
     (λ n. within ls ms (suc p) n numbered) (λ n. within ls ms (suc q) n numbered) (λ n. leads_back ls ms (suc p) (suc q) n numbered) same
 
--- a list with the same statements is the renamed one, where the renaming goes by the places of both
-renamed_by_places : (move : ℕ → ℕ) (ls ms : List Numbered) → statements_of ms ≡ statements_of ls → AreNumbered ls →
+-- a list with the same statements is the renamed one, where the renaming goes by the ids of both
+renamed_by_ids : (move : ℕ → ℕ) (ls ms : List Numbered) → statements_of ms ≡ statements_of ls → AreNumbered ls →
     ((p n : ℕ) → number_for ls ms p ≡ Some n → move p ≡ n) → AreRenamed move ls ms
-renamed_by_places move [] [] same numbered leads = tt
-renamed_by_places move [] (m ∷ ms) same numbered leads = absurd cc
-renamed_by_places move (l ∷ ls) [] same numbered leads = absurd cc
-renamed_by_places move (l ∷ ls) (m ∷ ms) same numbered leads =
+renamed_by_ids move [] [] same numbered leads = tt
+renamed_by_ids move [] (m ∷ ms) same numbered leads = absurd cc
+renamed_by_ids move (l ∷ ls) [] same numbered leads = absurd cc
+renamed_by_ids move (l ∷ ls) (m ∷ ms) same numbered leads =
     let here : number_for (l ∷ ls) (m ∷ ms) l.number ≡ Some m.number =
     subst (λ b. cond b (Some m.number) (number_for ls ms l.number) ≡ Some m.number) (sym (eq-eqb l.number l.number refl)) refl in
     let first : m.statement ≡ l.statement = cc in
     let rest : statements_of ms ≡ statements_of ls = cc in
-    (sym (leads l.number m.number here), first, renamed_by_places move ls ms rest numbered.2 (λ p n some. leads p n (further p n some)))
+    (sym (leads l.number m.number here), first, renamed_by_ids move ls ms rest numbered.2 (λ p n some. leads p n (further p n some)))
   where
     further : (p n : ℕ) → number_for ls ms p ≡ Some n → number_for (l ∷ ls) (m ∷ ms) p ≡ Some n
     further p n some = other (nat_eq l.number p) refl where
@@ -117,15 +117,15 @@ renamed_by_places move (l ∷ ls) (m ∷ ms) same numbered leads =
       other true is = absurd (in_first ls ms p n some (subst (λ x. line_in ls x ≡ None) (eqb-true l.number p is) numbered.1))
       other false is = subst (λ c. cond c (Some m.number) (number_for ls ms p) ≡ Some n) (sym is) some
 
--- 0 is no place
-pub no_place : (ls : List Numbered) → AreNumbered ls → line_in ls 0 ≡ None
-no_place [] numbered = refl
-no_place (l ∷ ls) numbered =
+-- 0 is no id
+pub no_id : (ls : List Numbered) → AreNumbered ls → line_in ls 0 ≡ None
+no_id [] numbered = refl
+no_id (l ∷ ls) numbered =
     let least : 1 ≤ l.number = numbered.0 in
-    subst (λ b. cond b (Some l) (line_in ls 0) ≡ None) (sym (ne_eqb l.number 0 (λ e. absurd (omega arith)))) (no_place ls numbered.2)
+    subst (λ b. cond b (Some l) (line_in ls 0) ≡ None) (sym (ne_eqb l.number 0 (λ e. absurd (omega arith)))) (no_id ls numbered.2)
 
 leads_there : (ls ms : List Numbered) → AreNumbered ls → (p n : ℕ) → number_for ls ms p ≡ Some n → renaming ls ms p ≡ n
-leads_there ls ms numbered zero n some = absurd (in_first ls ms zero n some (no_place ls numbered))
+leads_there ls ms numbered zero n some = absurd (in_first ls ms zero n some (no_id ls numbered))
 leads_there ls ms numbered (suc p) n some = subst (λ o. renamed_by (greatest ms) (suc p) o ≡ n) (sym some) refl
 
 pub has_renaming : HasRenaming
@@ -134,7 +134,7 @@ has_renaming t u same first second =
       move,
       record {
         is_move = record { none = refl; apart = renaming_apart t.lines u.lines second };
-        lines = renamed_by_places move t.lines u.lines same.statements first (leads_there t.lines u.lines first);
+        lines = renamed_by_ids move t.lines u.lines same.statements first (leads_there t.lines u.lines first);
         horizon = same.horizon;
         replications = same.replications;
         limit = same.limit;

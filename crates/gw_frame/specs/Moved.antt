@@ -1,5 +1,5 @@
--- The places of blocks given other names, wherever they stand: in questions, answers and states; and what it is for a
--- version to answer accordingly. Operands, ends and streams name no place. (Our own.)
+-- The ids of blocks given other names, wherever they stand: in questions, answers and states; and what it is for a
+-- version to answer accordingly. Operands, ends and streams name no id. (Our own.)
 use Rattle.std.specs.Prelude.{◌≡◌, ℕ, map, option_map, Result, Ok, Err}
 use Rattle.gw_meaning.specs.declared.item.Item.{Item}
 use Rattle.gw_meaning.specs.declared.item.Item.TheVariants as items
@@ -11,7 +11,7 @@ use Rattle.gw_meaning.specs.Listing.{Listing}
 use Rattle.gw_meaning.specs.Machine.{Machine}
 use Rattle.gw_meaning.specs.Questions.{Answer, ask}
 
--- a way to number places anew: 0, which is no block, stays, and no two places become one
+-- a way to number ids anew: 0, which is no block, stays, and no two ids become one
 pub record IsMove (move : ℕ → ℕ) : Type 0 where
   pub none : move 0 ≡ 0
   pub apart : (p q : ℕ) → move p ≡ move q → p ≡ q
@@ -19,8 +19,8 @@ pub record IsMove (move : ℕ → ℕ) : Type 0 where
 module _ (move : ℕ → ℕ) where
   -- a question
   abbrev pub moved_item : Item → Item
-  moved_item (items.Block place) = items.Block (move place)
-  moved_item (items.After place) = items.After (move place)
+  moved_item (items.Block id) = items.Block (move id)
+  moved_item (items.After id) = items.After (move id)
   moved_item items.Generates = items.Generates
   moved_item (items.Cmd i) = items.Cmd i
   moved_item items.Seed = items.Seed
@@ -28,9 +28,9 @@ module _ (move : ℕ → ℕ) where
 
   -- its answer
   abbrev pub moved_answer : (i : Item) → Answer i → Answer (moved_item i)
-  moved_answer (items.Block place) block = block
-  moved_answer (items.After place) after = option_map move after
-  moved_answer items.Generates places = map move places
+  moved_answer (items.Block id) block = block
+  moved_answer (items.After id) after = option_map move after
+  moved_answer items.Generates ids = map move ids
   moved_answer (items.Cmd i) command = command
   moved_answer items.Seed seed = seed
   moved_answer (items.Within time) within = within

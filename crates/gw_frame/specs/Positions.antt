@@ -11,9 +11,9 @@ use Rattle.gw_meaning.specs.Reads.{reads}
 use Rattle.gw_frame.specs.Alike.{AnswersAlike}
 use Rattle.gw_frame.specs.Moved.{moved_item, moved_machine}
 
--- the position of a place, from 1; 0 for what is no block of the version
+-- the position of an id, from 1; 0 for what is no block of the version
 abbrev pub position_of : Listing → ℕ → ℕ
-position_of t place = unwrap_or (position_at t place) 0
+position_of t id = unwrap_or (position_at t id) 0
 
 -- at most one statement goes out, and at most one comes in, between a front and a back that stay
 pub record IsSplice (t u : Listing) (front goes comes back : List Numbered) : Type 0 where

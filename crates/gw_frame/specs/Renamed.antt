@@ -1,5 +1,5 @@
 -- The numbers of statements do not matter: two versions with the same statements in order, whatever their numbers, have
--- one run, but for the names of its places. (Our own.)
+-- one run, but for the names of its ids. (Our own.)
 use Rattle.std.specs.Prelude.{ℕ, ◌≡◌, List, [], ◌∷◌, map}
 use Rattle.gw_meaning.specs.declared.item.Item.{Item}
 use Rattle.gw_meaning.specs.declared.statement.Statement.{Statement}
@@ -27,7 +27,7 @@ AreRenamed move [] [] = Unit {0}
 AreRenamed move (l ∷ ls) (m ∷ ms) = (m.number ≡ move l.number) × (m.statement ≡ l.statement) × AreRenamed move ls ms
 AreRenamed move ls ms = ⊥
 
--- the second version is the first with its places renamed
+-- the second version is the first with its ids renamed
 pub record IsRenamed (move : ℕ → ℕ) (t u : Listing) : Type 0 where
   pub is_move : IsMove move
   pub lines : AreRenamed move t.lines u.lines

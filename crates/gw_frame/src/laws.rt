@@ -1,6 +1,6 @@
 // Laws above the definitions of the run.
 ghost use Rattle.gw_frame.specs.Alike.{UnseenEdit, UnseenStep};
-ghost use Rattle.gw_frame.specs.Places.{StatesNameBlocks, StepsReadBlocks};
+ghost use Rattle.gw_frame.specs.BlockIds.{StatesNameBlocks, StepsReadBlocks};
 ghost use Rattle.gw_frame.specs.Positions.{FrameInPositions};
 ghost use Rattle.gw_frame.specs.Renamed.{HasRenaming, RenamedAnswers, RenamedStep, RenamedRun};
 ghost use Rattle.gw_frame.specs.Reads.{RunAsksItsReads, UnseenStepReads, UnseenReads};
@@ -26,8 +26,8 @@ pub fn seed_is_read_at_first_draws()
     ensures { SeedIsReadAtFirstDraws }
 {}
 
-/// A state of a run names no place but the blocks of its version, and its steps read no other.
-pub fn places_are_blocks()
+/// A state of a run names no statement id but those of the version's blocks, and its steps read no other.
+pub fn ids_are_blocks()
     ensures states { StatesNameBlocks }
     ensures steps { StepsReadBlocks }
 {}
@@ -40,7 +40,7 @@ pub fn frame_in_positions()
 {}
 
 /// The numbers of statements do not matter: where two versions have the same statements in order, each under a number
-/// of its own, one is the other with its places renamed, and so are its answers, its steps and its run.
+/// of its own, one is the other with its ids renamed, and so are its answers, its steps and its run.
 pub fn renamed()
     ensures found { HasRenaming }
     ensures answers { RenamedAnswers }

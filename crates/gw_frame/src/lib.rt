@@ -1,13 +1,13 @@
 //! A run depends only on the questions that it asked.
 //!
 //! A version that answers those alike has the same run, state for state, and is asked the same. One whose statements
-//! have other numbers has the run with its places renamed. Told in positions, a run behind an edit that it did not see
+//! have other numbers has the run with its ids renamed. Told in positions, a run behind an edit that it did not see
 //! is the old one with its positions moved. The seed is asked for just where a stream draws first.
 #![tactic(auto)]
 
 mod laws;
 
 pub use laws::{
-    frame_in_positions, places_are_blocks, renamed, seed_is_read_at_first_draws, unseen_edit,
+    frame_in_positions, ids_are_blocks, renamed, seed_is_read_at_first_draws, unseen_edit,
     unseen_reads,
 };

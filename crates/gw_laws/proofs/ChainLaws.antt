@@ -29,20 +29,20 @@ abbrev IsChained : Machine → Type 0
 IsChained s = IsOrdered s.current
 
 -- a block leaves the chain as it is
-chain_there : (t : Listing) (s : Machine) (place : ℕ) (change : Change) (fate : Fate) → IsDecidedChange t s change →
-    s.current ≡ (moved s (moves.Enter place change fate)).current
-chain_there t s place change fate decided =
+chain_there : (t : Listing) (s : Machine) (id : ℕ) (change : Change) (fate : Fate) → IsDecidedChange t s change →
+    s.current ≡ (moved s (moves.Enter id change fate)).current
+chain_there t s id change fate decided =
     let P : Machine → Type 0 = λ v. s.current ≡ v.current in
-    entered_has P P t s place change fate decided refl (λ x is. sym (settled_is s x place change fate).current) (λ v k. k) (λ a v coming k. k)
+    entered_has P P t s id change fate decided refl (λ x is. sym (settled_is s x id change fate).current) (λ v k. k) (λ a v coming k. k)
 
 moved_ordered : (t : Listing) (s : Machine) (m : Move) → IsDecided t s m → IsChained s → IsChained (moved s m)
 moved_ordered t s (moves.Start count arrivals) decided h = h
 moved_ordered t s moves.Command decided h = h
-moved_ordered t s (moves.Enter place change fate) decided h = subst IsOrdered (chain_there t s place change fate decided.1) h
+moved_ordered t s (moves.Enter id change fate) decided h = subst IsOrdered (chain_there t s id change fate decided.1) h
 moved_ordered t s moves.Pick decided h = picked_has IsChained s s.current h (λ x xs is. (subst IsOrdered is h).1)
 moved_ordered t s (moves.Clock time) decided h = ordered_all_lined (due time s.future) s.current h
 
-all_ordered : (t : Listing) (seed n : ℕ) (s : Machine) → run t seed n ≡ Ok s → IsOrdered s.current
+pub all_ordered : (t : Listing) (seed n : ℕ) (s : Machine) → run t seed n ≡ Ok s → IsOrdered s.current
 all_ordered t seed = over_run t seed (λ n s. IsOrdered s.current) tt (λ n s m streams there decided h. moved_ordered t s m decided h)
 
 pub chain_is_in_order : ChainIsInOrder
@@ -104,7 +104,7 @@ module _ (priority : ℤ) where
   numbers_parts : (x : Transaction) (xs : List Transaction) → numbers_of priority (x ∷ xs) ≡ numbers_of priority (x ∷ []) ++ numbers_of priority xs
   numbers_parts x xs = elim (cases_Bool (has_priority x)) [ inl has ↦ rw has refl | inr other ↦ rw other refl ]
 
-  all_lined_numbers : (xs ys : List Transaction) → IsOrdered ys → numbers_of priority (all_lined_up xs ys) ≡ numbers_of priority ys ++ numbers_of priority xs
+  pub all_lined_numbers : (xs ys : List Transaction) → IsOrdered ys → numbers_of priority (all_lined_up xs ys) ≡ numbers_of priority ys ++ numbers_of priority xs
   all_lined_numbers [] ys h = sym (append-nil (numbers_of priority ys))
   all_lined_numbers (x ∷ xs) ys h =
       all_lined_numbers xs (lined_up x ys) (ordered_lined x ys h)
@@ -151,9 +151,9 @@ module _ (priority : ℤ) where
   moved_turn : (t : Listing) (s : Machine) (m : Move) → IsDecided t s m → IsNumbered s → IsOrdered s.current → TakesTurns s (moved s m)
   moved_turn t s (moves.Start count arrivals) decided h order = same_turn s
   moved_turn t s moves.Command decided h order = same_turn s
-  moved_turn t s (moves.Enter place change fate) decided h order =
+  moved_turn t s (moves.Enter id change fate) decided h order =
       let P : List Transaction → Type 0 = λ chain. IsFirstInFirstOut (numbers_of priority s.current) (numbers_of priority chain) in
-      subst P (chain_there t s place change fate decided.1) (same_turn s)
+      subst P (chain_there t s id change fate decided.1) (same_turn s)
   moved_turn t s moves.Pick decided h order =
       picked_has (TakesTurns s) s s.current (same_turn s)
       (λ x xs is. rw is (picked_turn x xs))

@@ -46,7 +46,7 @@ nothing_there : (clock : ℕ) (es : List Event) → least_time es ≡ None → A
 nothing_there clock [] is = tt
 nothing_there clock (e ∷ es) is = absurd (never_none e.time (least_time es) is)
 
-least_is_least : (es : List Event) (time : ℕ) → least_time es ≡ Some time → AreAhead time es
+pub least_is_least : (es : List Event) (time : ℕ) → least_time es ≡ Some time → AreAhead time es
 least_is_least [] time is = tt
 least_is_least (e ∷ es) time is = go (least_time es) refl is (least_is_least es) where
   go : (o : Option ℕ) → least_time es ≡ o → sooner e.time o ≡ Some time → ((other : ℕ) → least_time es ≡ Some other → AreAhead other es) →
@@ -89,10 +89,10 @@ fits time horizon is = grind (arith, nat_tests)
 moved_goes_on : (t : Listing) (s : Machine) (m : Move) → IsDecided t s m → IsInTime t s → GoesOn t s.clock (moved s m)
 moved_goes_on t s (moves.Start count arrivals) decided h = (omega arith, (h.0, all_made_ahead t s arrivals (making_of s) decided.coming h.1))
 moved_goes_on t s moves.Command decided h = (omega arith, h)
-moved_goes_on t s (moves.Enter place change fate) decided h =
+moved_goes_on t s (moves.Enter id change fate) decided h =
     let P : Machine → Type 0 = λ v. (v.clock ≡ s.clock) × AreAhead s.clock v.future in
-    let whole : P (moved s (moves.Enter place change fate)) =
-    entered_has P P t s place change fate decided.1 (refl, h.1) (λ x is. ((settled_is s x place change fate).clock, fated_ahead fate _ _ decided.2 h.1))
+    let whole : P (moved s (moves.Enter id change fate)) =
+    entered_has P P t s id change fate decided.1 (refl, h.1) (λ x is. ((settled_is s x id change fate).clock, fated_ahead fate _ _ decided.2 h.1))
     (λ v k. k) (λ a v coming k. (k.0, all_with (λ (e : Event). s.clock ≤ e.time) v.future _ k.1 (coming.ahead, tt))) in
     rw whole.0 (omega arith, (h.0, whole.1))
 moved_goes_on t s moves.Pick decided h = picked_has (GoesOn t s.clock) s s.current (omega arith, h) (λ x xs is. (omega arith, h))

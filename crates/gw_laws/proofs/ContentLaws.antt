@@ -44,7 +44,7 @@ crowd_fewer test s =
 made_counted : (a : Arrival) (w : Making) (s : Machine) → IsCounted (with_making w s) → IsCounted (with_making (made a w) s)
 made_counted a w s h p some =
     let before = h p some in
-    let same = content_made w.counts a.place p in
+    let same = content_made w.counts a.id p in
     let push = future_push (stands_in p) w.future (newcomer w.next a) in
     let nowhere : nat_eq 0 p ≡ false = ne_eqb 0 p (λ is. omega arith) in
     let none : one (stands_in p (newcomer w.next a).transaction) ≡ 0 = rw nowhere refl in
@@ -55,24 +55,24 @@ all_made_counted [] w s h = h
 all_made_counted (a ∷ rest) w s h = all_made_counted rest (made a w) s (made_counted a w s h)
 
 -- the active transaction goes into a block
-settled_counted : (s : Machine) (x : Transaction) (place : ℕ) (change : Change) (fate : Fate) → crowd anyone s < 2 ^ 64 - 1 → s.active ≡ Some x →
-    IsCounted s → IsCounted (settled s x place change fate)
-settled_counted s x place change fate room is h p some =
+settled_counted : (s : Machine) (x : Transaction) (id : ℕ) (change : Change) (fate : Fate) → crowd anyone s < 2 ^ 64 - 1 → s.active ≡ Some x →
+    IsCounted s → IsCounted (settled s x id change fate)
+settled_counted s x id change fate room is h p some =
     let rest = many (stands_in p) s.current + future_many (stands_in p) s.future in
     let was = active_crowd (stands_in p) s x is in
     let fewer = crowd_fewer (stands_in p) s in
     let before = h p some in
-    let now = settled_crowd (stands_in p) s x place change fate in
-    let here = ap (λ n. remains fate (one (nat_eq n p))) (marked_same change s.clock (placed x place)).1 in
-    let whole = content_crossed fate s.counts x.current place p rest (omega arith) (omega arith) in
-    ap (λ cs. content cs p) (settled_is s x place change fate).counts ∙ omega arith
+    let now = settled_crowd (stands_in p) s x id change fate in
+    let here = ap (λ n. remains fate (one (nat_eq n p))) (marked_same change s.clock (placed x id)).1 in
+    let whole = content_crossed fate s.counts x.current id p rest (omega arith) (omega arith) in
+    ap (λ cs. content cs p) (settled_is s x id change fate).counts ∙ omega arith
 
 -- each move
 moved_counted : (t : Listing) (s : Machine) (m : Move) → crowd anyone s < 2 ^ 64 - 1 → IsDecided t s m → IsCounted s → IsCounted (moved s m)
 moved_counted t s (moves.Start count arrivals) room decided h = all_made_counted arrivals (making_of s) (started count s) h
 moved_counted t s moves.Command room decided h = h
-moved_counted t s (moves.Enter place change fate) room decided h =
-    entered_has IsCounted IsCounted t s place change fate decided.1 h (λ x is. settled_counted s x place change fate room is h) (λ v k. k)
+moved_counted t s (moves.Enter id change fate) room decided h =
+    entered_has IsCounted IsCounted t s id change fate decided.1 h (λ x is. settled_counted s x id change fate room is h) (λ v k. k)
     (λ a v coming k. made_counted a (making_of v) v k)
 moved_counted t s moves.Pick room decided h =
     picked_has IsCounted s s.current h (λ x xs is p some. h p some ∙ sym (picked_crowd (stands_in p) s x xs decided is))
@@ -87,5 +87,5 @@ all_counted t seed well =
     moved_counted t s m (omega (arith, room.crowd, well.greatest_limit)) decided (h (omega arith)))
 
 pub contents_are_counts : ContentsAreCounts
-contents_are_counts t seed n s well within is place some =
-    all_counted t seed well n s is within place some ∙ (sym (many_living (stands_in place) s) ∙ many_is (stands_in place) (living s))
+contents_are_counts t seed n s well within is id some =
+    all_counted t seed well n s is within id some ∙ (sym (many_living (stands_in id) s) ∙ many_is (stands_in id) (living s))

@@ -120,15 +120,15 @@ module _ (test : Transaction → Bool) where
   fated_crowd (fates.Delayed until) x s = let push = future_push s.future (record { time = until; transaction = x }) in omega arith
   fated_crowd (fates.Destroyed count) x s = omega arith
 
-  pub settled_crowd : (s : Machine) (x : Transaction) (place : ℕ) (change : Change) (fate : Fate) → crowd (settled s x place change fate) ≡
-      remains fate (one (test (marked change s.clock (placed x place)))) + (many s.current + future_many s.future)
-  settled_crowd s x place change fate = fated_crowd fate (marked change s.clock (placed x place)) _
+  pub settled_crowd : (s : Machine) (x : Transaction) (id : ℕ) (change : Change) (fate : Fate) → crowd (settled s x id change fate) ≡
+      remains fate (one (test (marked change s.clock (placed x id)))) + (many s.current + future_many s.future)
+  settled_crowd s x id change fate = fated_crowd fate (marked change s.clock (placed x id)) _
 
-  pub settled_fewer : (s : Machine) (x : Transaction) (place : ℕ) (change : Change) (fate : Fate) → s.active ≡ Some x →
-      test (marked change s.clock (placed x place)) ≡ test x → crowd (settled s x place change fate) ≤ crowd s
-  settled_fewer s x place change fate is same =
+  pub settled_fewer : (s : Machine) (x : Transaction) (id : ℕ) (change : Change) (fate : Fate) → s.active ≡ Some x →
+      test (marked change s.clock (placed x id)) ≡ test x → crowd (settled s x id change fate) ≤ crowd s
+  settled_fewer s x id change fate is same =
       let was = active_crowd s x is in
-      let now = settled_crowd s x place change fate in
-      let less = remains_less fate (one (test (marked change s.clock (placed x place)))) in
+      let now = settled_crowd s x id change fate in
+      let less = remains_less fate (one (test (marked change s.clock (placed x id)))) in
       let one' = ap one same in
       omega arith

@@ -5,3 +5,5 @@ pub mod Room
 pub mod ContentLaws
 pub mod NumberLaws
 pub mod ChainLaws
+pub mod TurnLaws
+pub mod LossLaws

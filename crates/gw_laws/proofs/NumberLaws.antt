@@ -66,14 +66,14 @@ moved_numbered : (t : Listing) (s : Machine) (m : Move) → s.next + length t.li
 moved_numbered t s (moves.Start count arrivals) room decided h =
     all_made_numbered arrivals (making_of s) (started count s) (omega (arith, decided.few)) (record { apart = h.apart; given = h.given })
 moved_numbered t s moves.Command room decided h = record { apart = h.apart; given = h.given }
-moved_numbered t s (moves.Enter place change fate) room decided h =
-    entered_has (λ v. (v.next ≡ s.next) × IsNumbered v) IsNumbered t s place change fate decided.1 h
+moved_numbered t s (moves.Enter id change fate) room decided h =
+    entered_has (λ v. (v.next ≡ s.next) × IsNumbered v) IsNumbered t s id change fate decided.1 h
     (λ x is.
-    let v = settled s x place change fate in
-    let next : v.next ≡ s.next = (settled_is s x place change fate).next in (
+    let v = settled s x id change fate in
+    let next : v.next ≡ s.next = (settled_is s x id change fate).next in (
       next,
       same_numbered s v next
-          (λ k. settled_fewer (has_number k) s x place change fate is (ap (λ n. nat_eq n k) (marked_same change s.clock (placed x place)).0)) h,
+          (λ k. settled_fewer (has_number k) s x id change fate is (ap (λ n. nat_eq n k) (marked_same change s.clock (placed x id)).0)) h,
     ))
     (λ v k. k.1) (λ a v coming k. made_numbered a (making_of v) v (omega (arith, k.0)) k.1)
 moved_numbered t s moves.Pick room decided h =
@@ -154,12 +154,12 @@ module _ (k : ℕ) where
   moved_gone t s (moves.Start count arrivals) room decided h =
       all_made_gone arrivals (making_of s) (started count s) (omega (arith, decided.few)) h
   moved_gone t s moves.Command room decided h = h
-  moved_gone t s (moves.Enter place change fate) room decided h =
-      entered_has (λ v. (v.next ≡ s.next) × IsGone k v) (IsGone k) t s place change fate decided.1 h
+  moved_gone t s (moves.Enter id change fate) room decided h =
+      entered_has (λ v. (v.next ≡ s.next) × IsGone k v) (IsGone k) t s id change fate decided.1 h
       (λ x is.
-      let v = settled s x place change fate in
-      let next : v.next ≡ s.next = (settled_is s x place change fate).next in
-      let fewer = settled_fewer (has_number k) s x place change fate is (ap (λ n. nat_eq n k) (marked_same change s.clock (placed x place)).0) in
+      let v = settled s x id change fate in
+      let next : v.next ≡ s.next = (settled_is s x id change fate).next in
+      let fewer = settled_fewer (has_number k) s x id change fate is (ap (λ n. nat_eq n k) (marked_same change s.clock (placed x id)).0) in
       (next, (omega (arith, next, h.0), omega (arith, fewer, h.1))))
       (λ v g. g.1) (λ a v coming g. made_gone a (making_of v) v (omega (arith, room, g.0)) g.1)
   moved_gone t s moves.Pick room decided h =
@@ -167,7 +167,7 @@ module _ (k : ℕ) where
   moved_gone t s (moves.Clock time) room decided h = let same = advanced_crowd (has_number k) s time in (h.0, omega (arith, same, h.1))
 
   -- what that says of the list of the living
-  not_alive : (xs : List Transaction) → list_any (has_number k) xs ≡ false → many (has_number k) xs ≡ 0
+  pub not_alive : (xs : List Transaction) → list_any (has_number k) xs ≡ false → many (has_number k) xs ≡ 0
   not_alive [] none = refl
   not_alive (x ∷ xs) none =
       elim (cases_Bool (has_number k x)) [
@@ -175,7 +175,7 @@ module _ (k : ℕ) where
         | inr other ↦ let no_more : one (has_number k x) ≡ 0 = rw other refl in let rest = not_alive xs (rw other at none) in omega arith
       ]
 
-  alive : (xs : List Transaction) → many (has_number k) xs ≡ 0 → list_any (has_number k) xs ≡ false
+  pub alive : (xs : List Transaction) → many (has_number k) xs ≡ 0 → list_any (has_number k) xs ≡ false
   alive [] none = refl
   alive (x ∷ xs) none =
       elim (cases_Bool (has_number k x)) [

@@ -50,9 +50,9 @@ moved_within t s (moves.Start count arrivals) most few decided h =
     within_more (most + length arrivals) (most + 2000) (moved s (moves.Start count arrivals)) (omega (arith, decided.few))
     (all_made_within most arrivals (making_of s) (started count s) first)
 moved_within t s moves.Command most few decided h = record { next = omega (arith, h.next); crowd = omega (arith, h.crowd) }
-moved_within t s (moves.Enter place change fate) most few decided h =
-    entered_has (IsWithin most) (IsWithin (most + 2000)) t s place change fate decided.1 (within_more most (most + 2000) s (omega arith) h)
-    (λ x is. same_within most s (settled s x place change fate) (settled_is s x place change fate).next (settled_fewer anyone s x place change fate is refl) h)
+moved_within t s (moves.Enter id change fate) most few decided h =
+    entered_has (IsWithin most) (IsWithin (most + 2000)) t s id change fate decided.1 (within_more most (most + 2000) s (omega arith) h)
+    (λ x is. same_within most s (settled s x id change fate) (settled_is s x id change fate).next (settled_fewer anyone s x id change fate is refl) h)
     (λ v k. within_more most (most + 2000) v (omega arith) k)
     (λ a v coming k. within_more (most + 1) (most + 2000) (with_making (made a (making_of v)) v) (omega arith) (made_within most a (making_of v) v k))
 moved_within t s moves.Pick most few decided h =

@@ -1,8 +1,9 @@
 -- The current chain over every run from zero: by priority, and first in first out within a priority. (Manual.)
-use Rattle.std.specs.Prelude.{◌≡◌, ℕ, suc, ◌≤◌, ◌==◌, ℤ, Bool, false, List, ◌++◌, Ok, All, drop, filter, map}
+use Rattle.std.specs.Prelude.{◌≡◌, ℕ, suc, ◌≤◌, ◌<◌, ◌==◌, ℤ, Bool, false, List, ◌++◌, ◌∷◌, Some, None, Ok, All, drop, filter, map}
 use Rattle.std.specs.List.{list_any}
 use Rattle.std.specs.Ordering.{int_eq}
 use Rattle.gw_meaning.specs.declared.transaction.Transaction.{Transaction}
+use Rattle.gw_meaning.specs.declared.transaction.Event.{Event}
 use Rattle.gw_meaning.specs.Listing.{Listing}
 use Rattle.gw_meaning.specs.Machine.{Machine, AreInOrder}
 use Rattle.gw_meaning.specs.Step.{run}
@@ -24,7 +25,7 @@ is_in numbers number = list_any (λ other. other == number) numbers
 -- first in first out: the first ones go, those behind them keep their order, and others come behind these
 abbrev pub IsFirstInFirstOut : List ℕ → List ℕ → Type 0
 IsFirstInFirstOut before after =
-    (gone : ℕ) × (come : List ℕ) × (after ≡ drop gone before ++ come) × (All (λ number. is_in before number ≡ false) come)
+    (gone : ℕ) × (come : List ℕ) × (after ≡ drop gone before ++ come) × All (λ number. is_in before number ≡ false) come
 
 -- so it is, for each priority, of the chain before and after each step. (Within the step limit, since numbers tell
 -- transactions apart there.)
@@ -33,3 +34,21 @@ ChainIsFirstInFirstOut =
     (t : Listing) (seed n : ℕ) (s v : Machine) → Well t → n ≤ t.limit →
     run t seed n ≡ Ok s → run t seed (suc n) ≡ Ok v →
     (priority : ℤ) → IsFirstInFirstOut (numbers_of priority s.current) (numbers_of priority v.current)
+
+-- whoever becomes active was the first of the chain
+abbrev pub FirstBecomesActive : Type 0
+FirstBecomesActive =
+    (t : Listing) (seed n : ℕ) (s v : Machine) (x : Transaction) → run t seed n ≡ Ok s → run t seed (suc n) ≡ Ok v →
+    s.active ≡ None → v.active ≡ Some x → s.current ≡ x ∷ v.current
+
+-- the transactions of a time on the future chain, in the order of coming onto it
+abbrev pub coming_at : ℕ → List Event → List Transaction
+coming_at time future =
+    map (λ (e : Event). e.transaction) (filter (λ (e : Event). e.time == time) future)
+
+-- where the clock moves on, all transactions of its new time come onto the chain, those of a priority in this order
+abbrev pub AllOfATimeCome : Type 0
+AllOfATimeCome =
+    (t : Listing) (seed n : ℕ) (s v : Machine) → run t seed n ≡ Ok s → run t seed (suc n) ≡ Ok v → s.clock < v.clock →
+    (All (λ (e : Event). v.clock < e.time) v.future) × ((priority : ℤ) →
+    numbers_of priority v.current ≡ numbers_of priority s.current ++ numbers_of priority (coming_at v.clock s.future))

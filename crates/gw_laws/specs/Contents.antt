@@ -10,10 +10,10 @@ use Rattle.gw_laws.specs.Living.{living}
 
 -- how many of these transactions stand in a block
 abbrev pub standing_in : ℕ → List Transaction → ℕ
-standing_in place xs = count_by (λ (x : Transaction). x.current == place) xs
+standing_in id xs = count_by (λ (x : Transaction). x.current == id) xs
 
 -- a block's content is the number of the transactions that stand in it; one before its GENERATE is at 0, no block
 abbrev pub ContentsAreCounts : Type 0
 ContentsAreCounts =
     (t : Listing) (seed n : ℕ) (s : Machine) → Well t → n ≤ t.limit → run t seed n ≡ Ok s →
-    (place : ℕ) → 0 < place → (count_at s.counts place).content ≡ standing_in place (living s)
+    (id : ℕ) → 0 < id → (count_at s.counts id).content ≡ standing_in id (living s)

@@ -1,6 +1,6 @@
 -- The numbers of transactions over every run from zero. (Our own. The next number stays at 2^64 - 1 once it is there:
 -- hence the step limit, within which no run comes so far.)
-use Rattle.std.specs.Prelude.{◌≡◌, ◌≢◌, ℕ, ◌≤◌, ◌<◌, ◌==◌, Bool, false, Ok, All, AllPairs}
+use Rattle.std.specs.Prelude.{◌≡◌, ◌≢◌, ℕ, suc, ◌≤◌, ◌<◌, ◌==◌, ◌⊎◌, Bool, true, false, Some, Ok, All, AllPairs}
 use Rattle.std.specs.List.{list_any}
 use Rattle.gw_meaning.specs.declared.transaction.Transaction.{Transaction}
 use Rattle.gw_meaning.specs.Listing.{Listing}
@@ -28,5 +28,13 @@ lives s number = list_any (λ (x : Transaction). x.number == number) (living s)
 -- no number is given twice: one that was given, and whose transaction is gone, does not come back
 abbrev pub NumbersAreGivenOnce : Type 0
 NumbersAreGivenOnce =
-    (t : Listing) (seed m n : ℕ) (s v : Machine) → Well t → m ≤ n → n ≤ t.limit → run t seed m ≡ Ok s → run t seed n ≡ Ok v →
+    (t : Listing) (seed m n : ℕ) (s v : Machine) → Well t → m ≤ n → n ≤ t.limit →
+    run t seed m ≡ Ok s → run t seed n ≡ Ok v →
     (number : ℕ) → number < s.next → lives s number ≡ false → lives v number ≡ false
+
+-- in a step no transaction but the active one ceases to live
+abbrev pub OnlyTheActiveGoes : Type 0
+OnlyTheActiveGoes =
+    (t : Listing) (seed n : ℕ) (s v : Machine) → run t seed n ≡ Ok s → run t seed (suc n) ≡ Ok v →
+    (number : ℕ) → lives s number ≡ true →
+    (lives v number ≡ true) ⊎ ((x : Transaction) × (s.active ≡ Some x) × (x.number ≡ number))

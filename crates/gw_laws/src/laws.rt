@@ -1,21 +1,26 @@
 // Laws of every run from zero.
-ghost use Rattle.gw_laws.specs.Chain.{ChainIsInOrder, ChainIsFirstInFirstOut};
+ghost use Rattle.gw_laws.specs.Chain.{ChainIsInOrder, ChainIsFirstInFirstOut, FirstBecomesActive, AllOfATimeCome};
 ghost use Rattle.gw_laws.specs.Clock.{ClockNeverGoesBack, ClockStaysWithin, NothingIsOverdue};
 ghost use Rattle.gw_laws.specs.Contents.{ContentsAreCounts};
-ghost use Rattle.gw_laws.specs.Numbering.{NumbersAreApart, NumbersAreGiven, NumbersAreGivenOnce};
+ghost use Rattle.gw_laws.specs.Numbering.{NumbersAreApart, NumbersAreGiven, NumbersAreGivenOnce, OnlyTheActiveGoes};
 
 /// The current chain is in order of priority. Of one priority, the first transactions leave it in a step, those that
-/// stay keep their order, and those that come stand behind them.
+/// stay keep their order, and those that come stand behind them. Whoever becomes active was the first of all. Where the
+/// clock moves on, all transactions of its new time come, in the order in which they came onto the future chain.
 pub fn chain_in_order()
     ensures order { ChainIsInOrder }
     ensures turn { ChainIsFirstInFirstOut }
+    ensures first { FirstBecomesActive }
+    ensures come { AllOfATimeCome }
 {}
 
 /// No two transactions have one number, and each number was given: it is below the next one. No number is given twice.
+/// In a step no transaction but the active one ceases to live.
 pub fn numbers_apart()
     ensures apart { NumbersAreApart }
     ensures given { NumbersAreGiven }
     ensures once { NumbersAreGivenOnce }
+    ensures loss { OnlyTheActiveGoes }
 {}
 
 /// A block's content is the number of the transactions that stand in it.

@@ -101,6 +101,7 @@ impl Presence {
         }
     }
 
+    /// Whether the statement must have the operand.
     pub fn is_required(self) -> bool
         ensures { result ≡ is_required self }
     {

@@ -7,9 +7,7 @@
 //! its form (operands, operand, number), and the statement is made of what was read (body). What is read is a
 //! [`Statement`], which [`Statement::put_text`] lists.
 //!
-//! A further verb is a row of `forms_of` and of `body_with` here, of `forms_of`, `fields_of` and `body_with` in the
-//! definitions (Forms, Bodies), and of `built` and `made` in proofs/Rows. A further kind of operand is a case of
-//! `Kind`, of `given` and of `SpellsOperand`, and what proofs/Spelled says of one operand. All else goes by the forms.
+//! All goes by the forms of a verb's operands. Where a further verb or kind of operand goes: docs/contributing.md.
 #![tactic(auto)]
 
 mod body;

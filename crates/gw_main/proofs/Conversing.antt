@@ -22,7 +22,7 @@ module _ {S K : Type 0} (took : S → List ℕ → S → Type 0) (ended : S → 
     -- a session behind the model that was taken stopped
     pub fails_behind : (reader between reader' : S) (writer writer' : K) (model : List ℕ) (fault : Fault) → Takes took ended reads reader between model →
         (Refuses model o fault × (reader' ≡ between) × (writer' ≡ writer)) ⊎
-        ((b : Book) × (b' : Book) × Opens model o b × Stops DeskAnswers took reads wrote writes b between reader' writer writer' b' fault) →
+        ((b : Book) × (b' : Book) × Opens model o b × Stops DeskAnswers took ended reads wrote writes b between reader' writer writer' b' fault) →
         FailsBy reader reader' writer writer' fault
     fails_behind reader between reader' writer writer' model fault taken (inl h) =
         let P : S → Type 0 = λ s. Takes took ended reads reader s model in

@@ -13,15 +13,16 @@ use Rattle.gw_script.specs.Replying.{DeskAnswers}
 use Rattle.gw_script.specs.Sessions.{Stops}
 use Rattle.gw_main.specs.Files.{FileFails, TakesFile, in_file, in_session, refused, unopened}
 
-module _ {F S K : Type 0} (took_file : F → List ℕ → F → Type 0) (ended_file : F → Type 0) (reads_file : F → ℕ) (took : S → List ℕ → S → Type 0) (reads : S → ℕ)
-    (wrote : K → List ℕ → K → Type 0) (writes : K → ℕ) (o : Options) (opened : Result F ReadFault) (reader reader' : S) (writer writer' : K) where
+module _ {F S K : Type 0} (took_file : F → List ℕ → F → Type 0) (ended_file : F → Type 0) (reads_file : F → ℕ) (took : S → List ℕ → S → Type 0)
+    (ended : S → Type 0) (reads : S → ℕ) (wrote : K → List ℕ → K → Type 0) (writes : K → ℕ) (o : Options)
+    (opened : Result F ReadFault) (reader reader' : S) (writer writer' : K) where
   abbrev FailsBy : Fault → Type 0
-  FailsBy fault = FileFails took_file ended_file reads_file took reads wrote writes o opened reader reader' writer writer' fault
+  FailsBy fault = FileFails took_file ended_file reads_file took ended reads wrote writes o opened reader reader' writer writer' fault
 
   -- a session over the model that was taken stopped
   pub fails_over : (model : List ℕ) (fault : Fault) → TakesFile took_file ended_file reads_file opened model →
       (Refuses model o fault × (reader' ≡ reader) × (writer' ≡ writer)) ⊎
-      ((b : Book) × (b' : Book) × Opens model o b × Stops DeskAnswers took reads wrote writes b reader reader' writer writer' b' fault) → FailsBy fault
+      ((b : Book) × (b' : Book) × Opens model o b × Stops DeskAnswers took ended reads wrote writes b reader reader' writer writer' b' fault) → FailsBy fault
   fails_over model fault taken (inl h) = refused model taken h.0 h.1 h.2
   fails_over model fault taken (inr h) = in_session model h.0 h.1 taken h.2 h.3
 

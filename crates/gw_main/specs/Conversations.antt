@@ -44,7 +44,8 @@ pub data Fails {S K : Type 0} (took : S → List ℕ → S → Type 0) (ended : 
   refused : (model : List ℕ) → Takes took ended reads reader reader' model → Refuses model o fault → writer' ≡ writer →
       Fails took ended reads wrote writes o reader reader' writer writer' fault
   in_session : (between : S) (model : List ℕ) (book after : Book) → Takes took ended reads reader between model →
-      Opens model o book → Stops DeskAnswers took reads wrote writes book between reader' writer writer' after fault →
+      Opens model o book →
+      Stops DeskAnswers took ended reads wrote writes book between reader' writer writer' after fault →
       Fails took ended reads wrote writes o reader reader' writer writer' fault
 
 -- how a run ends whose conversation came to its end, or stopped for a fault: it served the script to its end, and

@@ -38,17 +38,21 @@ pub record FileConverses {F S K : Type 0} (took_file : F → List ℕ → F → 
 -- a conversation over a model file stopped: the file could not be opened, or not be read to its end, or its model is
 -- refused, with no script read and nothing written; or it stopped in the session over the model
 pub data FileFails {F S K : Type 0} (took_file : F → List ℕ → F → Type 0) (ended_file : F → Type 0) (reads_file : F → ℕ)
-    (took : S → List ℕ → S → Type 0) (reads : S → ℕ) (wrote : K → List ℕ → K → Type 0) (writes : K → ℕ) (o : Options)
-    (opened : Result F ReadFault) (reader reader' : S) (writer writer' : K) (fault : Fault) : Type 0 where
+    (took : S → List ℕ → S → Type 0) (ended : S → Type 0) (reads : S → ℕ) (wrote : K → List ℕ → K → Type 0)
+    (writes : K → ℕ) (o : Options) (opened : Result F ReadFault) (reader reader' : S) (writer writer' : K)
+    (fault : Fault) : Type 0 where
   unopened : (cause : ReadFault) → opened ≡ Err cause → fault ≡ stopped_by cause → reader' ≡ reader → writer' ≡ writer →
-      FileFails took_file ended_file reads_file took reads wrote writes o opened reader reader' writer writer' fault
+      FileFails took_file ended_file reads_file took ended reads wrote writes o opened reader reader' writer writer'
+      fault
   in_file : (file behind : F) (left : ℕ) (cause : ReadFault) → opened ≡ Ok file →
       Breaks took_file reads_file AnyBytes file behind 16777216 left cause → fault ≡ stopped_by cause →
-      reader' ≡ reader → writer' ≡ writer → FileFails took_file ended_file reads_file took reads wrote writes o opened
-      reader reader' writer writer' fault
+      reader' ≡ reader → writer' ≡ writer → FileFails took_file ended_file reads_file took ended reads wrote writes o
+      opened reader reader' writer writer' fault
   refused : (model : List ℕ) → TakesFile took_file ended_file reads_file opened model → Refuses model o fault →
-      reader' ≡ reader → writer' ≡ writer → FileFails took_file ended_file reads_file took reads wrote writes o opened
-      reader reader' writer writer' fault
+      reader' ≡ reader → writer' ≡ writer → FileFails took_file ended_file reads_file took ended reads wrote writes o
+      opened reader reader' writer writer' fault
   in_session : (model : List ℕ) (book after : Book) → TakesFile took_file ended_file reads_file opened model →
-      Opens model o book → Stops DeskAnswers took reads wrote writes book reader reader' writer writer' after fault →
-      FileFails took_file ended_file reads_file took reads wrote writes o opened reader reader' writer writer' fault
+      Opens model o book →
+      Stops DeskAnswers took ended reads wrote writes book reader reader' writer writer' after fault →
+      FileFails took_file ended_file reads_file took ended reads wrote writes o opened reader reader' writer writer'
+      fault

@@ -39,7 +39,7 @@ abbrev pub FileRuns : {F S K E : Type 0} → (F → List ℕ → F → Type 0) �
 FileRuns took_file ended_file reads_file took ended reads wrote writes told losses o opened reader reader' writer
     writer' errors errors' status = Ends told losses
     (FileConverses took_file ended_file reads_file took ended reads wrote writes o opened reader reader' writer writer')
-    (FileFails took_file ended_file reads_file took reads wrote writes o opened reader reader' writer writer')
+    (FileFails took_file ended_file reads_file took ended reads wrote writes o opened reader reader' writer writer')
     errors errors' status
 
 -- a run that was asked for: its model stands on standard input, or in a file that was opened; `opens` says what the

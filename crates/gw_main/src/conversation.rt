@@ -36,8 +36,8 @@ pub fn converse_over_file<F: Source + Drop, S: Source, K: Sink>(
     requires { 1 ≤ options.every }
     ensures converses { IfOk result (FileConverses F.took F.ended F.failures S.took S.ended S.failures K.wrote
         K.failures options opened reader.old reader.new writer.old writer.new) }
-    ensures fails { IfErr result (FileFails F.took F.ended F.failures S.took S.failures K.wrote K.failures options
-        opened reader.old reader.new writer.old writer.new) }
+    ensures fails { IfErr result (FileFails F.took F.ended F.failures S.took S.ended S.failures K.wrote
+        K.failures options opened reader.old reader.new writer.old writer.new) }
 {
     let mut file = opened?;
     let mut budget = Budget::new();

@@ -27,11 +27,11 @@ all_lined_up (x ∷ xs) chain = all_lined_up xs (lined_up x chain)
 
 -- the counts after a transaction left a block
 abbrev pub left_at : Option Count → List (ℕ × Count) → ℕ → List (ℕ × Count)
-left_at None counts place = counts
-left_at (Some c) counts place = with_count counts place (record c { content = c.content - 1 })
+left_at None counts id = counts
+left_at (Some c) counts id = with_count counts id (record c { content = c.content - 1 })
 
 abbrev pub left : List (ℕ × Count) → ℕ → List (ℕ × Count)
-left counts place = left_at (count_in counts place) counts place
+left counts id = left_at (count_in counts id) counts id
 
 -- the content of a block behind the entry of a transaction, which stays in it or is destroyed
 abbrev pub content_behind : Fate → ℕ → ℕ
@@ -41,9 +41,9 @@ content_behind (fates.Destroyed count) content = content
 
 -- the counts after a transaction entered a block
 abbrev pub entered : Fate → List (ℕ × Count) → ℕ → List (ℕ × Count)
-entered fate counts place =
-    let c = count_at counts place in
-    with_count counts place (record c { entries = raised c.entries; content = content_behind fate c.content })
+entered fate counts id =
+    let c = count_at counts id in
+    with_count counts id (record c { entries = raised c.entries; content = content_behind fate c.content })
 
 -- the counts after a transaction left one block and entered another
 abbrev pub crossed : Fate → List (ℕ × Count) → ℕ → ℕ → List (ℕ × Count)
@@ -51,18 +51,18 @@ crossed fate counts from to = entered fate (left counts from) to
 
 -- the counts after a GENERATE made one more
 abbrev pub made_one : List (ℕ × Count) → ℕ → List (ℕ × Count)
-made_one counts place = let c = count_at counts place in with_count counts place (record c { made = raised c.made })
+made_one counts id = let c = count_at counts id in with_count counts id (record c { made = raised c.made })
 
 -- a transaction in the block that it entered
 abbrev pub placed : Transaction → ℕ → Transaction
-placed x place = record x { current = place; destination = None }
+placed x id = record x { current = id; destination = None }
 
 -- a new transaction, on its way to its GENERATE
 abbrev pub newcomer : ℕ → Arrival → Event
 newcomer number a = record {
   time = a.time;
   transaction =
-      record { number = number; priority = a.priority; mark = 0; current = 0; destination = Some a.place };
+      record { number = number; priority = a.priority; mark = 0; current = 0; destination = Some a.id };
 }
 
 -- what the making of transactions changes
@@ -77,7 +77,7 @@ making next future counts = record { next = next; future = future; counts = coun
 -- one more transaction is made
 abbrev pub made : Arrival → Making → Making
 made a w =
-    record { next = raised w.next; future = w.future ++ newcomer w.next a ∷ []; counts = made_one w.counts a.place }
+    record { next = raised w.next; future = w.future ++ newcomer w.next a ∷ []; counts = made_one w.counts a.id }
 
 abbrev pub maybe_made : Option Arrival → Making → Making
 maybe_made None w = w
@@ -127,16 +127,16 @@ changed (changes.Generate next) s = arrived next s
 
 -- the transaction x entered a block
 abbrev pub entering : Machine → Transaction → ℕ → Change → Fate → Machine
-entering s x place change fate =
-    changed change (fated fate (marked change s.clock (placed x place))
-    (record s { counts = crossed fate s.counts x.current place }))
+entering s x id change fate =
+    changed change (fated fate (marked change s.clock (placed x id))
+    (record s { counts = crossed fate s.counts x.current id }))
 
 -- the first of the current chain is active
 abbrev pub picked : Machine → List Transaction → Machine
 picked s [] = s
 picked s (x ∷ xs) = record s { active = Some x; current = xs }
 
--- the future chain's transactions of a moment, and the others
+-- the future chain's transactions of a time, and the others
 abbrev pub is_due : ℕ → Event → Bool
 is_due time e = e.time == time
 
@@ -144,7 +144,7 @@ abbrev pub due : ℕ → List Event → List Transaction
 due time [] = []
 due time (e ∷ es) = if is_due time e then e.transaction ∷ due time es else due time es
 
--- the clock stands at a later moment, and its transactions are on the current chain
+-- the clock stands at a later time, and its transactions are on the current chain
 abbrev pub advanced : Machine → ℕ → Machine
 advanced s time = record s {
   clock = time;
@@ -161,7 +161,7 @@ with_active (Some x) f s = f x
 abbrev pub moved : Machine → Move → Machine
 moved s (moves.Start count arrivals) = with_making (all_made arrivals (making_of s)) (started count s)
 moved s moves.Command = record s { commands = raised s.commands }
-moved s (moves.Enter place change fate) = with_active s.active (λ x. entering s x place change fate) s
+moved s (moves.Enter id change fate) = with_active s.active (λ x. entering s x id change fate) s
 moved s moves.Pick = picked s s.current
 moved s (moves.Clock time) = advanced s time
 

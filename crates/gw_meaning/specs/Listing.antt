@@ -43,9 +43,7 @@ command_of line = command_of_body line.statement.body
 -- whether a statement is a GENERATE
 abbrev pub is_generate_body : Body → Bool
 is_generate_body (bodies.Block (blocks.Generate mean range offset limit priority)) = true
-is_generate_body (bodies.Block (blocks.Advance mean range)) = false
-is_generate_body (bodies.Block (blocks.Terminate count)) = false
-is_generate_body (bodies.Command command) = false
+is_generate_body body = false
 
 abbrev pub is_generate : Numbered → Bool
 is_generate line = is_generate_body line.statement.body
@@ -130,10 +128,11 @@ seed_in (r ∷ rs) number = if r.number == number then Some r.seed else seed_in 
 abbrev pub seed_at : Listing → ℕ → Option ℕ
 seed_at t number = seed_in t.replications number
 
--- how many STARTs there are
+-- whether a command is a START
 abbrev pub is_start : Command → Bool
 is_start (commands.Start count) = true
 is_start command = false
 
+-- how many STARTs there are
 abbrev pub starts : Listing → ℕ
 starts t = length (filter is_start (filter_map command_of t.lines))

@@ -1,6 +1,6 @@
 -- The state of a run: both clocks, the termination count, what is done, the streams, the chains and the counts of the
 -- blocks.
--- (Manual; that RESET's clock is kept as a moment is our own.)
+-- (Manual; that RESET's clock is kept as a time is our own.)
 use Rattle.std.specs.Prelude.{◌≡◌, ℕ, ◌+◌, ◌-◌, ◌^◌, Bool, false, ◌==◌, List, [], ◌∷◌, Option, Some, None, if◌then◌else◌, min, length, AllPairs}
 use Rattle.gw_nums.specs.Range.{is_below}
 use Rattle.gw_streams.specs.declared.stream.Stream.{Stream}
@@ -65,20 +65,20 @@ no_count = record { entries = 0; content = 0; made = 0 }
 
 -- what is counted at a block
 abbrev pub count_in : List (ℕ × Count) → ℕ → Option Count
-count_in [] place = None
-count_in (c ∷ cs) place = if place == c.0 then Some c.1 else count_in cs place
+count_in [] id = None
+count_in (c ∷ cs) id = if id == c.0 then Some c.1 else count_in cs id
 
 abbrev pub or_no_count : Option Count → Count
 or_no_count None = no_count
 or_no_count (Some c) = c
 
 abbrev pub count_at : List (ℕ × Count) → ℕ → Count
-count_at counts place = or_no_count (count_in counts place)
+count_at counts id = or_no_count (count_in counts id)
 
 -- the counts with one of them set
 abbrev pub with_count : List (ℕ × Count) → ℕ → Count → List (ℕ × Count)
-with_count [] place c = (place, c) ∷ []
-with_count (d ∷ ds) place c = if place == d.0 then (d.0, c) ∷ ds else d ∷ with_count ds place c
+with_count [] id c = (id, c) ∷ []
+with_count (d ∷ ds) id c = if id == d.0 then (d.0, c) ∷ ds else d ∷ with_count ds id c
 
 -- how many transactions live
 abbrev pub number_of_active : Option Transaction → ℕ

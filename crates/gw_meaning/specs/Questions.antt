@@ -10,8 +10,8 @@ use Rattle.gw_meaning.specs.Listing.{Listing, block_at, after_at, generates_in, 
 
 -- what a question is answered with
 abbrev pub Answer : Item → Type 0
-Answer (items.Block place) = Option Block
-Answer (items.After place) = Option ℕ
+Answer (items.Block id) = Option Block
+Answer (items.After id) = Option ℕ
 Answer items.Generates = List ℕ
 Answer (items.Cmd i) = Option Command
 Answer items.Seed = ℕ
@@ -19,8 +19,8 @@ Answer (items.Within time) = Bool
 
 -- what a version and a seed answer
 abbrev pub ask : Listing → ℕ → (i : Item) → Answer i
-ask t seed (items.Block place) = block_at t place
-ask t seed (items.After place) = after_at t place
+ask t seed (items.Block id) = block_at t id
+ask t seed (items.After id) = after_at t id
 ask t seed items.Generates = generates_in t.lines
 ask t seed (items.Cmd i) = command_at t i
 ask t seed items.Seed = seed

@@ -17,10 +17,10 @@ read_from t seed (Err end) = []
 abbrev pub reads : Listing → ℕ → ℕ → List Item
 reads t seed n = read_from t seed (run t seed n)
 
--- whether an item is used where another is read: it is that item; a moment is used by each Clock step to a later one
+-- whether an item is used where another is read: it is that item; a time is used by each Clock step to a later one
 abbrev pub is_use : Item → Item → Bool
-is_use (items.Block place) (items.Block other) = other == place
-is_use (items.After place) (items.After other) = other == place
+is_use (items.Block id) (items.Block other) = other == id
+is_use (items.After id) (items.After other) = other == id
 is_use items.Generates items.Generates = true
 is_use (items.Cmd i) (items.Cmd j) = j == i
 is_use items.Seed items.Seed = true

@@ -31,56 +31,56 @@ use Rattle.gw_meaning.specs.Changes.{decided}
 
 -- The next transaction of a GENERATE: its limit, then the time, then its priority.
 abbrev pub arrival_at : Machine → ℕ → ℤ → ℤ → Eval (Option Arrival)
-arrival_at s place time priority =
+arrival_at s id time priority =
     stops_if (is_negative time) NegativeTime
     (stops_if (nat_le 100000 (live s)) TooManyTransactions
-    (gives (Some (record { place = place; time = s.clock + magnitude time; priority = priority }))))
+    (gives (Some (record { id = id; time = s.clock + magnitude time; priority = priority }))))
 
 abbrev pub arrival_in_time : Machine → ℕ → Option Term → Option Term → Option Term → Eval (Option Arrival)
-arrival_in_time s place mean range priority =
-    time_prog s mean range ~> (λ t. value_or_zero s priority ~> (λ p. arrival_at s place t p))
+arrival_in_time s id mean range priority =
+    time_prog s mean range ~> (λ t. value_or_zero s priority ~> (λ p. arrival_at s id t p))
 
 -- with a limit of n, of which some are made
 abbrev pub arrival_within : Machine → ℕ → ℕ → Option Term → Option Term → Option Term → ℤ → Eval (Option Arrival)
-arrival_within s place made mean range priority n =
+arrival_within s id made mean range priority n =
     stops_if (is_negative n) BadCount (if nat_le (magnitude n) made then gives None
-    else arrival_in_time s place mean range priority)
+    else arrival_in_time s id mean range priority)
 
 abbrev pub arrival_prog :
     Machine → ℕ → ℕ → Option Term → Option Term → Option Term → Option Term → Eval (Option Arrival)
-arrival_prog s place made mean range None priority = arrival_in_time s place mean range priority
-arrival_prog s place made mean range (Some limit) priority =
-    value_prog s limit ~> (λ n. arrival_within s place made mean range priority n)
+arrival_prog s id made mean range None priority = arrival_in_time s id mean range priority
+arrival_prog s id made mean range (Some limit) priority =
+    value_prog s limit ~> (λ n. arrival_within s id made mean range priority n)
 
 -- Priming: the first transactions of the GENERATEs, in order; each comes after the offset, where there is one, and else
 -- as those after it do.
 abbrev pub first_of_generate :
     Machine → ℕ → Option Term → Option Term → Option Term → Option Term → Option Term → Eval (Option Arrival)
-first_of_generate s place mean range None limit priority =
-    arrival_prog s place (count_at s.counts place).made mean range limit priority
-first_of_generate s place mean range (Some offset) limit priority =
-    arrival_prog s place (count_at s.counts place).made (Some offset) None limit priority
+first_of_generate s id mean range None limit priority =
+    arrival_prog s id (count_at s.counts id).made mean range limit priority
+first_of_generate s id mean range (Some offset) limit priority =
+    arrival_prog s id (count_at s.counts id).made (Some offset) None limit priority
 
 abbrev pub first_arrival : Machine → ℕ → Option Block → Eval (Option Arrival)
-first_arrival s place (Some (blocks.Generate mean range offset limit priority)) =
-    first_of_generate s place mean range offset limit priority
-first_arrival s place (Some (blocks.Advance mean range)) = gives None
-first_arrival s place (Some (blocks.Terminate count)) = gives None
-first_arrival s place None = gives None
+first_arrival s id (Some (blocks.Generate mean range offset limit priority)) =
+    first_of_generate s id mean range offset limit priority
+first_arrival s id (Some (blocks.Advance mean range)) = gives None
+first_arrival s id (Some (blocks.Terminate count)) = gives None
+first_arrival s id None = gives None
 
 abbrev pub with_arrival : Option Arrival → List Arrival → List Arrival
 with_arrival None made = made
 with_arrival (Some a) made = made ++ a ∷ []
 
 abbrev pub prime_prog : Machine → ℕ → Eval (Option Arrival)
-prime_prog s place = asks (items.Block place) (first_arrival s place)
+prime_prog s id = asks (items.Block id) (first_arrival s id)
 
 abbrev pub arrivals_prog : Machine → List ℕ → List Arrival → Eval (List Arrival)
 arrivals_prog s [] made = gives made
-arrivals_prog s (place ∷ places) made = prime_prog s place ~> (λ a. arrivals_prog s places (with_arrival a made))
+arrivals_prog s (id ∷ ids) made = prime_prog s id ~> (λ a. arrivals_prog s ids (with_arrival a made))
 
 abbrev pub first_arrivals_prog : Machine → Eval (List Arrival)
-first_arrivals_prog s = asks items.Generates (λ places. arrivals_prog s places [])
+first_arrivals_prog s = asks items.Generates (λ ids. arrivals_prog s ids [])
 
 -- Command: where no START is under way. An RMULT sets streams, and does no more.
 abbrev pub start_prog : Machine → Bool → ℕ → Eval Move
@@ -95,42 +95,42 @@ command_prog s None = ends_with ends.CommandsDone
 command_prog s (Some (commands.Start count)) = start_prog s s.primed count
 command_prog s (Some (commands.Rmult values)) = rmult_prog values
 
--- Attempt: the active transaction x tries the block at place.
+-- Attempt: the active transaction x tries the block at id.
 abbrev pub generate_prog :
     Machine → Transaction → ℕ → Option Term → Option Term → Option Term → Option Term → Eval Move
-generate_prog s x place mean range limit priority =
+generate_prog s x id mean range limit priority =
     stops_if (not (x.current == 0)) NoNextBlock
-    (arrival_prog s place (count_at s.counts place).made mean range limit priority ~>
-    (λ next. gives (moves.Enter place (changes.Generate next) fates.Active)))
+    (arrival_prog s id (count_at s.counts id).made mean range limit priority ~>
+    (λ next. gives (moves.Enter id (changes.Generate next) fates.Active)))
 
 abbrev pub delay_of : Machine → ℕ → Fate
 delay_of s zero = fates.Active
 delay_of s (suc n) = fates.Delayed (s.clock + suc n)
 
 abbrev pub advance_prog : Machine → ℕ → Option Term → Option Term → Eval Move
-advance_prog s place mean range =
+advance_prog s id mean range =
     time_prog s mean range ~> (λ t. stops_if (is_negative t) NegativeTime
-    (gives (moves.Enter place changes.Nothing (delay_of s (magnitude t)))))
+    (gives (moves.Enter id changes.Nothing (delay_of s (magnitude t)))))
 
 abbrev pub terminate_prog : Machine → ℕ → Option Term → Eval Move
-terminate_prog s place count =
+terminate_prog s id count =
     value_or_zero s count ~> (λ n. stops_if (is_negative n) BadCount
-    (gives (moves.Enter place changes.Nothing (fates.Destroyed (magnitude n)))))
+    (gives (moves.Enter id changes.Nothing (fates.Destroyed (magnitude n)))))
 
 abbrev pub enter_prog : Machine → Transaction → ℕ → Option Block → Eval Move
-enter_prog s x place None = ends_with (ends.Error NoNextBlock)
-enter_prog s x place (Some (blocks.Generate mean range offset limit priority)) =
-    generate_prog s x place mean range limit priority
-enter_prog s x place (Some (blocks.Advance mean range)) = advance_prog s place mean range
-enter_prog s x place (Some (blocks.Terminate count)) = terminate_prog s place count
+enter_prog s x id None = ends_with (ends.Error NoNextBlock)
+enter_prog s x id (Some (blocks.Generate mean range offset limit priority)) =
+    generate_prog s x id mean range limit priority
+enter_prog s x id (Some (blocks.Advance mean range)) = advance_prog s id mean range
+enter_prog s x id (Some (blocks.Terminate count)) = terminate_prog s id count
 
 abbrev pub try_prog : Machine → Transaction → Option ℕ → Eval Move
 try_prog s x None = ends_with (ends.Error NoNextBlock)
-try_prog s x (Some place) = asks (items.Block place) (enter_prog s x place)
+try_prog s x (Some id) = asks (items.Block id) (enter_prog s x id)
 
 abbrev pub attempt_prog : Machine → Transaction → Option ℕ → Eval Move
 attempt_prog s x None = asks (items.After x.current) (try_prog s x)
-attempt_prog s x (Some place) = try_prog s x (Some place)
+attempt_prog s x (Some id) = try_prog s x (Some id)
 
 -- Clock: the least future time, where it lies within the horizon.
 abbrev pub sooner : ℕ → Option ℕ → Option ℕ

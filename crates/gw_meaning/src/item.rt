@@ -1,7 +1,7 @@
 use gw_expr::Stop;
 use gw_nums::Time;
 
-/// A question that a step may ask of the version and the seed. Blocks go by the numbers of their statements.
+/// A question that a step may ask of the version and the seed. Blocks go by their statement ids.
 #[derive(Debug, Drop, PartialEq, Eq)]
 pub enum Item {
     /// Which block is this?
@@ -14,7 +14,7 @@ pub enum Item {
     Cmd(u64),
     /// What is the seed?
     Seed,
-    /// Does this moment lie within the horizon?
+    /// Does this time lie within the horizon?
     Within(Time),
 }
 

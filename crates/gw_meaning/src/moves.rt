@@ -4,8 +4,8 @@ use gw_nums::{Clock, Time, Val};
 /// A transaction that a GENERATE is to make.
 #[derive(Clone, Copy, Debug)]
 pub struct Arrival {
-    /// The number of the GENERATE's statement.
-    pub place: u64,
+    /// The GENERATE's statement id.
+    pub id: u64,
     /// When it comes.
     pub time: Time,
     pub priority: Val,
@@ -34,22 +34,13 @@ pub enum Fate {
 #[derive(Debug, Drop)]
 pub enum Move {
     /// A START of `count` with the first transactions of the GENERATEs, where it is the one that primes them.
-    Start {
-        count: u64,
-        arrivals: Row<Arrival>,
-    },
-    /// A command that changes nothing but the streams.
+    Start { count: u64, arrivals: Row<Arrival> },
+    /// A command that changes nothing but the count of commands: the streams are what its evaluation leaves.
     Command,
     /// The active transaction enters a block.
-    Enter {
-        place: u64,
-        change: Change,
-        fate: Fate,
-    },
+    Enter { id: u64, change: Change, fate: Fate },
     /// The first transaction of the current chain becomes active.
     Pick,
-    /// The clock moves on, and the transactions of that moment go to the current chain.
-    Clock {
-        time: Clock,
-    },
+    /// The clock moves on, and the transactions of that time go to the current chain.
+    Clock { time: Clock },
 }

@@ -1,6 +1,6 @@
 use gw_nums::{Time, Val};
 
-/// A transaction. Blocks are named by the numbers of their statements.
+/// A transaction. Blocks are named by their statement ids.
 #[derive(Clone, Debug, Drop)]
 pub struct Transaction {
     /// From 1, in the order of making.
@@ -14,7 +14,7 @@ pub struct Transaction {
     pub destination: Option<u64>,
 }
 
-/// A transaction on the future chain, with the moment at which it moves on.
+/// A transaction on the future chain, with the time at which it moves on.
 #[derive(Clone, Debug, Drop)]
 pub struct Event {
     pub time: Time,

@@ -96,11 +96,7 @@ impl Version {
 
     /// The version with these replications in place of its own. Both share the statements, so that nothing is copied.
     /// The faults are those of `new`.
-    pub fn with_replications(
-        &self,
-        _alloc: Global,
-        replications: Vec<Replication>,
-    ) -> Result<Version, ModelFault>
+    pub fn with_replications(&self, replications: Vec<Replication>) -> Result<Version, ModelFault>
         ensures value { IfOk result (λ v. v ≡ record self.now { replications = replications.items }) }
         ensures found { IfOk result (λ v. Well v) }
         ensures none { OnOk result (fault_of (record self.now { replications = replications.items }) ≡ None) }
@@ -308,7 +304,7 @@ impl Version {
         self.horizon
     }
 
-    /// The clock at a moment, where that lies within the horizon.
+    /// The clock at a time, where that lies within the horizon.
     pub fn within(&self, time: Time) -> Option<Clock>
         ensures { result ≡ (if nat_le time self.now.horizon then Some time else None) }
     {

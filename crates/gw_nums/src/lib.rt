@@ -1,4 +1,4 @@
-//! Whole numbers of the product: values, moments of the clock, and their digits.
+//! Whole numbers of the product: values, times of the clock, and their digits.
 //!
 //! A [`Val`] lies in -1,000,000,000 to 1,000,000,000, a [`Time`] in 0 to 1,001,000,000,000 and a [`Clock`] in 0 to
 //! 1,000,000,000,000, by their types.

@@ -2,13 +2,13 @@ ghost use Rattle.std.specs.Prelude.{◌≡◌, ℕ, ◌+◌, ◌≤◌, ◌↔�
 
 use std::marker::Model;
 
-/// The greatest moment that the clock may reach, and the greatest horizon.
+/// The greatest time that the clock may reach, and the greatest horizon.
 pub const LAST_CLOCK: u64 = 1_000_000_000_000;
 
-/// The greatest moment that a transaction may be put at: the last clock and the greatest value.
+/// The greatest time that a transaction may be put at: the last clock and the greatest value.
 pub const LAST_TIME: u64 = 1_001_000_000_000;
 
-/// A moment of the simulation, in clock ticks from 0 to 1,001,000,000,000.
+/// A time of the simulation, in clock ticks from 0 to 1,001,000,000,000.
 #[derive(Clone, Copy, Debug, PartialEq, Eq, PartialOrd, Ord, Hash)]
 pub struct Time {
     ticks: u64,
@@ -27,10 +27,10 @@ impl Model for Time {
 }
 
 impl Time {
-    /// The moment at which a run begins.
+    /// The time at which a run begins.
     pub const ZERO: Time = Time { ticks: 0 };
 
-    /// The moment of this many ticks, up to [`LAST_TIME`].
+    /// The time of this many ticks, up to [`LAST_TIME`].
     pub fn new(ticks: u64) -> Option<Time>
         ensures in_range { IsSome result ↔ (ticks ≤ 1001000000000) }
         ensures value { IfSome result (λ t. t ≡ ticks) }
@@ -51,7 +51,7 @@ impl Time {
     }
 }
 
-/// A moment at which the clock may stand, in ticks from 0 to 1,000,000,000,000.
+/// A time at which the clock may stand, in ticks from 0 to 1,000,000,000,000.
 #[derive(Clone, Copy, Debug, PartialEq, Eq, PartialOrd, Ord, Hash)]
 pub struct Clock {
     ticks: u64,
@@ -73,7 +73,7 @@ impl Clock {
     /// The clock at the beginning of a run.
     pub const ZERO: Clock = Clock { ticks: 0 };
 
-    /// The clock at a moment, up to [`LAST_CLOCK`].
+    /// The clock at a time, up to [`LAST_CLOCK`].
     pub fn at(time: Time) -> Option<Clock>
         ensures in_range { IsSome result ↔ (time ≤ 1000000000000) }
         ensures value { IfSome result (λ c. c ≡ time) }
@@ -85,14 +85,14 @@ impl Clock {
         }
     }
 
-    /// The moment at which the clock stands.
+    /// The time at which the clock stands.
     pub fn time(self) -> Time
         ensures { result ≡ self }
     {
         Time { ticks: self.ticks }
     }
 
-    /// The moment `span` ticks later.
+    /// The time `span` ticks later.
     pub fn after(self, span: u64) -> Time
         requires { span ≤ 1000000000 }
         ensures { result ≡ self + span }

@@ -165,7 +165,7 @@ complete_changed (changes.Generate next) s n h = h
 pub complete_moved : (s : Machine) (m : Move) → (moved s m).complete ≤ s.complete + 1
 complete_moved s (moves.Start count arrivals) = omega arith
 complete_moved s moves.Command = omega arith
-complete_moved s (moves.Enter place change fate) =
+complete_moved s (moves.Enter id change fate) =
     complete_active s s.active _ (λ x. complete_changed change _ s.complete (complete_fated fate _ _))
 complete_moved s moves.Pick = complete_picked s s.current
 complete_moved s (moves.Clock time) = omega arith

@@ -29,7 +29,7 @@ abbrev pub below : ℕ → Option ℕ → Option ℕ
 below n None = None
 below n (Some step) = below_of n step
 
--- the first of these Clock steps to a moment later than a time
+-- the first of these Clock steps to a time later than another
 abbrev pub first_beyond : ℕ → List ClockStep → Option ℕ
 first_beyond time [] = None
 first_beyond time (s ∷ steps) = if nat_lt time s.time then Some s.step else first_beyond time steps
@@ -43,6 +43,6 @@ pub record AreRising (steps : List ClockStep) : Type 0 where
 abbrev pub AreBelow : ℕ → List ClockStep → Type 0
 AreBelow n steps = All (λ (s : ClockStep). s.step < n) steps
 
--- the clock was set to a moment or beyond it
+-- the clock was set to a time or beyond it
 abbrev pub IsReached : ℕ → List ClockStep → Type 0
 IsReached time steps = Any (λ (s : ClockStep). time ≤ s.time) steps

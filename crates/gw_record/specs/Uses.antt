@@ -13,8 +13,8 @@ nothing_used = record { blocks = []; afters = []; generates = None; commands = [
 
 -- the step that is noted for an item
 abbrev pub first_in : FirstUses → Item → Option ℕ
-first_in f (items.Block place) = step_at f.blocks place
-first_in f (items.After place) = step_at f.afters place
+first_in f (items.Block id) = step_at f.blocks id
+first_in f (items.After id) = step_at f.afters id
 first_in f items.Generates = f.generates
 first_in f (items.Cmd i) = step_at f.commands i
 first_in f items.Seed = f.seed

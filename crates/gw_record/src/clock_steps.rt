@@ -44,7 +44,7 @@ impl ClockSteps {
         }
     }
 
-    /// The first Clock step to a moment later than this one, if there is one.
+    /// The first Clock step to a time later than this one, if there is one.
     pub fn first_beyond(&self, time: Time) -> Option<u64>
         ensures { result ≡ first_beyond time self.now }
     {
@@ -67,7 +67,7 @@ impl ClockSteps {
         Ok(())
     }
 
-    // Whether the clock was never set to this moment or a later one.
+    // Whether the clock was never set to this time or a later one.
     fn goes_beyond(&self, time: Time) -> bool
         ensures last { IsTrue result → (d : ClockStep) → 0 < length self.now →
             (slice_index_or self.now (length self.now - 1) d).time ≤ time }
@@ -89,7 +89,7 @@ impl ClockSteps {
     }
 }
 
-// How many of these Clock steps are to no moment later than this one.
+// How many of these Clock steps are to no time later than this one.
 fn count_until(steps: &[ClockStep], time: Time) -> usize
     requires { IsNonDecreasingBy (λ (s : ClockStep). s.time) steps.now }
     ensures { AreUpTo steps.now time result }

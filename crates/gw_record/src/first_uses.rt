@@ -13,9 +13,9 @@ use std::alloc::{AllocError, Global};
 /// For each item the first step of a run that used it, if any did.
 #[derive(Debug, Drop)]
 pub struct FirstUses {
-    /// By the numbers of the blocks' statements.
+    /// By statement id.
     pub blocks: FirstSteps,
-    /// By the numbers of the blocks' statements, of the blocks after them.
+    /// By statement id, of the blocks after them.
     pub afters: FirstSteps,
     pub generates: Option<u64>,
     /// From 1.
@@ -44,8 +44,8 @@ impl FirstUses {
         ensures { result ≡ first_in self.now item.now }
     {
         match item {
-            Item::Block(place) => self.blocks.get(*place),
-            Item::After(place) => self.afters.get(*place),
+            Item::Block(id) => self.blocks.get(*id),
+            Item::After(id) => self.afters.get(*id),
             Item::Generates => self.generates,
             Item::Cmd(i) => self.commands.get(*i),
             Item::Seed => self.seed,
@@ -81,8 +81,8 @@ impl FirstUses {
         ensures err { OnErr result (self.new ≡ self.old) }
     {
         match item {
-            Item::Block(place) => self.blocks.note(*place, step),
-            Item::After(place) => self.afters.note(*place, step),
+            Item::Block(id) => self.blocks.note(*id, step),
+            Item::After(id) => self.afters.note(*id, step),
             Item::Generates => {
                 self.generates = self.generates.or(Some(step));
                 Ok(())

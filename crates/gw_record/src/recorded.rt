@@ -73,7 +73,7 @@ impl Recorded {
         &self.tip
     }
 
-    /// The first step below the tip, from 0, that used an item, if any did: that read it, or, for a moment, that
+    /// The first step below the tip, from 0, that used an item, if any did: that read it, or, for a time, that
     /// set the clock later.
     pub fn first_use(&self, item: &Item) -> Option<u64>
         ensures { (t : Listing) (seed : ℕ) → Records t seed self.now →
@@ -83,7 +83,7 @@ impl Recorded {
     }
 
     /// The record of one version's run is, as it stands, that of another version's that answers alike all that the
-    /// steps below the tip read: blocks go by the numbers of their statements, which edits leave alone.
+    /// steps below the tip read: blocks go by their statement ids, which edits leave alone.
     pub fn carry(&self)
         ensures { Carries self.now }
     {}

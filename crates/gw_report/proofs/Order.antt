@@ -20,7 +20,7 @@ ordered_map f time [] = refl
 ordered_map f time (x ∷ xs) = put_map f time x (ordered_by (λ a. time (f a)) xs) ∙ ap (put_by time (f x)) (ordered_map f time xs)
 
 module _ {X : Type 0} (time : X → ℕ) where
-  -- from a moment on
+  -- from a time on
   abbrev From : ℕ → List X → Type 0
   From n [] = Unit {0}
   From n (x ∷ xs) = (n ≤ time x) × From n xs
@@ -64,7 +64,7 @@ module _ {X : Type 0} (time : X → ℕ) where
   Rises-ordered [] = tt
   Rises-ordered (x ∷ xs) = Rises-put x (ordered_by time xs) (Rises-ordered xs)
 
-  -- at one moment
+  -- at one time
   abbrev is_at : ℕ → X → Bool
   is_at n x = eqb (time x) n
 

@@ -1,4 +1,4 @@
--- The report of a version with its places renamed is the report.
+-- The report of a version with its ids renamed is the report.
 use Rattle.std.proofs.Common.{◌≡◌, ℕ, suc, true, false, cond, List, [], ◌∷◌, ◌++◌, map, filter, length, Option, Some, None, is_some, option_map, option_to_list, unwrap_or, refl, ap, ap₂, ◌∙◌}
 use Rattle.std.specs.Prelude.{decimal, nat_le}
 use Rattle.std.specs.List.{flat_map}
@@ -15,19 +15,19 @@ use Rattle.gw_frame.proofs.MovedLists.{count_at_moved, cond_under}
 use Rattle.gw_frame.proofs.Renaming.{after_renamed, position_renamed}
 use Rattle.gw_report.specs.Layout.{section_of, table_of}
 use Rattle.gw_report.specs.Cells.{signed}
-use Rattle.gw_report.specs.Chains.{place_of, next_number, line_of, put_by, by_time, current_line, future_line, current_columns, future_columns, current_text, future_text}
+use Rattle.gw_report.specs.Chains.{position_of, next_number, line_of, put_by, by_time, current_line, future_line, current_columns, future_columns, current_text, future_text}
 use Rattle.gw_report.specs.Blocks.{label_text, name_lines_of, name_lines, block_line, block_lines_of, block_lines, name_columns, block_columns, names_text, blocks_text}
 use Rattle.gw_report.specs.Report.{seed_of, title_text, head_columns, head_text, text_of}
 use Rattle.gw_report.specs.Renamed.{RenamedText}
 
 module _ (move : ℕ → ℕ) (t u : Listing) (r : IsRenamed move t u) where
-  -- the positions of places, and those of the places that may be none
-  place_renamed : (p : ℕ) → place_of u (Some (move p)) ≡ place_of t (Some p)
-  unfolding place_of
-  place_renamed p = ap (λ o. unwrap_or o 0) (position_renamed move r.is_move 0 t.lines u.lines r.lines p)
+  -- the positions of ids, and those of the ids that may be none
+  id_renamed : (p : ℕ) → position_of u (Some (move p)) ≡ position_of t (Some p)
+  unfolding position_of
+  id_renamed p = ap (λ o. unwrap_or o 0) (position_renamed move r.is_move 0 t.lines u.lines r.lines p)
 
-  maybe_renamed : (o : Option ℕ) → place_of u (option_map move o) ≡ place_of t o
-  unfolding place_of
+  maybe_renamed : (o : Option ℕ) → position_of u (option_map move o) ≡ position_of t o
+  unfolding position_of
   maybe_renamed None = refl
   maybe_renamed (Some p) = ap (λ o. unwrap_or o 0) (position_renamed move r.is_move 0 t.lines u.lines r.lines p)
 
@@ -36,13 +36,13 @@ module _ (move : ℕ → ℕ) (t u : Listing) (r : IsRenamed move t u) where
   next_renamed x (Some p) = refl
 
   -- the lines of transactions
-  line_renamed : (moment : ℕ) (x : Transaction) → line_of u moment (moved_transaction move x) ≡ line_of t moment x
+  line_renamed : (time : ℕ) (x : Transaction) → line_of u time (moved_transaction move x) ≡ line_of t time x
   unfolding line_of
-  line_renamed moment x =
-      let here = place_renamed x.current in
-      let there : place_of u (next_number u (moved_transaction move x) (option_map move x.destination)) ≡ place_of t (next_number t x x.destination) =
-      ap (place_of u) (next_renamed x x.destination) ∙ maybe_renamed (next_number t x x.destination) in
-      ap₂ (λ a b. decimal x.number ∷ signed x.priority ∷ decimal moment ∷ decimal a ∷ decimal b ∷ []) here there
+  line_renamed time x =
+      let here = id_renamed x.current in
+      let there : position_of u (next_number u (moved_transaction move x) (option_map move x.destination)) ≡ position_of t (next_number t x x.destination) =
+      ap (position_of u) (next_renamed x x.destination) ∙ maybe_renamed (next_number t x x.destination) in
+      ap₂ (λ a b. decimal x.number ∷ signed x.priority ∷ decimal time ∷ decimal a ∷ decimal b ∷ []) here there
 
   lines_renamed : (xs : List Transaction) → map (current_line u) (map (moved_transaction move) xs) ≡ map (current_line t) xs
   lines_renamed [] = refl
@@ -79,7 +79,7 @@ module _ (move : ℕ → ℕ) (t u : Listing) (r : IsRenamed move t u) where
   name_by : (n : ℕ) (o : Option Block) (label : Option (List ℕ)) → name_lines_of u (move n) o label ≡ name_lines_of t n o label
   name_by n None label = refl
   name_by n (Some block) None = refl
-  name_by n (Some block) (Some label) = ap (λ p. (label ∷ decimal p ∷ []) ∷ []) (place_renamed n)
+  name_by n (Some block) (Some label) = ap (λ p. (label ∷ decimal p ∷ []) ∷ []) (id_renamed n)
 
   name_renamed : (l m : Numbered) → m.number ≡ move l.number → m.statement ≡ l.statement → name_lines u m ≡ name_lines t l
   name_renamed l m number statement =
@@ -96,7 +96,7 @@ module _ (move : ℕ → ℕ) (t u : Listing) (r : IsRenamed move t u) where
   unfolding block_line
   row_renamed s l m block number statement =
       let label : label_text m.statement.label ≡ label_text l.statement.label = ap (λ (x : Statement). label_text x.label) statement in
-      let position : place_of u (Some m.number) ≡ place_of t (Some l.number) = ap (λ n. place_of u (Some n)) number ∙ place_renamed l.number in
+      let position : position_of u (Some m.number) ≡ position_of t (Some l.number) = ap (λ n. position_of u (Some n)) number ∙ id_renamed l.number in
       let count : count_at (map (moved_count move) s.counts) m.number ≡ count_at s.counts l.number =
       ap (count_at (map (moved_count move) s.counts)) number ∙ count_at_moved move r.is_move s.counts l.number in
       rw (label, position, count) refl

@@ -10,7 +10,7 @@ use Rattle.gw_meaning.specs.declared.statement.Numbered.{Numbered}
 use Rattle.gw_meaning.specs.declared.transaction.Count.{Count}
 use Rattle.gw_report.specs.declared.column.Side.TheVariants.{Left, Right}
 use Rattle.gw_report.specs.Layout.{Column, section_of, table_of}
-use Rattle.gw_report.specs.Chains.{place_of}
+use Rattle.gw_report.specs.Chains.{position_of}
 
 -- the columns of the labels, and of the blocks
 abbrev pub name_columns : List Column
@@ -35,7 +35,7 @@ label_text (Some label) = label
 abbrev pub name_lines_of : Listing → ℕ → Option Block → Option (List ℕ) → List (List (List ℕ))
 name_lines_of t number None label = []
 name_lines_of t number (Some block) None = []
-name_lines_of t number (Some block) (Some label) = (label ∷ decimal (place_of t (Some number)) ∷ []) ∷ []
+name_lines_of t number (Some block) (Some label) = (label ∷ decimal (position_of t (Some number)) ∷ []) ∷ []
 
 abbrev pub name_lines : Listing → Numbered → List (List (List ℕ))
 name_lines t line = name_lines_of t line.number (block_of line) line.statement.label
@@ -43,7 +43,7 @@ name_lines t line = name_lines_of t line.number (block_of line) line.statement.l
 -- a block's line in the list of blocks: its label, its position, its verb, and its counts
 unfoldable pub block_line : Listing → Numbered → Block → Count → List (List ℕ)
 block_line t line block count =
-    label_text line.statement.label ∷ decimal (place_of t (Some line.number)) ∷ word_of (verb_of_block block) ∷
+    label_text line.statement.label ∷ decimal (position_of t (Some line.number)) ∷ word_of (verb_of_block block) ∷
     decimal count.entries ∷ decimal count.content ∷ decimal 0 ∷ []
 
 abbrev pub block_lines_of : Listing → Machine → Numbered → Option Block → List (List (List ℕ))

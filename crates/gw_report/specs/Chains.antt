@@ -10,19 +10,19 @@ use Rattle.gw_report.specs.Layout.{Column, section_of}
 use Rattle.gw_report.specs.Cells.{signed}
 
 -- the position of a block, and 0 where there is none
-unfoldable pub place_of : Listing → Option ℕ → ℕ
-place_of t number = unwrap_or (option_and_then (position_at t) number) 0
+unfoldable pub position_of : Listing → Option ℕ → ℕ
+position_of t number = unwrap_or (option_and_then (position_at t) number) 0
 
 -- the block that a transaction goes to next: its destination, or else the block after its own
 abbrev pub next_number : Listing → Transaction → Option ℕ → Option ℕ
 next_number t x None = after_at t x.current
-next_number t x (Some place) = Some place
+next_number t x (Some id) = Some id
 
--- a transaction's line; `moment` is its mark time, or the time at which it moves on
+-- a transaction's line; `time` is its mark time, or the time at which it moves on
 unfoldable pub line_of : Listing → ℕ → Transaction → List (List ℕ)
-line_of t moment x =
-    decimal x.number ∷ signed x.priority ∷ decimal moment ∷ decimal (place_of t (Some x.current)) ∷
-    decimal (place_of t (next_number t x x.destination)) ∷ []
+line_of t time x =
+    decimal x.number ∷ signed x.priority ∷ decimal time ∷ decimal (position_of t (Some x.current)) ∷
+    decimal (position_of t (next_number t x x.destination)) ∷ []
 
 -- one in front of the first that is not sooner
 abbrev pub put_by : {X : Type 0} → (X → ℕ) → X → List X → List X

@@ -3,7 +3,7 @@ ghost use Rattle.gw_report.specs.Layout.{rows_of};
 ghost use Rattle.gw_report.specs.Blocks.{label_text, block_columns, block_lines, blocks_text};
 
 use crate::column::{Cell, Column, Side, put_row};
-use crate::place::place_of;
+use crate::position::position_of;
 use crate::section::put_table;
 use gw_meaning::{Body, Numbered};
 use gw_model::Version;
@@ -47,7 +47,7 @@ fn put_block(
     let count = state.count(line.number);
     let cells = [
         Cell::Text(label_text(&line.statement.label)),
-        Cell::Number(place_of(version, Some(line.number))),
+        Cell::Number(position_of(version, Some(line.number))),
         Cell::Text(block.verb().word()),
         Cell::Number(count.entries),
         Cell::Number(count.content),

@@ -13,7 +13,7 @@ mod head;
 mod laws;
 mod line;
 mod names;
-mod place;
+mod position;
 mod report;
 mod section;
 mod title;

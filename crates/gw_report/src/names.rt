@@ -3,7 +3,7 @@ ghost use Rattle.gw_report.specs.Layout.{rows_of};
 ghost use Rattle.gw_report.specs.Blocks.{name_columns, name_lines, names_text};
 
 use crate::column::{Cell, Column, Side, put_row};
-use crate::place::place_of;
+use crate::position::position_of;
 use crate::section::put_section;
 use gw_meaning::{Body, Numbered};
 use gw_model::Version;
@@ -33,7 +33,7 @@ fn put_name(out: &mut Vec<u8>, version: &Version, line: &Numbered) -> Result<(),
         (Body::Block(_), Some(label)) => {
             let cells = [
                 Cell::Text(label.as_bytes()),
-                Cell::Number(place_of(version, Some(line.number))),
+                Cell::Number(position_of(version, Some(line.number))),
             ];
             put_row(out, &NAME_COLUMNS, &cells)
         }

@@ -43,7 +43,10 @@ form_of c = (row_of c).1
 
 -- every command
 abbrev pub commands : List Command
-commands = Text texts.Insert ∷ Single singles.Delete ∷ Text texts.Change ∷ Capacity ∷ Pair pairs.Seed ∷ Pair pairs.Replicate ∷ Single singles.Drop ∷ Single singles.Horizon ∷ Pair pairs.Report ∷ Pair pairs.Peek ∷ Single singles.All ∷ Bare bares.List ∷ Bare bares.Quit ∷ []
+commands =
+    Text texts.Insert ∷ Single singles.Delete ∷ Text texts.Change ∷ Capacity ∷ Pair pairs.Seed ∷ Pair pairs.Replicate ∷
+    Single singles.Drop ∷ Single singles.Horizon ∷ Pair pairs.Report ∷ Pair pairs.Peek ∷ Single singles.All ∷
+    Bare bares.List ∷ Bare bares.Quit ∷ []
 
 -- the command that a word is, if it is one
 unfoldable pub command_of : List ℕ → Option Command

@@ -16,7 +16,10 @@ value_of n (b ∷ bs) = value_of (n * 10 + (b - 48)) bs
 
 -- the number that a word is: 1 to 18 digits
 abbrev pub number_of : List ℕ → Option ℕ
-number_of word = if length word == 0 || (nat_lt 18 (length word) || not (list_all is_ascii_digit word)) then None else Some (value_of 0 word)
+number_of word =
+    if length word == 0 || (nat_lt 18 (length word) || not (list_all is_ascii_digit word))
+    then None
+    else Some (value_of 0 word)
 
 -- the number that the first word is, and what stands behind its blank
 abbrev pub next_number : List ℕ → Option (ℕ × List ℕ)

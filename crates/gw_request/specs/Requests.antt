@@ -19,7 +19,9 @@ unfoldable pub request_of : List ℕ → Request
 request_of line =
     if nat_lt 65536 (length line)
     then requests.Bad reasons.Long
-    else (if list_all is_blank line then requests.Nothing else request_with (command_of (first_word line).0) (first_word line).1)
+    else (if list_all is_blank line
+    then requests.Nothing
+    else request_with (command_of (first_word line).0) (first_word line).1)
 
 -- whether a first word that may be a command is one whose text or name is copied
 abbrev pub copies : Option Command → Bool

@@ -7,8 +7,8 @@ use Rattle.gw_scan.specs.Noted.{Noted}
 use Rattle.gw_scan.specs.declared.case.Halt.{Halt}
 use Rattle.gw_scan.specs.declared.case.Halt.TheVariants as halts
 
--- the result, the questions and the streams behind the draws are the evaluation's; only want of memory leaves them open,
--- and it keeps what was noted before
+-- the result, the questions and the streams behind the draws are the evaluation's; only want of memory leaves them
+-- open, and it keeps what was noted before
 abbrev pub Decides : {A : Type 0} → Listing → ℕ → Eval A → Result A Halt → Noted → Noted → Type 0
 Decides t seed p (Ok a) old new =
     (result_of t seed (p old.streams) ≡ Ok (a, new.streams)) ×

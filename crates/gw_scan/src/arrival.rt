@@ -24,19 +24,19 @@ impl State {
         active + self.current.len() + self.future.len()
     }
 
-    // The next transaction of the GENERATE at `place`: its limit, then its time, then its priority.
+    // The next transaction of the GENERATE at `id`: its limit, then its time, then its priority.
     pub(crate) fn arrival(
         &self,
         case: Case,
         notes: &mut Notes,
-        place: u64,
+        id: u64,
         mean: &Option<Expr>,
         range: &Option<Expr>,
         limit: &Option<Expr>,
         priority: &Option<Expr>,
     ) -> Result<Option<Arrival>, Halt>
         ensures { Decides case.entry.version.now case.entry.seed
-            (arrival_prog self.now place (count_at self.now.counts place).made mean.now range.now limit.now priority.now)
+            (arrival_prog self.now id (count_at self.now.counts id).made mean.now range.now limit.now priority.now)
             result notes.old notes.new }
     {
         if let Some(limit) = limit {
@@ -44,32 +44,32 @@ impl State {
             if limit.is_negative() {
                 return Err(Halt::End(End::Error(Stop::BadCount)));
             }
-            if limit.magnitude() <= self.count(place).made {
+            if limit.magnitude() <= self.count(id).made {
                 return Ok(None);
             }
         }
-        self.arrival_in_time(case, notes, place, mean, range, priority)
+        self.arrival_in_time(case, notes, id, mean, range, priority)
     }
 
     fn arrival_in_time(
         &self,
         case: Case,
         notes: &mut Notes,
-        place: u64,
+        id: u64,
         mean: &Option<Expr>,
         range: &Option<Expr>,
         priority: &Option<Expr>,
     ) -> Result<Option<Arrival>, Halt>
         ensures { Decides case.entry.version.now case.entry.seed
-            (arrival_in_time self.now place mean.now range.now priority.now) result notes.old notes.new }
+            (arrival_in_time self.now id mean.now range.now priority.now) result notes.old notes.new }
     {
         let time = self.time(case, notes, mean, range)?;
         let priority = self.value_or_zero(case, notes, priority)?;
-        self.arrival_at(place, time, priority)
+        self.arrival_at(id, time, priority)
     }
 
-    fn arrival_at(&self, place: u64, time: Val, priority: Val) -> Result<Option<Arrival>, Halt>
-        ensures { Comes (arrival_at self.now place time priority) result }
+    fn arrival_at(&self, id: u64, time: Val, priority: Val) -> Result<Option<Arrival>, Halt>
+        ensures { Comes (arrival_at self.now id time priority) result }
     {
         if time.is_negative() {
             return Err(Halt::End(End::Error(Stop::NegativeTime)));
@@ -78,47 +78,47 @@ impl State {
             return Err(Halt::End(End::Error(Stop::TooManyTransactions)));
         }
         Ok(Some(Arrival {
-            place,
+            id,
             time: self.clocks.clock().after(time.magnitude()),
             priority,
         }))
     }
 
-    // The first transactions of the GENERATEs at these places, in order.
+    // The first transactions of the GENERATEs at these ids, in order.
     pub(crate) fn arrivals(
         &self,
         alloc: Global,
         case: Case,
         notes: &mut Notes,
-        places: &[u64],
+        ids: &[u64],
     ) -> Result<Row<Arrival>, Halt>
-        ensures { Decides case.entry.version.now case.entry.seed (arrivals_prog self.now places.now [])
+        ensures { Decides case.entry.version.now case.entry.seed (arrivals_prog self.now ids.now [])
             result notes.old notes.new }
     {
         let mut arrivals = Vec::new(alloc);
-        for place in places {
-            let arrival = self.prime(case, notes, *place)?;
+        for id in ids {
+            let arrival = self.prime(case, notes, *id)?;
             put_if(&mut arrivals, arrival)?;
         }
         Ok(Row::from_vec(arrivals))
     }
 
-    fn prime(&self, case: Case, notes: &mut Notes, place: u64) -> Result<Option<Arrival>, Halt>
-        ensures { Decides case.entry.version.now case.entry.seed (prime_prog self.now place) result notes.old notes.new }
+    fn prime(&self, case: Case, notes: &mut Notes, id: u64) -> Result<Option<Arrival>, Halt>
+        ensures { Decides case.entry.version.now case.entry.seed (prime_prog self.now id) result notes.old notes.new }
     {
-        let block = ask_block(case.version, notes, place)?;
-        self.first_arrival(case, notes, place, block)
+        let block = ask_block(case.version, notes, id)?;
+        self.first_arrival(case, notes, id, block)
     }
 
     fn first_arrival(
         &self,
         case: Case,
         notes: &mut Notes,
-        place: u64,
+        id: u64,
         block: Option<&Block>,
     ) -> Result<Option<Arrival>, Halt>
         ensures { Decides case.entry.version.now case.entry.seed
-            (first_arrival self.now place (option_copied block.entry)) result notes.old notes.new }
+            (first_arrival self.now id (option_copied block.entry)) result notes.old notes.new }
     {
         match block {
             Some(
@@ -130,8 +130,8 @@ impl State {
                     priority,
                 },
             ) => match offset {
-                Some(_) => self.arrival(case, notes, place, offset, &None, limit, priority),
-                None => self.arrival(case, notes, place, mean, range, limit, priority),
+                Some(_) => self.arrival(case, notes, id, offset, &None, limit, priority),
+                None => self.arrival(case, notes, id, mean, range, limit, priority),
             },
             _ => Ok(None),
         }

@@ -49,33 +49,29 @@ impl<T: Drop> From<AllocFailed<T>> for Halt {
 pub fn ask_block<'a>(
     version: &'a Version,
     notes: &mut Notes,
-    place: u64,
+    id: u64,
 ) -> Result<Option<&'a Block>, AllocError>
-    ensures answer { IfOk result (λ block. option_copied block ≡ block_at version.now place) }
-    ensures ok { OnOk result (notes.new ≡ record notes.old { items = notes.old.items ++ items.Block place ∷ [] }) }
+    ensures answer { IfOk result (λ block. option_copied block ≡ block_at version.now id) }
+    ensures ok { OnOk result (notes.new ≡ record notes.old { items = notes.old.items ++ items.Block id ∷ [] }) }
     ensures err { OnErr result (notes.new ≡ notes.old) }
 {
-    notes.note(Item::Block(place))?;
-    Ok(version.block(place))
+    notes.note(Item::Block(id))?;
+    Ok(version.block(id))
 }
 
 // Which block comes after this one?
-pub fn ask_after(
-    version: &Version,
-    notes: &mut Notes,
-    place: u64,
-) -> Result<Option<u64>, AllocError>
-    ensures answer { IfOk result (λ after. after ≡ after_at version.now place) }
-    ensures ok { OnOk result (notes.new ≡ record notes.old { items = notes.old.items ++ items.After place ∷ [] }) }
+pub fn ask_after(version: &Version, notes: &mut Notes, id: u64) -> Result<Option<u64>, AllocError>
+    ensures answer { IfOk result (λ after. after ≡ after_at version.now id) }
+    ensures ok { OnOk result (notes.new ≡ record notes.old { items = notes.old.items ++ items.After id ∷ [] }) }
     ensures err { OnErr result (notes.new ≡ notes.old) }
 {
-    notes.note(Item::After(place))?;
-    Ok(version.after(place))
+    notes.note(Item::After(id))?;
+    Ok(version.after(id))
 }
 
 // Which blocks are GENERATEs?
 pub fn ask_generates<'a>(version: &'a Version, notes: &mut Notes) -> Result<&'a [u64], AllocError>
-    ensures answer { IfOk result (λ places. places.now ≡ generates_in version.now.lines) }
+    ensures answer { IfOk result (λ ids. ids.now ≡ generates_in version.now.lines) }
     ensures ok { OnOk result (notes.new ≡ record notes.old { items = notes.old.items ++ items.Generates ∷ [] }) }
     ensures err { OnErr result (notes.new ≡ notes.old) }
 {
@@ -97,7 +93,7 @@ pub fn ask_command<'a>(
     Ok(version.command(i))
 }
 
-// Does this moment lie within the horizon? The clock there, if it does.
+// Does this time lie within the horizon? The clock there, if it does.
 pub fn ask_within(
     version: &Version,
     notes: &mut Notes,

@@ -36,11 +36,7 @@ impl State {
                 self.count_command();
                 Ok(())
             }
-            Move::Enter {
-                place,
-                change,
-                fate,
-            } => self.enter_block(place, change, fate),
+            Move::Enter { id, change, fate } => self.enter_block(id, change, fate),
             Move::Pick => {
                 self.pick();
                 Ok(())
@@ -67,12 +63,12 @@ impl State {
         self.progress.count_command();
     }
 
-    fn enter_block(&mut self, place: u64, change: Change, fate: Fate) -> Result<(), AllocError>
-        ensures ok { OnOk result (self.new ≡ moved self.old (moves.Enter place change fate)) }
+    fn enter_block(&mut self, id: u64, change: Change, fate: Fate) -> Result<(), AllocError>
+        ensures ok { OnOk result (self.new ≡ moved self.old (moves.Enter id change fate)) }
         ensures err { OnErr result (self.new ≡ self.old) }
     {
         self.future.reserve(2)?;
-        self.counts.reserve(place)?;
+        self.counts.reserve(id)?;
         if let Some(x) = &self.active {
             self.counts.reserve(x.current)?;
         }
@@ -80,11 +76,11 @@ impl State {
             next: Some(arrival),
         } = &change
         {
-            self.counts.reserve(arrival.place)?;
+            self.counts.reserve(arrival.id)?;
         }
         if let Some(x) = self.active.take() {
-            self.counts.cross(x.current, place, &fate);
-            let transaction = mark(&change, self.clocks.clock(), enter(x, place));
+            self.counts.cross(x.current, id, &fate);
+            let transaction = mark(&change, self.clocks.clock(), enter(x, id));
             match &fate {
                 Fate::Active => self.active = Some(transaction),
                 Fate::Delayed { until } => self.future.put(Event {
@@ -137,11 +133,11 @@ fn mark(change: &Change, clock: Clock, x: Transaction) -> Transaction
 }
 
 // The transaction in the block that it enters.
-fn enter(x: Transaction, place: u64) -> Transaction
-    ensures { result ≡ placed x place }
+fn enter(x: Transaction, id: u64) -> Transaction
+    ensures { result ≡ placed x id }
 {
     Transaction {
-        current: place,
+        current: id,
         destination: None,
         ..x
     }

@@ -35,10 +35,10 @@ impl Counts {
 
     // What is counted at a block.
     #[tactic(auto, using(crate::proofs::CountLaws::count_in_is))]
-    pub fn at(&self, place: u64) -> Count
-        ensures { result ≡ count_at self.now.entries place }
+    pub fn at(&self, id: u64) -> Count
+        ensures { result ≡ count_at self.now.entries id }
     {
-        match self.table.get(place) {
+        match self.table.get(id) {
             Some(count) => count,
             None => Count {
                 entries: 0,
@@ -49,38 +49,38 @@ impl Counts {
     }
 
     // Makes room for the count of a block, for good.
-    pub fn reserve(&mut self, place: u64) -> Result<(), AllocError>
-        ensures ok { OnOk result (place < self.new.limit) }
+    pub fn reserve(&mut self, id: u64) -> Result<(), AllocError>
+        ensures ok { OnOk result (id < self.new.limit) }
         ensures entries { self.new.entries ≡ self.old.entries }
         ensures limit { self.old.limit ≤ self.new.limit }
     {
-        self.table.reserve(place)
+        self.table.reserve(id)
     }
 
     // Makes room for the counts of the GENERATEs that are to make these transactions.
     pub fn reserve_all(&mut self, arrivals: &[Arrival]) -> Result<(), AllocError>
-        ensures ok { OnOk result (All (λ (a : Arrival). a.place < self.new.limit) arrivals.now) }
+        ensures ok { OnOk result (All (λ (a : Arrival). a.id < self.new.limit) arrivals.now) }
         ensures entries { self.new.entries ≡ self.old.entries }
     {
         for arrival in arrivals {
-            self.reserve(arrival.place)?;
+            self.reserve(arrival.id)?;
         }
         Ok(())
     }
 
     // A transaction leaves a block.
     #[tactic(auto, using(crate::proofs::CountLaws::count_in_is, crate::proofs::CountLaws::with_count_is))]
-    fn leave(&mut self, place: u64)
-        requires { place < self.old.limit }
-        ensures entries { self.new.entries ≡ left self.old.entries place }
+    fn leave(&mut self, id: u64)
+        requires { id < self.old.limit }
+        ensures entries { self.new.entries ≡ left self.old.entries id }
         ensures limit { self.new.limit ≡ self.old.limit }
     {
-        if let Some(count) = self.table.get(place) {
+        if let Some(count) = self.table.get(id) {
             let count = Count {
                 content: count.content.saturating_sub(1),
                 ..count
             };
-            self.table.set(place, count);
+            self.table.set(id, count);
         }
     }
 
@@ -104,17 +104,17 @@ impl Counts {
 
     // A GENERATE made one more.
     #[tactic(auto, using(crate::proofs::CountLaws::with_count_is))]
-    pub fn count_made(&mut self, place: u64)
-        requires { place < self.old.limit }
-        ensures entries { self.new.entries ≡ made_one self.old.entries place }
+    pub fn count_made(&mut self, id: u64)
+        requires { id < self.old.limit }
+        ensures entries { self.new.entries ≡ made_one self.old.entries id }
         ensures limit { self.new.limit ≡ self.old.limit }
     {
-        let count = self.at(place);
+        let count = self.at(id);
         let count = Count {
             made: count.made.saturating_add(1),
             ..count
         };
-        self.table.set(place, count);
+        self.table.set(id, count);
     }
 
     // Equal counts.

@@ -88,7 +88,7 @@ impl CurrentChain {
     #[tactic(auto, using(crate::proofs::ChainLaws::item_drop))]
     fn place_behind(&self, x: &Transaction) -> usize
         ensures within { result ≤ length self.now.items }
-        ensures place { lined_up x.now self.now.items ≡ insert self.now.items result x.now }
+        ensures index { lined_up x.now self.now.items ≡ insert self.now.items result x.now }
     {
         for index in (0..self.transactions.len()).rev() {
             if !self.transactions[index].priority.is_below(x.priority) {

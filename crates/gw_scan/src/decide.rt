@@ -13,7 +13,8 @@ use std::alloc::Global;
 impl State {
     // The move of the next step.
     pub(crate) fn decide(&self, alloc: Global, case: Case, notes: &mut Notes) -> Result<Move, Halt>
-        ensures { Decides case.entry.version.now case.entry.seed (move_prog self.now self.now.remaining) result notes.old notes.new }
+        ensures { Decides case.entry.version.now case.entry.seed (move_prog self.now self.now.remaining)
+            result notes.old notes.new }
     {
         if self.progress.remaining() == 0 {
             return self.command(alloc, case, notes);
@@ -87,8 +88,8 @@ impl State {
         ensures { Decides case.entry.version.now case.entry.seed (first_arrivals_prog self.now)
             result notes.old notes.new }
     {
-        let places = ask_generates(case.version, notes)?;
-        self.arrivals(alloc, case, notes, places)
+        let ids = ask_generates(case.version, notes)?;
+        self.arrivals(alloc, case, notes, ids)
     }
 
     // The active transaction x tries its next block.
@@ -97,7 +98,7 @@ impl State {
             result notes.old notes.new }
     {
         match x.destination {
-            Some(place) => self.try_place(case, notes, x, Some(place)),
+            Some(id) => self.try_block(case, notes, x, Some(id)),
             None => self.try_after(case, notes, x),
         }
     }
@@ -106,25 +107,25 @@ impl State {
         ensures { Decides case.entry.version.now case.entry.seed (attempt_prog self.now x.now None)
             result notes.old notes.new }
     {
-        let place = ask_after(case.version, notes, x.current)?;
-        self.try_place(case, notes, x, place)
+        let id = ask_after(case.version, notes, x.current)?;
+        self.try_block(case, notes, x, id)
     }
 
-    fn try_place(
+    fn try_block(
         &self,
         case: Case,
         notes: &mut Notes,
         x: &Transaction,
-        place: Option<u64>,
+        id: Option<u64>,
     ) -> Result<Move, Halt>
-        ensures { Decides case.entry.version.now case.entry.seed (try_prog self.now x.now place)
+        ensures { Decides case.entry.version.now case.entry.seed (try_prog self.now x.now id)
             result notes.old notes.new }
     {
-        let Some(place) = place else {
+        let Some(id) = id else {
             return Err(Halt::End(End::Error(Stop::NoNextBlock)));
         };
-        let block = ask_block(case.version, notes, place)?;
-        self.enter(case, notes, x, place, block)
+        let block = ask_block(case.version, notes, id)?;
+        self.enter(case, notes, x, id, block)
     }
 
     fn enter(
@@ -132,11 +133,11 @@ impl State {
         case: Case,
         notes: &mut Notes,
         x: &Transaction,
-        place: u64,
+        id: u64,
         block: Option<&Block>,
     ) -> Result<Move, Halt>
         ensures { Decides case.entry.version.now case.entry.seed
-            (enter_prog self.now x.now place (option_copied block.entry)) result notes.old notes.new }
+            (enter_prog self.now x.now id (option_copied block.entry)) result notes.old notes.new }
     {
         match block {
             Some(
@@ -147,11 +148,9 @@ impl State {
                     priority,
                     ..
                 },
-            ) => self.generate_of(case, notes, x, place, mean, range, limit, priority),
-            Some(Block::Advance { mean, range }) => self.advance_of(
-                case, notes, place, mean, range,
-            ),
-            Some(Block::Terminate { count }) => self.terminate_of(case, notes, place, count),
+            ) => self.generate_of(case, notes, x, id, mean, range, limit, priority),
+            Some(Block::Advance { mean, range }) => self.advance_of(case, notes, id, mean, range),
+            Some(Block::Terminate { count }) => self.terminate_of(case, notes, id, count),
             None => Err(Halt::End(End::Error(Stop::NoNextBlock))),
         }
     }
@@ -161,21 +160,21 @@ impl State {
         case: Case,
         notes: &mut Notes,
         x: &Transaction,
-        place: u64,
+        id: u64,
         mean: &Option<Expr>,
         range: &Option<Expr>,
         limit: &Option<Expr>,
         priority: &Option<Expr>,
     ) -> Result<Move, Halt>
         ensures { Decides case.entry.version.now case.entry.seed
-            (generate_prog self.now x.now place mean.now range.now limit.now priority.now) result notes.old notes.new }
+            (generate_prog self.now x.now id mean.now range.now limit.now priority.now) result notes.old notes.new }
     {
         if x.current != 0 {
             return Err(Halt::End(End::Error(Stop::NoNextBlock)));
         }
-        let next = self.arrival(case, notes, place, mean, range, limit, priority)?;
+        let next = self.arrival(case, notes, id, mean, range, limit, priority)?;
         Ok(Move::Enter {
-            place,
+            id,
             change: Change::Generate { next },
             fate: Fate::Active,
         })
@@ -185,11 +184,11 @@ impl State {
         &self,
         case: Case,
         notes: &mut Notes,
-        place: u64,
+        id: u64,
         mean: &Option<Expr>,
         range: &Option<Expr>,
     ) -> Result<Move, Halt>
-        ensures { Decides case.entry.version.now case.entry.seed (advance_prog self.now place mean.now range.now)
+        ensures { Decides case.entry.version.now case.entry.seed (advance_prog self.now id mean.now range.now)
             result notes.old notes.new }
     {
         let time = self.time(case, notes, mean, range)?;
@@ -197,7 +196,7 @@ impl State {
             return Err(Halt::End(End::Error(Stop::NegativeTime)));
         }
         Ok(Move::Enter {
-            place,
+            id,
             change: Change::Nothing,
             fate: self.delay(time.magnitude()),
         })
@@ -220,10 +219,10 @@ impl State {
         &self,
         case: Case,
         notes: &mut Notes,
-        place: u64,
+        id: u64,
         count: &Option<Expr>,
     ) -> Result<Move, Halt>
-        ensures { Decides case.entry.version.now case.entry.seed (terminate_prog self.now place count.now)
+        ensures { Decides case.entry.version.now case.entry.seed (terminate_prog self.now id count.now)
             result notes.old notes.new }
     {
         let count = self.value_or_zero(case, notes, count)?;
@@ -231,7 +230,7 @@ impl State {
             return Err(Halt::End(End::Error(Stop::BadCount)));
         }
         Ok(Move::Enter {
-            place,
+            id,
             change: Change::Nothing,
             fate: Fate::Destroyed {
                 count: count.magnitude(),

@@ -84,7 +84,7 @@ impl FutureChain {
         least
     }
 
-    // How many transactions are due at a moment.
+    // How many transactions are due at a time.
     #[tactic(auto, using(crate::proofs::ChainLaws::item_drop))]
     pub(crate) fn count_due(&self, time: Time) -> usize
         ensures { result ≡ length (due time self.now.items) }
@@ -98,7 +98,7 @@ impl FutureChain {
         count
     }
 
-    // Moves the transactions of a moment to the current chain, in the order in which they came.
+    // Moves the transactions of a time to the current chain, in the order in which they came.
     pub(crate) fn take_due(&mut self, current: &mut CurrentChain, time: Time)
         requires { length (due time self.old.items) ≤ current.old.room }
         ensures current { current.new.items ≡ all_lined_up (due time self.old.items) current.old.items }

@@ -11,7 +11,7 @@ use gw_nums::Time;
 // Puts a new transaction on the future chain.
 pub fn make(next: &mut u64, future: &mut FutureChain, counts: &mut Counts, arrival: Arrival)
     requires chain { 0 < future.old.room }
-    requires counts { arrival.place < counts.old.limit }
+    requires counts { arrival.id < counts.old.limit }
     ensures made { making next.new future.new.items counts.new.entries ≡
         made arrival (making next.old future.old.items counts.old.entries) }
     ensures chain_room { future.old.room ≤ future.new.room + 1 }
@@ -22,20 +22,20 @@ pub fn make(next: &mut u64, future: &mut FutureChain, counts: &mut Counts, arriv
         priority: arrival.priority,
         mark: Time::ZERO,
         current: 0,
-        destination: Some(arrival.place),
+        destination: Some(arrival.id),
     };
     future.put(Event {
         time: arrival.time,
         transaction,
     });
-    counts.count_made(arrival.place);
+    counts.count_made(arrival.id);
     *next = next.saturating_add(1);
 }
 
 // Puts new transactions on the future chain, in order.
 pub fn make_all(next: &mut u64, future: &mut FutureChain, counts: &mut Counts, arrivals: &[Arrival])
     requires chain { length arrivals.now ≤ future.old.room }
-    requires counts { All (λ (a : Arrival). a.place < counts.old.limit) arrivals.now }
+    requires counts { All (λ (a : Arrival). a.id < counts.old.limit) arrivals.now }
     ensures { making next.new future.new.items counts.new.entries ≡
         all_made arrivals.now (making next.old future.old.items counts.old.entries) }
 {

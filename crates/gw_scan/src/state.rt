@@ -120,9 +120,9 @@ impl State {
     }
 
     /// What is counted at the block whose statement has this number.
-    pub fn count(&self, place: u64) -> Count
-        ensures { result ≡ count_at self.now.counts place }
+    pub fn count(&self, id: u64) -> Count
+        ensures { result ≡ count_at self.now.counts id }
     {
-        self.counts.at(place)
+        self.counts.at(id)
     }
 }

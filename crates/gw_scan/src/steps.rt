@@ -50,7 +50,8 @@ pub fn step(
     ensures told { IfOk result (λ turn. Steps (step version.now seed state.old) turn state.old state.new) }
     ensures notes { IfOk result (λ _. notes.new.items ≡ notes.old.items ++ step_items version.now seed state.old) }
     ensures tally { IfOk result (λ turn. Counts turn tally.old tally.new) }
-    ensures err { OnErr result ((state.new ≡ state.old) × (notes.new.items ≡ notes.old.items) × (tally.new ≡ tally.old)) }
+    ensures err { OnErr result
+        ((state.new ≡ state.old) × (notes.new.items ≡ notes.old.items) × (tally.new ≡ tally.old)) }
 {
     let mark = notes.items().len();
     match next_step(alloc, version, seed, state, notes)? {

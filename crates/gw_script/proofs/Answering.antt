@@ -12,12 +12,11 @@ use Rattle.gw_desk.specs.declared.play.Reply.{Reply}
 use Rattle.gw_desk.specs.Keeping.{wants_memory}
 use Rattle.gw_request.specs.declared.request.Request.{Request}
 use Rattle.gw_request.specs.declared.request.Request.TheVariants as requests
-use Rattle.gw_request.specs.Requests.{request_of}
 use Rattle.gw_script.specs.declared.fault.Fault.{Fault}
 use Rattle.gw_script.specs.declared.fault.Fault.TheVariants as faults
 use Rattle.gw_script.specs.Answers.{ReportsAll, refused, numbers_of}
 use Rattle.gw_script.specs.Changes.{refuses, refusal_of}
-use Rattle.gw_script.specs.Replying.{Answers, read, Replies, Untold, untold_of}
+use Rattle.gw_script.specs.Replying.{Replies, Untold, untold_of}
 use Rattle.gw_script.specs.Turns.{BreaksOff, BreaksBy, BreaksRefused, not_begun, begun}
 
 -- how it is told that memory was refused for an edit
@@ -42,14 +41,6 @@ replies_some version does in_vain d n (requests.All k) = (_, reports_all_none ve
 replies_some version does in_vain d n requests.List = (_, (inr refl, refl))
 replies_some version does in_vain d n requests.Quit = (_, (refl, refl))
 replies_some version does in_vain d n (requests.Bad reason) = (_, (refl, refl))
-
--- something may be answered to any line, and leave the keeper as it is
-pub answers_some : {D : Type 0} (version : D → Listing) (does : D → Event → Reply → D → Type 0)
-    (in_vain : (d : D) (event : Event) → does d event (wants_memory event) d) (d : D) (n : ℕ) (line : List ℕ) → (front : List ℕ) ×
-    Answers version does d n line front d
-answers_some version does in_vain d n line =
-    let some = replies_some version does in_vain d n (request_of line) in
-    (some.0, read some.1)
 
 -- a fact of the fault that a result is
 pub if_err_at : {A : Type 0} (r : Result A Fault) (P : Fault → Type 0) (e f : Fault) → r ≡ Err e → e ≡ f → P f → IfErr r P

@@ -1,5 +1,5 @@
 -- A session, turn by turn: whatever is still to come, the output so far and what is said to the rest are what is said to all.
-use Rattle.std.proofs.Common.{◌≡◌, ℕ, ◌+◌, ◌<◌, ◌≤◌, Bool, true, false, List, [], ◌∷◌, ◌++◌, length, refl, ap, sym, subst, ◌∙◌, append_assoc, append-nil, length-append, arith}
+use Rattle.std.proofs.Common.{◌≡◌, ℕ, ◌+◌, ◌≤◌, Bool, true, false, List, [], ◌∷◌, ◌++◌, ◌⊎◌, inl, inr, length, refl, ap, sym, subst, ◌∙◌, append_assoc, append-nil, length-append, arith}
 use Rattle.gw_io.specs.declared.budget.ReadFault.{ReadFault}
 use Rattle.gw_io.specs.declared.budget.ReadFault.TheVariants as reads
 use Rattle.gw_io.specs.Failures.{one_more}
@@ -11,7 +11,7 @@ use Rattle.gw_script.specs.declared.fault.Over.TheVariants as overs
 use Rattle.gw_script.specs.declared.fault.Fault.{Fault}
 use Rattle.gw_script.specs.declared.fault.Fault.TheVariants as faults
 use Rattle.gw_script.specs.Replying.{is_quit}
-use Rattle.gw_script.specs.Sessions.{Says, nothing, line, last, quit, last_quit, IsAllRead, end_calls, Serves, Stops, StopsBy}
+use Rattle.gw_script.specs.Sessions.{Says, nothing, line, last, quit, last_quit, IsAllRead, end_calls, Serves, Stops, StopsBy, AreFed, in_reading, in_answering}
 use Rattle.gw_script.specs.Turns.{Writes, BreaksOff, BreaksBy, stopped_by, over_if}
 
 -- after some lines over the keeper b, before line n over the keeper d
@@ -23,25 +23,31 @@ pub record Turned {D S K : Type 0} (answers : D → ℕ → List ℕ → List �
   pub written : wrote sink output sink'
   pub onward : (rest out : List ℕ) (over : Over) (final : D) → Says answers d n rest out over final →
       Says answers b 1 (input ++ rest) (output ++ out) over final
+  pub fed : (input ≡ []) ⊎ AreFed input
   pub spent : left + length input ≡ 16777216
   pub few : n + left ≤ 16777217
 
 pub turned_none : {D S K : Type 0} (answers : D → ℕ → List ℕ → List ℕ → D → Type 0) (took : S → List ℕ → S → Type 0) (wrote : K → List ℕ → K → Type 0) (b : D)
     (source : S) (sink : K) → took source [] source → wrote sink [] sink → Turned answers took wrote b b 1 16777216 source source sink sink
 turned_none answers took wrote b source sink x y =
-    record { input = []; output = []; taken = x; written = y; onward = λ rest out over final says. says; spent = refl; few = omega arith }
+    record { input = []; output = []; taken = x; written = y; onward = λ rest out over final says. says; fed = inl refl; spent = refl; few = omega arith }
 
--- something is said to any unended line, and may leave the keeper as it is
-pub says_some : {D : Type 0} (answers : D → ℕ → List ℕ → List ℕ → D → Type 0) →
-    ((d : D) (n : ℕ) (line : List ℕ) → (front : List ℕ) × answers d n line front d) → (d : D) (n : ℕ) (text : List ℕ) → IsUnended text → (out : List ℕ) ×
-    (over : Over) × Says answers d n text out over d
-says_some {D} answers some_to d n text unended = go (is_quit (request_of text)) refl where
-  some : (front : List ℕ) × answers d n text front d
-  some = some_to d n text
+-- whole lines behind others
+fed_behind : (front lines : List ℕ) → AreFed lines → AreFed (front ++ lines)
+fed_behind front lines h = (front ++ h.0, ap (λ l. front ++ l) h.1 ∙ sym (append_assoc front h.0 (10 ∷ [])))
 
-  go : (q : Bool) → is_quit (request_of text) ≡ q → (out : List ℕ) × (over : Over) × Says answers d n text out over d
-  go true is = (some.0, overs.Quit, last_quit d d n text some.0 unended is some.1)
-  go false is = (some.0, overs.InputEnd, last d d n text some.0 unended is some.1)
+fed_or_ended : (front lines : List ℕ) (ended : Type 0) → AreFed lines ⊎ ended → AreFed (front ++ lines) ⊎ ended
+fed_or_ended front lines ended (inl fed) = inl (fed_behind front lines fed)
+fed_or_ended front lines ended (inr end) = inr end
+
+-- answering breaks off where the writer failed or a growth was refused
+answer_fault : (fault : Fault) (writes writes' : ℕ) → BreaksBy fault writes writes' → (fault ≡ faults.Write) ⊎ (fault ≡ faults.Memory)
+answer_fault (faults.Line faulty) writes writes' h = absurd h
+answer_fault (faults.Model fault) writes writes' h = absurd h
+answer_fault faults.Read writes writes' h = absurd h
+answer_fault faults.Write writes writes' h = inl refl
+answer_fault faults.ReadLimit writes writes' h = absurd h
+answer_fault faults.Memory writes writes' h = inr refl
 
 -- regrouped input and output
 says_regrouped : {D : Type 0} (answers : D → ℕ → List ℕ → List ℕ → D → Type 0) (b d : D) (over : Over) (i j k x y z : List ℕ) →
@@ -109,30 +115,13 @@ module _ {D S K : Type 0} (answers : D → ℕ → List ℕ → List ℕ → D �
     written = wrote_on sink k k' before.output r.front before.written r.written;
     onward = λ rest out over final says. says_regrouped answers b final over before.input (text ++ 10 ∷ []) rest before.output r.front out
         (before.onward ((text ++ 10 ∷ []) ++ rest) (r.front ++ out) over final (line d d' final n text rest r.front out over unended goes r.answers says));
+    fed = inr (fed_behind before.input (text ++ 10 ∷ []) (text, refl));
     spent = omega (arith, before.spent, spent, length-append before.input (text ++ 10 ∷ []), length-append text (10 ∷ []));
     few = omega (arith, before.few, spent);
   }
 
   module _ (reads_of : S → ℕ) (writes_of : K → ℕ) {b d : D} {n left : ℕ} {source s s' : S} {sink k : K}
       (before : Turned answers took wrote b d n left source s sink k) where
-    -- the session stops in a turn: a front of what is said to what it reads is written
-    stops_within : {final : D} {k' : K} (bytes front rest : List ℕ) (over : Over) (fault : Fault) → took s bytes s' → wrote k front k' →
-        Says answers d n bytes (front ++ rest) over final →
-        StopsBy fault (reads_of source) (reads_of s') (writes_of sink) (writes_of k') (length (before.input ++ bytes)) →
-        Stops answers took reads_of wrote writes_of b source s' sink k' final fault
-    stops_within {final} {k'} bytes front rest over fault taken written says cause =
-        let P : List ℕ → Type 0 = λ o. Says answers b 1 (before.input ++ bytes) o over final in
-        record {
-          input = before.input ++ bytes;
-          output = before.output ++ front;
-          left = rest;
-          over = over;
-          taken = took_on source s s' before.input bytes before.taken taken;
-          written = wrote_on sink k k' before.output front before.written written;
-          says = subst P (sym (append_assoc before.output front rest)) (before.onward bytes (front ++ rest) over final says);
-          cause = cause;
-        }
-
     -- the last turn: something is said to what it reads, and it is written
     pub serves_last : {final : D} {k' : K} (ended : S → Type 0) (bytes front : List ℕ) (over : Over) → took s bytes s' → wrote k front k' →
         Says answers d n bytes front over final → IsAllRead (ended s') over →
@@ -150,29 +139,54 @@ module _ {D S K : Type 0} (answers : D → ℕ → List ℕ → List ℕ → D �
       wrote_well = wrote_well;
     }
 
-    -- reading a line broke off
-    pub stops_reading : (wrote_none : (a : K) → wrote a [] a) (some_to : (d : D) (n : ℕ) (line : List ℕ) → (front : List ℕ) × answers d n line front d)
-        {left' : ℕ} (fault : ReadFault) → reads_of s ≡ reads_of source → writes_of k ≡ writes_of sink →
-        Breaks took reads_of IsUnended s s' left left' fault → Stops answers took reads_of wrote writes_of b source s' sink k d (stopped_by fault)
-    stops_reading wrote_none some_to {left'} fault same written broken =
-        let said = says_some answers some_to d n broken.bytes broken.part in
+    -- reading a line broke off: all that is said to the lines before it is written
+    pub stops_reading : (ended : S → Type 0) {left' : ℕ} (fault : ReadFault) → reads_of s ≡ reads_of source → writes_of k ≡ writes_of sink →
+        Breaks took reads_of IsUnended s s' left left' fault →
+        Stops answers took ended reads_of wrote writes_of b source s' sink k d (stopped_by fault)
+    stops_reading ended {left'} fault same written broken =
+        let P : List ℕ → Type 0 = λ i. Says answers b 1 i (before.output ++ []) overs.InputEnd d in
         let total : length (before.input ++ broken.bytes) + (left' + broken.idle) ≡ 16777216 =
         omega (arith, before.spent, broken.spent, length-append before.input broken.bytes) in
-        stops_within broken.bytes [] said.0 said.1 (stopped_by fault) broken.taken (wrote_none k) said.2
-        (read_cause fault (reads_of source) (reads_of s) (reads_of s') (writes_of sink) (writes_of k) left' broken.idle (length (before.input ++ broken.bytes))
-        same written total broken.idle_calls broken.counted broken.limit)
+        record {
+          input = before.input;
+          broken = broken.bytes;
+          output = before.output;
+          left = [];
+          over = overs.InputEnd;
+          taken = took_on source s s' before.input broken.bytes before.taken broken.taken;
+          written = before.written;
+          says = subst P (append-nil before.input) (before.onward [] [] overs.InputEnd d (nothing d n));
+          place = in_reading fault refl before.fed broken.part refl refl;
+          cause = read_cause fault (reads_of source) (reads_of s) (reads_of s') (writes_of sink) (writes_of k) left' broken.idle
+              (length (before.input ++ broken.bytes)) same written total broken.idle_calls broken.counted broken.limit;
+        }
 
-    -- answering a line broke off
-    pub stops_answering : {k' : K} {after : D} (bytes text : List ℕ) (over : Over) (fault : Fault) → reads_of s' ≡ reads_of source →
-        writes_of k ≡ writes_of sink → length bytes ≤ left → took s bytes s' →
+    -- answering a line that was read whole broke off
+    pub stops_answering : (ended : S → Type 0) {k' : K} {after : D} (bytes text : List ℕ) → AreFed bytes ⊎ ended s' → (over : Over) (fault : Fault) →
+        reads_of s' ≡ reads_of source → writes_of k ≡ writes_of sink → length bytes ≤ left → took s bytes s' →
         (broken : BreaksOff wrote writes_of (answers d n text) k k' after fault) → Says answers d n bytes (broken.front ++ broken.left) over after →
-        Stops answers took reads_of wrote writes_of b source s' sink k' after fault
-    stops_answering {k'} {after} bytes text over fault read_well same fits taken broken says =
+        Stops answers took ended reads_of wrote writes_of b source s' sink k' after fault
+    stops_answering ended {k'} {after} bytes text whole over fault read_well same fits taken broken says =
+        let input : List ℕ = before.input ++ bytes in
         let C : ℕ → Type 0 = λ w. BreaksBy fault w (writes_of k') in
-        let few : length (before.input ++ bytes) ≤ 16777216 = omega (arith, before.spent, fits, length-append before.input bytes) in
-        stops_within bytes broken.front broken.left over fault taken broken.written says
-        (stop_cause fault (reads_of source) (reads_of s') (writes_of sink) (writes_of k') (length (before.input ++ bytes)) read_well few
-        (subst C same broken.cause))
+        let O : List ℕ → Type 0 = λ o. Says answers b 1 input o over after in
+        let T : List ℕ → Type 0 = λ i. took source i s' in
+        let L : List ℕ → Type 0 = λ i. StopsBy fault (reads_of source) (reads_of s') (writes_of sink) (writes_of k') (length i) in
+        let few : length input ≤ 16777216 = omega (arith, before.spent, fits, length-append before.input bytes) in
+        record {
+          input = input;
+          broken = [];
+          output = before.output ++ broken.front;
+          left = broken.left;
+          over = over;
+          taken = subst T (sym (append-nil input)) (took_on source s s' before.input bytes before.taken taken);
+          written = wrote_on sink k k' before.output broken.front before.written broken.written;
+          says = subst O (sym (append_assoc before.output broken.front broken.left))
+              (before.onward bytes (broken.front ++ broken.left) over after says);
+          place = in_answering (answer_fault fault (writes_of k) (writes_of k') broken.cause) (fed_or_ended before.input bytes (ended s') whole) refl;
+          cause = subst L (sym (append-nil input))
+              (stop_cause fault (reads_of source) (reads_of s') (writes_of sink) (writes_of k') (length input) read_well few (subst C same broken.cause));
+        }
 
 -- the end of the input was found, however the session ends behind it
 pub all_read_if : (q : Bool) (E : Type 0) → E → IsAllRead E (over_if q)

@@ -1,6 +1,5 @@
--- What a model and the options open: a version with replication 1 and nothing recorded, or the first faulty line, or the
--- first model fault.
--- (Our own.)
+-- What a model and the options open: a version with replication 1 and nothing recorded, or the first faulty line, or
+-- the first model fault. (Our own.)
 use Rattle.std.specs.Prelude.{◌≡◌, ℕ, List, [], ◌∷◌, Some, None}
 use Rattle.gw_lines.specs.declared.fault.FaultyLine.{FaultyLine}
 use Rattle.gw_lines.specs.declared.fault.LineFault.{LineFault}

@@ -1,6 +1,7 @@
 -- What a session writes to a script: one answer for each line, in order, up to `quit` or the end of the input. (Our
 -- own.)
-use Rattle.std.specs.Prelude.{◌≡◌, ℕ, ◌+◌, ◌<◌, ◌≤◌, true, false, List, [], ◌∷◌, ◌++◌, length}
+use Rattle.std.specs.Prelude.{◌≡◌, ℕ, ◌+◌, ◌<◌, ◌≤◌, ◌⊎◌, true, false, List, [], ◌∷◌, ◌++◌, length}
+use Rattle.gw_io.specs.declared.budget.ReadFault.{ReadFault}
 use Rattle.gw_io.specs.Failures.{one_more}
 use Rattle.gw_io.specs.Line.{IsUnended, without_cr_of}
 use Rattle.gw_request.specs.Requests.{request_of}
@@ -9,6 +10,7 @@ use Rattle.gw_script.specs.declared.fault.Over.TheVariants as overs
 use Rattle.gw_script.specs.declared.fault.Fault.{Fault}
 use Rattle.gw_script.specs.declared.fault.Fault.TheVariants as faults
 use Rattle.gw_script.specs.Replying.{is_quit}
+use Rattle.gw_script.specs.Turns.{stopped_by}
 
 -- To this input from line n on, this is written, so the session ends, and this it leaves of the keeper. Each line is
 -- answered as it may be over the keeper that the lines before it left. A carriage return before a line feed is dropped,
@@ -64,16 +66,33 @@ StopsBy faults.Write reads reads' writes writes' taken =
 StopsBy faults.ReadLimit reads reads' writes writes' taken = (reads' ≡ reads) × (writes' ≡ writes) × (taken ≡ 16777216)
 StopsBy faults.Memory reads reads' writes writes' taken = (reads' ≡ reads) × (writes' ≡ writes) × (taken ≤ 16777216)
 
--- a session stopped: what it wrote is the front of what is said to what it read, and it left the keeper as that leaves
--- it
+-- whole lines, one at least, with a line feed behind the last
+abbrev pub AreFed : List ℕ → Type 0
+AreFed lines = (front : List ℕ) × (lines ≡ front ++ 10 ∷ [])
+
+-- where a session stopped. While it read a line: what was read of it, `broken`, is no line, and all that is said to the
+-- lines before it was written. Or while it answered one that was read whole: a line feed stands behind it, or it is the
+-- last of an input that ended
+pub data StopsAt (ended : Type 0) (input broken left : List ℕ) (over : Over) (fault : Fault) : Type 0 where
+  in_reading : (cause : ReadFault) → fault ≡ stopped_by cause → (input ≡ []) ⊎ AreFed input → IsUnended broken →
+      left ≡ [] → over ≡ overs.InputEnd → StopsAt ended input broken left over fault
+  in_answering : (fault ≡ faults.Write) ⊎ (fault ≡ faults.Memory) → AreFed input ⊎ ended → broken ≡ [] →
+      StopsAt ended input broken left over fault
+
+-- a session stopped: it read whole lines, `input`, and of the next one a part, `broken`, or nothing. What it wrote is
+-- the front of what is said to the whole lines, and it left the keeper as they leave it: a part of a line is never
+-- answered, and changes nothing
 pub record Stops {D S K : Type 0} (answers : D → ℕ → List ℕ → List ℕ → D → Type 0)
-    (took : S → List ℕ → S → Type 0) (reads : S → ℕ) (wrote : K → List ℕ → K → Type 0) (writes : K → ℕ)
+    (took : S → List ℕ → S → Type 0) (ended : S → Type 0) (reads : S → ℕ) (wrote : K → List ℕ → K → Type 0)
+    (writes : K → ℕ)
     (d : D) (source source' : S) (sink sink' : K) (d' : D) (fault : Fault) : Type 0 where
   pub input : List ℕ
+  pub broken : List ℕ
   pub output : List ℕ
   pub left : List ℕ
   pub over : Over
-  pub taken : took source input source'
+  pub taken : took source (input ++ broken) source'
   pub written : wrote sink output sink'
   pub says : Says answers d 1 input (output ++ left) over d'
-  pub cause : StopsBy fault (reads source) (reads source') (writes sink) (writes sink') (length input)
+  pub place : StopsAt (ended source') input broken left over fault
+  pub cause : StopsBy fault (reads source) (reads source') (writes sink) (writes sink') (length (input ++ broken))

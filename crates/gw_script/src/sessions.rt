@@ -33,7 +33,7 @@ pub fn session_on<D: Keeper, S: Source, K: Sink>(
     ensures serves { IfOk result (Serves (Answers D.version D.does)
         S.took S.ended S.failures K.wrote K.failures keeper.old source.old source.new sink.old sink.new keeper.new) }
     ensures stops { IfErr result (Stops (Answers D.version D.does)
-        S.took S.failures K.wrote K.failures keeper.old source.old source.new sink.old sink.new keeper.new) }
+        S.took S.ended S.failures K.wrote K.failures keeper.old source.old source.new sink.old sink.new keeper.new) }
 {
     let mut budget = Budget::new();
     let mut n = 0u64;
@@ -69,7 +69,8 @@ pub fn session<S: Source, K: Sink>(
     ensures stops { IfErr result (λ fault.
         (Refuses model.now options fault × (source.new ≡ source.old) × (sink.new ≡ sink.old))
         ⊎ ((b : Book) × (b' : Book) × Opens model.now options b
-        × Stops DeskAnswers S.took S.failures K.wrote K.failures b source.old source.new sink.old sink.new b' fault)) }
+        × Stops DeskAnswers S.took S.ended S.failures K.wrote K.failures b source.old source.new sink.old sink.new b'
+        fault)) }
 {
     let mut desk = open(alloc, model, options)?;
     session_on(alloc, &mut desk, source, sink)

@@ -1,5 +1,5 @@
--- Random streams and their draws. (Park and Miller's generator. Our own: where a stream starts, and that it stays set to
--- a value until it draws, so that the seed is wanted at its first draw alone.)
+-- Random streams and their draws. (Park and Miller's generator. Our own: where a stream starts, and that it stays set
+-- to a value until it draws, so that the seed is wanted at its first draw alone.)
 use Rattle.std.specs.Prelude.{ℕ, zero, suc, ◌+◌, ◌-◌, ◌*◌, ◌%◌, Bool, true, false, List, [], ◌∷◌, Option, Some, None, unwrap_or, slice_get, slice_set}
 use Rattle.gw_streams.specs.declared.stream.Stream.{Stream}
 use Rattle.gw_streams.specs.declared.stream.Stream.TheVariants.{Set, At}

@@ -4,8 +4,8 @@ ghost use Rattle.gw_streams.specs.Draws.{next_of, start_of, drawn_of, is_set, un
 use crate::stream::Stream;
 use std::marker::Model;
 
-/// Seven random streams, told by their numbers, 1 to 7. A stream of another number is never kept: it stands at each draw
-/// as it does at the beginning, set to its number.
+/// Seven random streams, told by their numbers, 1 to 7. A stream of another number is never kept: it stands at each
+/// draw as it does at the beginning, set to its number.
 #[derive(Clone, Copy, Debug)]
 pub struct Streams {
     streams: [Stream; 7],

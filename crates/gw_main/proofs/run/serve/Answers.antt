@@ -22,10 +22,10 @@ returns-in-File g c =
     let over = c.converse_over_file-over in
     let comes = FileConverses g.F.Source.took g.F.Source.ended g.F.Source.failures g.S.Source.took g.S.Source.ended g.S.Source.failures g.K.Sink.wrote
     g.K.Sink.failures c.args.asked.options opened c.args.reader.now over.new.reader c.args.writer.now over.new.writer in
-    let fails = FileFails g.F.Source.took g.F.Source.ended g.F.Source.failures g.S.Source.took g.S.Source.failures g.K.Sink.wrote g.K.Sink.failures
-    c.args.asked.options opened c.args.reader.now over.new.reader c.args.writer.now over.new.writer in
-    let memory = file_fails_of_memory g.F.Source.took g.F.Source.ended g.F.Source.failures g.S.Source.took g.S.Source.failures g.K.Sink.wrote g.K.Sink.failures
-    c.args.asked.options opened c.args.reader.now over.new.reader c.args.writer.now over.new.writer in
+    let fails = FileFails g.F.Source.took g.F.Source.ended g.F.Source.failures g.S.Source.took g.S.Source.ended g.S.Source.failures
+    g.K.Sink.wrote g.K.Sink.failures c.args.asked.options opened c.args.reader.now over.new.reader c.args.writer.now over.new.writer in
+    let memory = file_fails_of_memory g.F.Source.took g.F.Source.ended g.F.Source.failures g.S.Source.took g.S.Source.ended g.S.Source.failures
+    g.K.Sink.wrote g.K.Sink.failures c.args.asked.options opened c.args.reader.now over.new.reader c.args.writer.now over.new.writer in
     let ends = ends_told g.E.Sink.wrote g.E.Sink.failures comes fails c.args.errors.now c.end-in-File.new.errors c.end-in-File.result over.result
     over.ensures.converses over.ensures.fails memory c.end-in-File.ensures in
     rw c.in-File.is (opened, (c.in-File.path, c.opener-opened.ensures, refl), ends)

@@ -5,5 +5,5 @@ use Rattle.gw_scan.proofs.counts.Counts.reserve_all.Given as goal
 abbrev pub invariant-loop-arrival : goal.invariant-loop-arrival
 invariant-loop-arrival l = record {
   entries : l.self.entries ≡ l.fn.self.entries;
-  places : (k : ℕ) (d : Arrival) → k < l.arrival-index → (slice_index_or l.arrivals k d).place < l.self.limit;
+  ids : (k : ℕ) (d : Arrival) → k < l.arrival-index → (slice_index_or l.arrivals k d).id < l.self.limit;
 }

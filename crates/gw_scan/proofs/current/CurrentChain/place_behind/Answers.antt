@@ -3,8 +3,8 @@ use Rattle.gw_meaning.specs.Changes.{lined_up}
 use Rattle.gw_scan.proofs.ChainLaws.{lined_up_at}
 use Rattle.gw_scan.proofs.current.CurrentChain.place_behind.Goals as goal
 
-pub returns-then-not-is_below-clause-place : goal.returns-then-not-is_below-clause-place
-returns-then-not-is_below-clause-place c =
+pub returns-then-not-is_below-clause-index : goal.returns-then-not-is_below-clause-index
+returns-then-not-is_below-clause-index c =
     let i = c.loop-index.index - 1 in
     let x = c.args.x.now in
     let xs = c.self.inside.transactions.items in

@@ -19,7 +19,7 @@ returns-in_err-priority c =
     let seed = c.args.case.seed in
     let s = c.args.self.now in
     let priority = value_or_zero s c.args.priority.now in
-    let rest : ℤ → Eval (Option Arrival) = λ t. priority ~> (λ p. arrival_at s c.args.place t p) in
+    let rest : ℤ → Eval (Option Arrival) = λ t. priority ~> (λ p. arrival_at s c.args.id t p) in
     decides_then t seed (time_prog s c.args.mean.now c.args.range.now) rest c.in_ok-time.time _ _ _ _ c.in_ok-time.ensures
     (decides_exit t seed priority _ _ _ _ c.in_err-priority.field-0.0 _ _ refl p.1 p.2 c.in_err-priority.ensures)
 
@@ -29,7 +29,7 @@ returns c =
     let seed = c.args.case.seed in
     let s = c.args.self.now in
     let priority = value_or_zero s c.args.priority.now in
-    let rest : ℤ → Eval (Option Arrival) = λ t. priority ~> (λ p. arrival_at s c.args.place t p) in
+    let rest : ℤ → Eval (Option Arrival) = λ t. priority ~> (λ p. arrival_at s c.args.id t p) in
     decides_then t seed (time_prog s c.args.mean.now c.args.range.now) rest c.in_ok-time.time _ _ _ _ c.in_ok-time.ensures
-    (decides_then t seed priority (λ p. arrival_at s c.args.place c.in_ok-time.time p) c.in_ok-priority.priority _ _ _ _ c.in_ok-priority.ensures
-    (decides_comes t seed (arrival_at s c.args.place c.in_ok-time.time c.in_ok-priority.priority) c.arrival_at.result _ c.arrival_at.ensures))
+    (decides_then t seed priority (λ p. arrival_at s c.args.id c.in_ok-time.time p) c.in_ok-priority.priority _ _ _ _ c.in_ok-priority.ensures
+    (decides_comes t seed (arrival_at s c.args.id c.in_ok-time.time c.in_ok-priority.priority) c.arrival_at.result _ c.arrival_at.ensures))

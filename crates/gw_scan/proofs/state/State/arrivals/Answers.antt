@@ -11,34 +11,34 @@ pub returns-in_err-arrival : goal.returns-in_err-arrival
 returns-in_err-arrival c =
     let p = err_from_is_err_and c.from_residual.result c.from_residual.ensures.1 in
     let s = c.args.self.now in
-    let places = c.args.places.now in
-    let i = c.loop-place.place-index in
-    let made = c.loop-place.arrivals.items in
-    let place = get_or places i 0 in
-    let h : i < length places = search rules in
-    let whole : arrivals_prog s (drop i places) made ≡ (prime_prog s place ~> (λ a. arrivals_prog s (drop (i + 1) places) (with_arrival a made))) =
-    ap (λ ps. arrivals_prog s ps made) (drop_more places i 0 h) in
-    c.loop-place.invariant c.from_residual.result _ (decides_exit c.args.case.version.now c.args.case.seed (prime_prog s place)
-    (λ a. arrivals_prog s (drop (i + 1) places) (with_arrival a made)) _ _ _ c.in_err-arrival.field-0.0 _ _ whole p.1 p.2 c.in_err-arrival.ensures)
+    let ids = c.args.ids.now in
+    let i = c.loop-id.id-index in
+    let made = c.loop-id.arrivals.items in
+    let id = get_or ids i 0 in
+    let h : i < length ids = search rules in
+    let whole : arrivals_prog s (drop i ids) made ≡ (prime_prog s id ~> (λ a. arrivals_prog s (drop (i + 1) ids) (with_arrival a made))) =
+    ap (λ ps. arrivals_prog s ps made) (drop_more ids i 0 h) in
+    c.loop-id.invariant c.from_residual.result _ (decides_exit c.args.case.version.now c.args.case.seed (prime_prog s id)
+    (λ a. arrivals_prog s (drop (i + 1) ids) (with_arrival a made)) _ _ _ c.in_err-arrival.field-0.0 _ _ whole p.1 p.2 c.in_err-arrival.ensures)
 
-pub loop-place-preserved : goal.loop-place-preserved
-loop-place-preserved c = λ r all rest.
+pub loop-id-preserved : goal.loop-id-preserved
+loop-id-preserved c = λ r all rest.
     let s = c.args.self.now in
-    let places = c.args.places.now in
-    let i = c.loop-place.place-index in
-    let made = c.loop-place.arrivals.items in
-    let place = get_or places i 0 in
-    let h : i < length places = search rules in
-    let whole : arrivals_prog s (drop i places) made ≡ (prime_prog s place ~> (λ a. arrivals_prog s (drop (i + 1) places) (with_arrival a made))) =
-    ap (λ ps. arrivals_prog s ps made) (drop_more places i 0 h) in
+    let ids = c.args.ids.now in
+    let i = c.loop-id.id-index in
+    let made = c.loop-id.arrivals.items in
+    let id = get_or ids i 0 in
+    let h : i < length ids = search rules in
+    let whole : arrivals_prog s (drop i ids) made ≡ (prime_prog s id ~> (λ a. arrivals_prog s (drop (i + 1) ids) (with_arrival a made))) =
+    ap (λ ps. arrivals_prog s ps made) (drop_more ids i 0 h) in
     let put : with_arrival c.in_ok-arrival.arrival made ≡ c.put_if.new.arrivals.items = sym c.in_ok-put_if.ensures in
-    c.loop-place.invariant r all (decides_whole c.args.case.version.now c.args.case.seed (prime_prog s place)
-    (λ a. arrivals_prog s (drop (i + 1) places) (with_arrival a made))
-    _ c.in_ok-arrival.arrival r c.loop-place.notes c.prime.new.notes all whole c.in_ok-arrival.ensures (rw put rest))
+    c.loop-id.invariant r all (decides_whole c.args.case.version.now c.args.case.seed (prime_prog s id)
+    (λ a. arrivals_prog s (drop (i + 1) ids) (with_arrival a made))
+    _ c.in_ok-arrival.arrival r c.loop-id.notes c.prime.new.notes all whole c.in_ok-arrival.ensures (rw put rest))
 
 pub returns : goal.returns
 returns c =
-    let last : c.loop-place.place-index ≡ length c.args.places.now = omega arith in
-    let end : drop c.loop-place.place-index c.args.places.now ≡ [] = rw last (drop-length c.args.places.now) in
-    rw c.from_vec.ensures (c.loop-place.invariant (Ok c.loop-place.arrivals.items) c.loop-place.notes
-    (rw end (decides_gives c.args.case.version.now c.args.case.seed c.loop-place.arrivals.items c.loop-place.notes)))
+    let last : c.loop-id.id-index ≡ length c.args.ids.now = omega arith in
+    let end : drop c.loop-id.id-index c.args.ids.now ≡ [] = rw last (drop-length c.args.ids.now) in
+    rw c.from_vec.ensures (c.loop-id.invariant (Ok c.loop-id.arrivals.items) c.loop-id.notes
+    (rw end (decides_gives c.args.case.version.now c.args.case.seed c.loop-id.arrivals.items c.loop-id.notes)))

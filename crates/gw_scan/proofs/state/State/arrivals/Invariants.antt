@@ -7,8 +7,8 @@ use Rattle.gw_scan.specs.Deciding.{Decides}
 use Rattle.gw_scan.proofs.state.State.arrivals.Given as goal
 
 -- what the rest comes to is what all comes to
-abbrev pub invariant-loop-place : goal.invariant-loop-place
-invariant-loop-place l =
+abbrev pub invariant-loop-id : goal.invariant-loop-id
+invariant-loop-id l =
     (r : Result (List Arrival) Halt) (all : Noted) →
-    Decides l.case.version.now l.case.seed (arrivals_prog l.self (drop l.place-index l.places) l.arrivals.items) r l.notes all →
-    Decides l.case.version.now l.case.seed (arrivals_prog l.self l.places []) r l.fn.notes all
+    Decides l.case.version.now l.case.seed (arrivals_prog l.self (drop l.id-index l.ids) l.arrivals.items) r l.notes all →
+    Decides l.case.version.now l.case.seed (arrivals_prog l.self l.ids []) r l.fn.notes all

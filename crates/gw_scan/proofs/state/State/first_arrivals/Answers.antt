@@ -7,5 +7,5 @@ use Rattle.gw_scan.proofs.state.State.first_arrivals.Goals as goal
 pub returns : goal.returns
 returns c =
     let case = c.args.case in
-    decides_asked case.version.now case.seed items.Generates (λ places. arrivals_prog c.args.self.now places []) _ _ _ _ c.in_ok-places.ensures.ok
-    (rw (← c.in_ok-places.ensures.answer) c.arrivals.ensures)
+    decides_asked case.version.now case.seed items.Generates (λ ids. arrivals_prog c.args.self.now ids []) _ _ _ _ c.in_ok-ids.ensures.ok
+    (rw (← c.in_ok-ids.ensures.answer) c.arrivals.ensures)

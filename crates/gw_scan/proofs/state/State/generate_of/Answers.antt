@@ -13,10 +13,10 @@ pub returns-in_err-next : goal.returns-in_err-next
 returns-in_err-next c =
     let p = err_from_is_err_and c.from_residual.result c.from_residual.ensures.1 in
     let s = c.args.self.now in
-    let asked = arrival_prog s c.args.place (count_at s.counts c.args.place).made c.args.mean.now c.args.range.now c.args.limit.now c.args.priority.now in
-    let whole : generate_prog s c.args.x.now c.args.place c.args.mean.now c.args.range.now c.args.limit.now c.args.priority.now ≡
-    (asked ~> (λ next. gives (moves.Enter c.args.place (changes.Generate next) fates.Active))) = rw c.if-x-ne0.false refl in
-    decides_exit c.args.case.version.now c.args.case.seed asked (λ next. gives (moves.Enter c.args.place (changes.Generate next) fates.Active))
+    let asked = arrival_prog s c.args.id (count_at s.counts c.args.id).made c.args.mean.now c.args.range.now c.args.limit.now c.args.priority.now in
+    let whole : generate_prog s c.args.x.now c.args.id c.args.mean.now c.args.range.now c.args.limit.now c.args.priority.now ≡
+    (asked ~> (λ next. gives (moves.Enter c.args.id (changes.Generate next) fates.Active))) = rw c.if-x-ne0.false refl in
+    decides_exit c.args.case.version.now c.args.case.seed asked (λ next. gives (moves.Enter c.args.id (changes.Generate next) fates.Active))
     _ _ _ c.in_err-next.field-0.0 _ _ whole p.1 p.2 c.in_err-next.ensures
 
 pub returns : goal.returns
@@ -24,10 +24,10 @@ returns c =
     let s = c.args.self.now in
     let t = c.args.case.version.now in
     let asked =
-    arrival_prog s c.args.place (count_at s.counts c.args.place).made c.args.mean.now c.args.range.now c.args.limit.now c.args.priority.now in
-    let whole : generate_prog s c.args.x.now c.args.place c.args.mean.now c.args.range.now c.args.limit.now c.args.priority.now ≡
-    (asked ~> (λ next. gives (moves.Enter c.args.place (changes.Generate next) fates.Active))) = rw c.if-x-ne0.false refl in
-    decides_whole t c.args.case.seed asked (λ next. gives (moves.Enter c.args.place (changes.Generate next) fates.Active)) _ c.in_ok-next.next
-    (Ok (moves.Enter c.args.place (changes.Generate c.in_ok-next.next) fates.Active)) c.args.notes.now c.arrival.new.notes c.arrival.new.notes
+    arrival_prog s c.args.id (count_at s.counts c.args.id).made c.args.mean.now c.args.range.now c.args.limit.now c.args.priority.now in
+    let whole : generate_prog s c.args.x.now c.args.id c.args.mean.now c.args.range.now c.args.limit.now c.args.priority.now ≡
+    (asked ~> (λ next. gives (moves.Enter c.args.id (changes.Generate next) fates.Active))) = rw c.if-x-ne0.false refl in
+    decides_whole t c.args.case.seed asked (λ next. gives (moves.Enter c.args.id (changes.Generate next) fates.Active)) _ c.in_ok-next.next
+    (Ok (moves.Enter c.args.id (changes.Generate c.in_ok-next.next) fates.Active)) c.args.notes.now c.arrival.new.notes c.arrival.new.notes
     whole c.in_ok-next.ensures
-    (decides_gives t c.args.case.seed (moves.Enter c.args.place (changes.Generate c.in_ok-next.next) fates.Active) c.arrival.new.notes)
+    (decides_gives t c.args.case.seed (moves.Enter c.args.id (changes.Generate c.in_ok-next.next) fates.Active) c.arrival.new.notes)

@@ -6,5 +6,5 @@ use Rattle.gw_scan.proofs.state.State.try_after.Goals as goal
 pub returns : goal.returns
 returns c =
     let case = c.args.case in
-    decides_asked case.version.now case.seed (items.After c.args.x.now.current) (try_prog c.args.self.now c.args.x.now) _ _ _ _ c.in_ok-place.ensures.ok
-    (rw (← c.in_ok-place.ensures.answer) c.try_place.ensures)
+    decides_asked case.version.now case.seed (items.After c.args.x.now.current) (try_prog c.args.self.now c.args.x.now) _ _ _ _ c.in_ok-id.ensures.ok
+    (rw (← c.in_ok-id.ensures.answer) c.try_block.ensures)

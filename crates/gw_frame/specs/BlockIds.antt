@@ -1,5 +1,5 @@
--- Which places a state and an item name: a state of a run names no place but the blocks of its version, and its steps
--- read no other. (Our own.)
+-- Which statement ids a state and an item name: a state of a run names none but those of the version's blocks, and
+-- its steps read no other. (Our own.)
 use Rattle.std.specs.Prelude.{ℕ, ◌≡◌, ◌⊎◌, Option, Some, None, Ok}
 use Rattle.std.specs.List.{AllByRecursion}
 use Rattle.gw_meaning.specs.declared.item.Item.{Item}
@@ -15,17 +15,17 @@ use Rattle.gw_meaning.specs.Step.{step, run}
 use Rattle.gw_meaning.specs.Reads.{reads}
 
 -- no block yet, or a block of the version
-abbrev pub IsPlace : Listing → ℕ → Type 0
-IsPlace t place = (place ≡ 0) ⊎ ((block : Block) × (block_at t place ≡ Some block))
+abbrev pub IsBlockId : Listing → ℕ → Type 0
+IsBlockId t id = (id ≡ 0) ⊎ ((block : Block) × (block_at t id ≡ Some block))
 
--- what names no other place: a place that there may be, a transaction, an event and a count
-abbrev pub IsPlaceIfAny : Listing → Option ℕ → Type 0
-IsPlaceIfAny t None = Unit {0}
-IsPlaceIfAny t (Some place) = IsPlace t place
+-- what names no other id: an id that there may be, a transaction, an event and a count
+abbrev pub IsIdIfAny : Listing → Option ℕ → Type 0
+IsIdIfAny t None = Unit {0}
+IsIdIfAny t (Some id) = IsBlockId t id
 
 pub record TransactionNames (t : Listing) (x : Transaction) : Type 0 where
-  pub current : IsPlace t x.current
-  pub destination : IsPlaceIfAny t x.destination
+  pub current : IsBlockId t x.current
+  pub destination : IsIdIfAny t x.destination
 
 abbrev pub ActiveNames : Listing → Option Transaction → Type 0
 ActiveNames t None = Unit {0}
@@ -35,7 +35,7 @@ abbrev pub EventNames : Listing → Event → Type 0
 EventNames t e = TransactionNames t e.transaction
 
 abbrev pub CountNames : Listing → ℕ × Count → Type 0
-CountNames t c = IsPlace t c.0
+CountNames t c = IsBlockId t c.0
 
 -- a state
 pub record StateNames (t : Listing) (s : Machine) : Type 0 where
@@ -46,8 +46,8 @@ pub record StateNames (t : Listing) (s : Machine) : Type 0 where
 
 -- an item
 abbrev pub ItemNames : Listing → Item → Type 0
-ItemNames t (items.Block place) = IsPlace t place
-ItemNames t (items.After place) = IsPlace t place
+ItemNames t (items.Block id) = IsBlockId t id
+ItemNames t (items.After id) = IsBlockId t id
 ItemNames t items.Generates = Unit {0}
 ItemNames t (items.Cmd i) = Unit {0}
 ItemNames t items.Seed = Unit {0}

@@ -1,13 +1,13 @@
 ghost use Rattle.std.specs.Prelude.{◌≡◌};
-ghost use Rattle.gw_report.specs.Chains.{place_of, next_number};
+ghost use Rattle.gw_report.specs.Chains.{position_of, next_number};
 
 use gw_meaning::Transaction;
 use gw_model::Version;
 
 /// The position of a block, and 0 where there is none.
-#[tactic(auto, unfolding(crate::specs::Chains::place_of))]
-pub fn place_of(version: &Version, number: Option<u64>) -> u64
-    ensures { result ≡ place_of version.now number }
+#[tactic(auto, unfolding(crate::specs::Chains::position_of))]
+pub fn position_of(version: &Version, number: Option<u64>) -> u64
+    ensures { result ≡ position_of version.now number }
 {
     match number {
         Some(number) => version.position(number).unwrap_or(0),

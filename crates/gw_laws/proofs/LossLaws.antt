@@ -1,0 +1,76 @@
+-- No transaction but the active one ceases to live in a step.
+use Rattle.std.proofs.Common.{◌≡◌, ℕ, ◌≤◌, ◌⊎◌, true, List, [], ◌∷◌, Some, sym, ap, subst, ◌∙◌, arith, inl, inr}
+use Rattle.std.proofs.lemmas.Bool.{cases_Bool, cases_eq, cases_lt, ne_eqb, false≢true}
+use Rattle.gw_meaning.specs.declared.transaction.Transaction.{Transaction}
+use Rattle.gw_meaning.specs.declared.moves.Arrival.{Arrival}
+use Rattle.gw_meaning.specs.declared.moves.Move.{Move}
+use Rattle.gw_meaning.specs.declared.moves.Move.TheVariants as moves
+use Rattle.gw_meaning.specs.Listing.{Listing}
+use Rattle.gw_meaning.specs.Machine.{Machine}
+use Rattle.gw_meaning.specs.Changes.{Making, made, all_made, making_of, with_making, newcomer, started, moved}
+use Rattle.gw_meaning.proofs.Programs.{run_on}
+use Rattle.gw_laws.specs.Living.{living}
+use Rattle.gw_laws.specs.Numbering.{OnlyTheActiveGoes, lives}
+use Rattle.gw_frame.proofs.Decided.{IsDecided, step_decides}
+use Rattle.gw_frame.proofs.Moves.{entered_has, picked_has}
+use Rattle.gw_laws.proofs.Crowd.{one, crowd, active_crowd, many_living, future_push, settled_crowd, picked_crowd, advanced_crowd}
+use Rattle.gw_laws.proofs.NumberLaws.{has_number, not_alive, alive}
+
+module _ (k : ℕ) where
+  -- a transaction with this number lives, or was the active one before
+  abbrev Lives : Machine → Type 0
+  Lives s = 1 ≤ crowd (has_number k) s
+
+  abbrev WasActive : Machine → Type 0
+  WasActive s = (x : Transaction) × (s.active ≡ Some x) × (x.number ≡ k)
+
+  abbrev LivesOn : Machine → Machine → Type 0
+  LivesOn s v = Lives v ⊎ WasActive s
+
+  made_lives : (a : Arrival) (w : Making) (s : Machine) → Lives (with_making w s) → Lives (with_making (made a w) s)
+  made_lives a w s h = let push = future_push (has_number k) w.future (newcomer w.next a) in omega (arith, h, push)
+
+  all_made_lives : (arrivals : List Arrival) (w : Making) (s : Machine) → Lives (with_making w s) → Lives (with_making (all_made arrivals w) s)
+  all_made_lives [] w s h = h
+  all_made_lives (a ∷ rest) w s h = all_made_lives rest (made a w) s (made_lives a w s h)
+
+  moved_lives : (t : Listing) (s : Machine) (m : Move) → IsDecided t s m → Lives s → LivesOn s (moved s m)
+  moved_lives t s (moves.Start count arrivals) decided h = inl (all_made_lives arrivals (making_of s) (started count s) h)
+  moved_lives t s moves.Command decided h = inl h
+  moved_lives t s (moves.Enter id change fate) decided h =
+      entered_has (LivesOn s) (LivesOn s) t s id change fate decided.1 (inl h)
+      (λ x is.
+      elim (cases_eq x.number k) [
+        | inl same ↦ inr (x, is, same)
+        | inr other ↦
+            let not' : one (has_number k x) ≡ 0 = ap one (ne_eqb x.number k other) in
+            let was = active_crowd (has_number k) s x is in
+            let now = settled_crowd (has_number k) s x id change fate in
+            inl (omega (arith, h, not', was, now))
+      ])
+      (λ v g. g) (λ a v coming g. elim g [ inl here ↦ inl (made_lives a (making_of v) v here) | inr was ↦ inr was ])
+  moved_lives t s moves.Pick decided h =
+      picked_has (LivesOn s) s s.current (inl h) (λ x xs is. let same = picked_crowd (has_number k) s x xs decided is in inl (omega (arith, h, same)))
+  moved_lives t s (moves.Clock time) decided h = let same = advanced_crowd (has_number k) s time in inl (omega (arith, h, same))
+
+  -- what that says of the list of the living
+  here_lives : (s : Machine) → lives s k ≡ true → Lives s
+  here_lives s is =
+      elim (cases_lt 0 (crowd (has_number k) s)) [
+        | inl some ↦ some
+        | inr none ↦
+            absurd (let no = alive k (living s) (many_living (has_number k) s ∙ omega arith) in false≢true (sym no ∙ is))
+      ]
+
+  lives_here : (s : Machine) → Lives s → lives s k ≡ true
+  lives_here s h =
+      elim (cases_Bool (lives s k)) [
+        | inl is ↦ is
+        | inr gone ↦ absurd (let none = not_alive k (living s) gone in let same = many_living (has_number k) s in omega (arith, h, none, same))
+      ]
+
+pub only_the_active_goes : OnlyTheActiveGoes
+only_the_active_goes t seed n s v there is k here =
+    let after = ((step_decides t seed s).runs v (sym (run_on t seed n s there) ∙ is)).0 in
+    let on : LivesOn k s v = subst (LivesOn k s) (sym after.is) (moved_lives k t s after.move after.is_decided (here_lives k s here)) in
+    elim on [ inl lives' ↦ inl (lives_here k v lives') | inr was ↦ inr was ]
