@@ -11,11 +11,7 @@ use Rattle.gw_desk.specs.Book.{IsBook, run_in, IsRunOf, blank_runs}
 
 nothing_in : (item : Item) → first_in nothing_used item ≡ None
 nothing_in (items.Block place) = refl
-nothing_in (items.After place) = refl
-nothing_in items.Generates = refl
-nothing_in (items.Cmd i) = refl
-nothing_in items.Seed = refl
-nothing_in (items.Within time) = refl
+nothing_in item = refl
 
 -- a run of no steps is recorded of every version and seed
 pub blank_records : (t : Listing) (seed every : ℕ) → Records t seed (blank every)

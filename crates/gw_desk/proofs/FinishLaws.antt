@@ -115,7 +115,8 @@ is_there b rep seed h is none =
 pub stopped_shuts : (b : Book) (rep k seed : ℕ) (reach : Reach) → IsBook b → seed_at b.version rep ≡ Some seed → 1 ≤ k →
     ((r : Tape) → run_in b.runs rep ≡ Some r → Reaches b.version seed k r reach) → (n : ℕ) → IsUnfinished b rep k n → ⊥
 stopped_shuts b rep k seed reach h is some reached n u =
-    let of_run = subst (λ o. IsRunOf b.version b.every (Some seed) o) u.recorded (subst (λ o. IsRunOf b.version b.every o (run_in b.runs rep)) is (h.runs rep)) in
+    let of_run = subst (λ o. IsRunOf b.version b.every (Some seed) o) u.recorded
+    (subst (λ o. IsRunOf b.version b.every o (run_in b.runs rep)) is (h.runs rep)) in
     not_unfinished b rep k seed u.run is u.recorded (reach_shuts b.version seed k u.run reach of_run.0 some (reached u.run u.recorded)) n u
 
 -- what holds of each answer that is no want of memory

@@ -1,25 +1,20 @@
 -- Two versions of which one has another statement for a statement: what is not touched, they answer alike.
-use Rattle.std.proofs.Common.{◌≡◌, ℕ, Bool, true, false, cond, List, [], ◌∷◌, ◌++◌, Some, None, is_some, option_and_then, ◌==◌, ◌||◌, ◌&&◌, nat_le, refl, ap, sym, subst, ◌∙◌, ⊎_elim}
+use Rattle.std.proofs.Common.{◌≡◌, ℕ, Bool, true, false, cond, not, List, ◌∷◌, ◌++◌, Some, None, option_and_then, ◌==◌, ◌&&◌, refl, ap, sym, subst, ◌∙◌, ⊎_elim}
 use Rattle.std.specs.List.{filter_map, cons_option}
-use Rattle.std.proofs.lemmas.Bool.{cases_Bool, or_parts}
+use Rattle.std.proofs.lemmas.Bool.{cases_Bool}
 use Rattle.gw_meaning.specs.declared.item.Item.{Item}
 use Rattle.gw_meaning.specs.declared.item.Item.TheVariants as items
 use Rattle.gw_meaning.specs.declared.statement.Statement.{Statement}
 use Rattle.gw_meaning.specs.declared.statement.Numbered.{Numbered}
-use Rattle.gw_meaning.specs.Listing.{Listing, line_in, block_of, block_of_body, is_block, command_of, command_of_body, is_generate, is_generate_body, first_block, after_in, generates_in, nth}
+use Rattle.gw_meaning.specs.Listing.{Listing, line_in, block_of, block_of_body, is_block, command_of, first_block, after_in, nth}
 use Rattle.gw_meaning.specs.Questions.{ask}
 use Rattle.gw_model.proofs.Numbers.{other_way}
 use Rattle.gw_edit.specs.Same.{same_statement}
-use Rattle.gw_edit.specs.declared.touch.Probe.{Probe}
-use Rattle.gw_edit.specs.declared.touch.Probe.TheVariants.{One}
-use Rattle.gw_edit.specs.Touching.{lines_before, generates_if, line_probes, block_change, splice_probes, is_touched}
-use Rattle.gw_edit.proofs.Fronts.{block_in, block_behind, after_behind, generates_behind, commands_behind}
-use Rattle.gw_edit.proofs.LineLaws.{command_none, untouched_both, not_generates, line_alike}
+use Rattle.gw_edit.specs.Touching.{lines_before, one_if, line_probes, change_places, block_change, splice_probes, is_touched}
+use Rattle.gw_edit.proofs.Fronts.{block_in, block_behind, after_behind, commands_behind}
 use Rattle.gw_edit.proofs.SameBlocks.{statement_same}
-
--- the statement, and the one that takes its place
-abbrev pub changed_line : Numbered → Statement → Numbered
-changed_line line s = record line { statement = s }
+use Rattle.gw_edit.proofs.ByLines.{untouched_both, probed_at, untouched_at, changed_line, by_lines, changed_alike}
+use Rattle.gw_edit.proofs.LineLaws.{command_none, line_alike}
 
 module _ (back : List Numbered) (line : Numbered) (s : Statement) where
   block_other : (k : ℕ) → (line.number == k) ≡ false → block_in (changed_line line s ∷ back) k ≡ block_in (line ∷ back) k
@@ -38,9 +33,6 @@ module _ (back : List Numbered) (line : Numbered) (s : Statement) where
 
   first_here : is_block (changed_line line s) ≡ is_block line → first_block (changed_line line s ∷ back) ≡ first_block (line ∷ back)
   first_here same = ap (λ b. cond b (Some line.number) (first_block back)) same
-
-  generates_here : is_generate (changed_line line s) ≡ is_generate line → generates_in (changed_line line s ∷ back) ≡ generates_in (line ∷ back)
-  generates_here same = ap (λ b. cond b (line.number ∷ generates_in back) (generates_in back)) same
 
   commands_here : command_of (changed_line line s) ≡ command_of line → filter_map command_of (changed_line line s ∷ back) ≡ filter_map command_of (line ∷ back)
   commands_here same = ap (λ o. cons_option o (filter_map command_of back)) same
@@ -66,48 +58,28 @@ module _ (t u : Listing) (place : ℕ) (line : Numbered) (s : Statement) (back :
         between (λ ls. after_in ls k) (after_behind (lines_before t place) (changed_line line s ∷ back) (line ∷ back) k (first_here back line s same)
         (after_here back line s k same))
 
-    generates_alike : is_generate (changed_line line s) ≡ is_generate line → generates_in u.lines ≡ generates_in t.lines
-    generates_alike same =
-        between generates_in (generates_behind (lines_before t place) (changed_line line s ∷ back) (line ∷ back) (generates_here back line s same))
-
     commands_alike : (j : ℕ) → command_of (changed_line line s) ≡ command_of line →
         nth (filter_map command_of u.lines) j ≡ nth (filter_map command_of t.lines) j
     commands_alike j same =
         between (λ ls. nth (filter_map command_of ls) j) (ap (λ cs. nth cs j)
         (commands_behind (lines_before t place) (changed_line line s ∷ back) (line ∷ back) (commands_here back line s same)))
 
-    -- the same block
-    same_alike : line.statement.body ≡ s.body → (i : Item) → ask u b i ≡ ask t a i
-    same_alike same (items.Block k) = block_alike k (block_here back line s k (ap block_of_body (sym same)))
-    same_alike same (items.After k) = after_alike k (ap (λ body. is_some (block_of_body body)) (sym same))
-    same_alike same items.Generates = generates_alike (ap is_generate_body (sym same))
-    same_alike same (items.Cmd j) = commands_alike j (ap command_of_body (sym same))
-    same_alike same items.Seed = seeds
-    same_alike same (items.Within time) = ap (λ n. nat_le time n) e.horizon
-
-    -- another block
-    other_alike : is_block line ≡ true → is_block (changed_line line s) ≡ true → (i : Item) →
-        is_touched (One (items.Block line.number) ∷ generates_if (is_generate line || is_generate (changed_line line s))) i ≡ false → ask u b i ≡ ask t a i
-    other_alike was is (items.Block k) h = block_alike k (block_other back line s k (other_way k line.number ((or_parts _ _ h).0)))
-    other_alike was is (items.After k) h = after_alike k (is ∙ sym was)
-    other_alike was is items.Generates h =
-        let none = not_generates (is_generate line || is_generate (changed_line line s)) h in
-        let parts = or_parts (is_generate line) (is_generate (changed_line line s)) none in
-        generates_alike (parts.1 ∙ sym parts.0)
-    other_alike was is (items.Cmd j) h = commands_alike j (command_none (changed_line line s) is ∙ sym (command_none line was))
-    other_alike was is items.Seed h = seeds
-    other_alike was is (items.Within time) h = ap (λ n. nat_le time n) e.horizon
-
+    -- a block for a block
     block_by_block : is_block line ≡ true → is_block (changed_line line s) ≡ true → (i : Item) →
-        is_touched (block_change line (changed_line line s)) i ≡ false →
-        ask u b i ≡ ask t a i
-    block_by_block was is i h =
+        is_touched (block_change line (changed_line line s)) i ≡ false → ask u b i ≡ ask t a i
+    block_by_block was is (items.Block k) h =
         ⊎_elim
-        (λ (same : same_statement line.statement s ≡ true). same_alike (statement_same line.statement s same) i)
+        (λ (same : same_statement line.statement s ≡ true).
+        block_alike k (block_here back line s k (ap block_of_body (sym (statement_same line.statement s same)))))
         (λ (other : same_statement line.statement s ≡ false).
-        let touched : List Probe = One (items.Block line.number) ∷ generates_if (is_generate line || is_generate (changed_line line s)) in
-        other_alike was is i (subst (λ (b : Bool). is_touched (cond b [] touched) i ≡ false) other h))
+        let untouched = untouched_at (change_places (not (same_statement line.statement s)) line (changed_line line s)) 0 _ (items.Block k) refl h in
+        let wanted = subst (λ (b : Bool). probed_at (one_if (not b) (items.Block line.number)) (items.Block k) ≡ false) other untouched in
+        block_alike k (block_other back line s k (other_way k line.number wanted)))
         (cases_Bool (same_statement line.statement s))
+    block_by_block was is (items.After k) h = after_alike k (is ∙ sym was)
+    block_by_block was is (items.Cmd j) h = commands_alike j (command_none (changed_line line s) is ∙ sym (command_none line was))
+    block_by_block was is i h =
+        changed_alike i tt (lines_before t place) back t u a b e.horizon seeds line (changed_line line s) e.new e.old ((by_lines i tt).change line s was is h)
 
     -- a block for a command, or a command: as if the one went out and the other came in
     kind_alike : line_in (lines_before t place ++ back) line.number ≡ None → (i : Item) →

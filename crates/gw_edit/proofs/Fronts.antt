@@ -8,7 +8,7 @@ use Rattle.gw_meaning.specs.declared.statement.Body.TheVariants as bodies
 use Rattle.gw_meaning.specs.declared.statement.Block.{Block}
 use Rattle.gw_meaning.specs.declared.statement.Command.{Command}
 use Rattle.gw_meaning.specs.declared.statement.Numbered.{Numbered}
-use Rattle.gw_meaning.specs.Listing.{line_in, block_of, block_of_body, is_block, command_of, command_of_body, is_generate, first_block, after_in, generates_in, nth}
+use Rattle.gw_meaning.specs.Listing.{line_in, block_of, block_of_body, is_block, command_of, command_of_body, first_block, after_in, nth}
 use Rattle.gw_edit.specs.Touching.{last_block}
 
 -- whether a number is this one
@@ -89,12 +89,6 @@ after_in_front (line ∷ front) xs ys k last h =
     last_step (is_block line) line.number k (first_block (front ++ xs)) (first_block (front ++ ys)) (after_in (front ++ xs) k) (after_in (front ++ ys) k)
     mine rest)
     (cases_Bool (is_some (first_block front)))
-
-pub generates_behind : (front xs ys : List Numbered) → generates_in xs ≡ generates_in ys → generates_in (front ++ xs) ≡ generates_in (front ++ ys)
-generates_behind [] xs ys h = h
-generates_behind (line ∷ front) xs ys h =
-    let rest : generates_in (front ++ xs) ≡ generates_in (front ++ ys) = generates_behind front xs ys h in
-    ap (λ ns. cond (is_generate line) (line.number ∷ ns) ns) rest
 
 -- commands where the same commands come
 pub commands_behind : (front xs ys : List Numbered) → filter_map command_of xs ≡ filter_map command_of ys →

@@ -1,8 +1,9 @@
 pub mod Checking
 pub mod Places
 pub mod Fronts
-pub mod LineLaws
 pub mod SameBlocks
+pub mod ByLines
+pub mod LineLaws
 pub mod ChangeLaws
 pub mod Splits
 pub mod Seeds

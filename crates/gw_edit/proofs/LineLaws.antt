@@ -1,20 +1,19 @@
 -- Lines of which one goes or comes in: what it does not touch, those with it and those without it answer alike.
-use Rattle.std.proofs.Common.{◌≡◌, ℕ, Bool, true, false, cond, List, [], ◌∷◌, ◌++◌, Option, Some, None, is_some, option_and_then, ◌==◌, nat_le, refl, ap, sym, subst, ◌∙◌, ⊎_elim}
+use Rattle.std.proofs.Common.{◌≡◌, ℕ, Bool, true, false, cond, List, [], ◌∷◌, ◌++◌, Option, Some, None, is_some, option_and_then, ◌==◌, refl, ap, sym, subst, ◌∙◌, ⊎_elim}
 use Rattle.std.specs.List.{filter_map, cons_option}
 use Rattle.std.proofs.lemmas.Bool.{cases_Bool, eqb-true, or_parts}
-use Rattle.std.proofs.lemmas.List.Folds.{list_any-append}
 use Rattle.gw_meaning.specs.declared.item.Item.{Item}
 use Rattle.gw_meaning.specs.declared.item.Item.TheVariants as items
 use Rattle.gw_meaning.specs.declared.statement.Body.{Body}
 use Rattle.gw_meaning.specs.declared.statement.Body.TheVariants as bodies
 use Rattle.gw_meaning.specs.declared.statement.Numbered.{Numbered}
-use Rattle.gw_meaning.specs.Listing.{Listing, line_in, block_of, block_of_body, is_block, command_of, command_of_body, is_generate, is_generate_body, first_block, after_in, generates_in, nth}
+use Rattle.gw_meaning.specs.Listing.{Listing, line_in, block_of, block_of_body, is_block, command_of, command_of_body, first_block, after_in, nth}
 use Rattle.gw_meaning.specs.Questions.{ask}
 use Rattle.gw_model.proofs.Numbers.{absent_first, other_way}
-use Rattle.gw_edit.specs.declared.touch.Probe.{Probe}
-use Rattle.gw_edit.specs.declared.touch.Probe.TheVariants.{One, CommandsFrom}
-use Rattle.gw_edit.specs.Touching.{last_block, lines_before, block_before, command_from, behind, generates_if, block_probes, line_probes, is_probed, is_touched}
-use Rattle.gw_edit.proofs.Fronts.{is_at, block_in, block_behind, after_behind, after_in_front, generates_behind, commands_behind, commands_front, after_none}
+use Rattle.gw_edit.specs.declared.touch.Probe.TheVariants.{CommandsFrom}
+use Rattle.gw_edit.specs.Touching.{last_block, lines_before, block_before, command_from, behind, block_places, block_probes, line_probes, is_touched}
+use Rattle.gw_edit.proofs.Fronts.{is_at, block_in, block_behind, after_behind, after_in_front, commands_behind, commands_front, after_none}
+use Rattle.gw_edit.proofs.ByLines.{probed_at, untouched_at, by_lines, silent_alike}
 
 -- a block is no command, and a command is no block
 no_command : (body : Body) → is_some (block_of_body body) ≡ true → command_of_body body ≡ None
@@ -31,24 +30,9 @@ no_block_of (bodies.Command command) h = refl
 no_block : (line : Numbered) → is_block line ≡ false → block_of line ≡ None
 no_block line h = no_block_of line.statement.body h
 
-no_generate_of : (body : Body) → is_some (block_of_body body) ≡ false → is_generate_body body ≡ false
-no_generate_of (bodies.Block block) h = absurd cc
-no_generate_of (bodies.Command command) h = refl
-
-no_generate : (line : Numbered) → is_block line ≡ false → is_generate line ≡ false
-no_generate line h = no_generate_of line.statement.body h
-
--- what is not touched by probes is not touched by any part of them
-pub untouched_both : (ps qs : List Probe) (i : Item) → is_touched (ps ++ qs) i ≡ false → (is_touched ps i ≡ false) × (is_touched qs i ≡ false)
-untouched_both ps qs i h = or_parts (is_touched ps i) (is_touched qs i) (sym (list_any-append (λ p. is_probed p i) ps qs) ∙ h)
-
-not_behind : (o : Option ℕ) (k : ℕ) → is_touched (behind o) (items.After k) ≡ false → is_at o k ≡ false
+not_behind : (o : Option ℕ) (k : ℕ) → probed_at (behind o) (items.After k) ≡ false → is_at o k ≡ false
 not_behind None k h = refl
-not_behind (Some n) k h = other_way k n ((or_parts _ _ h).0)
-
-pub not_generates : (b : Bool) → is_touched (generates_if b) items.Generates ≡ false → b ≡ false
-not_generates false h = refl
-not_generates true h = absurd cc
+not_behind (Some n) k h = other_way k n h
 
 -- behind lines without a number it is not there either
 absent_behind : (front back : List Numbered) (k : ℕ) → line_in (front ++ back) k ≡ None → line_in back k ≡ None
@@ -66,9 +50,6 @@ module _ (front back : List Numbered) (line : Numbered) where
   after_other k other last =
       after_in_front front (line ∷ back) back k last
       (subst (λ (b : Bool). cond b (cond (is_block line) (first_block back) None) (after_in back k) ≡ after_in back k) (sym other) refl)
-
-  generates_without : is_generate line ≡ false → generates_in (front ++ line ∷ back) ≡ generates_in (front ++ back)
-  generates_without none = generates_behind front (line ∷ back) back (ap (λ b. cond b (line.number ∷ generates_in back) (generates_in back)) none)
 
   commands_same : (j : ℕ) → is_block line ≡ true → nth (filter_map command_of (front ++ line ∷ back)) j ≡ nth (filter_map command_of (front ++ back)) j
   commands_same j block =
@@ -119,34 +100,37 @@ module _ (t : Listing) (place : ℕ) (line : Numbered) (back : List Numbered) (w
   between : {X : Type 0} (f : List Numbered → X) → f (lines_before t place ++ line ∷ back) ≡ f (lines_before t place ++ back) → f with.lines ≡ f without.lines
   between f h = ap f e.has ∙ h ∙ sym (ap f e.lacks)
 
-  by_block : is_block line ≡ true → (i : Item) → is_touched (block_probes t place line) i ≡ false → ask with b i ≡ ask without a i
-  by_block block i h = go i (untouched_both (behind (block_before t place))
-      (One (items.Block line.number) ∷ One (items.After line.number) ∷ generates_if (is_generate line)) i h) where
-        go : (i : Item) → (is_touched (behind (block_before t place)) i ≡ false) ×
-            (is_touched (One (items.Block line.number) ∷ One (items.After line.number) ∷ generates_if (is_generate line)) i ≡ false) →
-            ask with b i ≡ ask without a i
-        go (items.Block k) h = between (λ ls. block_in ls k) (block_other (lines_before t place) back line k (other_way k line.number ((or_parts _ _ h.1).0)))
-        go (items.After k) h =
-            between (λ ls. after_in ls k) (after_other (lines_before t place) back line k (other_way k line.number ((or_parts _ _ h.1).0))
-            (not_behind (block_before t place) k h.0))
-        go items.Generates h = between generates_in (generates_without (lines_before t place) back line (not_generates (is_generate line) h.1))
-        go (items.Cmd j) h = between (λ ls. nth (filter_map command_of ls) j) (commands_same (lines_before t place) back line j block)
-        go items.Seed h = seeds
-        go (items.Within time) h = ap (λ n. nat_le time n) e.horizon
+  -- the items of a block, by whether the line is one
+  block_alike : (block : Bool) → is_block line ≡ block → (k : ℕ) →
+      is_touched (cond block (block_probes t place line) (CommandsFrom (command_from t place) ∷ [])) (items.Block k) ≡ false →
+      block_in with.lines k ≡ block_in without.lines k
+  block_alike true is k h =
+      let other = untouched_at (block_places (block_before t place) line) 1 _ (items.Block k) refl h in
+      between (λ ls. block_in ls k) (block_other (lines_before t place) back line k (other_way k line.number other))
+  block_alike false is k h = between (λ ls. block_in ls k) (block_same (lines_before t place) back line is e.absent k)
 
-  by_command : is_block line ≡ false → (i : Item) → is_touched (CommandsFrom (command_from t place) ∷ []) i ≡ false → ask with b i ≡ ask without a i
-  by_command command (items.Block k) h = between (λ ls. block_in ls k) (block_same (lines_before t place) back line command e.absent k)
-  by_command command (items.After k) h = between (λ ls. after_in ls k) (after_same (lines_before t place) back line command e.absent k)
-  by_command command items.Generates h = between generates_in (generates_without (lines_before t place) back line (no_generate line command))
-  by_command command (items.Cmd j) h =
+  after_alike : (block : Bool) → is_block line ≡ block → (k : ℕ) →
+      is_touched (cond block (block_probes t place line) (CommandsFrom (command_from t place) ∷ [])) (items.After k) ≡ false →
+      after_in with.lines k ≡ after_in without.lines k
+  after_alike true is k h =
+      let places = block_places (block_before t place) line in
+      let front = untouched_at places 0 _ (items.After k) refl h in
+      let other = untouched_at places 2 _ (items.After k) refl h in
+      between (λ ls. after_in ls k)
+      (after_other (lines_before t place) back line k (other_way k line.number other) (not_behind (block_before t place) k front))
+  after_alike false is k h = between (λ ls. after_in ls k) (after_same (lines_before t place) back line is e.absent k)
+
+  -- those of a command
+  command_alike : (block : Bool) → is_block line ≡ block → (j : ℕ) →
+      is_touched (cond block (block_probes t place line) (CommandsFrom (command_from t place) ∷ [])) (items.Cmd j) ≡ false →
+      nth (filter_map command_of with.lines) j ≡ nth (filter_map command_of without.lines) j
+  command_alike true is j h = between (λ ls. nth (filter_map command_of ls) j) (commands_same (lines_before t place) back line j is)
+  command_alike false is j h =
       between (λ ls. nth (filter_map command_of ls) j) (commands_front (lines_before t place) (line ∷ back) back j ((or_parts _ _ h).0))
-  by_command command items.Seed h = seeds
-  by_command command (items.Within time) h = ap (λ n. nat_le time n) e.horizon
 
-  by_kind : (block : Bool) → is_block line ≡ block → (i : Item) →
-      is_touched (cond block (block_probes t place line) (CommandsFrom (command_from t place) ∷ [])) i ≡ false → ask with b i ≡ ask without a i
-  by_kind true block i h = by_block block i h
-  by_kind false command i h = by_command command i h
-
+  -- and all others, to which the line says nothing
   pub line_alike : (i : Item) → is_touched (line_probes t place line) i ≡ false → ask with b i ≡ ask without a i
-  line_alike i h = by_kind (is_block line) refl i h
+  line_alike (items.Block k) h = block_alike (is_block line) refl k h
+  line_alike (items.After k) h = after_alike (is_block line) refl k h
+  line_alike (items.Cmd j) h = command_alike (is_block line) refl j h
+  line_alike i h = silent_alike i tt (lines_before t place) back without with a b e.horizon seeds line e.has e.lacks ((by_lines i tt).line t place line h)

@@ -1,20 +1,17 @@
 -- Statements that are the same are the same block.
-use Rattle.std.proofs.Common.{◌≡◌, true, List, [], ◌∷◌, get_or, Option, Some, None, refl, sym, ap, ap₂, ◌∙◌, rules}
+use Rattle.std.proofs.Common.{◌≡◌, ◌≤◌, ◌<◌, true, false, length, arith, List, [], ◌∷◌, get_or, Option, Some, None, refl, sym, ap, ap₂, ◌∙◌, rules}
 use denote.Enum.Bare.{same_true}
 use Rattle.std.specs.Str.{bytes_eq}
 use Rattle.std.proofs.lemmas.Bool.{and_parts}
 use Rattle.std.proofs.lemmas.Bool.Decides.{Decides-int_eq}
-use Rattle.gw_names.specs.contracts.verb.Verb.{the_type}
-use Rattle.gw_names.specs.declared.verb.Verb.{Verb}
-use Rattle.gw_names.specs.declared.verb.Verb.TheVariants as verbs
+use Rattle.gw_names.specs.contracts.verb.BlockVerb.{the_type}
+use Rattle.gw_names.specs.declared.verb.BlockVerb.{BlockVerb}
 use Rattle.gw_expr.specs.Term.{Term, Constant}
 use Rattle.gw_meaning.specs.declared.statement.Statement.{Statement}
 use Rattle.gw_meaning.specs.declared.statement.Block.{Block}
-use Rattle.gw_meaning.specs.declared.statement.Block.TheVariants as blocks
 use Rattle.gw_meaning.specs.declared.statement.Body.{Body}
 use Rattle.gw_meaning.specs.declared.statement.Body.TheVariants as bodies
-use Rattle.gw_meaning.specs.Statements.{verb_of_block}
-use Rattle.gw_edit.specs.Same.{same_term, same_operand, same_operands, operands_of, same_verb, same_block, same_body, same_statement}
+use Rattle.gw_edit.specs.Same.{same_term, same_operand, same_operands, same_verb, same_block, same_body, same_statement}
 
 term_same : (a b : Term) → same_term a b ≡ true → a ≡ b
 term_same (Constant a) (Constant b) h = ap (λ z. Constant z) ((Decides-int_eq a b).0 h)
@@ -25,6 +22,11 @@ operand_same None (Some b) h = absurd cc
 operand_same (Some a) None h = absurd cc
 operand_same (Some a) (Some b) h = ap (λ t. Some t) (term_same a b h)
 
+pub more_than_none : (xs ys : List (Option Term)) → 1 ≤ length xs → length ys < 1 → same_operands xs ys ≡ false
+more_than_none [] ys some none = absurd (omega arith)
+more_than_none (a ∷ xs) [] some none = refl
+more_than_none (a ∷ xs) (b ∷ ys) some none = absurd (omega arith)
+
 operands_same : (xs ys : List (Option Term)) → same_operands xs ys ≡ true → xs ≡ ys
 operands_same [] [] h = refl
 operands_same [] (b ∷ ys) h = absurd cc
@@ -33,30 +35,15 @@ operands_same (a ∷ xs) (b ∷ ys) h =
     let w = and_parts (same_operand a b) (same_operands xs ys) h in
     ap₂ (λ z zs. z ∷ zs) (operand_same a b w.0) (operands_same xs ys w.1)
 
-verb_same : (v w : Verb) → same_verb v w ≡ true → v ≡ w
+verb_same : (v w : BlockVerb) → same_verb v w ≡ true → v ≡ w
 unfolding same_verb
 verb_same v w h = same_true the_type (search rules) v w h
 
--- the block of a verb with these operands: each block is made back from its verb and its operands
-block_made : Verb → List (Option Term) → Option Block
-block_made verbs.Generate os = Some (blocks.Generate (get_or os 0 None) (get_or os 1 None) (get_or os 2 None) (get_or os 3 None) (get_or os 4 None))
-block_made verbs.Advance os = Some (blocks.Advance (get_or os 0 None) (get_or os 1 None))
-block_made verbs.Terminate os = Some (blocks.Terminate (get_or os 0 None))
-block_made verb os = None
-
-made_back : (b : Block) → block_made (verb_of_block b) (operands_of b) ≡ Some b
-unfolding block_made
-made_back (blocks.Generate mean range offset limit priority) = refl
-made_back (blocks.Advance mean range) = refl
-made_back (blocks.Terminate count) = refl
-
 block_same : (a b : Block) → same_block a b ≡ true → a ≡ b
 block_same a b h =
-    let w = and_parts (same_verb (verb_of_block a) (verb_of_block b)) (same_operands (operands_of a) (operands_of b)) h in
-    let verb : verb_of_block a ≡ verb_of_block b = verb_same (verb_of_block a) (verb_of_block b) w.0 in
-    let operands : operands_of a ≡ operands_of b = operands_same (operands_of a) (operands_of b) w.1 in
-    let made : Some a ≡ Some b = sym (made_back a) ∙ (ap₂ block_made verb operands ∙ made_back b) in
-    cc
+    let w = and_parts (same_verb a.verb b.verb) (same_operands a.operands b.operands) h in
+    ap₂ (λ (v : BlockVerb) (os : List (Option Term)). record { verb = v; operands = os }) (verb_same a.verb b.verb w.0)
+    (operands_same a.operands b.operands w.1)
 
 body_same : (a b : Body) → same_body a b ≡ true → a ≡ b
 body_same (bodies.Block a) (bodies.Block b) h = ap (λ x. bodies.Block x) (block_same a b h)

@@ -1,39 +1,29 @@
 -- What an edit does not touch is answered alike.
 use Rattle.std.proofs.Common.{◌≡◌, ℕ, ◌+◌, ◌-◌, ◌≤◌, Bool, true, false, List, [], ◌∷◌, ◌++◌, Option, Some, None, Ok, length, take, drop, nat_le, refl, ap, sym, subst, ◌∙◌, ⊎_elim, arith, append-nil}
 use Rattle.std.proofs.lemmas.List.{take-append-drop}
-use Rattle.std.specs.List.{filter_map}
 use Rattle.gw_meaning.specs.declared.item.Item.{Item}
 use Rattle.gw_meaning.specs.declared.item.Item.TheVariants as items
 use Rattle.gw_meaning.specs.declared.statement.Statement.{Statement}
 use Rattle.gw_meaning.specs.declared.statement.Numbered.{Numbered}
-use Rattle.gw_meaning.specs.Listing.{Listing, line_in, seed_at, nth, command_of, after_in, generates_in}
+use Rattle.gw_meaning.specs.Listing.{Listing, line_in, seed_at, nth}
 use Rattle.gw_meaning.specs.Numbers.{AreNumbered}
 use Rattle.gw_meaning.specs.Questions.{ask}
 use Rattle.gw_model.specs.Spliced.{spliced, with_splice}
 use Rattle.gw_model.proofs.Numbers.{new_absent, absent_gone}
-use Rattle.gw_frame.specs.Alike.{SameAnswer}
 use Rattle.gw_edit.specs.declared.edit.Edit.{Edit}
 use Rattle.gw_edit.specs.declared.touch.Probe.{Probe}
 use Rattle.gw_edit.specs.Applied.{applied}
 use Rattle.gw_edit.specs.Touching.{touch_of, is_touched, lines_before, line_probes, splice_probes}
 use Rattle.gw_edit.specs.Untouched.{UntouchedAlike}
-use Rattle.gw_edit.proofs.Fronts.{block_in}
-use Rattle.gw_edit.proofs.LineLaws.{untouched_both, line_alike}
-use Rattle.gw_edit.proofs.ChangeLaws.{changed_line, change_alike}
+use Rattle.gw_edit.proofs.ByLines.{untouched_both, changed_line}
+use Rattle.gw_edit.proofs.LineLaws.{line_alike}
+use Rattle.gw_edit.proofs.ChangeLaws.{change_alike}
 use Rattle.gw_edit.proofs.Splits.{nth_between, fresh_line, come_parts, gone_at}
 use Rattle.gw_edit.proofs.Made.{gone, come_in, IsSpliced, IsLeft, made_by, one_seed}
 
 -- what two versions answer alike in a replication, where this is touched
 abbrev pub IsAlike : Listing → Listing → ℕ → List Probe → Type 0
 IsAlike t u r touched = (a b : ℕ) → seed_at t r ≡ Some a → seed_at u r ≡ Some b → (i : Item) → is_touched touched i ≡ false → ask u b i ≡ ask t a i
-
-as_same : (t : Listing) (a : ℕ) (u : Listing) (b : ℕ) (i : Item) → ask u b i ≡ ask t a i → SameAnswer t a u b i
-as_same t a u b (items.Block k) h = h
-as_same t a u b (items.After k) h = h
-as_same t a u b items.Generates h = h
-as_same t a u b (items.Cmd j) h = h
-as_same t a u b items.Seed h = h
-as_same t a u b (items.Within time) h = h
 
 -- a statement comes in
 insert_alike : (t : Listing) (place : ℕ) (s : Statement) (r : ℕ) → 1 ≤ place → place ≤ length t.lines + 1 →
@@ -81,12 +71,9 @@ change_made_alike t place s r numbered least last a b was is i h =
 -- the statements are left: the seeds and the horizon alone may be others
 lines_alike : (t u : Listing) (a b : ℕ) → u.lines ≡ t.lines → (i : Item) → (i ≡ items.Seed → b ≡ a) →
     ((time : ℕ) → i ≡ items.Within time → nat_le time u.horizon ≡ nat_le time t.horizon) → ask u b i ≡ ask t a i
-lines_alike t u a b lines (items.Block k) seeds clock = ap (λ ls. block_in ls k) lines
-lines_alike t u a b lines (items.After k) seeds clock = ap (λ ls. after_in ls k) lines
-lines_alike t u a b lines items.Generates seeds clock = ap generates_in lines
-lines_alike t u a b lines (items.Cmd j) seeds clock = ap (λ ls. nth (filter_map command_of ls) j) lines
 lines_alike t u a b lines items.Seed seeds clock = seeds refl
 lines_alike t u a b lines (items.Within time) seeds clock = clock time refl
+lines_alike t u a b lines i seeds clock = ap (λ ls. ask (record t { lines = ls }) a i) lines
 
 left_alike : (t : Listing) (e : Edit) (u : Listing) (r : ℕ) → IsLeft t e u → IsAlike t u r (touch_of t e u r)
 left_alike t e u r left a b was is i h =
@@ -115,4 +102,4 @@ edit_alike t e u r numbered made = ⊎_elim spliced_alike (left_alike t e u r) (
       (splice_alike t s.place s.goes s.comes r numbered s.least s.last s.there))
 
 pub untouched_alike : UntouchedAlike
-untouched_alike t e u r a b numbered made was is i h = as_same t a u b i (edit_alike t e u r numbered made a b was is i h)
+untouched_alike t e u r a b numbered made was is i h = edit_alike t e u r numbered made a b was is i h

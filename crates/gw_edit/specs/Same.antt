@@ -4,15 +4,13 @@ use Rattle.std.specs.Prelude.{Bool, true, false, ◌&&◌, List, [], ◌∷◌, 
 use Rattle.std.specs.Ordering.{int_eq}
 use Rattle.std.specs.Str.{bytes_eq}
 use denote.Enum.Bare.{sameb}
-use Rattle.gw_names.specs.contracts.verb.Verb.{the_type}
-use Rattle.gw_names.specs.declared.verb.Verb.{Verb}
+use Rattle.gw_names.specs.contracts.verb.BlockVerb.{the_type}
+use Rattle.gw_names.specs.declared.verb.BlockVerb.{BlockVerb}
 use Rattle.gw_expr.specs.Term.{Term, Constant}
 use Rattle.gw_meaning.specs.declared.statement.Statement.{Statement}
 use Rattle.gw_meaning.specs.declared.statement.Block.{Block}
-use Rattle.gw_meaning.specs.declared.statement.Block.TheVariants as blocks
 use Rattle.gw_meaning.specs.declared.statement.Body.{Body}
 use Rattle.gw_meaning.specs.declared.statement.Body.TheVariants as bodies
-use Rattle.gw_meaning.specs.Statements.{verb_of_block}
 
 -- two operands
 abbrev pub same_term : Term → Term → Bool
@@ -30,20 +28,13 @@ same_operands [] (b ∷ ys) = false
 same_operands (a ∷ xs) [] = false
 same_operands (a ∷ xs) (b ∷ ys) = same_operand a b && same_operands xs ys
 
--- a block's operands, A to E; those that its verb does not have are absent
-abbrev pub operands_of : Block → List (Option Term)
-operands_of (blocks.Generate mean range offset limit priority) = mean ∷ range ∷ offset ∷ limit ∷ priority ∷ []
-operands_of (blocks.Advance mean range) = mean ∷ range ∷ None ∷ None ∷ None ∷ []
-operands_of (blocks.Terminate count) = count ∷ None ∷ None ∷ None ∷ None ∷ []
-
 -- two verbs
-unfoldable pub same_verb : Verb → Verb → Bool
+unfoldable pub same_verb : BlockVerb → BlockVerb → Bool
 same_verb = sameb the_type
 
 -- two blocks
 abbrev pub same_block : Block → Block → Bool
-same_block block block' =
-    same_verb (verb_of_block block) (verb_of_block block') && same_operands (operands_of block) (operands_of block')
+same_block block block' = same_verb block.verb block'.verb && same_operands block.operands block'.operands
 
 -- two statements, both blocks
 abbrev pub same_body : Body → Body → Bool

@@ -39,22 +39,29 @@ block_before t place = last_block None (lines_before t place)
 abbrev pub command_from : Listing → ℕ → ℕ
 command_from t place = length (filter (λ line. not (is_block line)) (lines_before t place)) + 1
 
--- what comes after a block, where there is one; the list of GENERATEs, where it is another one
-abbrev pub behind : Option ℕ → List Probe
-behind None = []
-behind (Some number) = One (After number) ∷ []
+-- the probes of a list of places that may be free
+abbrev pub given : List (Option Probe) → List Probe
+given places = filter_map (λ place. place) places
 
-abbrev pub generates_if : Bool → List Probe
-generates_if other = if other then One Generates ∷ [] else []
+-- an item, where it is wanted; what comes after a block, where there is one
+abbrev pub one_if : Bool → Item → Option Probe
+one_if wanted item = if wanted then Some (One item) else None
+
+abbrev pub behind : Option ℕ → Option Probe
+behind None = None
+behind (Some number) = Some (One (After number))
 
 -- a block that comes in or goes out: what comes after the block in front of it, itself and what comes after itself, and
 -- the list of GENERATEs where it is one. (Where it comes in, the version before had no block with its number, so that
 -- no step of a recorded run can have read the two of its own; they stand here since the versions answer them in two
 -- ways.)
+abbrev pub block_places : Option ℕ → Numbered → List (Option Probe)
+block_places front line =
+    behind front ∷ Some (One (items.Block line.number)) ∷ Some (One (After line.number))
+    ∷ one_if (is_generate line) Generates ∷ []
+
 abbrev pub block_probes : Listing → ℕ → Numbered → List Probe
-block_probes t place line =
-    behind (block_before t place)
-    ++ (One (items.Block line.number) ∷ One (After line.number) ∷ generates_if (is_generate line))
+block_probes t place line = given (block_places (block_before t place) line)
 
 -- a statement that comes in or goes out; a command touches all commands from it on
 abbrev pub line_probes : Listing → ℕ → Numbered → List Probe
@@ -63,11 +70,12 @@ line_probes t place line =
 
 -- a block that is another block: itself where the verb or the operands differ, and then the list of GENERATEs where one
 -- of the two is one
+abbrev pub change_places : Bool → Numbered → Numbered → List (Option Probe)
+change_places other old new =
+    one_if other (items.Block old.number) ∷ one_if (other && (is_generate old || is_generate new)) Generates ∷ []
+
 abbrev pub block_change : Numbered → Numbered → List Probe
-block_change old new =
-    if same_statement old.statement new.statement
-    then []
-    else (One (items.Block old.number) ∷ generates_if (is_generate old || is_generate new))
+block_change old new = given (change_places (not (same_statement old.statement new.statement)) old new)
 
 -- of a statement, where there is one
 abbrev pub probes_of : Listing → ℕ → Option Numbered → List Probe
@@ -123,7 +131,3 @@ touched_in touching replication = seed_probes touching.reseeded replication ++ t
 
 abbrev pub touch_of : Listing → Edit → Listing → ℕ → List Probe
 touch_of t e u replication = touched_in (touching_of t e u) replication
-
--- the probes of a list of places that may be free
-abbrev pub given : List (Option Probe) → List Probe
-given probes = filter_map (λ probe. probe) probes

@@ -13,7 +13,7 @@ pub enum Edit {
     Insert { place: u64, text: Row<u8> },
     /// The statement at `place`, 1 to the number of statements, goes out; else it is E1.
     Delete { place: u64 },
-    /// The statement that `text` spells takes the place of another, and its number. The refusals are those of
+    /// The statement that `text` spells takes the place of another, and its id. The refusals are those of
     /// an insert.
     Change { place: u64, text: Row<u8> },
     /// The storage `name` holds `amount`. There are no storages yet, so it is E6.

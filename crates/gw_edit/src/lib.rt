@@ -14,8 +14,6 @@ mod making;
 mod rebasing;
 mod replications;
 mod same;
-#[cfg(test)]
-mod tests;
 mod text;
 mod touch;
 mod touched_step;

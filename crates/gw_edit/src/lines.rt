@@ -1,8 +1,8 @@
 ghost use Rattle.std.specs.Prelude.{◌≡◌, ◌-◌, length, filter, not, take, None, option_copied};
-ghost use Rattle.gw_meaning.specs.Listing.{is_block, is_generate, nth};
+ghost use Rattle.gw_meaning.specs.Listing.{is_block, nth};
 ghost use Rattle.gw_edit.specs.Touching.{last_block};
 
-use gw_meaning::{Block, Body, Numbered};
+use gw_meaning::{Numbered, StatementId};
 
 /// The line at a place, from 1.
 pub fn line_at(lines: &[Numbered], place: u64) -> Option<&Numbered>
@@ -23,12 +23,12 @@ pub fn lines_before(lines: &[Numbered], place: u64) -> &[Numbered]
 }
 
 /// The number of the last block.
-pub fn last_block(lines: &[Numbered]) -> Option<u64>
+pub fn last_block(lines: &[Numbered]) -> Option<StatementId>
     ensures { result ≡ last_block None lines.now }
 {
     let mut last = None;
     for line in lines {
-        if is_block(line) {
+        if line.is_block() {
             last = Some(line.number);
         }
     }
@@ -41,29 +41,9 @@ pub fn count_commands(lines: &[Numbered]) -> u64
 {
     let mut count = 0;
     for line in lines {
-        if !is_block(line) {
+        if !line.is_block() {
             count += 1;
         }
     }
     count
-}
-
-/// Whether the line is a block.
-pub fn is_block(line: &Numbered) -> bool
-    ensures { result ≡ is_block line.now }
-{
-    match line.statement.body {
-        Body::Block(_) => true,
-        Body::Command(_) => false,
-    }
-}
-
-/// Whether the line is a GENERATE.
-pub fn is_generate(line: &Numbered) -> bool
-    ensures { result ≡ is_generate line.now }
-{
-    match line.statement.body {
-        Body::Block(Block::Generate { .. }) => true,
-        _ => false,
-    }
 }

@@ -1,9 +1,9 @@
-ghost use Rattle.std.specs.Prelude.{◌≡◌, map, option_copied};
-ghost use Rattle.gw_edit.specs.Same.{same_term, same_operand, same_operands, operands_of, same_verb, same_block, same_body, same_statement};
+ghost use Rattle.std.specs.Prelude.{◌≡◌};
+ghost use Rattle.gw_edit.specs.Same.{same_term, same_operand, same_operands, same_verb, same_block, same_body, same_statement};
 
 use gw_expr::{Expr, Node};
 use gw_meaning::{Block, Body, Statement};
-use gw_names::Verb;
+use gw_names::BlockVerb;
 
 /// Whether both are blocks with the same verb and operands. Labels do not count.
 pub fn same_statement(old: &Statement, new: &Statement) -> bool
@@ -24,53 +24,30 @@ fn same_body(old: &Body, new: &Body) -> bool
 fn same_block(old: &Block, new: &Block) -> bool
     ensures { result ≡ same_block old.now new.now }
 {
-    same_verb(old.verb(), new.verb()) && same_operands(operands_of(old), operands_of(new))
+    same_verb(old.verb, new.verb) && same_operands(old.operands.as_slice(), new.operands.as_slice())
 }
 
 #[tactic(auto, unfolding(crate::specs::Same::same_verb))]
-fn same_verb(old: Verb, new: Verb) -> bool
+fn same_verb(old: BlockVerb, new: BlockVerb) -> bool
     ensures { result ≡ same_verb old new }
 {
     old == new
 }
 
-// The operands of a block, A to E; those that its verb does not have are absent.
-fn operands_of(block: &Block) -> [Option<&Expr>; 5]
-    ensures { map (λ o. option_copied o) result ≡ operands_of block.now }
+#[tactic(auto, using(crate::proofs::SameBlocks::more_than_none))]
+fn same_operands(old: &[Option<Expr>], new: &[Option<Expr>]) -> bool
+    ensures { result ≡ same_operands old.now new.now }
 {
-    match block {
-        Block::Generate {
-            mean,
-            range,
-            offset,
-            limit,
-            priority,
-        } => [
-            mean.as_ref(),
-            range.as_ref(),
-            offset.as_ref(),
-            limit.as_ref(),
-            priority.as_ref(),
-        ],
-        Block::Advance { mean, range } => [mean.as_ref(), range.as_ref(), None, None, None],
-        Block::Terminate { count } => [count.as_ref(), None, None, None, None],
+    match (old, new) {
+        ([], []) => true,
+        ([], [_, ..]) => false,
+        ([_, ..], []) => false,
+        ([a, others @ ..], [b, rest @ ..]) => same_operand(a, b) && same_operands(others, rest),
     }
 }
 
-fn same_operands(old: [Option<&Expr>; 5], new: [Option<&Expr>; 5]) -> bool
-    ensures { result ≡ same_operands (map (λ o. option_copied o) old.entry) (map (λ o. option_copied o) new.entry) }
-{
-    let [a, b, c, d, e] = old;
-    let [v, w, x, y, z] = new;
-    same_operand(a, v)
-        && same_operand(b, w)
-        && same_operand(c, x)
-        && same_operand(d, y)
-        && same_operand(e, z)
-}
-
-fn same_operand(old: Option<&Expr>, new: Option<&Expr>) -> bool
-    ensures { result ≡ same_operand (option_copied old.entry) (option_copied new.entry) }
+fn same_operand(old: &Option<Expr>, new: &Option<Expr>) -> bool
+    ensures { result ≡ same_operand old.now new.now }
 {
     match (old, new) {
         (None, None) => true,

@@ -1,13 +1,10 @@
 ghost use Rattle.std.specs.Prelude.{◌≡◌, ◌++◌, [], ◌∷◌, Some, None, option_copied};
-ghost use Rattle.gw_meaning.specs.declared.item.Item.TheVariants as items;
-ghost use Rattle.gw_meaning.specs.Listing.{is_generate};
-ghost use Rattle.gw_edit.specs.declared.touch.Probe.TheVariants.{One};
-ghost use Rattle.gw_edit.specs.Touching.{touching_of, seed_touching, seed_probes, everywhere, given, behind, generates_if, block_before, command_from, line_probes, probes_of, splice_probes, block_change, same_seed};
+ghost use Rattle.gw_edit.specs.Touching.{touching_of, seed_touching, seed_probes, everywhere, given, one_if, block_places, block_before, command_from, line_probes, probes_of, splice_probes, block_change, same_seed};
 
 use crate::edit::Edit;
-use crate::lines::{count_commands, is_block, is_generate, last_block, line_at, lines_before};
+use crate::lines::{count_commands, last_block, line_at, lines_before};
 use crate::same::same_statement;
-use gw_meaning::{Item, Numbered};
+use gw_meaning::{Item, Numbered, StatementId};
 use gw_model::Version;
 use gw_nums::Time;
 use std::marker::Model;
@@ -85,7 +82,14 @@ fn both(first: Probes, rest: Probes) -> Touch
 fn alone(probe: Option<Probe>) -> Touch
     ensures { result ≡ everywhere (given (probe ∷ [])) }
 {
-    both([probe, None, None, None], [None, None, None, None])
+    both(two(probe, None), two(None, None))
+}
+
+// At most two probes.
+fn two(first: Option<Probe>, second: Option<Probe>) -> Probes
+    ensures { given result ≡ given (first ∷ second ∷ []) }
+{
+    [first, second, None, None]
 }
 
 // A replication's seed, before and after.
@@ -96,8 +100,8 @@ fn seed_touch(replication: u64, old: Option<u64>, new: Option<u64>) -> Touch
         alone(None)
     } else {
         Touch {
-            first: [None, None, None, None],
-            rest: [None, None, None, None],
+            first: two(None, None),
+            rest: two(None, None),
             reseeded: Some(replication),
         }
     }
@@ -143,50 +147,45 @@ fn probes_of(version: &Version, place: u64, line: Option<&Numbered>) -> Probes
 {
     match line {
         Some(line) => line_probes(version, place, line),
-        None => [None, None, None, None],
+        None => two(None, None),
     }
 }
 
 fn line_probes(version: &Version, place: u64, line: &Numbered) -> Probes
     ensures { given result ≡ line_probes version.now place line.now }
 {
-    if is_block(line) {
+    if line.is_block() {
         block_probes(block_before(version, place), line)
     } else {
         let commands = Probe::CommandsFrom(command_from(version, place));
-        [Some(commands), None, None, None]
+        two(Some(commands), None)
     }
 }
 
 // A block that comes in or goes out behind the block in front of it.
-fn block_probes(front: Option<u64>, line: &Numbered) -> Probes
-    ensures { given result ≡ behind front
-        ++ (One (items.Block line.now.number) ∷ One (items.After line.now.number) ∷
-        generates_if (is_generate line.now)) }
+fn block_probes(front: Option<StatementId>, line: &Numbered) -> Probes
+    ensures { result ≡ block_places front line.now }
 {
     [
-        front.map(|number| Probe::One(Item::After(number))),
+        front.map(|id| Probe::One(Item::After(id))),
         Some(Probe::One(Item::Block(line.number))),
         Some(Probe::One(Item::After(line.number))),
-        generates_if(is_generate(line)),
+        one_if(line.is_generate(), Item::Generates),
     ]
 }
 
-fn generates_if(other: bool) -> Option<Probe>
-    ensures { given (result ∷ []) ≡ generates_if other }
+// An item, where it is wanted.
+fn one_if(wanted: bool, item: Item) -> Option<Probe>
+    ensures { result ≡ one_if wanted item }
 {
-    if other {
-        Some(Probe::One(Item::Generates))
-    } else {
-        None
-    }
+    if wanted { Some(Probe::One(item)) } else { None }
 }
 
 // A line that has another statement.
 fn change_touch(version: &Version, place: u64, old: &Numbered, new: &Numbered) -> Touch
     ensures { result ≡ everywhere (splice_probes version.now place (Some old.now) (Some new.now)) }
 {
-    if is_block(old) && is_block(new) {
+    if old.is_block() && new.is_block() {
         block_change(old, new)
     } else {
         both(
@@ -200,20 +199,19 @@ fn change_touch(version: &Version, place: u64, old: &Numbered, new: &Numbered) -
 fn block_change(old: &Numbered, new: &Numbered) -> Touch
     ensures { result ≡ everywhere (block_change old.now new.now) }
 {
-    if same_statement(&old.statement, &new.statement) {
-        alone(None)
-    } else {
-        let block = Probe::One(Item::Block(old.number));
-        let generates = generates_if(is_generate(old) || is_generate(new));
-        both(
-            [Some(block), generates, None, None],
-            [None, None, None, None],
-        )
-    }
+    let other = !same_statement(&old.statement, &new.statement);
+    let generates = other && (old.is_generate() || new.is_generate());
+    both(
+        two(
+            one_if(other, Item::Block(old.number)),
+            one_if(generates, Item::Generates),
+        ),
+        two(None, None),
+    )
 }
 
 // The last block in front of a place.
-fn block_before(version: &Version, place: u64) -> Option<u64>
+fn block_before(version: &Version, place: u64) -> Option<StatementId>
     ensures { result ≡ block_before version.now place }
 {
     last_block(lines_before(version.lines(), place))

@@ -12,7 +12,9 @@ use Rattle.gw_streams.specs.Draws.{is_set, stream_at}
 use Rattle.gw_meaning.specs.declared.item.Item.{Item}
 use Rattle.gw_meaning.specs.declared.item.Item.TheVariants as items
 use Rattle.gw_meaning.specs.declared.statement.Block.{Block}
-use Rattle.gw_meaning.specs.declared.statement.Block.TheVariants as blocks
+use Rattle.gw_names.specs.declared.verb.BlockVerb.{BlockVerb}
+use Rattle.gw_names.specs.declared.verb.BlockVerb.TheVariants as blocks
+use Rattle.gw_meaning.specs.Statements.{A, B, C, D, E, operand, is_generate_verb}
 use Rattle.gw_meaning.specs.declared.statement.Command.{Command}
 use Rattle.gw_meaning.specs.declared.statement.Command.TheVariants as commands
 use Rattle.gw_meaning.specs.declared.statement.Numbered.{Numbered}
@@ -30,7 +32,7 @@ use Rattle.gw_meaning.specs.Machine.{Machine, raised, live}
 use Rattle.gw_meaning.specs.Questions.{ask, result_of}
 use Rattle.gw_meaning.specs.Evaluation.{Eval, asks, number_of_draw, draw, value_prog, value_or_zero, spread, sample_within, time_prog}
 use Rattle.gw_meaning.specs.Changes.{decided}
-use Rattle.gw_meaning.specs.Step.{arrival_at, arrival_in_time, arrival_prog, first_of_generate, first_arrival, with_arrival, prime_prog, arrivals_prog, first_arrivals_prog, start_prog, command_prog, generate_prog, delay_of, advance_prog, terminate_prog, enter_prog, try_prog, attempt_prog, least_time, within_prog, clock_prog, pick_prog, scan_prog, move_prog, step_prog}
+use Rattle.gw_meaning.specs.Step.{arrival_at, arrival_in_time, arrival_prog, first_of_generate, first_of, first_arrival, with_arrival, prime_prog, arrivals_prog, first_arrivals_prog, start_prog, command_prog, generate_prog, delay_of, advance_prog, terminate_prog, block_prog, enter_prog, try_prog, attempt_prog, least_time, within_prog, clock_prog, pick_prog, scan_prog, move_prog, step_prog}
 use Rattle.gw_frame.specs.BlockIds.{IsBlockId, ActiveNames, TransactionNames, ItemNames}
 use Rattle.gw_frame.proofs.Generates.{IsBlockIn, generates_there}
 use Rattle.gw_frame.proofs.Seeds.{uses_seed, ReadsSeed, one_drew, set_first}
@@ -147,12 +149,13 @@ module _ (t : Listing) (seed : ℕ) (s : Machine) where
   first_of_generate_decides id mean range None limit priority named = arrival_decides id _ mean range limit priority named
   first_of_generate_decides id mean range (Some offset) limit priority named = arrival_decides id _ (Some offset) None limit priority named
 
+  first_of_decides : (id : ℕ) (b : Block) (generates : Bool) → IsBlockId t id → Decides (IsComingIfAny t s) (first_of s id b generates)
+  first_of_decides id b true named = first_of_generate_decides id (operand b A) (operand b B) (operand b C) (operand b D) (operand b E) named
+  first_of_decides id b false named = keeps_gives tt
+
   first_arrival_decides : (id : ℕ) (block : Option Block) → block_at t id ≡ block → Decides (IsComingIfAny t s) (first_arrival s id block)
-  first_arrival_decides id (Some (blocks.Generate mean range offset limit priority)) is =
-      first_of_generate_decides id mean range offset limit priority (inr (_, is))
-  first_arrival_decides id (Some (blocks.Advance mean range)) is = keeps_gives tt
-  first_arrival_decides id (Some (blocks.Terminate count)) is = keeps_gives tt
   first_arrival_decides id None is = keeps_gives tt
+  first_arrival_decides id (Some b) is = first_of_decides id b (is_generate_verb b.verb) (inr (b, is))
 
   with_arrival_coming : (a : Option Arrival) (made : List Arrival) → IsComingIfAny t s a → AllByRecursion (IsComing t s) made →
       AllByRecursion (IsComing t s) (with_arrival a made)
@@ -221,10 +224,11 @@ module _ (t : Listing) (seed : ℕ) (s : Machine) where
   terminate_decides id count named =
       keeps_bind (value_or_zero_decides count) (λ n h. keeps_stops (is_negative n) _ (keeps_gives (named, tt, tt)))
 
-  enter_decides : (x : Transaction) (id : ℕ) (block : Block) → IsBlockId t id → Decides (IsDecided t s) (enter_prog s x id (Some block))
-  enter_decides x id (blocks.Generate mean range offset limit priority) named = generate_decides x id mean range limit priority named
-  enter_decides x id (blocks.Advance mean range) named = advance_decides id mean range named
-  enter_decides x id (blocks.Terminate count) named = terminate_decides id count named
+  block_decides : (x : Transaction) (id : ℕ) (b : Block) (verb : BlockVerb) → IsBlockId t id → Decides (IsDecided t s) (block_prog s x id b verb)
+  block_decides x id b blocks.Generate named = generate_decides x id (operand b A) (operand b B) (operand b D) (operand b E) named
+  block_decides x id b blocks.Advance named = advance_decides id (operand b A) (operand b B) named
+  block_decides x id b blocks.Terminate named = terminate_decides id (operand b A) named
+  block_decides x id b verb named = keeps_ends
 
   -- attempts: an id that is no block ends the run
   try_block : (x : Transaction) (id : ℕ) (block : Option Block) → block_at t id ≡ block →
@@ -234,7 +238,7 @@ module _ (t : Listing) (seed : ℕ) (s : Machine) where
   try_block x id (Some block) is =
       let there : IsBlockId t id = inr (block, is) in
       keeps_asks (items.Block id) refl (λ numbered named. there)
-      (subst (λ o. Decides (IsDecided t s) (enter_prog s x id o)) (sym is) (enter_decides x id block there))
+      (subst (λ o. Decides (IsDecided t s) (enter_prog s x id o)) (sym is) (block_decides x id block block.verb there))
 
   try_decides : (x : Transaction) (id : Option ℕ) → Decides (IsDecided t s) (try_prog s x id)
   try_decides x None = keeps_ends

@@ -8,7 +8,9 @@ use Rattle.gw_streams.specs.declared.stream.Stream.TheVariants as streams
 use Rattle.gw_streams.specs.Draws.{stream_at}
 use Rattle.gw_meaning.specs.declared.item.Item.TheVariants as items
 use Rattle.gw_meaning.specs.declared.statement.Block.{Block}
-use Rattle.gw_meaning.specs.declared.statement.Block.TheVariants as blocks
+use Rattle.gw_names.specs.declared.verb.BlockVerb.{BlockVerb}
+use Rattle.gw_names.specs.declared.verb.BlockVerb.TheVariants as blocks
+use Rattle.gw_meaning.specs.Statements.{A, B, C, D, E, operand, is_generate_verb}
 use Rattle.gw_meaning.specs.declared.statement.Command.{Command}
 use Rattle.gw_meaning.specs.declared.statement.Command.TheVariants as commands
 use Rattle.gw_meaning.specs.declared.transaction.Transaction.{Transaction}
@@ -16,7 +18,7 @@ use Rattle.gw_meaning.specs.declared.transaction.Event.{Event}
 use Rattle.gw_meaning.specs.declared.moves.Arrival.{Arrival}
 use Rattle.gw_meaning.specs.Machine.{Machine, raised, live, number_of_active, count_at}
 use Rattle.gw_meaning.specs.Evaluation.{number_of_draw, draw, value_prog, value_or_zero, in_range, spread, sample_within, time_prog}
-use Rattle.gw_meaning.specs.Step.{arrival_at, arrival_in_time, arrival_within, arrival_prog, first_of_generate, first_arrival, with_arrival, arrivals_prog, first_arrivals_prog, start_prog, command_prog, generate_prog, advance_prog, terminate_prog, enter_prog, try_prog, attempt_prog, sooner, least_time, within_prog, clock_prog, pick_prog, scan_prog, move_prog, step_prog, run_prog}
+use Rattle.gw_meaning.specs.Step.{arrival_at, arrival_in_time, arrival_within, arrival_prog, first_of_generate, first_of, first_arrival, with_arrival, arrivals_prog, first_arrivals_prog, start_prog, command_prog, generate_prog, advance_prog, terminate_prog, block_prog, enter_prog, try_prog, attempt_prog, sooner, least_time, within_prog, clock_prog, pick_prog, scan_prog, move_prog, step_prog, run_prog}
 use Rattle.gw_frame.specs.Moved.{IsMove, moved_transaction, moved_event, moved_machine}
 use Rattle.gw_frame.proofs.Follows.{ProgFollows, prog_gives, prog_asks, prog_bind, Follows, follows_gives, follows_ends, follows_asks, follows_cond, follows_stops, follows_bind}
 use Rattle.gw_frame.proofs.MovedLists.{count_at_moved, none_moved}
@@ -100,13 +102,15 @@ module _ (move : ℕ → ℕ) (is : IsMove move) where
   first_of_generate_follows s id mean range (Some offset) limit priority =
       rw (count_at_moved move is s.counts id) (arrival_follows s id (count_at s.counts id).made (Some offset) None limit priority)
 
+  first_of_follows : (s : Machine) (id : ℕ) (b : Block) (generates : Bool) →
+      Follows move arrival_if_any (first_of s id b generates) (first_of (moved_machine move s) (move id) b generates)
+  first_of_follows s id b true = first_of_generate_follows s id (operand b A) (operand b B) (operand b C) (operand b D) (operand b E)
+  first_of_follows s id b false = follows_gives refl
+
   first_arrival_follows : (s : Machine) (id : ℕ) (block : Option Block) →
       Follows move arrival_if_any (first_arrival s id block) (first_arrival (moved_machine move s) (move id) block)
-  first_arrival_follows s id (Some (blocks.Generate mean range offset limit priority)) =
-      first_of_generate_follows s id mean range offset limit priority
-  first_arrival_follows s id (Some (blocks.Advance mean range)) = follows_gives refl
-  first_arrival_follows s id (Some (blocks.Terminate count)) = follows_gives refl
   first_arrival_follows s id None = follows_gives refl
+  first_arrival_follows s id (Some b) = first_of_follows s id b (is_generate_verb b.verb)
 
   with_arrival_moved : (a : Option Arrival) (made : List Arrival) →
       with_arrival (arrival_if_any a) (map (moved_arrival move) made) ≡ map (moved_arrival move) (with_arrival a made)
@@ -153,12 +157,17 @@ module _ (move : ℕ → ℕ) (is : IsMove move) where
       Follows move (moved_move move) (terminate_prog s id count) (terminate_prog (moved_machine move s) (move id) count)
   terminate_follows s id count = follows_bind _ (value_or_zero_follows s count) (λ n. follows_stops (is_negative n) _ (follows_gives refl))
 
+  block_follows : (s : Machine) (x : Transaction) (id : ℕ) (b : Block) (verb : BlockVerb) →
+      Follows move (moved_move move) (block_prog s x id b verb) (block_prog (moved_machine move s) (moved_transaction move x) (move id) b verb)
+  block_follows s x id b blocks.Generate = generate_follows s x id (operand b A) (operand b B) (operand b D) (operand b E)
+  block_follows s x id b blocks.Advance = advance_follows s id (operand b A) (operand b B)
+  block_follows s x id b blocks.Terminate = terminate_follows s id (operand b A)
+  block_follows s x id b verb = follows_ends
+
   enter_follows : (s : Machine) (x : Transaction) (id : ℕ) (block : Option Block) →
       Follows move (moved_move move) (enter_prog s x id block) (enter_prog (moved_machine move s) (moved_transaction move x) (move id) block)
   enter_follows s x id None = follows_ends
-  enter_follows s x id (Some (blocks.Generate mean range offset limit priority)) = generate_follows s x id mean range limit priority
-  enter_follows s x id (Some (blocks.Advance mean range)) = advance_follows s id mean range
-  enter_follows s x id (Some (blocks.Terminate count)) = terminate_follows s id count
+  enter_follows s x id (Some b) = block_follows s x id b b.verb
 
   -- attempts
   try_follows : (s : Machine) (x : Transaction) (id : Option ℕ) →

@@ -53,10 +53,7 @@ module _ (t u : Listing) (f g h : ℕ → ℕ) (same : (p : ℕ) → IsBlockId t
   item_same : (i : Item) → ItemNames t i → ItemNames u i → moved_item f i ≡ moved_item h (moved_item g i)
   item_same (items.Block p) there also = ap (λ q. items.Block q) (same p there also)
   item_same (items.After p) there also = ap (λ q. items.After q) (same p there also)
-  item_same items.Generates there also = refl
-  item_same (items.Cmd i) there also = refl
-  item_same items.Seed there also = refl
-  item_same (items.Within time) there also = refl
+  item_same item there also = refl
 
   items_same : (is : List Item) → AllByRecursion (ItemNames t) is → AllByRecursion (ItemNames u) is →
       map (moved_item f) is ≡ map (moved_item h) (map (moved_item g) is)
@@ -85,7 +82,8 @@ frame_in_positions t seed u new_seed n s front goes comes back splice first seco
       state_same t u (position_of u) (position_of t) move same s (run_names t seed n s first there) (run_names u new_seed n s second unseen.0),
       λ j below. reads_same same unseen.0 j below (unseen.1 j below),
     ) where
-      reads_same : ((p : ℕ) → IsBlockId t p → IsBlockId u p → position_of u p ≡ shifted front goes comes (position_of t p)) → run u new_seed n ≡ Ok s → (j : ℕ) →
+      reads_same : ((p : ℕ) → IsBlockId t p → IsBlockId u p → position_of u p ≡ shifted front goes comes (position_of t p)) →
+          run u new_seed n ≡ Ok s → (j : ℕ) →
           j < n → reads u new_seed j ≡ reads t seed j → map (moved_item (position_of u)) (reads u new_seed j) ≡
           map (moved_item (shifted front goes comes)) (map (moved_item (position_of t)) (reads t seed j))
       reads_same same also j below reads_alike =

@@ -1,10 +1,11 @@
 -- A version with its ids renamed answers renamed, and two versions with the same statements are one renamed.
-use Rattle.std.proofs.Common.{◌≡◌, ℕ, ◌+◌, nat_eq, nat_le, Bool, true, false, cond, List, [], ◌∷◌, map, Option, Some, None, is_some, option_map, option_and_then, filter_map, refl, ap, ap₂, ◌∙◌}
+use Rattle.std.proofs.Common.{◌≡◌, ℕ, ◌+◌, nat_eq, Bool, true, false, cond, List, [], ◌∷◌, map, Option, Some, None, is_some, option_map, option_and_then, filter_map, refl, ap, ap₂, ◌∙◌}
 use Rattle.std.specs.List.{cons_option}
 use Rattle.gw_meaning.specs.declared.item.Item.TheVariants as items
 use Rattle.gw_meaning.specs.declared.statement.Statement.{Statement}
 use Rattle.gw_meaning.specs.declared.statement.Numbered.{Numbered}
 use Rattle.gw_meaning.specs.Listing.{block_of, block_of_body, command_of, command_of_body, is_block, is_generate, is_generate_body, line_in, first_block, after_in, position_in, generates_in, nth}
+use Rattle.gw_meaning.specs.Questions.{ask}
 use Rattle.gw_frame.specs.Moved.{IsMove}
 use Rattle.gw_frame.specs.Renamed.{AreRenamed, RenamedAnswers}
 use Rattle.gw_frame.proofs.MovedLists.{eq_moved}
@@ -81,5 +82,4 @@ renamed_answers move t u seed r (items.Block id) = block_renamed move r.is_move 
 renamed_answers move t u seed r (items.After id) = after_renamed move r.is_move t.lines u.lines r.lines id
 renamed_answers move t u seed r items.Generates = generates_renamed move r.is_move t.lines u.lines r.lines
 renamed_answers move t u seed r (items.Cmd i) = ap (λ cs. nth cs i) (commands_renamed move t.lines u.lines r.lines)
-renamed_answers move t u seed r items.Seed = refl
-renamed_answers move t u seed r (items.Within time) = ap (nat_le time) r.horizon
+renamed_answers move t u seed r item = ap (λ n. ask (record t { horizon = n }) seed item) r.horizon

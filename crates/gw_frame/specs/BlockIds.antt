@@ -44,14 +44,11 @@ pub record StateNames (t : Listing) (s : Machine) : Type 0 where
   pub future : AllByRecursion (EventNames t) s.future
   pub counts : AllByRecursion (CountNames t) s.counts
 
--- an item
+-- an item: those of a block name its id, and no other does
 abbrev pub ItemNames : Listing → Item → Type 0
 ItemNames t (items.Block id) = IsBlockId t id
 ItemNames t (items.After id) = IsBlockId t id
-ItemNames t items.Generates = Unit {0}
-ItemNames t (items.Cmd i) = Unit {0}
-ItemNames t items.Seed = Unit {0}
-ItemNames t (items.Within time) = Unit {0}
+ItemNames t item = Unit {0}
 
 -- so it is of every state of every run, and of all that its steps read
 abbrev pub StatesNameBlocks : Type 0

@@ -17,23 +17,17 @@ pub record IsMove (move : ℕ → ℕ) : Type 0 where
   pub apart : (p q : ℕ) → move p ≡ move q → p ≡ q
 
 module _ (move : ℕ → ℕ) where
-  -- a question
+  -- a question: those of a block name an id, and no other does
   abbrev pub moved_item : Item → Item
   moved_item (items.Block id) = items.Block (move id)
   moved_item (items.After id) = items.After (move id)
-  moved_item items.Generates = items.Generates
-  moved_item (items.Cmd i) = items.Cmd i
-  moved_item items.Seed = items.Seed
-  moved_item (items.Within time) = items.Within time
+  moved_item item = item
 
-  -- its answer
+  -- its answer: what comes after a block and the list of GENERATEs name ids, and no other does
   abbrev pub moved_answer : (i : Item) → Answer i → Answer (moved_item i)
-  moved_answer (items.Block id) block = block
   moved_answer (items.After id) after = option_map move after
   moved_answer items.Generates ids = map move ids
-  moved_answer (items.Cmd i) command = command
-  moved_answer items.Seed seed = seed
-  moved_answer (items.Within time) within = within
+  moved_answer item answer = answer
 
   -- a state
   abbrev pub moved_transaction : Transaction → Transaction

@@ -104,7 +104,8 @@ module _ (priority : ℤ) where
   numbers_parts : (x : Transaction) (xs : List Transaction) → numbers_of priority (x ∷ xs) ≡ numbers_of priority (x ∷ []) ++ numbers_of priority xs
   numbers_parts x xs = elim (cases_Bool (has_priority x)) [ inl has ↦ rw has refl | inr other ↦ rw other refl ]
 
-  pub all_lined_numbers : (xs ys : List Transaction) → IsOrdered ys → numbers_of priority (all_lined_up xs ys) ≡ numbers_of priority ys ++ numbers_of priority xs
+  pub all_lined_numbers : (xs ys : List Transaction) → IsOrdered ys →
+      numbers_of priority (all_lined_up xs ys) ≡ numbers_of priority ys ++ numbers_of priority xs
   all_lined_numbers [] ys h = sym (append-nil (numbers_of priority ys))
   all_lined_numbers (x ∷ xs) ys h =
       all_lined_numbers xs (lined_up x ys) (ordered_lined x ys h)

@@ -11,7 +11,7 @@ use Rattle.gw_lines.specs.declared.form.Form.{Form}
 use Rattle.gw_lines.specs.declared.operand.Operand.{Operand}
 use Rattle.gw_lines.specs.declared.operand.Operand.TheVariants as operands
 use Rattle.gw_lines.specs.Forms.{value, whole}
-use Rattle.gw_lines.specs.Parts.{is_missing}
+use Rattle.gw_lines.specs.Parts.{part_of, is_missing}
 use Rattle.gw_lines.specs.Spelling.{SpellsOperand, absent, a_value, a_whole, a_key, SpellsAll, no_form, stands, unwritten}
 
 abbrev pub Data : Kind → Type 0
@@ -103,14 +103,47 @@ row p (unwritten form forms os w others) =
     let a = and_parts (has_place form.presence) (have_places forms) p in
     absurd (let f = rw w at a.0 in cc)
 
--- whole numbers, as many as are written
-abbrev pub is_whole : Kind → Bool
+-- ---- operands of one kind, as many as are written
+
+abbrev pub are_all : (Kind → Bool) → List Form → Bool
+are_all is [] = true
+are_all is (form ∷ forms) = is form.kind && are_all is forms
+
+-- an operand of a kind is one of some data, or absent
+abbrev OneIs : {X : Type 0} → (Kind → Bool) → (Option X → Option Operand) → Type 0
+OneIs {X} is put = (kind : Kind) (text : List ℕ) (o : Option Operand) → is kind ≡ true → SpellsOperand kind text o
+    → (v : Option X) × (put v ≡ o)
+
+all_put : {X : Type 0} (is : Kind → Bool) (put : Option X → Option Operand) → OneIs is put
+    → {forms : List Form} {parts : List (List ℕ)} {os : List (Option Operand)} → are_all is forms ≡ true
+    → SpellsAll forms parts os → (values : List (Option X)) × (map put values ≡ os)
+all_put is put one w no_form = ([], refl)
+all_put is put one w (stands form forms parts o os listed given here others) =
+    let a = and_parts (is form.kind) (are_all is forms) w in
+    let v = one form.kind (part_of parts) o a.0 here in
+    let vs = all_put is put one a.1 others in
+    (v.0 ∷ vs.0, rw (v.1, vs.1) refl)
+all_put is put one w (unwritten form forms os p others) =
+    all_put is put one (and_parts (is form.kind) (are_all is forms) w).1 others
+
+abbrev pub is_value : Kind → Bool
+is_value kinds.Value = true
+is_value kind = false
+
+one_value : {kind : Kind} {text : List ℕ} {o : Option Operand} → is_value kind ≡ true → SpellsOperand kind text o
+    → (v : Option Term) × (value v ≡ o)
+one_value w (absent kind) = (None, refl)
+one_value w (a_value text z v) = (Some (Constant z), refl)
+one_value w (a_whole most text n h from) = absurd cc
+one_value w a_key = absurd cc
+
+pub values : {forms : List Form} {parts : List (List ℕ)} {os : List (Option Operand)} → are_all is_value forms ≡ true
+    → SpellsAll forms parts os → (values : List (Option Term)) × (map value values ≡ os)
+values w s = all_put is_value value (λ kind text o. one_value) w s
+
+abbrev is_whole : Kind → Bool
 is_whole (kinds.Whole most) = true
 is_whole kind = false
-
-abbrev pub are_whole : List Form → Bool
-are_whole [] = true
-are_whole (form ∷ forms) = is_whole form.kind && are_whole forms
 
 one_whole : {kind : Kind} {text : List ℕ} {o : Option Operand} → is_whole kind ≡ true → SpellsOperand kind text o
     → (v : Option ℕ) × (whole v ≡ o)
@@ -119,12 +152,6 @@ one_whole w (a_value text z v) = absurd cc
 one_whole w (a_whole most text n h from) = (Some n, refl)
 one_whole w a_key = absurd cc
 
-pub wholes : {forms : List Form} {parts : List (List ℕ)} {os : List (Option Operand)} → are_whole forms ≡ true
+pub wholes : {forms : List Form} {parts : List (List ℕ)} {os : List (Option Operand)} → are_all is_whole forms ≡ true
     → SpellsAll forms parts os → (values : List (Option ℕ)) × (map whole values ≡ os)
-wholes w no_form = ([], refl)
-wholes w (stands form forms parts o os listed given here others) =
-    let a = and_parts (is_whole form.kind) (are_whole forms) w in
-    let v = one_whole a.0 here in
-    let vs = wholes a.1 others in
-    (v.0 ∷ vs.0, rw (v.1, vs.1) refl)
-wholes w (unwritten form forms os p others) = wholes (and_parts (is_whole form.kind) (are_whole forms) w).1 others
+wholes w s = all_put is_whole whole (λ kind text o. one_whole) w s

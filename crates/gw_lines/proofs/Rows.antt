@@ -1,21 +1,24 @@
--- A statement is made of its operands, and operands of a verb's forms make a statement. A verb has a row in `built` and a row
--- in `made`.
-use Rattle.std.proofs.Common.{◌≡◌, ℕ, true, List, [], ◌∷◌, Option, Some, None, refl, ap, subst}
+-- A statement is made of its operands, and operands of a verb's forms make a statement. All blocks are one case; a command
+-- has a row in `built` and a row in `command_made`.
+use Rattle.std.proofs.Common.{◌≡◌, ℕ, Bool, true, List, [], ◌∷◌, Option, Some, None, refl, ap, subst}
 use Rattle.std.specs.Prelude.{map}
+use Rattle.gw_names.specs.declared.verb.BlockVerb.{BlockVerb}
+use Rattle.gw_names.specs.declared.verb.BlockVerb.TheVariants as blocks
+use Rattle.gw_names.specs.declared.verb.CommandVerb.{CommandVerb}
+use Rattle.gw_names.specs.declared.verb.CommandVerb.TheVariants as command_verbs
 use Rattle.gw_names.specs.declared.verb.Verb.{Verb}
 use Rattle.gw_names.specs.declared.verb.Verb.TheVariants as verbs
 use Rattle.gw_expr.specs.Term.{Term}
-use Rattle.gw_meaning.specs.declared.statement.Block.TheVariants as blocks
 use Rattle.gw_meaning.specs.declared.statement.Command.TheVariants as commands
 use Rattle.gw_meaning.specs.declared.statement.Body.{Body}
 use Rattle.gw_meaning.specs.declared.statement.Body.TheVariants as bodies
 use Rattle.gw_meaning.specs.Statements.{verb_of_body}
 use Rattle.gw_lines.specs.declared.form.Form.{Form}
 use Rattle.gw_lines.specs.declared.operand.Operand.{Operand}
-use Rattle.gw_lines.specs.Forms.{forms_of, value, whole, fields_of}
+use Rattle.gw_lines.specs.Forms.{forms_of_block, forms_of_command, forms_of, value, whole, fields_of}
 use Rattle.gw_lines.specs.Bodies.{value_in, whole_in, body_with}
 use Rattle.gw_lines.specs.Spelling.{SpellsAll}
-use Rattle.gw_lines.proofs.Fields.{Row, row_operands, have_places, row, wholes}
+use Rattle.gw_lines.proofs.Fields.{Row, row_operands, have_places, row, is_value, are_all, values, wholes}
 
 value_back : (v : Option Term) → value_in (value v) ≡ v
 value_back (Some t) = refl
@@ -26,17 +29,27 @@ wholes_back [] = refl
 wholes_back (Some n ∷ values) = ap (λ (x : List (Option ℕ)). Some n ∷ x) (wholes_back values)
 wholes_back (None ∷ values) = ap (λ (x : List (Option ℕ)). None ∷ x) (wholes_back values)
 
+values_back : (values : List (Option Term)) → map value_in (map value values) ≡ values
+values_back [] = refl
+values_back (v ∷ values) = rw (value_back v, values_back values) refl
+
 -- a statement is made of its operands
 pub built : (body : Body) → body_with (verb_of_body body) (fields_of body) ≡ Some body
 unfolding body_with
-built (bodies.Block (blocks.Generate mean range offset limit priority)) =
-    rw (value_back mean, value_back range, value_back offset, value_back limit, value_back priority) refl
-built (bodies.Block (blocks.Advance mean range)) = rw (value_back mean, value_back range) refl
-built (bodies.Block (blocks.Terminate count)) = rw (value_back count) refl
+built (bodies.Block block) = rw (values_back block.operands) refl
 built (bodies.Command (commands.Start count)) = refl
 built (bodies.Command (commands.Rmult values)) = rw (wholes_back values) refl
 
 -- ---- each verb's forms make a statement
+
+-- the operands of a block are values
+abbrev forms_are_values : Option (List Form) → Bool
+forms_are_values None = true
+forms_are_values (Some forms) = are_all is_value forms
+
+block_values : (verb : BlockVerb) → forms_are_values (forms_of_block verb) ≡ true
+block_values blocks.Generate = refl
+block_values verb = refl
 
 pub record Made (verb : Verb) (os : List (Option Operand)) : Type 0 where
   pub body : Body
@@ -56,14 +69,22 @@ of_row verb forms p make parts os s =
 makes : (body : Body) {os : List (Option Operand)} → fields_of body ≡ os → Made (verb_of_body body) os
 makes body e = record { body = body; verb_is = refl; fields = e }
 
+block_made : (verb : BlockVerb) (o : Option (List Form)) → forms_are_values o ≡ true → MadeOf (verbs.Block verb) o
+block_made verb None are = tt
+block_made verb (Some forms) are =
+    λ parts os s. (let vs = values are s in makes (bodies.Block (record { verb = verb; operands = vs.0 })) vs.1)
+
+command_made : (verb : CommandVerb) → MadeOf (verbs.Command verb) (forms_of_command verb)
+command_made command_verbs.Start =
+    of_row (verbs.Command command_verbs.Start) _ refl (λ (c, (q, u)). makes (bodies.Command (commands.Start c)) refl)
+command_made command_verbs.Rmult =
+    λ parts os s. (let vs = wholes refl s in makes (bodies.Command (commands.Rmult vs.0)) vs.1)
+command_made verb = tt
+
 made : (verb : Verb) → MadeOf verb (forms_of verb)
-made verbs.Generate = of_row verbs.Generate _ refl (λ (m, (r, (o, (l, (p, u))))).
-    (makes (bodies.Block (blocks.Generate m r o l p)) refl))
-made verbs.Advance = of_row verbs.Advance _ refl (λ (m, (r, u)). makes (bodies.Block (blocks.Advance m r)) refl)
-made verbs.Terminate = of_row verbs.Terminate _ refl (λ (c, u). makes (bodies.Block (blocks.Terminate c)) refl)
-made verbs.Start = of_row verbs.Start _ refl (λ (c, (q, u)). makes (bodies.Command (commands.Start c)) refl)
-made verbs.Rmult = λ parts os s. (let vs = wholes refl s in makes (bodies.Command (commands.Rmult vs.0)) vs.1)
-made verb = tt
+made (verbs.Block verb) = block_made verb (forms_of_block verb) (block_values verb)
+made (verbs.Definition verb) = tt
+made (verbs.Command verb) = command_made verb
 
 -- operands of a verb's forms make a statement
 pub made_with : (verb : Verb) (forms : List Form) {parts : List (List ℕ)} {os : List (Option Operand)} → forms_of verb ≡ Some forms

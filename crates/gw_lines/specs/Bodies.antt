@@ -1,9 +1,10 @@
 -- The body of a statement as it is made of the operands that were read. (Manual; the operand table of the profile.)
 use Rattle.std.specs.Prelude.{ℕ, zero, suc, Bool, List, [], ◌∷◌, Option, Some, None, Result, Ok, Err, if◌then◌else◌, map}
+use Rattle.gw_names.specs.declared.verb.CommandVerb.{CommandVerb}
+use Rattle.gw_names.specs.declared.verb.CommandVerb.TheVariants as command_verbs
 use Rattle.gw_names.specs.declared.verb.Verb.{Verb}
 use Rattle.gw_names.specs.declared.verb.Verb.TheVariants as verbs
 use Rattle.gw_expr.specs.Term.{Term}
-use Rattle.gw_meaning.specs.declared.statement.Block.TheVariants as blocks
 use Rattle.gw_meaning.specs.declared.statement.Command.TheVariants as commands
 use Rattle.gw_meaning.specs.declared.statement.Body.{Body}
 use Rattle.gw_meaning.specs.declared.statement.Body.TheVariants as bodies
@@ -41,17 +42,17 @@ abbrev pub start_with : Option ℕ → Option Body
 start_with None = None
 start_with (Some count) = Some (bodies.Command (commands.Start count))
 
+-- the command of a verb with these operands
+abbrev pub command_with : CommandVerb → List (Option Operand) → Option Body
+command_with command_verbs.Start os = start_with (whole_in (place os 0))
+command_with command_verbs.Rmult os = Some (bodies.Command (commands.Rmult (map whole_in os)))
+command_with verb os = None
+
 -- the statement of a verb with these operands
 unfoldable pub body_with : Verb → List (Option Operand) → Option Body
-body_with verbs.Generate os =
-    Some (bodies.Block (blocks.Generate
-    (value_in (place os 0)) (value_in (place os 1)) (value_in (place os 2)) (value_in (place os 3))
-    (value_in (place os 4))))
-body_with verbs.Advance os = Some (bodies.Block (blocks.Advance (value_in (place os 0)) (value_in (place os 1))))
-body_with verbs.Terminate os = Some (bodies.Block (blocks.Terminate (value_in (place os 0))))
-body_with verbs.Start os = start_with (whole_in (place os 0))
-body_with verbs.Rmult os = Some (bodies.Command (commands.Rmult (map whole_in os)))
-body_with verb os = None
+body_with (verbs.Block verb) os = Some (bodies.Block (record { verb = verb; operands = map value_in os }))
+body_with (verbs.Definition verb) os = None
+body_with (verbs.Command verb) os = command_with verb os
 
 abbrev pub or_unknown : Option Body → Result Body LineFault
 or_unknown None = Err faults.UnknownVerb

@@ -1,11 +1,13 @@
 -- The table of operands: for each verb what its operands may be, and which operands a statement has. (Manual; the
 -- operand table of the profile.)
 use Rattle.std.specs.Prelude.{ℕ, Bool, true, false, ◌&&◌, List, [], ◌∷◌, Option, Some, None, map, option_map, slice_get}
+use Rattle.gw_names.specs.declared.verb.BlockVerb.{BlockVerb}
+use Rattle.gw_names.specs.declared.verb.BlockVerb.TheVariants as blocks
+use Rattle.gw_names.specs.declared.verb.CommandVerb.{CommandVerb}
+use Rattle.gw_names.specs.declared.verb.CommandVerb.TheVariants as command_verbs
 use Rattle.gw_names.specs.declared.verb.Verb.{Verb}
 use Rattle.gw_names.specs.declared.verb.Verb.TheVariants as verbs
 use Rattle.gw_expr.specs.Term.{Term}
-use Rattle.gw_meaning.specs.declared.statement.Block.{Block}
-use Rattle.gw_meaning.specs.declared.statement.Block.TheVariants as blocks
 use Rattle.gw_meaning.specs.declared.statement.Command.{Command}
 use Rattle.gw_meaning.specs.declared.statement.Command.TheVariants as commands
 use Rattle.gw_meaning.specs.declared.statement.Body.{Body}
@@ -34,26 +36,27 @@ abbrev pub a_seed : Form
 a_seed = record { kind = kinds.Whole 2147483646; presence = presences.Written }
 
 -- the forms of each verb's operands, for the verbs that are read so far
+abbrev pub forms_of_block : BlockVerb → Option (List Form)
+forms_of_block blocks.Generate = Some (a_value ∷ a_value ∷ a_value ∷ a_value ∷ a_value ∷ [])
+forms_of_block blocks.Advance = Some (a_value ∷ a_value ∷ [])
+forms_of_block blocks.Terminate = Some (a_value ∷ [])
+forms_of_block verb = None
+
+abbrev pub forms_of_command : CommandVerb → Option (List Form)
+forms_of_command command_verbs.Start = Some (a_count ∷ a_quiet ∷ [])
+forms_of_command command_verbs.Rmult = Some (a_seed ∷ a_seed ∷ a_seed ∷ a_seed ∷ a_seed ∷ a_seed ∷ a_seed ∷ [])
+forms_of_command verb = None
+
 abbrev pub forms_of : Verb → Option (List Form)
-forms_of verbs.Generate = Some (a_value ∷ a_value ∷ a_value ∷ a_value ∷ a_value ∷ [])
-forms_of verbs.Advance = Some (a_value ∷ a_value ∷ [])
-forms_of verbs.Terminate = Some (a_value ∷ [])
-forms_of verbs.Start = Some (a_count ∷ a_quiet ∷ [])
-forms_of verbs.Rmult = Some (a_seed ∷ a_seed ∷ a_seed ∷ a_seed ∷ a_seed ∷ a_seed ∷ a_seed ∷ [])
-forms_of verb = None
+forms_of (verbs.Block verb) = forms_of_block verb
+forms_of (verbs.Definition verb) = None
+forms_of (verbs.Command verb) = forms_of_command verb
 
 abbrev pub value : Option Term → Option Operand
 value v = option_map (λ t. operands.Value t) v
 
 abbrev pub whole : Option ℕ → Option Operand
 whole v = option_map (λ n. operands.Whole n) v
-
--- the operands that a block has, in the order of its forms
-abbrev pub fields_of_block : Block → List (Option Operand)
-fields_of_block (blocks.Generate mean range offset limit priority) =
-    value mean ∷ value range ∷ value offset ∷ value limit ∷ value priority ∷ []
-fields_of_block (blocks.Advance mean range) = value mean ∷ value range ∷ []
-fields_of_block (blocks.Terminate count) = value count ∷ []
 
 -- the operands that a command has: `NP` leaves no trace
 abbrev pub fields_of_command : Command → List (Option Operand)
@@ -62,7 +65,7 @@ fields_of_command (commands.Rmult values) = map whole values
 
 -- the operands that a statement has
 abbrev pub fields_of : Body → List (Option Operand)
-fields_of (bodies.Block block) = fields_of_block block
+fields_of (bodies.Block block) = map value block.operands
 fields_of (bodies.Command command) = fields_of_command command
 
 abbrev pub is_no_operand : Option (Option Operand) → Bool
@@ -75,7 +78,7 @@ is_absent os n = is_no_operand (slice_get os n)
 
 -- whether operands lack one, though none of them is required: a GENERATE has a mean or a limit
 abbrev pub lacks : Verb → List (Option Operand) → Bool
-lacks verbs.Generate os = is_absent os 0 && is_absent os 3
+lacks (verbs.Block blocks.Generate) os = is_absent os 0 && is_absent os 3
 lacks verb os = false
 
 -- whether the statement lists an operand: more says that the list goes on here

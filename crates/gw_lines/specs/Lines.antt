@@ -27,10 +27,7 @@ verb_in word = verb_of (upper_of word)
 
 -- a command has no label
 abbrev pub is_command : Verb → Bool
-is_command verbs.Start = true
-is_command verbs.Reset = true
-is_command verbs.Clear = true
-is_command verbs.Rmult = true
+is_command (verbs.Command command) = true
 is_command verb = false
 
 abbrev pub or_bad_label : Option (List ℕ) → Result (List ℕ) LineFault

@@ -1,7 +1,7 @@
 ghost use Rattle.std.specs.Prelude.{◌≡◌, ◌≤◌, length, IfOk};
 ghost use Rattle.gw_lines.specs.Reading.{Gives};
-ghost use Rattle.gw_lines.specs.Parts.{others_of, parts_of};
-ghost use Rattle.gw_lines.specs.Bodies.{body_of, in_forms, body_with, first_of, value_in, whole_in};
+ghost use Rattle.gw_lines.specs.Parts.{parts_of};
+ghost use Rattle.gw_lines.specs.Bodies.{body_of, in_forms, body_with, command_with, first_of, value_in, whole_in};
 
 use crate::fault::LineFault;
 use crate::form::{Form, forms_of, lacks};
@@ -9,7 +9,7 @@ use crate::operand::Operand;
 use crate::operands::read_operands;
 use gw_expr::Expr;
 use gw_meaning::{Block, Body, Command, Row};
-use gw_names::Verb;
+use gw_names::{CommandVerb, Verb};
 use std::alloc::{AllocError, Global};
 
 /// The body that a verb's operand list spells, in upper case and without skipped blanks.
@@ -38,46 +38,44 @@ fn in_forms(alloc: Global, verb: Verb, forms: &[Form], text: &[u8]) -> Result<Bo
     }
 }
 
-/// The body of a verb with these operands, if they have its forms.
+// The body of a verb with these operands, if they have its forms.
 #[tactic(auto, unfolding(crate::specs::Bodies::body_with))]
 fn body_with(
     alloc: Global,
     verb: Verb,
-    mut operands: Vec<Option<Operand>>,
+    operands: Vec<Option<Operand>>,
 ) -> Result<Option<Body>, AllocError>
     ensures { IfOk result (λ o. o ≡ body_with verb operands.items) }
 {
     match verb {
-        Verb::Generate => {
-            let mean = value(&mut operands);
-            let range = value(&mut operands);
-            let offset = value(&mut operands);
-            let limit = value(&mut operands);
-            let priority = value(&mut operands);
-            Ok(Some(Body::Block(Block::Generate {
-                mean,
-                range,
-                offset,
-                limit,
-                priority,
+        Verb::Block(verb) => {
+            let operands = operands.into_iter().map(|o| value_in(o)).collect(alloc)?;
+            Ok(Some(Body::Block(Block {
+                verb,
+                operands: Row::from_vec(operands),
             })))
         }
-        Verb::Advance => {
-            let mean = value(&mut operands);
-            let range = value(&mut operands);
-            Ok(Some(Body::Block(Block::Advance { mean, range })))
-        }
-        Verb::Terminate => {
-            let count = value(&mut operands);
-            Ok(Some(Body::Block(Block::Terminate { count })))
-        }
-        Verb::Start => match whole_in(next(&mut operands)) {
+        Verb::Definition(_) => Ok(None),
+        Verb::Command(verb) => command_with(alloc, verb, operands),
+    }
+}
+
+// The command of a verb with these operands, if they have its forms.
+fn command_with(
+    alloc: Global,
+    verb: CommandVerb,
+    mut operands: Vec<Option<Operand>>,
+) -> Result<Option<Body>, AllocError>
+    ensures { IfOk result (λ o. o ≡ command_with verb operands.items) }
+{
+    match verb {
+        CommandVerb::Start => match whole_in(first_of(&mut operands)) {
             Some(count) => Ok(Some(Body::Command(Command::Start {
                 count: u64::from(count),
             }))),
             None => Ok(None),
         },
-        Verb::Rmult => {
+        CommandVerb::Rmult => {
             let values = operands.into_iter().map(|o| whole_in(o)).collect(alloc)?;
             Ok(Some(Body::Command(Command::Rmult {
                 values: Row::from_vec(values),
@@ -88,9 +86,8 @@ fn body_with(
 }
 
 // Takes the first operand.
-fn next(operands: &mut Vec<Option<Operand>>) -> Option<Operand>
-    ensures first { result ≡ first_of operands.old.items }
-    ensures others { operands.new.items ≡ others_of operands.old.items }
+fn first_of(operands: &mut Vec<Option<Operand>>) -> Option<Operand>
+    ensures { result ≡ first_of operands.old.items }
 {
     if operands.is_empty() {
         None
@@ -99,17 +96,17 @@ fn next(operands: &mut Vec<Option<Operand>>) -> Option<Operand>
     }
 }
 
-// Takes the first operand, as a value.
-fn value(operands: &mut Vec<Option<Operand>>) -> Option<Expr>
-    ensures first { result ≡ value_in (first_of operands.old.items) }
-    ensures others { operands.new.items ≡ others_of operands.old.items }
+// An operand as a value.
+fn value_in(operand: Option<Operand>) -> Option<Expr>
+    ensures { result ≡ value_in operand }
 {
-    match next(operands) {
+    match operand {
         Some(Operand::Value(value)) => Some(value),
         Some(Operand::Whole(_)) | None => None,
     }
 }
 
+// An operand as a whole number.
 fn whole_in(operand: Option<Operand>) -> Option<u32>
     ensures { result ≡ whole_in operand }
 {

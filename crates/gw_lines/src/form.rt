@@ -1,9 +1,9 @@
 ghost use Rattle.std.specs.Prelude.{◌≡◌, ◌≤◌, IfSome, length};
 ghost use Rattle.std.specs.Option.{option_copied};
-ghost use Rattle.gw_lines.specs.Forms.{forms_of, lacks, is_listed, is_required, is_absent};
+ghost use Rattle.gw_lines.specs.Forms.{forms_of, forms_of_block, forms_of_command, lacks, is_listed, is_required, is_absent};
 
 use crate::operand::Operand;
-use gw_names::Verb;
+use gw_names::{BlockVerb, CommandVerb, Verb};
 
 /// What an operand may be.
 #[derive(Clone, Copy, Debug, PartialEq, Eq)]
@@ -38,11 +38,31 @@ pub fn forms_of(verb: Verb) -> Option<&'static [Form]>
     ensures few { IfSome result (λ f. length f.now ≤ 7) }
 {
     match verb {
-        Verb::Generate => Some(&[VALUE, VALUE, VALUE, VALUE, VALUE]),
-        Verb::Advance => Some(&[VALUE, VALUE]),
-        Verb::Terminate => Some(&[VALUE]),
-        Verb::Start => Some(&[COUNT, QUIET]),
-        Verb::Rmult => Some(&[SEED, SEED, SEED, SEED, SEED, SEED, SEED]),
+        Verb::Block(verb) => forms_of_block(verb),
+        Verb::Definition(_) => None,
+        Verb::Command(verb) => forms_of_command(verb),
+    }
+}
+
+fn forms_of_block(verb: BlockVerb) -> Option<&'static [Form]>
+    ensures forms { option_copied result ≡ forms_of_block verb }
+    ensures few { IfSome result (λ f. length f.now ≤ 7) }
+{
+    match verb {
+        BlockVerb::Generate => Some(&[VALUE, VALUE, VALUE, VALUE, VALUE]),
+        BlockVerb::Advance => Some(&[VALUE, VALUE]),
+        BlockVerb::Terminate => Some(&[VALUE]),
+        _ => None,
+    }
+}
+
+fn forms_of_command(verb: CommandVerb) -> Option<&'static [Form]>
+    ensures forms { option_copied result ≡ forms_of_command verb }
+    ensures few { IfSome result (λ f. length f.now ≤ 7) }
+{
+    match verb {
+        CommandVerb::Start => Some(&[COUNT, QUIET]),
+        CommandVerb::Rmult => Some(&[SEED, SEED, SEED, SEED, SEED, SEED, SEED]),
         _ => None,
     }
 }
@@ -76,7 +96,7 @@ pub fn lacks(verb: Verb, operands: &[Option<Operand>]) -> bool
     ensures { result ≡ lacks verb operands.now }
 {
     match verb {
-        Verb::Generate => is_absent(operands, 0) && is_absent(operands, 3),
+        Verb::Block(BlockVerb::Generate) => is_absent(operands, 0) && is_absent(operands, 3),
         _ => false,
     }
 }

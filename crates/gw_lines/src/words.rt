@@ -101,7 +101,7 @@ fn label(alloc: Global, verb: Verb, word: &[u8]) -> Result<Name, LineFault>
 fn is_command(verb: Verb) -> bool
     ensures { result ≡ is_command verb }
 {
-    matches!(verb, Verb::Start | Verb::Reset | Verb::Clear | Verb::Rmult)
+    matches!(verb, Verb::Command(_))
 }
 
 // The fault of code with no verb among its first two words.

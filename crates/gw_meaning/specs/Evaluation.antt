@@ -1,6 +1,6 @@
 -- Values and draws. An evaluation goes from the streams before it to its result and the streams behind it, so draws
--- come in the order of evaluation. (Manual: operands, and a time of A plus or minus B. Our own: whole numbers, what a draw
--- stands for, and that the seed is asked for at a stream's first draw alone.)
+-- come in the order of evaluation. (Manual: operands, and a time of A plus or minus B. Our own: whole numbers, what a
+-- draw stands for, and that the seed is asked for at a stream's first draw alone.)
 use Rattle.std.specs.Prelude.{ℕ, zero, suc, ◌+◌, ◌-◌, ◌*◌, ◌/◌, Bool, true, false, List, Option, Some, None, ℤ, pos, ◌+ℤ◌, ◌-ℤ◌, if◌then◌else◌}
 use Rattle.gw_nums.specs.Range.{is_value, is_negative, magnitude}
 use Rattle.gw_expr.specs.Term.{Term, Constant}

@@ -1,3 +1,4 @@
+pub mod Places
 pub mod Statements
 pub mod Texts
 pub mod Listing

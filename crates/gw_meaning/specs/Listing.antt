@@ -5,7 +5,6 @@ use Rattle.std.specs.Prelude.{ℕ, zero, suc, ◌+◌, Bool, true, false, ◌==�
 use Rattle.std.specs.List.{filter_map}
 use Rattle.std.specs.Str.{bytes_eq}
 use Rattle.gw_meaning.specs.declared.statement.Block.{Block}
-use Rattle.gw_meaning.specs.declared.statement.Block.TheVariants as blocks
 use Rattle.gw_meaning.specs.declared.statement.Command.{Command}
 use Rattle.gw_meaning.specs.declared.statement.Command.TheVariants as commands
 use Rattle.gw_meaning.specs.declared.statement.Body.{Body}
@@ -13,6 +12,7 @@ use Rattle.gw_meaning.specs.declared.statement.Body.TheVariants as bodies
 use Rattle.gw_meaning.specs.declared.statement.Statement.{Statement}
 use Rattle.gw_meaning.specs.declared.statement.Numbered.{Numbered}
 use Rattle.gw_meaning.specs.declared.statement.Replication.{Replication}
+use Rattle.gw_meaning.specs.Statements.{is_generate_verb}
 
 -- a version
 pub record Listing : Type 0 where
@@ -42,8 +42,8 @@ command_of line = command_of_body line.statement.body
 
 -- whether a statement is a GENERATE
 abbrev pub is_generate_body : Body → Bool
-is_generate_body (bodies.Block (blocks.Generate mean range offset limit priority)) = true
-is_generate_body body = false
+is_generate_body (bodies.Block block) = is_generate_verb block.verb
+is_generate_body (bodies.Command command) = false
 
 abbrev pub is_generate : Numbered → Bool
 is_generate line = is_generate_body line.statement.body

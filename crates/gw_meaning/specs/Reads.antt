@@ -1,9 +1,10 @@
 -- What a run reads: the items of each of its steps, and the first step that uses an item. (Our own.)
-use Rattle.std.specs.Prelude.{ℕ, zero, suc, Bool, true, false, ◌==◌, List, [], Option, Some, None, Result, Ok, Err, if◌then◌else◌, nat_lt, nat_le}
+use Rattle.std.specs.Prelude.{ℕ, zero, suc, Bool, false, List, [], Option, Some, None, Result, Ok, Err, if◌then◌else◌, nat_lt, nat_le}
 use Rattle.std.specs.List.{list_any}
 use Rattle.gw_meaning.specs.declared.item.Item.{Item}
 use Rattle.gw_meaning.specs.declared.item.Item.TheVariants as items
 use Rattle.gw_meaning.specs.declared.item.End.{End}
+use Rattle.gw_meaning.specs.contracts.item.ItemPartialEq.TheImpl as comparison
 use Rattle.gw_meaning.specs.Listing.{Listing}
 use Rattle.gw_meaning.specs.Machine.{Machine}
 use Rattle.gw_meaning.specs.Step.{step_items, run}
@@ -17,15 +18,14 @@ read_from t seed (Err end) = []
 abbrev pub reads : Listing → ℕ → ℕ → List Item
 reads t seed n = read_from t seed (run t seed n)
 
+-- whether two items are one, as the code tells
+abbrev pub same_item : Item → Item → Bool
+same_item = comparison.ghosts.eq
+
 -- whether an item is used where another is read: it is that item; a time is used by each Clock step to a later one
 abbrev pub is_use : Item → Item → Bool
-is_use (items.Block id) (items.Block other) = other == id
-is_use (items.After id) (items.After other) = other == id
-is_use items.Generates items.Generates = true
-is_use (items.Cmd i) (items.Cmd j) = j == i
-is_use items.Seed items.Seed = true
 is_use (items.Within time) (items.Within other) = nat_lt time other
-is_use item other = false
+is_use item other = same_item other item
 
 -- whether the i-th command or one behind it is read
 abbrev pub is_command_use : ℕ → Item → Bool

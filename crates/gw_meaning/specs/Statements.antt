@@ -1,25 +1,48 @@
 -- Statements: their verbs, and the operands that blocks have. (Manual; the operand table of the profile.)
+use Rattle.std.specs.Prelude.{ℕ, Bool, true, false, Option, None, get_or}
+use Rattle.gw_names.specs.declared.verb.BlockVerb.{BlockVerb}
+use Rattle.gw_names.specs.declared.verb.BlockVerb.TheVariants as blocks
+use Rattle.gw_names.specs.declared.verb.CommandVerb.TheVariants as command_verbs
 use Rattle.gw_names.specs.declared.verb.Verb.{Verb}
 use Rattle.gw_names.specs.declared.verb.Verb.TheVariants as verbs
+use Rattle.gw_expr.specs.Term.{Term}
 use Rattle.gw_meaning.specs.declared.statement.Block.{Block}
-use Rattle.gw_meaning.specs.declared.statement.Block.TheVariants as blocks
 use Rattle.gw_meaning.specs.declared.statement.Command.{Command}
 use Rattle.gw_meaning.specs.declared.statement.Command.TheVariants as commands
 use Rattle.gw_meaning.specs.declared.statement.Body.{Body}
 use Rattle.gw_meaning.specs.declared.statement.Body.TheVariants as bodies
 
--- a block's verb
-abbrev pub verb_of_block : Block → Verb
-verb_of_block (blocks.Generate mean range offset limit priority) = verbs.Generate
-verb_of_block (blocks.Advance mean range) = verbs.Advance
-verb_of_block (blocks.Terminate count) = verbs.Terminate
+-- the places of a block's operands
+abbrev pub A : ℕ
+A = 0
+
+abbrev pub B : ℕ
+B = 1
+
+abbrev pub C : ℕ
+C = 2
+
+abbrev pub D : ℕ
+D = 3
+
+abbrev pub E : ℕ
+E = 4
+
+-- the operand of a block at a place; those that its verb does not have are absent
+abbrev pub operand : Block → ℕ → Option Term
+operand block place = get_or block.operands place None
+
+-- whether a verb makes transactions
+abbrev pub is_generate_verb : BlockVerb → Bool
+is_generate_verb blocks.Generate = true
+is_generate_verb verb = false
 
 -- a command's verb
 abbrev pub verb_of_command : Command → Verb
-verb_of_command (commands.Start count) = verbs.Start
-verb_of_command (commands.Rmult values) = verbs.Rmult
+verb_of_command (commands.Start count) = verbs.Command command_verbs.Start
+verb_of_command (commands.Rmult values) = verbs.Command command_verbs.Rmult
 
 -- a statement's verb
 abbrev pub verb_of_body : Body → Verb
-verb_of_body (bodies.Block block) = verb_of_block block
+verb_of_body (bodies.Block block) = verbs.Block block.verb
 verb_of_body (bodies.Command command) = verb_of_command command

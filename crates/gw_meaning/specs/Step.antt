@@ -5,12 +5,13 @@ use Rattle.std.specs.Prelude.{ℕ, zero, suc, ◌+◌, Bool, true, false, ◌==�
 use Rattle.gw_nums.specs.Range.{is_negative, magnitude}
 use Rattle.gw_expr.specs.Term.{Term}
 use Rattle.gw_expr.specs.declared.stop.Stop.TheVariants.{NegativeTime, NoNextBlock, TooManyTransactions, BadCount}
+use Rattle.gw_names.specs.declared.verb.BlockVerb.{BlockVerb}
+use Rattle.gw_names.specs.declared.verb.BlockVerb.TheVariants as blocks
 use Rattle.gw_meaning.specs.declared.item.Item.{Item}
 use Rattle.gw_meaning.specs.declared.item.Item.TheVariants as items
 use Rattle.gw_meaning.specs.declared.item.End.{End}
 use Rattle.gw_meaning.specs.declared.item.End.TheVariants as ends
 use Rattle.gw_meaning.specs.declared.statement.Block.{Block}
-use Rattle.gw_meaning.specs.declared.statement.Block.TheVariants as blocks
 use Rattle.gw_meaning.specs.declared.statement.Command.{Command}
 use Rattle.gw_meaning.specs.declared.statement.Command.TheVariants as commands
 use Rattle.gw_meaning.specs.declared.transaction.Transaction.{Transaction}
@@ -23,6 +24,7 @@ use Rattle.gw_meaning.specs.declared.moves.Fate.{Fate}
 use Rattle.gw_meaning.specs.declared.moves.Fate.TheVariants as fates
 use Rattle.gw_meaning.specs.declared.moves.Move.{Move}
 use Rattle.gw_meaning.specs.declared.moves.Move.TheVariants as moves
+use Rattle.gw_meaning.specs.Statements.{A, B, C, D, E, operand, is_generate_verb}
 use Rattle.gw_meaning.specs.Listing.{Listing}
 use Rattle.gw_meaning.specs.Machine.{Machine, zero_state, raised, live, count_at}
 use Rattle.gw_meaning.specs.Questions.{Prog, Gives, Ends, Asks, result_of, items_of, ◌>>=◌}
@@ -61,12 +63,13 @@ first_of_generate s id mean range None limit priority =
 first_of_generate s id mean range (Some offset) limit priority =
     arrival_prog s id (count_at s.counts id).made (Some offset) None limit priority
 
+abbrev pub first_of : Machine → ℕ → Block → Bool → Eval (Option Arrival)
+first_of s id b true = first_of_generate s id (operand b A) (operand b B) (operand b C) (operand b D) (operand b E)
+first_of s id b false = gives None
+
 abbrev pub first_arrival : Machine → ℕ → Option Block → Eval (Option Arrival)
-first_arrival s id (Some (blocks.Generate mean range offset limit priority)) =
-    first_of_generate s id mean range offset limit priority
-first_arrival s id (Some (blocks.Advance mean range)) = gives None
-first_arrival s id (Some (blocks.Terminate count)) = gives None
 first_arrival s id None = gives None
+first_arrival s id (Some b) = first_of s id b (is_generate_verb b.verb)
 
 abbrev pub with_arrival : Option Arrival → List Arrival → List Arrival
 with_arrival None made = made
@@ -117,12 +120,17 @@ terminate_prog s id count =
     value_or_zero s count ~> (λ n. stops_if (is_negative n) BadCount
     (gives (moves.Enter id changes.Nothing (fates.Destroyed (magnitude n)))))
 
+-- by the block's verb; no other verb is read so far
+abbrev pub block_prog : Machine → Transaction → ℕ → Block → BlockVerb → Eval Move
+block_prog s x id b blocks.Generate =
+    generate_prog s x id (operand b A) (operand b B) (operand b D) (operand b E)
+block_prog s x id b blocks.Advance = advance_prog s id (operand b A) (operand b B)
+block_prog s x id b blocks.Terminate = terminate_prog s id (operand b A)
+block_prog s x id b verb = ends_with (ends.Error NoNextBlock)
+
 abbrev pub enter_prog : Machine → Transaction → ℕ → Option Block → Eval Move
 enter_prog s x id None = ends_with (ends.Error NoNextBlock)
-enter_prog s x id (Some (blocks.Generate mean range offset limit priority)) =
-    generate_prog s x id mean range limit priority
-enter_prog s x id (Some (blocks.Advance mean range)) = advance_prog s id mean range
-enter_prog s x id (Some (blocks.Terminate count)) = terminate_prog s id count
+enter_prog s x id (Some b) = block_prog s x id b b.verb
 
 abbrev pub try_prog : Machine → Transaction → Option ℕ → Eval Move
 try_prog s x None = ends_with (ends.Error NoNextBlock)

@@ -1,13 +1,14 @@
+use crate::statement_id::StatementId;
 use gw_expr::Stop;
 use gw_nums::Time;
 
 /// A question that a step may ask of the version and the seed. Blocks go by their statement ids.
-#[derive(Debug, Drop, PartialEq, Eq)]
+#[derive(Clone, Copy, Debug, PartialEq, Eq, Hash)]
 pub enum Item {
     /// Which block is this?
-    Block(u64),
+    Block(StatementId),
     /// Which block comes after this one?
-    After(u64),
+    After(StatementId),
     /// Which blocks are GENERATEs?
     Generates,
     /// What is the i-th command, from 1?

@@ -6,15 +6,20 @@
 //! (where a report is taken). The types here are the plain data that they speak of.
 #![tactic(auto)]
 
+mod destination;
 mod item;
 mod moves;
+pub mod operands;
 mod row;
 mod statement;
+mod statement_id;
 mod text;
 mod transaction;
 
+pub use destination::Destination;
 pub use item::{End, Item, Outcome};
 pub use moves::{Arrival, Change, Fate, Move};
 pub use row::Row;
 pub use statement::{Block, Body, Command, Numbered, Replication, Statement};
+pub use statement_id::StatementId;
 pub use transaction::{Count, Event, Transaction};

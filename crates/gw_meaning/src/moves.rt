@@ -1,11 +1,12 @@
 use crate::row::Row;
+use crate::statement_id::StatementId;
 use gw_nums::{Clock, Time, Val};
 
 /// A transaction that a GENERATE is to make.
 #[derive(Clone, Copy, Debug)]
 pub struct Arrival {
     /// The GENERATE's statement id.
-    pub id: u64,
+    pub id: StatementId,
     /// When it comes.
     pub time: Time,
     pub priority: Val,
@@ -34,13 +35,22 @@ pub enum Fate {
 #[derive(Debug, Drop)]
 pub enum Move {
     /// A START of `count` with the first transactions of the GENERATEs, where it is the one that primes them.
-    Start { count: u64, arrivals: Row<Arrival> },
+    Start {
+        count: u64,
+        arrivals: Row<Arrival>,
+    },
     /// A command that changes nothing but the count of commands: the streams are what its evaluation leaves.
     Command,
     /// The active transaction enters a block.
-    Enter { id: u64, change: Change, fate: Fate },
+    Enter {
+        id: StatementId,
+        change: Change,
+        fate: Fate,
+    },
     /// The first transaction of the current chain becomes active.
     Pick,
     /// The clock moves on, and the transactions of that time go to the current chain.
-    Clock { time: Clock },
+    Clock {
+        time: Clock,
+    },
 }

@@ -1,9 +1,11 @@
-ghost use Rattle.std.specs.Prelude.{◌≡◌, IfOk};
-ghost use Rattle.gw_meaning.specs.Statements.{verb_of_block, verb_of_command, verb_of_body};
+ghost use Rattle.std.specs.Prelude.{◌≡◌, IfOk, option_copied};
+ghost use Rattle.gw_meaning.specs.Statements.{operand, is_generate_verb, verb_of_command, verb_of_body};
+ghost use Rattle.gw_meaning.specs.Listing.{block_of, command_of, is_block, is_generate};
 
 use crate::row::Row;
+use crate::statement_id::StatementId;
 use gw_expr::Expr;
-use gw_names::{Name, Verb};
+use gw_names::{BlockVerb, CommandVerb, Name, Verb};
 use std::alloc::{AllocError, Global};
 
 /// A statement of a model.
@@ -22,27 +24,11 @@ pub enum Body {
     Command(Command),
 }
 
-/// A block, with the operands that it has. An absent operand is `None`.
+/// A block: its verb, and its operands from A on, as many as its verb may have. An absent operand is `None`.
 #[derive(Debug, Drop)]
-pub enum Block {
-    /// Makes transactions: `mean` ticks apart, up to `range` more or fewer, the first after `offset` ticks, at most
-    /// `limit` of them, each with `priority`.
-    Generate {
-        mean: Option<Expr>,
-        range: Option<Expr>,
-        offset: Option<Expr>,
-        limit: Option<Expr>,
-        priority: Option<Expr>,
-    },
-    /// Holds a transaction for `mean` ticks, up to `range` more or fewer.
-    Advance {
-        mean: Option<Expr>,
-        range: Option<Expr>,
-    },
-    /// Destroys a transaction, and takes `count` from the termination count.
-    Terminate {
-        count: Option<Expr>,
-    },
+pub struct Block {
+    pub verb: BlockVerb,
+    pub operands: Row<Option<Expr>>,
 }
 
 /// A command.
@@ -54,10 +40,10 @@ pub enum Command {
     Rmult { values: Row<Option<u32>> },
 }
 
-/// A statement of a version with the number of its own, which edits leave alone.
+/// A statement of a version with its id, which edits leave alone.
 #[derive(Debug, Drop)]
 pub struct Numbered {
-    pub number: u64,
+    pub number: StatementId,
     pub statement: Statement,
 }
 
@@ -69,14 +55,23 @@ pub struct Replication {
 }
 
 impl Block {
-    /// The block's verb.
-    pub fn verb(&self) -> Verb
-        ensures { result ≡ verb_of_block self.now }
+    /// The operand at a place, from 0: A to E are places of [`crate::operands`].
+    pub fn operand(&self, place: usize) -> Option<&Expr>
+        ensures { option_copied result ≡ operand self.now place }
     {
-        match self {
-            Block::Generate { .. } => Verb::Generate,
-            Block::Advance { .. } => Verb::Advance,
-            Block::Terminate { .. } => Verb::Terminate,
+        match self.operands.as_slice().get(place) {
+            Some(operand) => operand.as_ref(),
+            None => None,
+        }
+    }
+
+    /// Whether it makes transactions.
+    pub fn is_generate(&self) -> bool
+        ensures { result ≡ is_generate_verb self.now.verb }
+    {
+        match self.verb {
+            BlockVerb::Generate => true,
+            _ => false,
         }
     }
 
@@ -84,28 +79,14 @@ impl Block {
     pub fn copy(&self, alloc: Global) -> Result<Block, AllocError>
         ensures { IfOk result (λ b. b ≡ self.now) }
     {
-        match self {
-            Block::Generate {
-                mean,
-                range,
-                offset,
-                limit,
-                priority,
-            } => Ok(Block::Generate {
-                mean: copy_operand(alloc, mean)?,
-                range: copy_operand(alloc, range)?,
-                offset: copy_operand(alloc, offset)?,
-                limit: copy_operand(alloc, limit)?,
-                priority: copy_operand(alloc, priority)?,
-            }),
-            Block::Advance { mean, range } => Ok(Block::Advance {
-                mean: copy_operand(alloc, mean)?,
-                range: copy_operand(alloc, range)?,
-            }),
-            Block::Terminate { count } => Ok(Block::Terminate {
-                count: copy_operand(alloc, count)?,
-            }),
+        let mut operands = Vec::new(alloc);
+        for operand in self.operands.as_slice() {
+            operands.push(copy_operand(alloc, operand)?)?;
         }
+        Ok(Block {
+            verb: self.verb,
+            operands: Row::from_vec(operands),
+        })
     }
 }
 
@@ -115,8 +96,8 @@ impl Command {
         ensures { result ≡ verb_of_command self.now }
     {
         match self {
-            Command::Start { .. } => Verb::Start,
-            Command::Rmult { .. } => Verb::Rmult,
+            Command::Start { .. } => Verb::Command(CommandVerb::Start),
+            Command::Rmult { .. } => Verb::Command(CommandVerb::Rmult),
         }
     }
 
@@ -139,7 +120,7 @@ impl Body {
         ensures { result ≡ verb_of_body self.now }
     {
         match self {
-            Body::Block(block) => block.verb(),
+            Body::Block(block) => Verb::Block(block.verb),
             Body::Command(command) => command.verb(),
         }
     }
@@ -171,6 +152,45 @@ impl Statement {
             body,
             operands: Row::from_vec(operands),
         })
+    }
+}
+
+impl Numbered {
+    /// The block that the statement is, if it is one.
+    pub fn block(&self) -> Option<&Block>
+        ensures { option_copied result ≡ block_of self.now }
+    {
+        match &self.statement.body {
+            Body::Block(block) => Some(block),
+            Body::Command(_) => None,
+        }
+    }
+
+    /// The command that the statement is, if it is one.
+    pub fn command(&self) -> Option<&Command>
+        ensures { option_copied result ≡ command_of self.now }
+    {
+        match &self.statement.body {
+            Body::Block(_) => None,
+            Body::Command(command) => Some(command),
+        }
+    }
+
+    /// Whether the statement is a block.
+    pub fn is_block(&self) -> bool
+        ensures { result ≡ is_block self.now }
+    {
+        self.block().is_some()
+    }
+
+    /// Whether the statement is a GENERATE.
+    pub fn is_generate(&self) -> bool
+        ensures { result ≡ is_generate self.now }
+    {
+        match self.block() {
+            Some(block) => block.is_generate(),
+            None => false,
+        }
     }
 }
 

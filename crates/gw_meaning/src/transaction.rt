@@ -1,3 +1,5 @@
+use crate::destination::Destination;
+use crate::statement_id::StatementId;
 use gw_nums::{Time, Val};
 
 /// A transaction. Blocks are named by their statement ids.
@@ -9,9 +11,9 @@ pub struct Transaction {
     /// The mark time: the absolute clock at which it entered its GENERATE, and 0 before.
     pub mark: Time,
     /// The block that it is in, and 0 before it entered its GENERATE.
-    pub current: u64,
+    pub current: StatementId,
     /// The block that it goes to next, where that is set; else it goes to the block after the current one.
-    pub destination: Option<u64>,
+    pub destination: Destination,
 }
 
 /// A transaction on the future chain, with the time at which it moves on.

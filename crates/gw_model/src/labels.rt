@@ -7,13 +7,16 @@ ghost use Rattle.gw_model.specs.Faults.{IsFault, label_fault_of, has_label_twice
 
 use crate::fault::ModelFault;
 use crate::lines::block_label;
-use gw_meaning::Numbered;
+use gw_meaning::{Numbered, StatementId};
 use gw_names::Name;
 use std::alloc::Global;
 use std::collections::BTreeMap;
 
 /// The number of the block with each label. No two blocks may have one label.
-pub fn labels_of(alloc: Global, lines: &[Numbered]) -> Result<BTreeMap<Name, u64>, ModelFault>
+pub fn labels_of(
+    alloc: Global,
+    lines: &[Numbered],
+) -> Result<BTreeMap<Name, StatementId>, ModelFault>
     ensures labels { IfOk result (λ labels. (name : List ℕ) →
         tree.get (slice_cmp nat_cmp) labels name ≡ labelled_in name lines.now) }
     ensures once { OnOk result (has_label_twice lines.now ≡ false) }

@@ -1,10 +1,10 @@
 ghost use Rattle.std.specs.Prelude.{◌≡◌, ◌≤◌, ◌+◌, ◌++◌, if◌then◌else◌, length, IsTrue, IfOk, IfSome, OnOk, None, option_copied};
-ghost use Rattle.gw_meaning.specs.Listing.{is_block, block_of, command_of, is_generate, nth};
+ghost use Rattle.gw_meaning.specs.Listing.{nth};
 ghost use Rattle.gw_model.specs.Listed.{numbered, block_label};
 ghost use Rattle.gw_model.specs.Spliced.{greatest_number, number_in, spliced};
 
 use crate::lists::nth;
-use gw_meaning::{Block, Body, Command, Numbered, Statement};
+use gw_meaning::{Body, Numbered, Statement, StatementId};
 use gw_names::Name;
 use std::alloc::{AllocError, Global};
 
@@ -14,7 +14,7 @@ pub fn number(alloc: Global, statements: Vec<Statement>) -> Result<Vec<Numbered>
 {
     let mut lines = Vec::new(alloc);
     for statement in statements {
-        let number = lines.len() as u64 + 1;
+        let number = StatementId::new(lines.len() as u64 + 1);
         lines.push(Numbered { number, statement })?;
     }
     Ok(lines)
@@ -47,13 +47,13 @@ pub fn spliced(
 }
 
 // The number of the statement that comes in at a position, if there is a number for it.
-fn number_in(lines: &[Numbered], position: u64, goes: bool) -> Option<u64>
+fn number_in(lines: &[Numbered], position: u64, goes: bool) -> Option<StatementId>
     ensures { IfSome result (λ n. n ≡ number_in lines.now (if goes then nth lines.now position else None)) }
 {
     let gone = if goes { nth(lines, position) } else { None };
     match gone {
         Some(line) => Some(line.number),
-        None => greatest_number(lines).checked_add(1),
+        None => Some(StatementId::new(greatest_number(lines).checked_add(1)?)),
     }
 }
 
@@ -63,7 +63,7 @@ fn greatest_number(lines: &[Numbered]) -> u64
 {
     let mut greatest = 0;
     for line in lines {
-        greatest = line.number.max(greatest);
+        greatest = line.number.number().max(greatest);
     }
     greatest
 }
@@ -84,26 +84,6 @@ fn copy_behind(
     Ok(())
 }
 
-/// Whether the statement is a block.
-pub fn is_block(line: &Numbered) -> bool
-    ensures { result ≡ is_block line.now }
-{
-    match line.statement.body {
-        Body::Block(_) => true,
-        Body::Command(_) => false,
-    }
-}
-
-/// The block that the statement is, if it is one.
-pub fn block_of(line: &Numbered) -> Option<&Block>
-    ensures { option_copied result ≡ block_of line.now }
-{
-    match &line.statement.body {
-        Body::Block(block) => Some(block),
-        Body::Command(_) => None,
-    }
-}
-
 /// The block's label; a command has none.
 pub fn block_label(line: &Numbered) -> Option<&Name>
     ensures { option_copied result ≡ block_label line.now }
@@ -111,25 +91,5 @@ pub fn block_label(line: &Numbered) -> Option<&Name>
     match (&line.statement.body, &line.statement.label) {
         (Body::Block(_), Some(name)) => Some(name),
         _ => None,
-    }
-}
-
-/// The command that the statement is, if it is one.
-pub fn command_of(line: &Numbered) -> Option<&Command>
-    ensures { option_copied result ≡ command_of line.now }
-{
-    match &line.statement.body {
-        Body::Block(_) => None,
-        Body::Command(command) => Some(command),
-    }
-}
-
-/// Whether the statement is a GENERATE.
-pub fn is_generate(line: &Numbered) -> bool
-    ensures { result ≡ is_generate line.now }
-{
-    match line.statement.body {
-        Body::Block(Block::Generate { .. }) => true,
-        _ => false,
     }
 }

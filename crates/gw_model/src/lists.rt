@@ -2,8 +2,7 @@ ghost use Rattle.std.specs.Prelude.{◌≡◌, IfOk, length, filter, option_copi
 ghost use Rattle.std.specs.List.{filter_map};
 ghost use Rattle.gw_meaning.specs.Listing.{command_of, is_block, is_start, generates_in, nth};
 
-use crate::lines::{command_of, is_block, is_generate};
-use gw_meaning::{Command, Numbered};
+use gw_meaning::{Command, Numbered, StatementId};
 use std::alloc::{AllocError, Global};
 
 /// The number of blocks among the lines.
@@ -12,7 +11,7 @@ pub fn count_blocks(lines: &[Numbered]) -> u64
 {
     let mut count = 0;
     for line in lines {
-        if is_block(line) {
+        if line.is_block() {
             count += 1;
         }
     }
@@ -25,7 +24,7 @@ pub fn commands_of(alloc: Global, lines: &[Numbered]) -> Result<Vec<Command>, Al
 {
     let mut commands = Vec::new(alloc);
     for line in lines {
-        if let Some(command) = command_of(line) {
+        if let Some(command) = line.command() {
             commands.push(command.copy(alloc)?)?;
         }
     }
@@ -39,13 +38,13 @@ pub fn count_starts(commands: &[Command]) -> u64
     commands.iter().filter(|command| is_start(command)).count() as u64
 }
 
-/// The numbers of the GENERATEs, in order.
-pub fn generates_of(alloc: Global, lines: &[Numbered]) -> Result<Vec<u64>, AllocError>
+/// The ids of the GENERATEs, in order.
+pub fn generates_of(alloc: Global, lines: &[Numbered]) -> Result<Vec<StatementId>, AllocError>
     ensures { IfOk result (λ numbers. numbers.items ≡ generates_in lines.now) }
 {
     let mut numbers = Vec::new(alloc);
     for line in lines {
-        if is_generate(line) {
+        if line.is_generate() {
             numbers.push(line.number)?;
         }
     }

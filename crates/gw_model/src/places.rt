@@ -3,9 +3,8 @@ ghost use Rattle.gw_meaning.specs.Listing.{is_block};
 ghost use Rattle.gw_model.specs.Tables.{place_in};
 ghost use Rattle.gw_model.specs.declared.places.Place.{Place};
 
-use crate::lines::is_block;
 use crate::lists::count_blocks;
-use gw_meaning::Numbered;
+use gw_meaning::{Numbered, StatementId};
 use std::alloc::{AllocError, Global};
 
 /// Where a statement stands.
@@ -13,13 +12,13 @@ use std::alloc::{AllocError, Global};
 pub struct Place {
     /// Its index among all statements.
     pub index: usize,
-    /// The number of the next block, where it is a block.
-    pub after: Option<u64>,
+    /// The id of the next block, where it is a block.
+    pub after: Option<StatementId>,
     /// Its position among the blocks, from 1, where it is a block.
     pub position: Option<u64>,
 }
 
-/// For each number the place of the first statement with it.
+/// For each statement id the place of the first statement with it.
 pub fn places_of(alloc: Global, lines: &[Numbered]) -> Result<Vec<Option<Place>>, AllocError>
     ensures { IfOk result (λ table. (number : ℕ) → get_or table.items number None ≡ place_in 0 0 lines.now number) }
 {
@@ -30,7 +29,7 @@ pub fn places_of(alloc: Global, lines: &[Numbered]) -> Result<Vec<Option<Place>>
     while index > 0 {
         index -= 1;
         let line = &lines[index];
-        if is_block(line) {
+        if line.is_block() {
             before -= 1;
             let position = Some(before + 1);
             put(
@@ -58,12 +57,12 @@ pub fn places_of(alloc: Global, lines: &[Numbered]) -> Result<Vec<Option<Place>>
     Ok(table)
 }
 
-// Writes the place of a number, and makes the table longer where it ends before it.
-fn put(table: &mut Vec<Option<Place>>, number: u64, place: Place) -> Result<(), AllocError>
+// Writes the place of an id, and makes the table longer where it ends before it.
+fn put(table: &mut Vec<Option<Place>>, id: StatementId, place: Place) -> Result<(), AllocError>
     ensures { OnOk result ((k : ℕ) → get_or table.new.items k None ≡
-        (if number == k then Some place else get_or table.old.items k None)) }
+        (if id == k then Some place else get_or table.old.items k None)) }
 {
-    let at = number as usize;
+    let at = id.number() as usize;
     if at >= table.len() {
         let size = at.checked_add(1).ok_or(AllocError)?;
         table.resize(size, None)?;
@@ -72,45 +71,45 @@ fn put(table: &mut Vec<Option<Place>>, number: u64, place: Place) -> Result<(), 
     Ok(())
 }
 
-/// The statement with this number.
+/// The statement with this id.
 pub fn line_of<'a>(
     lines: &'a [Numbered],
     table: &[Option<Place>],
-    number: u64,
+    id: StatementId,
 ) -> Option<&'a Numbered>
     ensures { option_copied result ≡ option_and_then (λ (p : Place). slice_get lines.now p.index)
-        (get_or table.now number None) }
+        (get_or table.now id None) }
 {
-    match place_of(table, number) {
+    match place_of(table, id) {
         Some(place) => lines.get(place.index),
         None => None,
     }
 }
 
-/// The number of the block after the block with this number.
-pub fn after_of(table: &[Option<Place>], number: u64) -> Option<u64>
-    ensures { result ≡ option_and_then (λ (p : Place). p.after) (get_or table.now number None) }
+/// The id of the block after the block with this id.
+pub fn after_of(table: &[Option<Place>], id: StatementId) -> Option<StatementId>
+    ensures { result ≡ option_and_then (λ (p : Place). p.after) (get_or table.now id None) }
 {
-    match place_of(table, number) {
+    match place_of(table, id) {
         Some(place) => place.after,
         None => None,
     }
 }
 
-/// The position of the block with this number, from 1.
-pub fn position_of(table: &[Option<Place>], number: u64) -> Option<u64>
-    ensures { result ≡ option_and_then (λ (p : Place). p.position) (get_or table.now number None) }
+/// The position of the block with this id, from 1.
+pub fn position_of(table: &[Option<Place>], id: StatementId) -> Option<u64>
+    ensures { result ≡ option_and_then (λ (p : Place). p.position) (get_or table.now id None) }
 {
-    match place_of(table, number) {
+    match place_of(table, id) {
         Some(place) => place.position,
         None => None,
     }
 }
 
-fn place_of(table: &[Option<Place>], number: u64) -> Option<Place>
-    ensures { result ≡ get_or table.now number None }
+fn place_of(table: &[Option<Place>], id: StatementId) -> Option<Place>
+    ensures { result ≡ get_or table.now id None }
 {
-    match table.get(number as usize) {
+    match table.get(id.number() as usize) {
         Some(place) => *place,
         None => None,
     }

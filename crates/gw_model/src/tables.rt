@@ -6,7 +6,7 @@ use crate::fault::ModelFault;
 use crate::labels::labels_of;
 use crate::lists::{commands_of, count_blocks, count_starts, generates_of};
 use crate::places::{Place, places_of};
-use gw_meaning::{Command, Numbered};
+use gw_meaning::{Command, Numbered, StatementId};
 use gw_names::Name;
 use std::alloc::Global;
 use std::collections::BTreeMap;
@@ -22,10 +22,10 @@ pub struct Tables {
     pub commands: Vec<Command>,
     /// The number of STARTs.
     pub starts: u64,
-    /// The numbers of the GENERATEs, in order.
-    pub generates: Vec<u64>,
+    /// The ids of the GENERATEs, in order.
+    pub generates: Vec<StatementId>,
     /// The number of the block with each label.
-    pub labels: BTreeMap<Name, u64>,
+    pub labels: BTreeMap<Name, StatementId>,
 }
 
 impl Tables {

@@ -2,13 +2,13 @@ ghost use Rattle.std.specs.Prelude.{◌≡◌, ◌≤◌, ◌⊎◌, IfOk, OnOk,
 ghost use Rattle.gw_meaning.specs.Listing.{block_at, after_at, position_at, label_at, command_at, generates_in, statement_at, starts, replication_at, seed_at};
 
 use crate::fault::ModelFault;
-use crate::lines::{block_of, number, spliced};
+use crate::lines::{number, spliced};
 use crate::lists::nth;
 use crate::places::{after_of, line_of, position_of};
 use crate::replications::seed_of;
 use crate::settings::checked_horizon;
 use crate::tabled::Tabled;
-use gw_meaning::{Block, Command, Numbered, Replication, Statement};
+use gw_meaning::{Block, Command, Numbered, Replication, Statement, StatementId};
 use gw_names::Name;
 use gw_nums::{Clock, Time};
 use std::alloc::{AllocError, Global};
@@ -175,36 +175,36 @@ impl Version {
         })
     }
 
-    /// The block with this number.
-    pub fn block(&self, number: u64) -> Option<&Block>
-        ensures { option_copied result ≡ block_at self.now number }
+    /// The block with this id.
+    pub fn block(&self, id: StatementId) -> Option<&Block>
+        ensures { option_copied result ≡ block_at self.now id }
     {
         match line_of(
             self.tabled.lines.as_slice(),
             self.tabled.tables.places.as_slice(),
-            number,
+            id,
         ) {
-            Some(line) => block_of(line),
+            Some(line) => line.block(),
             None => None,
         }
     }
 
-    /// The number of the block after the block with this number.
-    pub fn after(&self, number: u64) -> Option<u64>
-        ensures { result ≡ after_at self.now number }
+    /// The id of the block after the block with this id.
+    pub fn after(&self, id: StatementId) -> Option<StatementId>
+        ensures { result ≡ after_at self.now id }
     {
-        after_of(self.tabled.tables.places.as_slice(), number)
+        after_of(self.tabled.tables.places.as_slice(), id)
     }
 
-    /// The position of the block with this number, from 1, among the blocks.
-    pub fn position(&self, number: u64) -> Option<u64>
-        ensures { result ≡ position_at self.now number }
+    /// The position of the block with this id, from 1, among the blocks.
+    pub fn position(&self, id: StatementId) -> Option<u64>
+        ensures { result ≡ position_at self.now id }
     {
-        position_of(self.tabled.tables.places.as_slice(), number)
+        position_of(self.tabled.tables.places.as_slice(), id)
     }
 
-    /// The number of the block with this label.
-    pub fn label(&self, name: &Name) -> Option<u64>
+    /// The id of the block with this label.
+    pub fn label(&self, name: &Name) -> Option<StatementId>
         ensures { result ≡ label_at self.now name.now }
     {
         self.tabled.tables.labels.get(name).copied()
@@ -217,8 +217,8 @@ impl Version {
         nth(self.tabled.tables.commands.as_slice(), i)
     }
 
-    /// The numbers of the GENERATEs, in order.
-    pub fn generates(&self) -> &[u64]
+    /// The ids of the GENERATEs, in order.
+    pub fn generates(&self) -> &[StatementId]
         ensures { result.now ≡ generates_in self.now.lines }
     {
         self.tabled.tables.generates.as_slice()

@@ -1,2 +1,3 @@
 pub mod Words
 pub mod Names
+pub mod Keys

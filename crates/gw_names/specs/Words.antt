@@ -1,53 +1,84 @@
 -- The verbs, and the class names of attributes. (Manual; the list of the profile.)
-use Rattle.std.specs.Prelude.{ℕ, Bool, ◌&&◌, List, [], ◌∷◌, Option, codes, map, find, length, drop, nat_eq}
+use Rattle.std.specs.Prelude.{ℕ, Bool, ◌&&◌, List, [], ◌∷◌, ◌++◌, Option, codes, map, find, length, drop, nat_eq}
 use Rattle.std.specs.List.{list_any, list_all, starts_with}
 use Rattle.std.specs.Str.{bytes_eq}
 use Rattle.std.specs.Char.{is_ascii_digit, to_ascii_uppercase}
 use Rattle.gw_names.specs.declared.class.Class.{Class}
 use Rattle.gw_names.specs.declared.class.Class.TheVariants as class
+use Rattle.gw_names.specs.declared.verb.BlockVerb.{BlockVerb}
+use Rattle.gw_names.specs.declared.verb.BlockVerb.TheVariants as blocks
+use Rattle.gw_names.specs.declared.verb.DefinitionVerb.{DefinitionVerb}
+use Rattle.gw_names.specs.declared.verb.DefinitionVerb.TheVariants as definitions
+use Rattle.gw_names.specs.declared.verb.CommandVerb.{CommandVerb}
+use Rattle.gw_names.specs.declared.verb.CommandVerb.TheVariants as commands
 use Rattle.gw_names.specs.declared.verb.Verb.{Verb}
-use Rattle.gw_names.specs.declared.verb.Verb.TheVariants.{Generate, Advance, Terminate, Seize, Release, Enter, Leave, Queue, Depart, Transfer, Test, Gate, Logic, Assign, Savevalue, Mark, Buffer, Priority, Tabulate, Link, Unlink, Split, Loop, Storage, Table, Variable, Equ, Function, Start, Reset, Clear, Rmult}
+use Rattle.gw_names.specs.declared.verb.Verb.TheVariants.{Block, Definition, Command}
+
+-- the word of a block's verb
+abbrev pub word_of_block : BlockVerb → List ℕ
+word_of_block blocks.Generate = codes "GENERATE"
+word_of_block blocks.Advance = codes "ADVANCE"
+word_of_block blocks.Terminate = codes "TERMINATE"
+word_of_block blocks.Seize = codes "SEIZE"
+word_of_block blocks.Release = codes "RELEASE"
+word_of_block blocks.Enter = codes "ENTER"
+word_of_block blocks.Leave = codes "LEAVE"
+word_of_block blocks.Queue = codes "QUEUE"
+word_of_block blocks.Depart = codes "DEPART"
+word_of_block blocks.Transfer = codes "TRANSFER"
+word_of_block blocks.Test = codes "TEST"
+word_of_block blocks.Gate = codes "GATE"
+word_of_block blocks.Logic = codes "LOGIC"
+word_of_block blocks.Assign = codes "ASSIGN"
+word_of_block blocks.Savevalue = codes "SAVEVALUE"
+word_of_block blocks.Mark = codes "MARK"
+word_of_block blocks.Buffer = codes "BUFFER"
+word_of_block blocks.Priority = codes "PRIORITY"
+word_of_block blocks.Tabulate = codes "TABULATE"
+word_of_block blocks.Link = codes "LINK"
+word_of_block blocks.Unlink = codes "UNLINK"
+word_of_block blocks.Split = codes "SPLIT"
+word_of_block blocks.Loop = codes "LOOP"
+
+-- the word of a definition's verb
+abbrev pub word_of_definition : DefinitionVerb → List ℕ
+word_of_definition definitions.Storage = codes "STORAGE"
+word_of_definition definitions.Table = codes "TABLE"
+word_of_definition definitions.Variable = codes "VARIABLE"
+word_of_definition definitions.Equ = codes "EQU"
+word_of_definition definitions.Function = codes "FUNCTION"
+
+-- the word of a command's verb
+abbrev pub word_of_command : CommandVerb → List ℕ
+word_of_command commands.Start = codes "START"
+word_of_command commands.Reset = codes "RESET"
+word_of_command commands.Clear = codes "CLEAR"
+word_of_command commands.Rmult = codes "RMULT"
 
 -- the word of a verb
 abbrev pub word_of : Verb → List ℕ
-word_of Generate = codes "GENERATE"
-word_of Advance = codes "ADVANCE"
-word_of Terminate = codes "TERMINATE"
-word_of Seize = codes "SEIZE"
-word_of Release = codes "RELEASE"
-word_of Enter = codes "ENTER"
-word_of Leave = codes "LEAVE"
-word_of Queue = codes "QUEUE"
-word_of Depart = codes "DEPART"
-word_of Transfer = codes "TRANSFER"
-word_of Test = codes "TEST"
-word_of Gate = codes "GATE"
-word_of Logic = codes "LOGIC"
-word_of Assign = codes "ASSIGN"
-word_of Savevalue = codes "SAVEVALUE"
-word_of Mark = codes "MARK"
-word_of Buffer = codes "BUFFER"
-word_of Priority = codes "PRIORITY"
-word_of Tabulate = codes "TABULATE"
-word_of Link = codes "LINK"
-word_of Unlink = codes "UNLINK"
-word_of Split = codes "SPLIT"
-word_of Loop = codes "LOOP"
-word_of Storage = codes "STORAGE"
-word_of Table = codes "TABLE"
-word_of Variable = codes "VARIABLE"
-word_of Equ = codes "EQU"
-word_of Function = codes "FUNCTION"
-word_of Start = codes "START"
-word_of Reset = codes "RESET"
-word_of Clear = codes "CLEAR"
-word_of Rmult = codes "RMULT"
+word_of (Block verb) = word_of_block verb
+word_of (Definition verb) = word_of_definition verb
+word_of (Command verb) = word_of_command verb
+
+-- every verb of a block, of a definition and of a command
+abbrev pub block_verbs : List BlockVerb
+block_verbs = blocks.Generate ∷ blocks.Advance ∷ blocks.Terminate ∷ blocks.Seize ∷ blocks.Release ∷ blocks.Enter ∷
+    blocks.Leave ∷ blocks.Queue ∷ blocks.Depart ∷ blocks.Transfer ∷ blocks.Test ∷ blocks.Gate ∷ blocks.Logic ∷
+    blocks.Assign ∷ blocks.Savevalue ∷ blocks.Mark ∷ blocks.Buffer ∷ blocks.Priority ∷ blocks.Tabulate ∷
+    blocks.Link ∷ blocks.Unlink ∷ blocks.Split ∷ blocks.Loop ∷ []
+
+abbrev pub definition_verbs : List DefinitionVerb
+definition_verbs = definitions.Storage ∷ definitions.Table ∷ definitions.Variable ∷ definitions.Equ ∷
+    definitions.Function ∷ []
+
+abbrev pub command_verbs : List CommandVerb
+command_verbs = commands.Start ∷ commands.Reset ∷ commands.Clear ∷ commands.Rmult ∷ []
 
 -- every verb of the language
 abbrev pub verbs : List Verb
-verbs = Generate ∷ Advance ∷ Terminate ∷ Seize ∷ Release ∷ Enter ∷ Leave ∷ Queue ∷ Depart ∷ Transfer ∷ Test ∷ Gate ∷
-    Logic ∷ Assign ∷ Savevalue ∷ Mark ∷ Buffer ∷ Priority ∷ Tabulate ∷ Link ∷ Unlink ∷ Split ∷ Loop ∷ Storage ∷ Table ∷
-    Variable ∷ Equ ∷ Function ∷ Start ∷ Reset ∷ Clear ∷ Rmult ∷ []
+verbs = map (λ v. Block v) block_verbs ++
+    (map (λ v. Definition v) definition_verbs ++ map (λ v. Command v) command_verbs)
 
 -- a text in upper case
 abbrev pub upper_of : List ℕ → List ℕ

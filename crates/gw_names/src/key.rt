@@ -1,7 +1,9 @@
 ghost use Rattle.std.specs.Prelude.{◌≡◌, IfOk};
+ghost use Rattle.gw_names.specs.Keys.{key_eq, key_input};
 
 use crate::name::Name;
 use std::alloc::{AllocError, Global};
+use std::hash::{Hash, Hasher};
 
 /// What an entity is called: a number from 1, or a name.
 #[derive(Debug, Drop)]
@@ -18,6 +20,46 @@ impl Key {
         match self {
             Key::Num(number) => Ok(Key::Num(*number)),
             Key::Named(name) => Ok(Key::Named(name.copy(alloc)?)),
+        }
+    }
+}
+
+impl PartialEq for Key {
+    ghost use Rattle.std.proofs.Common.{rules};
+    ghost use Rattle.std.specs.Cmp.Rules.{comparing};
+
+    ghost eq = { key_eq };
+
+    ghost laws = { Prim.search (comparing, rules) };
+
+    fn eq(&self, other: &Key) -> bool {
+        match (self, other) {
+            (Key::Num(a), Key::Num(b)) => a == b,
+            (Key::Named(a), Key::Named(b)) => a == b,
+            _ => false,
+        }
+    }
+}
+
+impl Eq for Key {
+    ghost use Rattle.std.proofs.Common.{rules};
+    ghost use Rattle.std.specs.Cmp.Rules.{comparing};
+
+    ghost laws = { Prim.search (comparing, rules) };
+}
+
+impl Hash for Key {
+    ghost use Rattle.std.proofs.Common.{rules};
+    ghost use Rattle.std.specs.Cmp.Rules.{hashing};
+
+    ghost hash_input = { key_input };
+
+    ghost respects_eq = { Prim.search (hashing, rules) };
+
+    fn hash<H: Hasher>(&self, state: &mut H) {
+        match self {
+            Key::Num(number) => state.write_u32(*number),
+            Key::Named(name) => state.write(name.as_bytes()),
         }
     }
 }

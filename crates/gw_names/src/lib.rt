@@ -12,4 +12,4 @@ mod verb;
 pub use class::{CLASSES, Class, is_class};
 pub use key::Key;
 pub use name::Name;
-pub use verb::{VERBS, Verb};
+pub use verb::{BlockVerb, CommandVerb, DefinitionVerb, VERBS, Verb};

@@ -1,9 +1,17 @@
 ghost use Rattle.std.specs.Prelude.{◌≡◌};
-ghost use Rattle.gw_names.specs.Words.{word_of, verb_of, verbs};
+ghost use Rattle.gw_names.specs.Words.{word_of, word_of_block, word_of_definition, word_of_command, verb_of, verbs};
 
-/// A verb of the language: of a block, a definition or a command.
+/// A verb of the language.
 #[derive(Clone, Copy, Debug, PartialEq, Eq, Hash)]
 pub enum Verb {
+    Block(BlockVerb),
+    Definition(DefinitionVerb),
+    Command(CommandVerb),
+}
+
+/// A verb of a block.
+#[derive(Clone, Copy, Debug, PartialEq, Eq, Hash)]
+pub enum BlockVerb {
     Generate,
     Advance,
     Terminate,
@@ -27,11 +35,21 @@ pub enum Verb {
     Unlink,
     Split,
     Loop,
+}
+
+/// A verb of a definition.
+#[derive(Clone, Copy, Debug, PartialEq, Eq, Hash)]
+pub enum DefinitionVerb {
     Storage,
     Table,
     Variable,
     Equ,
     Function,
+}
+
+/// A verb of a command.
+#[derive(Clone, Copy, Debug, PartialEq, Eq, Hash)]
+pub enum CommandVerb {
     Start,
     Reset,
     Clear,
@@ -40,38 +58,38 @@ pub enum Verb {
 
 /// Every verb: those of blocks, then of definitions, then of commands.
 pub const VERBS: [Verb; 32] = [
-    Verb::Generate,
-    Verb::Advance,
-    Verb::Terminate,
-    Verb::Seize,
-    Verb::Release,
-    Verb::Enter,
-    Verb::Leave,
-    Verb::Queue,
-    Verb::Depart,
-    Verb::Transfer,
-    Verb::Test,
-    Verb::Gate,
-    Verb::Logic,
-    Verb::Assign,
-    Verb::Savevalue,
-    Verb::Mark,
-    Verb::Buffer,
-    Verb::Priority,
-    Verb::Tabulate,
-    Verb::Link,
-    Verb::Unlink,
-    Verb::Split,
-    Verb::Loop,
-    Verb::Storage,
-    Verb::Table,
-    Verb::Variable,
-    Verb::Equ,
-    Verb::Function,
-    Verb::Start,
-    Verb::Reset,
-    Verb::Clear,
-    Verb::Rmult,
+    Verb::Block(BlockVerb::Generate),
+    Verb::Block(BlockVerb::Advance),
+    Verb::Block(BlockVerb::Terminate),
+    Verb::Block(BlockVerb::Seize),
+    Verb::Block(BlockVerb::Release),
+    Verb::Block(BlockVerb::Enter),
+    Verb::Block(BlockVerb::Leave),
+    Verb::Block(BlockVerb::Queue),
+    Verb::Block(BlockVerb::Depart),
+    Verb::Block(BlockVerb::Transfer),
+    Verb::Block(BlockVerb::Test),
+    Verb::Block(BlockVerb::Gate),
+    Verb::Block(BlockVerb::Logic),
+    Verb::Block(BlockVerb::Assign),
+    Verb::Block(BlockVerb::Savevalue),
+    Verb::Block(BlockVerb::Mark),
+    Verb::Block(BlockVerb::Buffer),
+    Verb::Block(BlockVerb::Priority),
+    Verb::Block(BlockVerb::Tabulate),
+    Verb::Block(BlockVerb::Link),
+    Verb::Block(BlockVerb::Unlink),
+    Verb::Block(BlockVerb::Split),
+    Verb::Block(BlockVerb::Loop),
+    Verb::Definition(DefinitionVerb::Storage),
+    Verb::Definition(DefinitionVerb::Table),
+    Verb::Definition(DefinitionVerb::Variable),
+    Verb::Definition(DefinitionVerb::Equ),
+    Verb::Definition(DefinitionVerb::Function),
+    Verb::Command(CommandVerb::Start),
+    Verb::Command(CommandVerb::Reset),
+    Verb::Command(CommandVerb::Clear),
+    Verb::Command(CommandVerb::Rmult),
 ];
 
 impl Verb {
@@ -80,38 +98,9 @@ impl Verb {
         ensures { result.now ≡ word_of self }
     {
         match self {
-            Verb::Generate => b"GENERATE",
-            Verb::Advance => b"ADVANCE",
-            Verb::Terminate => b"TERMINATE",
-            Verb::Seize => b"SEIZE",
-            Verb::Release => b"RELEASE",
-            Verb::Enter => b"ENTER",
-            Verb::Leave => b"LEAVE",
-            Verb::Queue => b"QUEUE",
-            Verb::Depart => b"DEPART",
-            Verb::Transfer => b"TRANSFER",
-            Verb::Test => b"TEST",
-            Verb::Gate => b"GATE",
-            Verb::Logic => b"LOGIC",
-            Verb::Assign => b"ASSIGN",
-            Verb::Savevalue => b"SAVEVALUE",
-            Verb::Mark => b"MARK",
-            Verb::Buffer => b"BUFFER",
-            Verb::Priority => b"PRIORITY",
-            Verb::Tabulate => b"TABULATE",
-            Verb::Link => b"LINK",
-            Verb::Unlink => b"UNLINK",
-            Verb::Split => b"SPLIT",
-            Verb::Loop => b"LOOP",
-            Verb::Storage => b"STORAGE",
-            Verb::Table => b"TABLE",
-            Verb::Variable => b"VARIABLE",
-            Verb::Equ => b"EQU",
-            Verb::Function => b"FUNCTION",
-            Verb::Start => b"START",
-            Verb::Reset => b"RESET",
-            Verb::Clear => b"CLEAR",
-            Verb::Rmult => b"RMULT",
+            Verb::Block(verb) => verb.word(),
+            Verb::Definition(verb) => verb.word(),
+            Verb::Command(verb) => verb.word(),
         }
     }
 
@@ -121,5 +110,67 @@ impl Verb {
         ensures { result ≡ verb_of word.now }
     {
         VERBS.iter().copied().find(|verb| verb.word() == word)
+    }
+}
+
+impl BlockVerb {
+    /// The verb's word, in upper case.
+    pub fn word(self) -> &'static [u8]
+        ensures { result.now ≡ word_of_block self }
+    {
+        match self {
+            BlockVerb::Generate => b"GENERATE",
+            BlockVerb::Advance => b"ADVANCE",
+            BlockVerb::Terminate => b"TERMINATE",
+            BlockVerb::Seize => b"SEIZE",
+            BlockVerb::Release => b"RELEASE",
+            BlockVerb::Enter => b"ENTER",
+            BlockVerb::Leave => b"LEAVE",
+            BlockVerb::Queue => b"QUEUE",
+            BlockVerb::Depart => b"DEPART",
+            BlockVerb::Transfer => b"TRANSFER",
+            BlockVerb::Test => b"TEST",
+            BlockVerb::Gate => b"GATE",
+            BlockVerb::Logic => b"LOGIC",
+            BlockVerb::Assign => b"ASSIGN",
+            BlockVerb::Savevalue => b"SAVEVALUE",
+            BlockVerb::Mark => b"MARK",
+            BlockVerb::Buffer => b"BUFFER",
+            BlockVerb::Priority => b"PRIORITY",
+            BlockVerb::Tabulate => b"TABULATE",
+            BlockVerb::Link => b"LINK",
+            BlockVerb::Unlink => b"UNLINK",
+            BlockVerb::Split => b"SPLIT",
+            BlockVerb::Loop => b"LOOP",
+        }
+    }
+}
+
+impl DefinitionVerb {
+    /// The verb's word, in upper case.
+    pub fn word(self) -> &'static [u8]
+        ensures { result.now ≡ word_of_definition self }
+    {
+        match self {
+            DefinitionVerb::Storage => b"STORAGE",
+            DefinitionVerb::Table => b"TABLE",
+            DefinitionVerb::Variable => b"VARIABLE",
+            DefinitionVerb::Equ => b"EQU",
+            DefinitionVerb::Function => b"FUNCTION",
+        }
+    }
+}
+
+impl CommandVerb {
+    /// The verb's word, in upper case.
+    pub fn word(self) -> &'static [u8]
+        ensures { result.now ≡ word_of_command self }
+    {
+        match self {
+            CommandVerb::Start => b"START",
+            CommandVerb::Reset => b"RESET",
+            CommandVerb::Clear => b"CLEAR",
+            CommandVerb::Rmult => b"RMULT",
+        }
     }
 }

@@ -19,7 +19,7 @@ pub fn plain_run(alloc: Global, version: &Version, seed: u64) -> Result<PlainRun
     ensures { IfOk result (IsRunToEnd version.now seed) }
 {
     let mut state = State::zero(alloc);
-    let mut notes = Notes::new(alloc);
+    let mut notes = Notes::new(alloc, &state);
     let mut tally = Tally::new();
     for _moment in 0..version.limit() {
         notes.truncate(0);

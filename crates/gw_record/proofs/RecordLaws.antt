@@ -45,6 +45,11 @@ slice_get_more (z ∷ xs) x (suc i) y is = slice_get_more xs x i y is
 there_more : (xs : List Kept) (x : Kept) (m : ℕ) → IsThere xs m → IsThere (xs ++ x ∷ []) m
 there_more xs x m (i, e, is, at) = (i, e, slice_get_more xs x i e is, at)
 
+-- the last one is there
+pub there_last : (xs : List Kept) (x : Kept) → IsThere (xs ++ x ∷ []) x.moment
+there_last [] x = (0, x, refl, refl)
+there_last (y ∷ ys) x = let (i, e, is, at) = there_last ys x in (suc i, e, is, at)
+
 -- the moments of a START end are one
 same_end : (t : Listing) (seed k m n : ℕ) → IsStartEnd t seed k m → IsStartEnd t seed k n → m ≤ n
 same_end t seed k m n a b = go (nat_lt n m) refl where

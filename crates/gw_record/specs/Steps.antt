@@ -1,6 +1,9 @@
 -- What is noted of the first steps that use something. (Our own.)
 use Rattle.std.specs.Prelude.{◌≡◌, ℕ, ◌-◌, ◌^◌, ◌<◌, ◌≤◌, List, [], ◌∷◌, Option, Some, None, if◌then◌else◌, nat_lt, get_or, All, Any}
 use Rattle.std.specs.List.Sorted.{IsNonDecreasingBy}
+use Rattle.std.specs.Map.{lookup}
+use Rattle.gw_meaning.specs.declared.item.Item.{Item}
+use Rattle.gw_meaning.specs.Reads.{same_item}
 use Rattle.gw_record.specs.declared.clock_steps.ClockStep.{ClockStep}
 
 -- what stands for "no step"
@@ -20,6 +23,10 @@ IsLeastFrom steps number None = (k : ℕ) → number ≤ k → step_at steps k �
 IsLeastFrom steps number (Some least) =
     ((k : ℕ) × (number ≤ k) × (step_at steps k ≡ Some least)) ×
     ((k n : ℕ) → number ≤ k → step_at steps k ≡ Some n → least ≤ n)
+
+-- the step that is noted with an item
+abbrev pub step_of : List (Item × ℕ) → Item → Option ℕ
+step_of noted item = lookup (same_item item) noted
 
 -- a step, where it lies below a bound
 abbrev pub below_of : ℕ → ℕ → Option ℕ

@@ -11,8 +11,9 @@ ghost use Rattle.gw_record.specs.Extending.{Goes, Extends, tallied};
 
 use crate::kept::Kept;
 use crate::recorded::Recorded;
+use gw_meaning::Move;
 use gw_model::Version;
-use gw_scan::{Decision, Next, Notes, Tally, Turn, next_step};
+use gw_scan::{Halt, Notes, Tally, Turn, next_step};
 use std::alloc::{AllocError, Global};
 
 impl Recorded {
@@ -35,7 +36,7 @@ impl Recorded {
         ensures bound { self.new.moment ≤ self.old.moment + steps }
         ensures tally { tally.new ≡ tallied tally.old (self.new.moment - self.old.moment) }
     {
-        let mut notes = Notes::new(alloc);
+        let mut notes = Notes::new(alloc, &self.tip);
         for made in 0..steps {
             if self.moment >= version.limit() {
                 return Ok(made);
@@ -60,33 +61,54 @@ impl Recorded {
         requires records { Records version.now seed self.old }
         requires room { self.old.moment < version.now.limit }
         requires bound { self.old.moment < 1000000 }
+        requires streams { notes.old.streams ≡ self.old.tip.streams }
         ensures records { Records version.now seed self.new }
+        ensures streams { OnOk result (notes.new.streams ≡ self.new.tip.streams) }
         ensures every { self.new.every ≡ self.old.every }
         ensures told { IfOk result (λ turn. Goes version.now seed turn self.old self.new) }
         ensures tally { IfOk result (λ turn. Counts turn tally.old tally.new) }
         ensures err { OnErr result ((self.new.moment ≡ self.old.moment) × (tally.new ≡ tally.old)) }
     {
-        self.keep_state()?;
-        self.keep_end()?;
+        self.keep()?;
         notes.truncate(0);
-        match next_step(alloc, version, seed, &self.tip, notes)? {
-            Next::End(end) => Ok(Turn::Ended(end)),
-            Next::Step(next) => {
+        match next_step(alloc, version, seed, &self.tip, notes) {
+            Ok(next) => {
                 self.make(next, notes, tally)?;
                 Ok(Turn::Moved)
             }
+            Err(Halt::End(end)) => Ok(Turn::Ended(end)),
+            Err(Halt::Memory) => Err(AllocError),
         }
     }
 
-    // Keeps the state at the tip where it stands at a multiple of the spacing or a START is complete there.
-    fn keep_state(&mut self) -> Result<(), AllocError>
+    // Keeps the tip where it stands at a multiple of the spacing or a START is complete there, so that the run may
+    // leave it.
+    #[inline(always)]
+    fn keep(&mut self) -> Result<(), AllocError>
         ensures records { (t : Listing) (seed : ℕ) → Records t seed self.old → Records t seed self.new }
-        ensures ok { OnOk result ((t : Listing) (seed : ℕ) → Records t seed self.old →
-            IsWanted t seed self.new.every self.new.moment → IsThere self.new.kept self.new.moment) }
+        ensures ok { OnOk result ((t : Listing) (seed : ℕ) → Records t seed self.old → IsKeptUp t seed self.new) }
+        ensures same { (self.new.moment ≡ self.old.moment) × (self.new.every ≡ self.old.every) ×
+            (self.new.tip ≡ self.old.tip) × (self.new.firsts ≡ self.old.firsts) }
+    {
+        if self.is_wanted() {
+            self.keep_state()?;
+            self.keep_end()?;
+        }
+        Ok(())
+    }
+
+    // Keeps the state at the tip, which is wanted.
+    #[cold]
+    #[inline(never)]
+    fn keep_state(&mut self) -> Result<(), AllocError>
+        requires { (t : Listing) (seed : ℕ) → Records t seed self.old →
+            IsWanted t seed self.old.every self.old.moment }
+        ensures records { (t : Listing) (seed : ℕ) → Records t seed self.old → Records t seed self.new }
+        ensures ok { OnOk result (IsThere self.new.kept self.new.moment) }
         ensures same { (self.new.moment ≡ self.old.moment) × (self.new.every ≡ self.old.every) ×
             (self.new.tip ≡ self.old.tip) × (self.new.ends ≡ self.old.ends) × (self.new.firsts ≡ self.old.firsts) }
     {
-        if self.is_wanted() && !self.is_there() {
+        if !self.is_there() {
             let state = self.tip.copy()?;
             self.kept.push(Kept {
                 moment: self.moment,
@@ -102,6 +124,7 @@ impl Recorded {
             IsWanted t seed self.now.every self.now.moment }
         ensures no { IsFalse result → (t : Listing) (seed : ℕ) → Records t seed self.now →
             IsWanted t seed self.now.every self.now.moment → IsThere self.now.kept self.now.moment }
+        ensures ends { IsFalse result → self.now.tip.complete ≤ length self.now.ends }
     {
         self.moment % self.every == 0 || (self.ends.len() as u64) < self.tip.complete()
     }
@@ -116,11 +139,12 @@ impl Recorded {
         }
     }
 
-    // Notes the tip as a START end where it is one.
+    // Notes the tip, which is kept, as a START end where it is one.
+    #[cold]
+    #[inline(never)]
     fn keep_end(&mut self) -> Result<(), AllocError>
-        ensures records { (t : Listing) (seed : ℕ) → Records t seed self.old →
-            (IsWanted t seed self.old.every self.old.moment → IsThere self.old.kept self.old.moment) →
-            Records t seed self.new }
+        requires { IsThere self.old.kept self.old.moment }
+        ensures records { (t : Listing) (seed : ℕ) → Records t seed self.old → Records t seed self.new }
         ensures ok { OnOk result ((t : Listing) (seed : ℕ) →
             Records t seed self.old → self.new.tip.complete ≤ length self.new.ends) }
         ensures same { (self.new.moment ≡ self.old.moment) × (self.new.every ≡ self.old.every) ×
@@ -133,14 +157,15 @@ impl Recorded {
     }
 
     // Makes a step that reads these items, and notes them first.
-    fn make(&mut self, next: Decision, notes: &Notes, tally: &mut Tally) -> Result<(), AllocError>
+    fn make(&mut self, next: Move, notes: &Notes, tally: &mut Tally) -> Result<(), AllocError>
         requires room { self.old.moment < 1000000 }
         requires noted { AreBelow (self.old.moment + 1) self.old.firsts.clock_steps }
         ensures ok { OnOk result ((t : Listing) (seed : ℕ) →
             Records t seed self.old → IsKeptUp t seed self.old → self.old.moment < t.limit →
             notes.now.items ≡ step_items t seed self.old.tip →
-            step t seed self.old.tip ≡ Ok (decided self.old.tip next.step next.streams) →
+            step t seed self.old.tip ≡ Ok (decided self.old.tip next notes.now.streams) →
             Records t seed self.new) }
+        ensures streams { OnOk result (notes.now.streams ≡ self.new.tip.streams) }
         ensures moment { OnOk result (self.new.moment ≡ self.old.moment + 1) }
         ensures every { self.new.every ≡ self.old.every }
         ensures tally { OnOk result (tally.new ≡ raised tally.old) }
@@ -151,7 +176,7 @@ impl Recorded {
             self.firsts.forget(self.moment);
             return Err(error);
         }
-        if let Err(error) = self.tip.make(next, tally) {
+        if let Err(error) = self.tip.make(next, notes, tally) {
             self.firsts.forget(self.moment);
             return Err(error);
         }

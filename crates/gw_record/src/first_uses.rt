@@ -7,6 +7,7 @@ ghost use Rattle.gw_record.specs.Uses.{first_in, nothing_used};
 
 use crate::clock_steps::ClockSteps;
 use crate::first_steps::FirstSteps;
+use crate::item_steps::ItemSteps;
 use gw_meaning::Item;
 use std::alloc::{AllocError, Global};
 
@@ -17,11 +18,10 @@ pub struct FirstUses {
     pub blocks: FirstSteps,
     /// By statement id, of the blocks after them.
     pub afters: FirstSteps,
-    pub generates: Option<u64>,
     /// From 1.
     pub commands: FirstSteps,
-    pub seed: Option<u64>,
     pub clock_steps: ClockSteps,
+    pub others: ItemSteps,
 }
 
 impl FirstUses {
@@ -32,10 +32,9 @@ impl FirstUses {
         FirstUses {
             blocks: FirstSteps::new(alloc),
             afters: FirstSteps::new(alloc),
-            generates: None,
             commands: FirstSteps::new(alloc),
-            seed: None,
             clock_steps: ClockSteps::new(alloc),
+            others: ItemSteps::new(alloc),
         }
     }
 
@@ -44,12 +43,11 @@ impl FirstUses {
         ensures { result ≡ first_in self.now item.now }
     {
         match item {
-            Item::Block(id) => self.blocks.get(*id),
-            Item::After(id) => self.afters.get(*id),
-            Item::Generates => self.generates,
+            Item::Block(id) => self.blocks.get(id.number()),
+            Item::After(id) => self.afters.get(id.number()),
             Item::Cmd(i) => self.commands.get(*i),
-            Item::Seed => self.seed,
             Item::Within(time) => self.clock_steps.first_beyond(*time),
+            _ => self.others.get(item),
         }
     }
 
@@ -81,18 +79,11 @@ impl FirstUses {
         ensures err { OnErr result (self.new ≡ self.old) }
     {
         match item {
-            Item::Block(id) => self.blocks.note(*id, step),
-            Item::After(id) => self.afters.note(*id, step),
-            Item::Generates => {
-                self.generates = self.generates.or(Some(step));
-                Ok(())
-            }
+            Item::Block(id) => self.blocks.note(id.number(), step),
+            Item::After(id) => self.afters.note(id.number(), step),
             Item::Cmd(i) => self.commands.note(*i, step),
-            Item::Seed => {
-                self.seed = self.seed.or(Some(step));
-                Ok(())
-            }
             Item::Within(time) => self.clock_steps.note(step, *time),
+            _ => self.others.note(item, step),
         }
     }
 
@@ -103,9 +94,8 @@ impl FirstUses {
     {
         self.blocks.forget(from);
         self.afters.forget(from);
-        self.generates = self.generates.filter(|step| *step < from);
         self.commands.forget(from);
-        self.seed = self.seed.filter(|step| *step < from);
         self.clock_steps.forget(from);
+        self.others.forget(from);
     }
 }

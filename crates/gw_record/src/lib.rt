@@ -10,16 +10,16 @@ mod cut;
 mod extend;
 mod first_steps;
 mod first_uses;
+mod item_steps;
 mod kept;
 mod lookup;
 mod reach;
 mod recorded;
-#[cfg(test)]
-mod tests;
 
 pub use clock_steps::{ClockStep, ClockSteps};
 pub use first_steps::FirstSteps;
 pub use first_uses::FirstUses;
+pub use item_steps::ItemSteps;
 pub use kept::Kept;
 pub use reach::Reach;
 pub use recorded::Recorded;

@@ -1,8 +1,7 @@
 -- The lines of a version's blocks: their labels, and what was counted at them. (Manual; RETRY is 0 so far.)
 use Rattle.std.specs.Prelude.{ℕ, List, [], ◌∷◌, Option, Some, None, decimal, codes}
 use Rattle.std.specs.List.{flat_map}
-use Rattle.gw_names.specs.Words.{word_of}
-use Rattle.gw_meaning.specs.Statements.{verb_of_block}
+use Rattle.gw_names.specs.Words.{word_of_block}
 use Rattle.gw_meaning.specs.Listing.{Listing, block_of}
 use Rattle.gw_meaning.specs.Machine.{Machine, count_at}
 use Rattle.gw_meaning.specs.declared.statement.Block.{Block}
@@ -43,7 +42,7 @@ name_lines t line = name_lines_of t line.number (block_of line) line.statement.l
 -- a block's line in the list of blocks: its label, its position, its verb, and its counts
 unfoldable pub block_line : Listing → Numbered → Block → Count → List (List ℕ)
 block_line t line block count =
-    label_text line.statement.label ∷ decimal (position_of t (Some line.number)) ∷ word_of (verb_of_block block) ∷
+    label_text line.statement.label ∷ decimal (position_of t (Some line.number)) ∷ word_of_block block.verb ∷
     decimal count.entries ∷ decimal count.content ∷ decimal 0 ∷ []
 
 abbrev pub block_lines_of : Listing → Machine → Numbered → Option Block → List (List (List ℕ))

@@ -48,7 +48,7 @@ fn put_block(
     let cells = [
         Cell::Text(label_text(&line.statement.label)),
         Cell::Number(position_of(version, Some(line.number))),
-        Cell::Text(block.verb().word()),
+        Cell::Text(block.verb.word()),
         Cell::Number(count.entries),
         Cell::Number(count.content),
         Cell::Number(0),

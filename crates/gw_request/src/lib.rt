@@ -10,8 +10,6 @@ mod command;
 mod laws;
 mod number;
 mod request;
-#[cfg(test)]
-mod tests;
 mod words;
 
 pub use laws::lines_ask;

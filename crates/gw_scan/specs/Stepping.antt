@@ -1,19 +1,23 @@
 -- What a step of the code came to, against the step of the definitions.
-use Rattle.std.specs.Prelude.{◌≡◌, ℕ, Option, Some, None, Result, Ok, Err}
+use Rattle.std.specs.Prelude.{◌≡◌, ℕ, List, Option, Some, None, Result, Ok, Err}
 use Rattle.gw_meaning.specs.declared.item.End.{End}
+use Rattle.gw_streams.specs.declared.stream.Stream.{Stream}
+use Rattle.gw_meaning.specs.declared.moves.Move.{Move}
 use Rattle.gw_meaning.specs.Listing.{Listing}
 use Rattle.gw_meaning.specs.Machine.{Machine, raised}
 use Rattle.gw_meaning.specs.Changes.{decided}
 use Rattle.gw_meaning.specs.Step.{step}
-use Rattle.gw_scan.specs.declared.steps.Next.{Next}
-use Rattle.gw_scan.specs.declared.steps.Next.TheVariants as nexts
+use Rattle.gw_scan.specs.declared.case.Halt.{Halt}
+use Rattle.gw_scan.specs.declared.case.Halt.TheVariants as halts
 use Rattle.gw_scan.specs.declared.steps.Turn.{Turn}
 use Rattle.gw_scan.specs.declared.steps.Turn.TheVariants as turns
 
--- what comes next is the step of the definition, or its end
-abbrev pub Foretells : Listing → ℕ → Machine → Next → Type 0
-Foretells t seed s (nexts.Step d) = step t seed s ≡ Ok (decided s d.step d.streams)
-Foretells t seed s (nexts.End end) = step t seed s ≡ Err end
+-- what comes next is the step of the definition, with these streams behind its draws, or its end; want of memory leaves
+-- it open
+abbrev pub Foretells : Listing → ℕ → Machine → List Stream → Result Move Halt → Type 0
+Foretells t seed s streams (Ok m) = step t seed s ≡ Ok (decided s m streams)
+Foretells t seed s streams (Err (halts.End end)) = step t seed s ≡ Err end
+Foretells t seed s streams (Err halts.Memory) = Unit
 
 -- moved where the definition goes, to its state; ended where it ends, with nothing changed
 abbrev pub Steps : Result Machine End → Turn → Machine → Machine → Type 0

@@ -1,14 +1,15 @@
 // The next transaction of a GENERATE, and the first ones of all.
-ghost use Rattle.std.specs.Prelude.{◌≡◌, [], OnOk, option_copied};
+ghost use Rattle.std.specs.Prelude.{◌≡◌, [], OnOk, option_copied, true};
 ghost use Rattle.gw_meaning.specs.Machine.{live, count_at};
-ghost use Rattle.gw_meaning.specs.Step.{arrival_prog, arrival_in_time, arrival_at, first_arrival, prime_prog, arrivals_prog, with_arrival};
+ghost use Rattle.gw_meaning.specs.Step.{arrival_prog, arrival_in_time, arrival_at, first_of, first_arrival, prime_prog, arrivals_prog, with_arrival};
 ghost use Rattle.gw_scan.specs.Deciding.{Decides, Comes};
 
 use crate::case::{Case, Halt, ask_block};
 use crate::notes::Notes;
 use crate::state::State;
 use gw_expr::{Expr, Stop};
-use gw_meaning::{Arrival, Block, End, Row};
+use gw_meaning::operands::{A, B, C, D, E};
+use gw_meaning::{Arrival, Block, End, Row, StatementId};
 use gw_nums::Val;
 use std::alloc::{AllocError, Global};
 
@@ -25,18 +26,20 @@ impl State {
     }
 
     // The next transaction of the GENERATE at `id`: its limit, then its time, then its priority.
+    #[inline(always)]
     pub(crate) fn arrival(
         &self,
         case: Case,
         notes: &mut Notes,
-        id: u64,
-        mean: &Option<Expr>,
-        range: &Option<Expr>,
-        limit: &Option<Expr>,
-        priority: &Option<Expr>,
+        id: StatementId,
+        mean: Option<&Expr>,
+        range: Option<&Expr>,
+        limit: Option<&Expr>,
+        priority: Option<&Expr>,
     ) -> Result<Option<Arrival>, Halt>
         ensures { Decides case.entry.version.now case.entry.seed
-            (arrival_prog self.now id (count_at self.now.counts id).made mean.now range.now limit.now priority.now)
+            (arrival_prog self.now id (count_at self.now.counts id).made (option_copied mean.entry)
+            (option_copied range.entry) (option_copied limit.entry) (option_copied priority.entry))
             result notes.old notes.new }
     {
         if let Some(limit) = limit {
@@ -51,24 +54,27 @@ impl State {
         self.arrival_in_time(case, notes, id, mean, range, priority)
     }
 
+    #[inline(always)]
     fn arrival_in_time(
         &self,
         case: Case,
         notes: &mut Notes,
-        id: u64,
-        mean: &Option<Expr>,
-        range: &Option<Expr>,
-        priority: &Option<Expr>,
+        id: StatementId,
+        mean: Option<&Expr>,
+        range: Option<&Expr>,
+        priority: Option<&Expr>,
     ) -> Result<Option<Arrival>, Halt>
         ensures { Decides case.entry.version.now case.entry.seed
-            (arrival_in_time self.now id mean.now range.now priority.now) result notes.old notes.new }
+            (arrival_in_time self.now id (option_copied mean.entry) (option_copied range.entry)
+            (option_copied priority.entry)) result notes.old notes.new }
     {
         let time = self.time(case, notes, mean, range)?;
         let priority = self.value_or_zero(case, notes, priority)?;
         self.arrival_at(id, time, priority)
     }
 
-    fn arrival_at(&self, id: u64, time: Val, priority: Val) -> Result<Option<Arrival>, Halt>
+    #[inline(always)]
+    fn arrival_at(&self, id: StatementId, time: Val, priority: Val) -> Result<Option<Arrival>, Halt>
         ensures { Comes (arrival_at self.now id time priority) result }
     {
         if time.is_negative() {
@@ -90,7 +96,7 @@ impl State {
         alloc: Global,
         case: Case,
         notes: &mut Notes,
-        ids: &[u64],
+        ids: &[StatementId],
     ) -> Result<Row<Arrival>, Halt>
         ensures { Decides case.entry.version.now case.entry.seed (arrivals_prog self.now ids.now [])
             result notes.old notes.new }
@@ -103,7 +109,7 @@ impl State {
         Ok(Row::from_vec(arrivals))
     }
 
-    fn prime(&self, case: Case, notes: &mut Notes, id: u64) -> Result<Option<Arrival>, Halt>
+    fn prime(&self, case: Case, notes: &mut Notes, id: StatementId) -> Result<Option<Arrival>, Halt>
         ensures { Decides case.entry.version.now case.entry.seed (prime_prog self.now id) result notes.old notes.new }
     {
         let block = ask_block(case.version, notes, id)?;
@@ -114,27 +120,42 @@ impl State {
         &self,
         case: Case,
         notes: &mut Notes,
-        id: u64,
+        id: StatementId,
         block: Option<&Block>,
     ) -> Result<Option<Arrival>, Halt>
         ensures { Decides case.entry.version.now case.entry.seed
             (first_arrival self.now id (option_copied block.entry)) result notes.old notes.new }
     {
         match block {
-            Some(
-                Block::Generate {
-                    mean,
-                    range,
-                    offset,
-                    limit,
-                    priority,
-                },
-            ) => match offset {
-                Some(_) => self.arrival(case, notes, id, offset, &None, limit, priority),
-                None => self.arrival(case, notes, id, mean, range, limit, priority),
-            },
+            Some(block) if block.is_generate() => self.first_of(case, notes, id, block),
             _ => Ok(None),
         }
+    }
+
+    // The first transaction of a GENERATE comes after the offset, where there is one.
+    fn first_of(
+        &self,
+        case: Case,
+        notes: &mut Notes,
+        id: StatementId,
+        block: &Block,
+    ) -> Result<Option<Arrival>, Halt>
+        ensures { Decides case.entry.version.now case.entry.seed (first_of self.now id block.now true)
+            result notes.old notes.new }
+    {
+        let (mean, range) = match block.operand(C) {
+            Some(offset) => (Some(offset), None),
+            None => (block.operand(A), block.operand(B)),
+        };
+        self.arrival(
+            case,
+            notes,
+            id,
+            mean,
+            range,
+            block.operand(D),
+            block.operand(E),
+        )
     }
 }
 

@@ -4,7 +4,7 @@ ghost use Rattle.gw_meaning.specs.declared.item.Item.TheVariants as items;
 ghost use Rattle.gw_meaning.specs.Listing.{block_at, after_at, command_at, generates_in};
 
 use crate::notes::Notes;
-use gw_meaning::{Block, Command, End, Item};
+use gw_meaning::{Block, Command, End, Item, StatementId};
 use gw_model::Version;
 use gw_nums::{Clock, Time};
 use std::alloc::{AllocError, AllocFailed};
@@ -49,7 +49,7 @@ impl<T: Drop> From<AllocFailed<T>> for Halt {
 pub fn ask_block<'a>(
     version: &'a Version,
     notes: &mut Notes,
-    id: u64,
+    id: StatementId,
 ) -> Result<Option<&'a Block>, AllocError>
     ensures answer { IfOk result (λ block. option_copied block ≡ block_at version.now id) }
     ensures ok { OnOk result (notes.new ≡ record notes.old { items = notes.old.items ++ items.Block id ∷ [] }) }
@@ -60,7 +60,11 @@ pub fn ask_block<'a>(
 }
 
 // Which block comes after this one?
-pub fn ask_after(version: &Version, notes: &mut Notes, id: u64) -> Result<Option<u64>, AllocError>
+pub fn ask_after(
+    version: &Version,
+    notes: &mut Notes,
+    id: StatementId,
+) -> Result<Option<StatementId>, AllocError>
     ensures answer { IfOk result (λ after. after ≡ after_at version.now id) }
     ensures ok { OnOk result (notes.new ≡ record notes.old { items = notes.old.items ++ items.After id ∷ [] }) }
     ensures err { OnErr result (notes.new ≡ notes.old) }
@@ -70,7 +74,10 @@ pub fn ask_after(version: &Version, notes: &mut Notes, id: u64) -> Result<Option
 }
 
 // Which blocks are GENERATEs?
-pub fn ask_generates<'a>(version: &'a Version, notes: &mut Notes) -> Result<&'a [u64], AllocError>
+pub fn ask_generates<'a>(
+    version: &'a Version,
+    notes: &mut Notes,
+) -> Result<&'a [StatementId], AllocError>
     ensures answer { IfOk result (λ ids. ids.now ≡ generates_in version.now.lines) }
     ensures ok { OnOk result (notes.new ≡ record notes.old { items = notes.old.items ++ items.Generates ∷ [] }) }
     ensures err { OnErr result (notes.new ≡ notes.old) }

@@ -5,27 +5,30 @@ ghost use Rattle.gw_meaning.specs.Changes.{moved, decided, marked, placed};
 ghost use Rattle.gw_meaning.specs.declared.moves.Move.TheVariants as moves;
 
 use crate::making::{make, make_all};
+use crate::notes::Notes;
 use crate::state::State;
-use crate::steps::Decision;
 use crate::tally::Tally;
-use gw_meaning::{Arrival, Change, Event, Fate, Move, Row, Transaction};
+use gw_meaning::{Arrival, Change, Destination, Event, Fate, Move, Row, StatementId, Transaction};
 use gw_nums::Clock;
 use std::alloc::AllocError;
 
 impl State {
-    /// Makes a step and counts it, or changes nothing where a growth is refused.
-    pub fn make(&mut self, next: Decision, tally: &mut Tally) -> Result<(), AllocError>
-        ensures ok { OnOk result (self.new ≡ decided self.old next.step next.streams) }
+    /// Makes the step that was decided, with the streams behind its draws, and counts it; or changes nothing where a
+    /// growth is refused.
+    #[inline(always)]
+    pub fn make(&mut self, step: Move, notes: &Notes, tally: &mut Tally) -> Result<(), AllocError>
+        ensures ok { OnOk result (self.new ≡ decided self.old step notes.now.streams) }
         ensures tally { OnOk result (tally.new ≡ raised tally.old) }
         ensures err { OnErr result ((self.new ≡ self.old) × (tally.new ≡ tally.old)) }
     {
-        self.apply(next.step)?;
-        self.streams = next.streams;
+        self.apply(step)?;
+        self.streams = notes.streams;
         tally.raise();
         Ok(())
     }
 
     // Makes a move, or changes nothing where a growth is refused.
+    #[inline(always)]
     fn apply(&mut self, step: Move) -> Result<(), AllocError>
         ensures ok { OnOk result (self.new ≡ moved self.old step) }
         ensures err { OnErr result (self.new ≡ self.old) }
@@ -45,6 +48,8 @@ impl State {
         }
     }
 
+    #[cold]
+    #[inline(never)]
     fn start(&mut self, count: u64, arrivals: &Row<Arrival>) -> Result<(), AllocError>
         ensures ok { OnOk result (self.new ≡ moved self.old (moves.Start count arrivals.now)) }
         ensures err { OnErr result (self.new ≡ self.old) }
@@ -63,15 +68,12 @@ impl State {
         self.progress.count_command();
     }
 
-    fn enter_block(&mut self, id: u64, change: Change, fate: Fate) -> Result<(), AllocError>
+    fn enter_block(&mut self, id: StatementId, change: Change, fate: Fate) -> Result<(), AllocError>
         ensures ok { OnOk result (self.new ≡ moved self.old (moves.Enter id change fate)) }
         ensures err { OnErr result (self.new ≡ self.old) }
     {
         self.future.reserve(2)?;
         self.counts.reserve(id)?;
-        if let Some(x) = &self.active {
-            self.counts.reserve(x.current)?;
-        }
         if let Change::Generate {
             next: Some(arrival),
         } = &change
@@ -111,8 +113,7 @@ impl State {
         ensures ok { OnOk result (self.new ≡ moved self.old (moves.Clock clock)) }
         ensures err { OnErr result (self.new ≡ self.old) }
     {
-        let count = self.future.count_due(clock.time());
-        self.current.reserve(count)?;
+        self.current.reserve(self.future.len())?;
         self.future.take_due(&mut self.current, clock.time());
         self.clocks.advance(clock);
         Ok(())
@@ -133,12 +134,12 @@ fn mark(change: &Change, clock: Clock, x: Transaction) -> Transaction
 }
 
 // The transaction in the block that it enters.
-fn enter(x: Transaction, id: u64) -> Transaction
+fn enter(x: Transaction, id: StatementId) -> Transaction
     ensures { result ≡ placed x id }
 {
     Transaction {
         current: id,
-        destination: None,
+        destination: Destination::none(),
         ..x
     }
 }

@@ -3,7 +3,7 @@ ghost use Rattle.gw_meaning.specs.declared.moves.Arrival.{Arrival};
 ghost use Rattle.gw_meaning.specs.Machine.{count_at};
 ghost use Rattle.gw_meaning.specs.Changes.{left, crossed, content_behind, made_one};
 
-use gw_meaning::{Arrival, Count, Fate};
+use gw_meaning::{Arrival, Count, Fate, StatementId};
 use gw_table::Table;
 use std::alloc::{AllocError, Global};
 use std::marker::Model;
@@ -35,10 +35,10 @@ impl Counts {
 
     // What is counted at a block.
     #[tactic(auto, using(crate::proofs::CountLaws::count_in_is))]
-    pub fn at(&self, id: u64) -> Count
+    pub fn at(&self, id: StatementId) -> Count
         ensures { result ≡ count_at self.now.entries id }
     {
-        match self.table.get(id) {
+        match self.table.get(id.number()) {
             Some(count) => count,
             None => Count {
                 entries: 0,
@@ -49,12 +49,12 @@ impl Counts {
     }
 
     // Makes room for the count of a block, for good.
-    pub fn reserve(&mut self, id: u64) -> Result<(), AllocError>
+    pub fn reserve(&mut self, id: StatementId) -> Result<(), AllocError>
         ensures ok { OnOk result (id < self.new.limit) }
         ensures entries { self.new.entries ≡ self.old.entries }
         ensures limit { self.old.limit ≤ self.new.limit }
     {
-        self.table.reserve(id)
+        self.table.reserve(id.number())
     }
 
     // Makes room for the counts of the GENERATEs that are to make these transactions.
@@ -70,25 +70,23 @@ impl Counts {
 
     // A transaction leaves a block.
     #[tactic(auto, using(crate::proofs::CountLaws::count_in_is, crate::proofs::CountLaws::with_count_is))]
-    fn leave(&mut self, id: u64)
-        requires { id < self.old.limit }
+    fn leave(&mut self, id: StatementId)
         ensures entries { self.new.entries ≡ left self.old.entries id }
         ensures limit { self.new.limit ≡ self.old.limit }
     {
-        if let Some(count) = self.table.get(id) {
+        if let Some(count) = self.table.get(id.number()) {
             let count = Count {
                 content: count.content.saturating_sub(1),
                 ..count
             };
-            self.table.set(id, count);
+            self.table.set(id.number(), count);
         }
     }
 
     // A transaction leaves a block and enters another, in which it stays or where it is destroyed.
     #[tactic(auto, using(crate::proofs::CountLaws::with_count_is))]
-    pub fn cross(&mut self, from: u64, to: u64, fate: &Fate)
-        requires from { from < self.old.limit }
-        requires to { to < self.old.limit }
+    pub fn cross(&mut self, from: StatementId, to: StatementId, fate: &Fate)
+        requires { to < self.old.limit }
         ensures entries { self.new.entries ≡ crossed fate.now self.old.entries from to }
         ensures limit { self.new.limit ≡ self.old.limit }
     {
@@ -99,12 +97,12 @@ impl Counts {
             content: content_behind(fate, count.content),
             ..count
         };
-        self.table.set(to, count);
+        self.table.set(to.number(), count);
     }
 
     // A GENERATE made one more.
     #[tactic(auto, using(crate::proofs::CountLaws::with_count_is))]
-    pub fn count_made(&mut self, id: u64)
+    pub fn count_made(&mut self, id: StatementId)
         requires { id < self.old.limit }
         ensures entries { self.new.entries ≡ made_one self.old.entries id }
         ensures limit { self.new.limit ≡ self.old.limit }
@@ -114,7 +112,7 @@ impl Counts {
             made: count.made.saturating_add(1),
             ..count
         };
-        self.table.set(id, count);
+        self.table.set(id.number(), count);
     }
 
     // Equal counts.

@@ -1,17 +1,21 @@
 // Which move a step is: ask and test, and change nothing.
 ghost use Rattle.std.specs.Prelude.{◌≡◌, ◌≤◌, None, option_copied};
 ghost use Rattle.gw_meaning.specs.Step.{move_prog, command_prog, start_prog, first_arrivals_prog, rmult_prog, attempt_prog, try_prog, enter_prog, generate_prog, delay_of, advance_prog, terminate_prog, pick_prog};
+ghost use Rattle.gw_meaning.specs.Statements.{A, B, D, E, operand};
 ghost use Rattle.gw_scan.specs.Deciding.{Decides};
 
 use crate::case::{Case, Halt, ask_after, ask_block, ask_command, ask_generates, ask_within};
 use crate::notes::Notes;
 use crate::state::State;
-use gw_expr::{Expr, Stop};
-use gw_meaning::{Arrival, Block, Change, Command, End, Fate, Move, Row, Transaction};
+use gw_expr::Stop;
+use gw_meaning::operands::{A, B, D, E};
+use gw_meaning::{Arrival, Block, Change, Command, End, Fate, Move, Row, StatementId, Transaction};
+use gw_names::BlockVerb;
 use std::alloc::Global;
 
 impl State {
     // The move of the next step.
+    #[inline(always)]
     pub(crate) fn decide(&self, alloc: Global, case: Case, notes: &mut Notes) -> Result<Move, Halt>
         ensures { Decides case.entry.version.now case.entry.seed (move_prog self.now self.now.remaining)
             result notes.old notes.new }
@@ -26,6 +30,7 @@ impl State {
     }
 
     // No START is under way: the next command.
+    #[inline(always)]
     fn command(&self, alloc: Global, case: Case, notes: &mut Notes) -> Result<Move, Halt>
         ensures { Decides case.entry.version.now case.entry.seed (move_prog self.now 0)
             result notes.old notes.new }
@@ -38,6 +43,7 @@ impl State {
         self.command_of(alloc, case, notes, command)
     }
 
+    #[inline(always)]
     fn command_of(
         &self,
         alloc: Global,
@@ -59,6 +65,7 @@ impl State {
     }
 
     // A START, with the first transactions of the GENERATEs where it is the one that primes them.
+    #[inline(always)]
     fn start_of(
         &self,
         alloc: Global,
@@ -79,6 +86,8 @@ impl State {
         Ok(Move::Start { count, arrivals })
     }
 
+    #[cold]
+    #[inline(never)]
     fn first_arrivals(
         &self,
         alloc: Global,
@@ -93,16 +102,18 @@ impl State {
     }
 
     // The active transaction x tries its next block.
+    #[inline(always)]
     fn attempt(&self, case: Case, notes: &mut Notes, x: &Transaction) -> Result<Move, Halt>
         ensures { Decides case.entry.version.now case.entry.seed (attempt_prog self.now x.now x.now.destination)
             result notes.old notes.new }
     {
-        match x.destination {
+        match x.destination.id() {
             Some(id) => self.try_block(case, notes, x, Some(id)),
             None => self.try_after(case, notes, x),
         }
     }
 
+    #[inline(always)]
     fn try_after(&self, case: Case, notes: &mut Notes, x: &Transaction) -> Result<Move, Halt>
         ensures { Decides case.entry.version.now case.entry.seed (attempt_prog self.now x.now None)
             result notes.old notes.new }
@@ -111,12 +122,13 @@ impl State {
         self.try_block(case, notes, x, id)
     }
 
+    #[inline(always)]
     fn try_block(
         &self,
         case: Case,
         notes: &mut Notes,
         x: &Transaction,
-        id: Option<u64>,
+        id: Option<StatementId>,
     ) -> Result<Move, Halt>
         ensures { Decides case.entry.version.now case.entry.seed (try_prog self.now x.now id)
             result notes.old notes.new }
@@ -128,51 +140,54 @@ impl State {
         self.enter(case, notes, x, id, block)
     }
 
+    #[inline(always)]
     fn enter(
         &self,
         case: Case,
         notes: &mut Notes,
         x: &Transaction,
-        id: u64,
+        id: StatementId,
         block: Option<&Block>,
     ) -> Result<Move, Halt>
         ensures { Decides case.entry.version.now case.entry.seed
             (enter_prog self.now x.now id (option_copied block.entry)) result notes.old notes.new }
     {
-        match block {
-            Some(
-                Block::Generate {
-                    mean,
-                    range,
-                    limit,
-                    priority,
-                    ..
-                },
-            ) => self.generate_of(case, notes, x, id, mean, range, limit, priority),
-            Some(Block::Advance { mean, range }) => self.advance_of(case, notes, id, mean, range),
-            Some(Block::Terminate { count }) => self.terminate_of(case, notes, id, count),
-            None => Err(Halt::End(End::Error(Stop::NoNextBlock))),
+        let Some(block) = block else {
+            return Err(Halt::End(End::Error(Stop::NoNextBlock)));
+        };
+        match block.verb {
+            BlockVerb::Generate => self.generate_of(case, notes, x, id, block),
+            BlockVerb::Advance => self.advance_of(case, notes, id, block),
+            BlockVerb::Terminate => self.terminate_of(case, notes, id, block),
+            _ => Err(Halt::End(End::Error(Stop::NoNextBlock))),
         }
     }
 
+    #[inline(always)]
     fn generate_of(
         &self,
         case: Case,
         notes: &mut Notes,
         x: &Transaction,
-        id: u64,
-        mean: &Option<Expr>,
-        range: &Option<Expr>,
-        limit: &Option<Expr>,
-        priority: &Option<Expr>,
+        id: StatementId,
+        block: &Block,
     ) -> Result<Move, Halt>
         ensures { Decides case.entry.version.now case.entry.seed
-            (generate_prog self.now x.now id mean.now range.now limit.now priority.now) result notes.old notes.new }
+            (generate_prog self.now x.now id (operand block.now A) (operand block.now B) (operand block.now D)
+            (operand block.now E)) result notes.old notes.new }
     {
-        if x.current != 0 {
+        if x.current.number() != 0 {
             return Err(Halt::End(End::Error(Stop::NoNextBlock)));
         }
-        let next = self.arrival(case, notes, id, mean, range, limit, priority)?;
+        let next = self.arrival(
+            case,
+            notes,
+            id,
+            block.operand(A),
+            block.operand(B),
+            block.operand(D),
+            block.operand(E),
+        )?;
         Ok(Move::Enter {
             id,
             change: Change::Generate { next },
@@ -180,18 +195,18 @@ impl State {
         })
     }
 
+    #[inline(always)]
     fn advance_of(
         &self,
         case: Case,
         notes: &mut Notes,
-        id: u64,
-        mean: &Option<Expr>,
-        range: &Option<Expr>,
+        id: StatementId,
+        block: &Block,
     ) -> Result<Move, Halt>
-        ensures { Decides case.entry.version.now case.entry.seed (advance_prog self.now id mean.now range.now)
-            result notes.old notes.new }
+        ensures { Decides case.entry.version.now case.entry.seed
+            (advance_prog self.now id (operand block.now A) (operand block.now B)) result notes.old notes.new }
     {
-        let time = self.time(case, notes, mean, range)?;
+        let time = self.time(case, notes, block.operand(A), block.operand(B))?;
         if time.is_negative() {
             return Err(Halt::End(End::Error(Stop::NegativeTime)));
         }
@@ -215,17 +230,18 @@ impl State {
         }
     }
 
+    #[inline(always)]
     fn terminate_of(
         &self,
         case: Case,
         notes: &mut Notes,
-        id: u64,
-        count: &Option<Expr>,
+        id: StatementId,
+        block: &Block,
     ) -> Result<Move, Halt>
-        ensures { Decides case.entry.version.now case.entry.seed (terminate_prog self.now id count.now)
+        ensures { Decides case.entry.version.now case.entry.seed (terminate_prog self.now id (operand block.now A))
             result notes.old notes.new }
     {
-        let count = self.value_or_zero(case, notes, count)?;
+        let count = self.value_or_zero(case, notes, block.operand(A))?;
         if count.is_negative() {
             return Err(Halt::End(End::Error(Stop::BadCount)));
         }
@@ -239,6 +255,7 @@ impl State {
     }
 
     // None is active: the first of the current chain, or else the least future time.
+    #[inline(always)]
     fn pick_or_clock(&self, case: Case, notes: &mut Notes) -> Result<Move, Halt>
         ensures { Decides case.entry.version.now case.entry.seed (pick_prog self.now self.now.current)
             result notes.old notes.new }

@@ -1,5 +1,5 @@
 // Draws from the random streams, and the times that are sampled by them.
-ghost use Rattle.std.specs.Prelude.{◌≡◌, ◌≤◌, if◌then◌else◌, Some, None};
+ghost use Rattle.std.specs.Prelude.{◌≡◌, ◌≤◌, if◌then◌else◌, Some, None, option_copied};
 ghost use Rattle.gw_nums.specs.Range.{is_value, magnitude};
 ghost use Rattle.gw_meaning.specs.Evaluation.{draw, sample, sample_within, spread, time_prog};
 ghost use Rattle.gw_scan.specs.Deciding.{Decides};
@@ -12,6 +12,7 @@ use gw_meaning::{End, Item};
 use gw_nums::Val;
 
 // A draw from stream j, which reads the seed where it is the first one since the stream was set.
+#[inline(always)]
 pub fn draw(case: Case, notes: &mut Notes, j: usize) -> Result<u32, Halt>
     ensures { Decides case.entry.version.now case.entry.seed (draw j) result notes.old notes.new }
 {
@@ -23,14 +24,16 @@ pub fn draw(case: Case, notes: &mut Notes, j: usize) -> Result<u32, Halt>
 
 impl State {
     // A time of mean plus or minus range.
+    #[inline(always)]
     pub(crate) fn time(
         &self,
         case: Case,
         notes: &mut Notes,
-        mean: &Option<Expr>,
-        range: &Option<Expr>,
+        mean: Option<&Expr>,
+        range: Option<&Expr>,
     ) -> Result<Val, Halt>
-        ensures { Decides case.entry.version.now case.entry.seed (time_prog self.now mean.now range.now)
+        ensures { Decides case.entry.version.now case.entry.seed (time_prog self.now (option_copied mean.entry)
+            (option_copied range.entry))
             result notes.old notes.new }
     {
         let mean = self.value_or_zero(case, notes, mean)?;
@@ -39,6 +42,7 @@ impl State {
     }
 }
 
+#[inline(always)]
 fn sample(case: Case, notes: &mut Notes, mean: Val, range: Val) -> Result<Val, Halt>
     ensures { Decides case.entry.version.now case.entry.seed (sample mean range) result notes.old notes.new }
 {
@@ -48,6 +52,7 @@ fn sample(case: Case, notes: &mut Notes, mean: Val, range: Val) -> Result<Val, H
     sample_within(case, notes, mean, range.magnitude())
 }
 
+#[inline(always)]
 fn sample_within(case: Case, notes: &mut Notes, mean: Val, range: u64) -> Result<Val, Halt>
     requires { range ≤ 1000000000 }
     ensures { Decides case.entry.version.now case.entry.seed (sample_within mean range) result notes.old notes.new }
@@ -63,6 +68,7 @@ fn sample_within(case: Case, notes: &mut Notes, mean: Val, range: u64) -> Result
 }
 
 // Where a number that was drawn falls between mean - range and mean + range, if that is a value.
+#[inline(always)]
 fn spread(mean: Val, range: u64, number: u32) -> Option<Val>
     requires { range ≤ 1000000000 }
     ensures { result ≡ (if is_value (spread mean range number) then Some (spread mean range number) else None) }

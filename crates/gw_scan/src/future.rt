@@ -4,21 +4,20 @@ ghost use Rattle.gw_meaning.specs.Changes.{all_lined_up, due, is_due};
 ghost use Rattle.gw_meaning.specs.Step.{least_time, sooner};
 
 use crate::current::CurrentChain;
-use gw_meaning::Event;
+use gw_meaning::{Event, Transaction};
 use gw_nums::Time;
 use std::alloc::{AllocError, Global};
-use std::collections::VecDeque;
 use std::marker::Model;
 
 /// The future chain of a run, in the order of coming onto it.
 #[derive(Drop)]
 pub struct FutureChain {
-    events: VecDeque<Event>,
+    events: Vec<Event>,
 }
 
 impl Model for FutureChain {
     ghost use Rattle.std.specs.Prelude.{◌-◌};
-    ghost use Rattle.std.specs.VecDeque.{deque_len, deque_capacity};
+    ghost use Rattle.std.specs.Prelude.{vec_len, vec_capacity};
     ghost use Rattle.gw_meaning.specs.declared.transaction.Event.{Event};
     ghost use Rattle.gw_scan.specs.Parts.{Chain};
 
@@ -26,7 +25,7 @@ impl Model for FutureChain {
 
     ghost view = { λ c. record {
       items = c.events.items;
-      room = deque_capacity c.events - deque_len c.events;
+      room = vec_capacity c.events - vec_len c.events;
     } };
 }
 
@@ -36,7 +35,7 @@ impl FutureChain {
         ensures { result.items ≡ [] }
     {
         FutureChain {
-            events: VecDeque::new(alloc),
+            events: Vec::new(alloc),
         }
     }
 
@@ -69,7 +68,7 @@ impl FutureChain {
         ensures items { self.new.items ≡ self.old.items ++ event ∷ [] }
         ensures room { self.old.room ≤ self.new.room + 1 }
     {
-        self.events.push_back_reserved(event);
+        self.events.push_reserved(event);
     }
 
     // The least time on it.
@@ -84,38 +83,23 @@ impl FutureChain {
         least
     }
 
-    // How many transactions are due at a time.
-    #[tactic(auto, using(crate::proofs::ChainLaws::item_drop))]
-    pub(crate) fn count_due(&self, time: Time) -> usize
-        ensures { result ≡ length (due time self.now.items) }
-    {
-        let mut count = 0;
-        for i in (0..self.events.len()).rev() {
-            if self.events[i].time == time {
-                count += 1;
-            }
-        }
-        count
-    }
-
     // Moves the transactions of a time to the current chain, in the order in which they came.
     pub(crate) fn take_due(&mut self, current: &mut CurrentChain, time: Time)
-        requires { length (due time self.old.items) ≤ current.old.room }
+        requires { length self.old.items ≤ current.old.room }
         ensures current { current.new.items ≡ all_lined_up (due time self.old.items) current.old.items }
         ensures future { self.new.items ≡ filter (λ e. not (is_due time e)) self.old.items }
     {
-        for _ in 0..self.events.len() {
-            match self.events.pop_front() {
-                Some(event) => {
-                    if event.time == time {
-                        current.line_up(event.transaction);
-                    } else {
-                        self.events.push_back_reserved(event);
-                    }
-                }
-                None => unreachable!(),
+        let mut kept = 0;
+        for i in 0..self.events.len() {
+            let event = &self.events[i];
+            if event.time == time {
+                current.line_up(same(&event.transaction));
+            } else {
+                self.events.swap(kept, i);
+                kept += 1;
             }
         }
+        self.events.truncate(kept);
     }
 
     // An equal chain.
@@ -133,5 +117,18 @@ fn sooner(time: Time, other: Option<Time>) -> Time
     match other {
         Some(other) if other < time => other,
         _ => time,
+    }
+}
+
+// A transaction equal to another.
+fn same(x: &Transaction) -> Transaction
+    ensures { result ≡ x.now }
+{
+    Transaction {
+        number: x.number,
+        priority: x.priority,
+        mark: x.mark,
+        current: x.current,
+        destination: x.destination,
     }
 }

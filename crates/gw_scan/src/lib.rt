@@ -27,5 +27,5 @@ pub use current::CurrentChain;
 pub use future::FutureChain;
 pub use notes::Notes;
 pub use state::State;
-pub use steps::{Decision, Next, Turn, end_at, next_step, step};
+pub use steps::{Turn, end_at, next_step, step};
 pub use tally::Tally;

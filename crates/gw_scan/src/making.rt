@@ -5,10 +5,11 @@ ghost use Rattle.gw_meaning.specs.Changes.{making, made, all_made};
 
 use crate::counts::Counts;
 use crate::future::FutureChain;
-use gw_meaning::{Arrival, Event, Transaction};
+use gw_meaning::{Arrival, Destination, Event, StatementId, Transaction};
 use gw_nums::Time;
 
 // Puts a new transaction on the future chain.
+#[inline(always)]
 pub fn make(next: &mut u64, future: &mut FutureChain, counts: &mut Counts, arrival: Arrival)
     requires chain { 0 < future.old.room }
     requires counts { arrival.id < counts.old.limit }
@@ -21,8 +22,8 @@ pub fn make(next: &mut u64, future: &mut FutureChain, counts: &mut Counts, arriv
         number: *next,
         priority: arrival.priority,
         mark: Time::ZERO,
-        current: 0,
-        destination: Some(arrival.id),
+        current: StatementId::NONE,
+        destination: Destination::to(arrival.id),
     };
     future.put(Event {
         time: arrival.time,

@@ -1,9 +1,7 @@
 ghost use Rattle.std.specs.Prelude.{◌≡◌, ◌++◌, ◌∷◌, [], length, take, ◌==◌, OnOk, OnErr};
-ghost use Rattle.gw_streams.specs.Draws.{untouched};
 
 use crate::state::State;
-use crate::steps::Decision;
-use gw_meaning::{Item, Move};
+use gw_meaning::Item;
 use gw_streams::Streams;
 use std::alloc::{AllocError, Global};
 use std::marker::Model;
@@ -24,13 +22,13 @@ impl Model for Notes {
 }
 
 impl Notes {
-    /// Nothing read yet.
-    pub fn new(alloc: Global) -> Notes
-        ensures { result.items ≡ [] }
+    /// Nothing read yet, in front of a step from this state.
+    pub fn new(alloc: Global, state: &State) -> Notes
+        ensures { result ≡ record { items = []; streams = state.now.streams } }
     {
         Notes {
             items: Vec::new(alloc),
-            streams: Streams::new(),
+            streams: state.streams,
         }
     }
 
@@ -48,21 +46,12 @@ impl Notes {
         self.items.truncate(count);
     }
 
-    // A step from this state begins.
-    pub(crate) fn begin(&mut self, state: &State)
-        ensures { self.new ≡ record self.old { streams = state.now.streams } }
+    // Forgets all items but the first `count`, and the draws behind this state.
+    pub(crate) fn go_back(&mut self, count: usize, state: &State)
+        ensures { self.new ≡ record { items = take count self.old.items; streams = state.now.streams } }
     {
+        self.items.truncate(count);
         self.streams = state.streams;
-    }
-
-    // What the step is to do, with the streams behind its draws.
-    pub(crate) fn decision(&self, step: Move) -> Decision
-        ensures { result ≡ record { step = step; streams = self.now.streams } }
-    {
-        Decision {
-            step,
-            streams: self.streams,
-        }
     }
 
     // Notes one item more.

@@ -6,7 +6,7 @@ use crate::counts::Counts;
 use crate::current::CurrentChain;
 use crate::future::FutureChain;
 use crate::progress::Progress;
-use gw_meaning::{Count, Transaction};
+use gw_meaning::{Count, StatementId, Transaction};
 use gw_nums::Time;
 use gw_streams::Streams;
 use std::alloc::Global;
@@ -119,8 +119,8 @@ impl State {
         &self.future
     }
 
-    /// What is counted at the block whose statement has this number.
-    pub fn count(&self, id: u64) -> Count
+    /// What is counted at the block with this statement id.
+    pub fn count(&self, id: StatementId) -> Count
         ensures { result ≡ count_at self.now.counts id }
     {
         self.counts.at(id)

@@ -9,7 +9,6 @@ use crate::state::State;
 use crate::tally::Tally;
 use gw_meaning::{End, Move};
 use gw_model::Version;
-use gw_streams::Streams;
 use std::alloc::{AllocError, Global};
 
 /// What a step came to.
@@ -21,24 +20,9 @@ pub enum Turn {
     Ended(End),
 }
 
-/// What a step is to do, and the streams behind its draws.
-#[derive(Debug, Drop)]
-pub struct Decision {
-    pub step: Move,
-    pub streams: Streams,
-}
-
-/// What comes next in a run.
-#[derive(Debug, Drop)]
-pub enum Next {
-    /// A step that does this.
-    Step(Decision),
-    /// No step: the run ends here.
-    End(End),
-}
-
 /// Makes the step of the version with this seed, notes the items that it reads and counts it; or says why
-/// none follows. An end, and want of memory, changes nothing.
+/// none follows. An end, and want of memory, changes nothing. What was noted stands where the state does: between
+/// steps both have the same streams.
 pub fn step(
     alloc: Global,
     version: &Version,
@@ -47,49 +31,49 @@ pub fn step(
     notes: &mut Notes,
     tally: &mut Tally,
 ) -> Result<Turn, AllocError>
+    requires { notes.old.streams ≡ state.old.streams }
     ensures told { IfOk result (λ turn. Steps (step version.now seed state.old) turn state.old state.new) }
     ensures notes { IfOk result (λ _. notes.new.items ≡ notes.old.items ++ step_items version.now seed state.old) }
+    ensures streams { notes.new.streams ≡ state.new.streams }
     ensures tally { IfOk result (λ turn. Counts turn tally.old tally.new) }
     ensures err { OnErr result
         ((state.new ≡ state.old) × (notes.new.items ≡ notes.old.items) × (tally.new ≡ tally.old)) }
 {
     let mark = notes.items().len();
-    match next_step(alloc, version, seed, state, notes)? {
-        Next::End(end) => Ok(Turn::Ended(end)),
-        Next::Step(next) => match state.make(next, tally) {
+    match next_step(alloc, version, seed, state, notes) {
+        Ok(step) => match state.make(step, notes, tally) {
             Ok(()) => Ok(Turn::Moved),
             Err(error) => {
-                notes.truncate(mark);
+                notes.go_back(mark, state);
                 Err(error)
             }
         },
+        Err(Halt::End(end)) => Ok(Turn::Ended(end)),
+        Err(Halt::Memory) => Err(AllocError),
     }
 }
 
-/// Says what the step of the version with this seed is to do, and notes the items that it reads; or says why
-/// none follows, and notes nothing. [`State::make`] then makes it.
+/// Says what the step of the version with this seed is to do, and notes the items that it reads and its draws; or
+/// says why none follows, and notes nothing. [`State::make`] then makes it.
+#[inline(always)]
 pub fn next_step(
     alloc: Global,
     version: &Version,
     seed: u64,
     state: &State,
     notes: &mut Notes,
-) -> Result<Next, AllocError>
-    ensures told { IfOk result (Foretells version.now seed state.now) }
+) -> Result<Move, Halt>
+    requires { notes.old.streams ≡ state.now.streams }
+    ensures told { Foretells version.now seed state.now notes.new.streams result }
     ensures notes { OnOk result (notes.new.items ≡ notes.old.items ++ step_items version.now seed state.now) }
-    ensures err { OnErr result (notes.new.items ≡ notes.old.items) }
+    ensures err { OnErr result (notes.new ≡ notes.old) }
 {
     let mark = notes.items().len();
-    notes.begin(state);
     match state.decide(alloc, Case { version, seed }, notes) {
-        Ok(step) => Ok(Next::Step(notes.decision(step))),
-        Err(Halt::End(end)) => {
-            notes.truncate(mark);
-            Ok(Next::End(end))
-        }
-        Err(Halt::Memory) => {
-            notes.truncate(mark);
-            Err(AllocError)
+        Ok(step) => Ok(step),
+        Err(halt) => {
+            notes.go_back(mark, state);
+            Err(halt)
         }
     }
 }
@@ -103,9 +87,10 @@ pub fn end_at(
 ) -> Result<Option<End>, AllocError>
     ensures { IfOk result (EndsAs (step version.now seed state.now)) }
 {
-    let mut notes = Notes::new(alloc);
-    match next_step(alloc, version, seed, state, &mut notes)? {
-        Next::Step(_) => Ok(None),
-        Next::End(end) => Ok(Some(end)),
+    let mut notes = Notes::new(alloc, state);
+    match next_step(alloc, version, seed, state, &mut notes) {
+        Ok(_) => Ok(None),
+        Err(Halt::End(end)) => Ok(Some(end)),
+        Err(Halt::Memory) => Err(AllocError),
     }
 }

@@ -1,5 +1,5 @@
 // The values of operands.
-ghost use Rattle.std.specs.Prelude.{◌≡◌, ◌++◌};
+ghost use Rattle.std.specs.Prelude.{◌≡◌, ◌++◌, option_copied};
 ghost use Rattle.gw_meaning.specs.Evaluation.{value_prog, value_or_zero};
 ghost use Rattle.gw_scan.specs.Deciding.{Decides};
 
@@ -26,9 +26,9 @@ impl State {
         &self,
         case: Case,
         notes: &mut Notes,
-        operand: &Option<Expr>,
+        operand: Option<&Expr>,
     ) -> Result<Val, Halt>
-        ensures { Decides case.entry.version.now case.entry.seed (value_or_zero self.now operand.now)
+        ensures { Decides case.entry.version.now case.entry.seed (value_or_zero self.now (option_copied operand.entry))
             result notes.old notes.new }
     {
         match operand {

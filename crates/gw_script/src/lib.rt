@@ -13,8 +13,6 @@ mod opening;
 mod queries;
 mod reply;
 mod sessions;
-#[cfg(test)]
-mod tests;
 
 pub use fault::{Fault, Over};
 pub use gw_desk::{Desk, Keeper, points_are_found};

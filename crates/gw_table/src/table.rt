@@ -73,6 +73,21 @@ impl<V: Copy> Table<V> {
         ensures entries { self.new.entries ≡ self.old.entries }
         ensures limit { self.old.limit ≤ self.new.limit }
     {
+        let is_there = (number as usize) < self.places.len();
+        if is_there && self.places.len() <= self.pairs.capacity() {
+            return Ok(());
+        }
+        self.grow(number)
+    }
+
+    // Makes the table so long that it has a place for this number, and room for as many pairs.
+    #[cold]
+    #[inline(never)]
+    fn grow(&mut self, number: u64) -> Result<(), AllocError>
+        ensures ok { OnOk result (number < self.new.limit) }
+        ensures entries { self.new.entries ≡ self.old.entries }
+        ensures limit { self.old.limit ≤ self.new.limit }
+    {
         if number > u32::MAX as u64 {
             return Err(AllocError);
         }

@@ -12,7 +12,8 @@ pub unreachable-requires : goal.unreachable-requires
 unreachable-requires c =
     let (t, seed, h, stopped) = c.requires.stopped in
     let none : IsEndOf t seed c.args.run.now c.args.k None = (rw c.in-None.is at c.start_end.ensures) t seed h in
-    complete_there t seed c.args.k c.args.run.now h c.requires.some (rw c.in-Complete.is at stopped) (λ m s low there done. none m s c.requires.some low there done)
+    complete_there t seed c.args.k c.args.run.now h c.requires.some (rw c.in-Complete.is at stopped)
+    (λ m s low there done. none m s c.requires.some low there done)
 
 pub returns-in-Ended : goal.returns-in-Ended
 returns-in-Ended c = λ t seed h reached.

@@ -4,7 +4,7 @@ use Rattle.gw_plain.proofs.PlainLaws.{longer, is_over}
 use Rattle.gw_plain.proofs.plain.plain_run.Goals as goal
 
 pub loop-moment-init : goal.loop-moment-init
-loop-moment-init c = rw c.zero-state.ensures refl
+loop-moment-init c = record { there = rw c.zero-state.ensures refl; streams = search rules }
 
 pub returns-in-Ended : goal.returns-in-Ended
 returns-in-Ended c =
@@ -12,7 +12,7 @@ returns-in-Ended c =
     record {
       moment = c.loop-moment._moment;
       within = search rules;
-      there = rw told.1 c.loop-moment.invariant;
+      there = rw told.1 c.loop-moment.invariant.there;
       over =
           subst (λ s. step c.args.version.now c.args.seed s ≡ Err c.in-Ended.end) (sym told.1) told.0;
     }
@@ -20,7 +20,11 @@ returns-in-Ended c =
 pub loop-moment-preserved : goal.loop-moment-preserved
 loop-moment-preserved c =
     let told = rw c.in-Moved.is at c.in_ok-step.ensures.told in
-    longer c.args.version.now c.args.seed c.loop-moment._moment c.loop-moment.state c.step.new.state c.loop-moment.invariant told
+    record {
+      there =
+          longer c.args.version.now c.args.seed c.loop-moment._moment c.loop-moment.state c.step.new.state c.loop-moment.invariant.there told;
+      streams = c.in_ok-step.ensures.streams;
+    }
 
 pub returns : goal.returns
 returns c =
@@ -29,7 +33,7 @@ returns c =
     record {
       moment = c.loop-moment._moment;
       within = search rules;
-      there = c.loop-moment.invariant;
+      there = c.loop-moment.invariant.there;
       over =
           is_over t c.args.seed c.loop-moment._moment s (step t c.args.seed s) c.in_ok-end.end (search rules) refl c.in_ok-end.ensures;
     }

@@ -42,7 +42,8 @@ is_made c = record {
       c.in_ok-reserve.ensures.items c.rebase_all.ensures.rebased;
   behind =
       c.keep_those_of.ensures ∙
-      ap (λ (xs : List Recording). filter (λ (r : Recording). is_some (seed_at c.in-Ok.new r.number)) xs) (rw c.replications-2.ensures at c.add_missing.ensures);
+      ap (λ (xs : List Recording). filter (λ (r : Recording). is_some (seed_at c.in-Ok.new r.number)) xs)
+      (rw c.replications-2.ensures at c.add_missing.ensures);
   more = c.push_reserved.ensures.items ∙ ap (λ (es : List Edit). es ++ c.args.edit ∷ []) c.in_ok-reserve-2.ensures.items;
 }
 

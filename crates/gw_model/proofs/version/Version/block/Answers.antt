@@ -9,15 +9,15 @@ pub returns-in-Some : goal.returns-in-Some
 returns-in-Some c =
     let lines = c.self.inside.tabled.value.lines.items in
     let f = λ (o : Option Place). option_and_then (λ (p : Place). slice_get lines p.index) o in
-    let given : Some c.in-Some.line.now ≡ f (get_or c.self.inside.tabled.value.tables.places.items c.args.number None) = search rules in
-    let found : Some c.in-Some.line.now ≡ line_in lines c.args.number =
-    given ∙ ap f (c.self.invariant.answers.places c.args.number) ∙ sym (line_place lines c.args.number) in
-    rw (← c.self.view_is) (c.block_of.ensures ∙ ap (λ (o : Option Numbered). option_and_then block_of o) found)
+    let given : Some c.in-Some.line.now ≡ f (get_or c.self.inside.tabled.value.tables.places.items c.args.id None) = search rules in
+    let found : Some c.in-Some.line.now ≡ line_in lines c.args.id =
+    given ∙ ap f (c.self.invariant.answers.places c.args.id) ∙ sym (line_place lines c.args.id) in
+    rw (← c.self.view_is) (c.block.ensures ∙ ap (λ (o : Option Numbered). option_and_then block_of o) found)
 
 pub returns-in-None : goal.returns-in-None
 returns-in-None c =
     let lines = c.self.inside.tabled.value.lines.items in
     let f = λ (o : Option Place). option_and_then (λ (p : Place). slice_get lines p.index) o in
-    let given : None ≡ f (get_or c.self.inside.tabled.value.tables.places.items c.args.number None) = search rules in
-    let found : None ≡ line_in lines c.args.number = given ∙ ap f (c.self.invariant.answers.places c.args.number) ∙ sym (line_place lines c.args.number) in
+    let given : None ≡ f (get_or c.self.inside.tabled.value.tables.places.items c.args.id None) = search rules in
+    let found : None ≡ line_in lines c.args.id = given ∙ ap f (c.self.invariant.answers.places c.args.id) ∙ sym (line_place lines c.args.id) in
     rw (← c.self.view_is) (ap (λ (o : Option Numbered). option_and_then block_of o) found)

@@ -6,5 +6,5 @@ use Rattle.gw_model.proofs.version.Version.position.Goals as goal
 pub returns : goal.returns
 returns c =
     let f = λ (o : Option Place). option_and_then (λ (p : Place). p.position) o in
-    let given : c.position_of.result ≡ f (get_or c.self.inside.tabled.value.tables.places.items c.args.number None) = search rules in
-    rw (← c.self.view_is) (given ∙ ap f (c.self.invariant.answers.places c.args.number) ∙ sym (position_place 0 0 c.self.inside.tabled.value.lines.items c.args.number))
+    let given : c.position_of.result ≡ f (get_or c.self.inside.tabled.value.tables.places.items c.args.id None) = search rules in
+    rw (← c.self.view_is) (given ∙ ap f (c.self.invariant.answers.places c.args.id) ∙ sym (position_place 0 0 c.self.inside.tabled.value.lines.items c.args.id))

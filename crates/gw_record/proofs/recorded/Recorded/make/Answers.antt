@@ -13,7 +13,7 @@ use Rattle.gw_record.proofs.recorded.Recorded.make.Goals as goal
 
 pub returns-clause-ok : goal.returns-clause-ok
 returns-clause-ok c = λ t seed h up room reads goes.
-    let Goes : Tape → Type 0 = λ r. step t seed r.tip ≡ Ok (decided r.tip c.args.next.step c.args.next.streams) in
+    let Goes : Tape → Type 0 = λ r. step t seed r.tip ≡ Ok (decided r.tip c.args.next c.args.notes.now.streams) in
     let Reads : Tape → Type 0 = λ r. c.args.notes.now.items ≡ step_items t seed r.tip in
     let Noted : List Item → Type 0 = λ is. (item : Item) → first_in c.note_all.new.self item ≡
     or_later (first_in c.self.inside.firsts item) (cond (list_any (is_use item) is) (Some c.self.inside.moment) None) in
@@ -22,7 +22,8 @@ returns-clause-ok c = λ t seed h up room reads goes.
     let kept = rw (← c.self.view_is) at up in
     let below = rw (← c.self.view_is) at room in
     let moves = subst Goes (sym c.self.view_is) goes in
-    rw c.in_default-make.ensures.ok (made t seed _ c.args.next.step c.args.next.streams c.note_all.new.self before kept below moves noted c.in_default.ensures.clock)
+    rw c.in_default-make.ensures.ok (made t seed _ c.args.next c.args.notes.now.streams c.note_all.new.self before kept below moves noted
+    c.in_default.ensures.clock)
 
 pub returns-in-Err-make-clause-err : goal.returns-in-Err-make-clause-err
 returns-in-Err-make-clause-err c = λ t seed h.

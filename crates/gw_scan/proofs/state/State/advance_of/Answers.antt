@@ -1,11 +1,23 @@
-use Rattle.std.proofs.Common.{refl}
+use Rattle.std.proofs.Common.{◌≡◌, option_copied, ℤ, refl}
 use Rattle.std.proofs.lemmas.Result.{err_from_is_err_and}
-use Rattle.gw_meaning.specs.Evaluation.{time_prog}
+use Rattle.gw_nums.specs.Range.{is_negative, magnitude}
+use Rattle.gw_expr.specs.declared.stop.Stop.TheVariants.{NegativeTime}
+use Rattle.gw_meaning.specs.declared.moves.Change.TheVariants as changes
+use Rattle.gw_meaning.specs.declared.moves.Move.{Move}
+use Rattle.gw_meaning.specs.declared.moves.Move.TheVariants as moves
+use Rattle.gw_meaning.specs.Statements.{A, B, operand}
+use Rattle.gw_meaning.specs.Evaluation.{Eval, gives, stops_if, time_prog, ◌~>◌}
+use Rattle.gw_meaning.specs.Step.{advance_prog, delay_of}
 use Rattle.gw_scan.proofs.Binding.{decides_exit}
 use Rattle.gw_scan.proofs.state.State.advance_of.Goals as goal
 
 pub returns-in_err-time : goal.returns-in_err-time
 returns-in_err-time c =
     let p = err_from_is_err_and c.from_residual.result c.from_residual.ensures.1 in
-    decides_exit c.args.case.version.now c.args.case.seed (time_prog c.args.self.now c.args.mean.now c.args.range.now) _
-    _ _ _ c.in_err-time.field-0.0 _ _ refl p.1 p.2 c.in_err-time.ensures
+    let s = c.args.self.now in
+    let b = c.args.block.now in
+    let time = time_prog s (option_copied c.operand.result) (option_copied c.operand-2.result) in
+    let rest : ℤ → Eval Move =
+    λ t. stops_if (is_negative t) NegativeTime (gives (moves.Enter c.args.id changes.Nothing (delay_of s (magnitude t)))) in
+    let whole : advance_prog s c.args.id (operand b A) (operand b B) ≡ (time ~> rest) = rw (c.operand.ensures, c.operand-2.ensures) refl in
+    decides_exit c.args.case.version.now c.args.case.seed time rest _ _ _ c.in_err-time.field-0.0 _ _ whole p.1 p.2 c.in_err-time.ensures

@@ -1,9 +1,9 @@
-use Rattle.std.proofs.Common.{◌≡◌, ◌+◌, ◌<◌, [], Ok, drop, get_or, length, ap, sym, arith, rules}
-use Rattle.std.proofs.lemmas.List.{drop_more}
+use Rattle.std.proofs.Common.{◌≡◌, ◌+◌, ◌<◌, [], Ok, drop, length, ap, sym, arith, rules}
 use Rattle.std.proofs.lemmas.Result.{err_from_is_err_and}
 use Rattle.std.proofs.Math.Seq.{drop-length}
 use Rattle.gw_meaning.specs.Evaluation.{◌~>◌}
 use Rattle.gw_meaning.specs.Step.{arrivals_prog, prime_prog, with_arrival}
+use Rattle.gw_scan.proofs.ChainLaws.{item_drop}
 use Rattle.gw_scan.proofs.Binding.{decides_exit, decides_whole, decides_gives}
 use Rattle.gw_scan.proofs.state.State.arrivals.Goals as goal
 
@@ -14,10 +14,10 @@ returns-in_err-arrival c =
     let ids = c.args.ids.now in
     let i = c.loop-id.id-index in
     let made = c.loop-id.arrivals.items in
-    let id = get_or ids i 0 in
+    let id = c.id-item.result in
     let h : i < length ids = search rules in
     let whole : arrivals_prog s (drop i ids) made ≡ (prime_prog s id ~> (λ a. arrivals_prog s (drop (i + 1) ids) (with_arrival a made))) =
-    ap (λ ps. arrivals_prog s ps made) (drop_more ids i 0 h) in
+    ap (λ ps. arrivals_prog s ps made) (item_drop ids i id h c.id-item.is) in
     c.loop-id.invariant c.from_residual.result _ (decides_exit c.args.case.version.now c.args.case.seed (prime_prog s id)
     (λ a. arrivals_prog s (drop (i + 1) ids) (with_arrival a made)) _ _ _ c.in_err-arrival.field-0.0 _ _ whole p.1 p.2 c.in_err-arrival.ensures)
 
@@ -27,10 +27,10 @@ loop-id-preserved c = λ r all rest.
     let ids = c.args.ids.now in
     let i = c.loop-id.id-index in
     let made = c.loop-id.arrivals.items in
-    let id = get_or ids i 0 in
+    let id = c.id-item.result in
     let h : i < length ids = search rules in
     let whole : arrivals_prog s (drop i ids) made ≡ (prime_prog s id ~> (λ a. arrivals_prog s (drop (i + 1) ids) (with_arrival a made))) =
-    ap (λ ps. arrivals_prog s ps made) (drop_more ids i 0 h) in
+    ap (λ ps. arrivals_prog s ps made) (item_drop ids i id h c.id-item.is) in
     let put : with_arrival c.in_ok-arrival.arrival made ≡ c.put_if.new.arrivals.items = sym c.in_ok-put_if.ensures in
     c.loop-id.invariant r all (decides_whole c.args.case.version.now c.args.case.seed (prime_prog s id)
     (λ a. arrivals_prog s (drop (i + 1) ids) (with_arrival a made))

@@ -1,0 +1,161 @@
+-- Items that are answered by lists: the statements say something to the item, each by itself, and its answer is made of what
+-- they say, in order. One that says nothing to it may come in or go out, and one may come for another that says the same.
+-- These are all items but those of a block, which go by its number, and those of a command, which go by how many are in front.
+use Rattle.std.proofs.Common.{◌≡◌, ℕ, zero, suc, Bool, true, false, cond, not, ◌&&◌, slice_get, List, [], ◌∷◌, ◌++◌, Option, Some, None, is_some, ◌||◌, refl, ap, sym, subst, ◌∙◌, ⊎_elim}
+use mathlib.Core.Bool.{true≢false}
+use Rattle.std.specs.List.{filter_map, cons_option}
+use Rattle.std.proofs.lemmas.Bool.{cases_Bool, or_parts}
+use Rattle.std.proofs.lemmas.List.Elements.{filter_map-append}
+use Rattle.std.proofs.lemmas.List.Folds.{list_any-append}
+use Rattle.gw_meaning.specs.declared.item.Item.{Item}
+use Rattle.gw_meaning.specs.declared.item.Item.TheVariants as items
+use Rattle.gw_meaning.specs.declared.statement.Body.{Body}
+use Rattle.gw_meaning.specs.declared.statement.Body.TheVariants as bodies
+use Rattle.gw_meaning.specs.declared.statement.Statement.{Statement}
+use Rattle.gw_meaning.specs.declared.statement.Numbered.{Numbered}
+use Rattle.gw_meaning.specs.Listing.{Listing, block_of_body, is_block, is_generate, is_generate_body, generates_in}
+use Rattle.gw_meaning.specs.Questions.{Answer, ask}
+use Rattle.gw_meaning.specs.Reads.{is_use}
+use Rattle.gw_edit.specs.Same.{same_statement}
+use Rattle.gw_edit.specs.declared.touch.Probe.{Probe}
+use Rattle.gw_edit.specs.declared.touch.Probe.TheVariants.{CommandsFrom}
+use Rattle.gw_edit.specs.Touching.{block_before, command_from, given, one_if, block_places, block_probes, line_probes, change_places, block_change, is_probed, is_touched}
+use Rattle.gw_edit.proofs.SameBlocks.{statement_same}
+
+-- what is not touched by probes is not touched by any part of them
+pub untouched_both : (ps qs : List Probe) (i : Item) → is_touched (ps ++ qs) i ≡ false → (is_touched ps i ≡ false) × (is_touched qs i ≡ false)
+untouched_both ps qs i h = or_parts (is_touched ps i) (is_touched qs i) (sym (list_any-append (λ p. is_probed p i) ps qs) ∙ h)
+
+-- what a list of places leaves untouched, the probe at each place does; a place that is free is of no item
+abbrev pub probed_at : Option Probe → Item → Bool
+probed_at None i = false
+probed_at (Some probe) i = is_probed probe i
+
+first_place : (o : Option Probe) (os : List (Option Probe)) (i : Item) → is_touched (given (o ∷ os)) i ≡ false →
+    (probed_at o i ≡ false) × (is_touched (given os) i ≡ false)
+first_place None os i h = (refl, h)
+first_place (Some probe) os i h = or_parts (is_probed probe i) (is_touched (given os) i) h
+
+pub untouched_at : (os : List (Option Probe)) (k : ℕ) (o : Option Probe) (i : Item) → slice_get os k ≡ Some o → is_touched (given os) i ≡ false →
+    probed_at o i ≡ false
+untouched_at [] k o i at h = absurd cc
+untouched_at (p ∷ os) zero o i at h = let same : p ≡ o = cc in ap (λ q. probed_at q i) (sym same) ∙ (first_place p os i h).0
+untouched_at (p ∷ os) (suc k) o i at h = untouched_at os k o i at (first_place p os i h).1
+
+-- an item that is left untouched was not wanted
+pub not_wanted : (wanted : Bool) (i : Item) → is_use i i ≡ true → probed_at (one_if wanted i) i ≡ false → wanted ≡ false
+not_wanted false i itself h = refl
+not_wanted true i itself h = absurd (true≢false (sym itself ∙ h))
+
+-- the statement that takes the place of another
+abbrev pub changed_line : Numbered → Statement → Numbered
+changed_line line s = record line { statement = s }
+
+-- an item that is answered by a list
+pub record IsByLines (i : Item) : Type 1 where
+  -- what a statement says to it, and what is made of that with the horizon and the seed
+  pub X : Type 0
+  pub says : Numbered → Option X
+  pub made : ℕ → ℕ → List X → Answer i
+  pub is : (t : Listing) (seed : ℕ) → ask t seed i ≡ made t.horizon seed (filter_map says t.lines)
+  -- a statement whose probes leave it untouched says nothing to it; a block that comes for a block says what that one did
+  pub line : (t : Listing) (place : ℕ) (line : Numbered) → is_touched (line_probes t place line) i ≡ false → says line ≡ None
+  pub change : (line : Numbered) (s : Statement) → is_block line ≡ true → is_block (changed_line line s) ≡ true →
+      is_touched (block_change line (changed_line line s)) i ≡ false → says (changed_line line s) ≡ says line
+
+-- the list of GENERATEs
+abbrev generate_of : Numbered → Option ℕ
+generate_of line = cond (is_generate line) (Some line.number) None
+
+generates_listed : (lines : List Numbered) → generates_in lines ≡ filter_map generate_of lines
+generates_listed [] = refl
+generates_listed (line ∷ lines) =
+    elim (is_generate line) as (λ b. cond b (line.number ∷ generates_in lines) (generates_in lines) ≡
+    cons_option (cond b (Some line.number) None) (filter_map generate_of lines))
+    [ true ↦ ap (λ ns. line.number ∷ ns) (generates_listed lines) | false ↦ generates_listed lines ]
+
+no_generate_of : (body : Body) → is_some (block_of_body body) ≡ false → is_generate_body body ≡ false
+no_generate_of (bodies.Block block) h = absurd cc
+no_generate_of (bodies.Command command) h = refl
+
+no_generate : (t : Listing) (place : ℕ) (line : Numbered) (block : Bool) → is_block line ≡ block →
+    is_touched (cond block (block_probes t place line) (CommandsFrom (command_from t place) ∷ [])) items.Generates ≡ false → is_generate line ≡ false
+no_generate t place line true is h =
+    not_wanted (is_generate line) items.Generates refl (untouched_at (block_places (block_before t place) line) 3 _ items.Generates refl h)
+no_generate t place line false is h = no_generate_of line.statement.body is
+
+generate_none : (line : Numbered) → is_generate line ≡ false → generate_of line ≡ None
+generate_none line none = ap (λ b. cond b (Some line.number) None) none
+
+same_generate : (line : Numbered) (s : Statement) → is_touched (block_change line (changed_line line s)) items.Generates ≡ false →
+    is_generate (changed_line line s) ≡ is_generate line
+same_generate line s h =
+    ⊎_elim
+    (λ (same : same_statement line.statement s ≡ true). ap is_generate_body (sym (statement_same line.statement s same)))
+    (λ (other : same_statement line.statement s ≡ false).
+    let either = is_generate line || is_generate (changed_line line s) in
+    let untouched = untouched_at (change_places (not (same_statement line.statement s)) line (changed_line line s)) 1 _ items.Generates refl h in
+    let none = not_wanted (not (same_statement line.statement s) && either) items.Generates refl untouched in
+    let parts = or_parts (is_generate line) (is_generate (changed_line line s)) (subst (λ (b : Bool). (not b && either) ≡ false) other none) in
+    parts.1 ∙ sym parts.0)
+    (cases_Bool (same_statement line.statement s))
+
+-- the items of a block and those of a command are the others
+abbrev pub IsListed : Item → Type 0
+IsListed (items.Block k) = ⊥
+IsListed (items.After k) = ⊥
+IsListed (items.Cmd j) = ⊥
+IsListed item = Unit {0}
+
+-- each listed item: what says something to it, and how the probes tell. To one that has no line here no statement does.
+pub by_lines : (i : Item) → IsListed i → IsByLines i
+by_lines (items.Block k) listed = absurd listed
+by_lines (items.After k) listed = absurd listed
+by_lines (items.Cmd j) listed = absurd listed
+by_lines items.Generates listed = record {
+  X = ℕ;
+  says = generate_of;
+  made = λ horizon seed ns. ns;
+  is = λ t seed. generates_listed t.lines;
+  line = λ t place line h. generate_none line (no_generate t place line (is_block line) refl h);
+  change = λ line s was is h. ap (λ b. cond b (Some line.number) None) (same_generate line s h);
+}
+by_lines item listed = record {
+  X = Unit {0};
+  says = λ line. None;
+  made = λ horizon seed xs. ask (record { lines = []; horizon = horizon; replications = []; limit = 0 }) seed item;
+  is = λ t seed. refl;
+  line = λ t place line h. refl;
+  change = λ line s was is h. refl;
+}
+
+-- two versions with one horizon, of which the statements say the same to an item in order
+said_alike : (i : Item) (by : IsByLines i) (t u : Listing) (a b : ℕ) → u.horizon ≡ t.horizon → b ≡ a →
+    filter_map by.says u.lines ≡ filter_map by.says t.lines → ask u b i ≡ ask t a i
+said_alike i by t u a b horizon seeds said =
+    by.is u b ∙ (ap (λ n. by.made n b (filter_map by.says u.lines)) horizon ∙
+    (ap (λ n. by.made t.horizon n (filter_map by.says u.lines)) seeds ∙ (ap (by.made t.horizon a) said ∙ sym (by.is t a))))
+
+-- behind the same statements, where what comes first says the same
+said_behind : {X : Type 0} (says : Numbered → Option X) (front xs ys : List Numbered) → filter_map says xs ≡ filter_map says ys →
+    filter_map says (front ++ xs) ≡ filter_map says (front ++ ys)
+said_behind says front xs ys h =
+    filter_map-append says front xs ∙ (ap (λ zs. filter_map says front ++ zs) h ∙ sym (filter_map-append says front ys))
+
+module _ (i : Item) (listed : IsListed i) (front back : List Numbered) (t u : Listing) (a b : ℕ) (horizon : u.horizon ≡ t.horizon) (seeds : b ≡ a) where
+  -- a statement that says nothing comes in
+  pub silent_alike : (line : Numbered) → u.lines ≡ front ++ line ∷ back → t.lines ≡ front ++ back → (by_lines i listed).says line ≡ None → ask u b i ≡ ask t a i
+  silent_alike line new old silent =
+      let by = by_lines i listed in
+      said_alike i by t u a b horizon seeds
+      (ap (filter_map by.says) new ∙ (said_behind by.says front (line ∷ back) back (ap (λ o. cons_option o (filter_map by.says back)) silent) ∙
+      sym (ap (filter_map by.says) old)))
+
+  -- one comes for another that says the same
+  pub changed_alike : (line other : Numbered) → u.lines ≡ front ++ other ∷ back → t.lines ≡ front ++ line ∷ back →
+      (by_lines i listed).says other ≡ (by_lines i listed).says line → ask u b i ≡ ask t a i
+  changed_alike line other new old same =
+      let by = by_lines i listed in
+      said_alike i by t u a b horizon seeds
+      (ap (filter_map by.says) new ∙ (said_behind by.says front (other ∷ back) (line ∷ back) (ap (λ o. cons_option o (filter_map by.says back)) same) ∙
+      sym (ap (filter_map by.says) old)))

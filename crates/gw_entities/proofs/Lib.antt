@@ -1,0 +1,4 @@
+pub mod Finding
+pub mod Sums
+pub mod TableLaws
+pub mod Ticks

@@ -1,0 +1,25 @@
+-- What a contract sees of `Entities`: keys and values in order of first touch, and what there is room for. (Own: the
+-- order.)
+use Rattle.std.specs.Prelude.{◌≡◌, List, [], ◌∷◌, Option, Some, None, if◌then◌else◌}
+use Rattle.std.specs.Map.{lookup}
+use Rattle.gw_names.specs.declared.key.Key.{Key}
+use Rattle.gw_names.specs.Keys.{key_eq}
+
+pub record Touched (V : Type 0) : Type 0 where
+  pub entries : List (Key × V)
+  -- the key that there is room for, beside those that have a value
+  pub ready : Option Key
+
+module _ {V : Type 0} where
+  -- the value of a key
+  abbrev pub value_of : List (Key × V) → Key → Option V
+  value_of entries key = lookup (key_eq key) entries
+
+  -- the entries with the value of a key set: in place where it has one, else behind the others
+  abbrev pub with_value : List (Key × V) → Key → V → List (Key × V)
+  with_value [] key value = (key, value) ∷ []
+  with_value (e ∷ es) key value = if key_eq key e.0 then (e.0, value) ∷ es else e ∷ with_value es key value
+
+  -- if it has no value, there is room for one
+  abbrev pub HasRoom : Touched V → Key → Type 0
+  HasRoom t key = value_of t.entries key ≡ None → t.ready ≡ Some key

@@ -1,0 +1,97 @@
+ghost use Rattle.std.specs.Prelude.{◌≡◌, ◌<◌, ◌≤◌, is_some, if◌then◌else◌};
+ghost use Rattle.gw_entities.specs.Records.{never_owned, seized, released, facility_anew};
+
+use crate::level::Level;
+use gw_nums::Clock;
+use std::marker::Model;
+
+/// A facility: who owns it, how often it was taken, and how long it was owned.
+#[derive(Clone, Copy, Debug)]
+pub struct Facility {
+    owner: Option<u64>,
+    captures: u64,
+    level: Level,
+}
+
+impl Model for Facility {
+    ghost use Rattle.std.specs.Prelude.{◌≡◌, is_some, if◌then◌else◌};
+    ghost use Rattle.gw_entities.specs.Records.{Ownership};
+
+    ghost Value = { Ownership };
+
+    ghost view = { λ f. record { owner = f.owner; captures = f.captures; level = f.level } };
+
+    ghost invariant = { λ f. f.level.content ≡ (if is_some f.owner then 1 else 0) };
+
+    ghost inverse = { λ o. record { owner = o.owner; captures = o.captures; level = o.level } };
+}
+
+impl Facility {
+    /// A facility that nobody has taken yet.
+    pub fn new() -> Facility
+        ensures { result ≡ never_owned }
+    {
+        Facility {
+            owner: None,
+            captures: 0,
+            level: Level::new(),
+        }
+    }
+
+    /// The number of the transaction that owns it.
+    pub fn owner(self) -> Option<u64>
+        ensures { result ≡ self.owner }
+    {
+        self.owner
+    }
+
+    /// Whether it is owned.
+    pub fn is_owned(self) -> bool
+        ensures { result ≡ is_some self.owner }
+    {
+        self.owner.is_some()
+    }
+
+    /// How often it was taken.
+    pub fn captures(self) -> u64
+        ensures { result ≡ self.captures }
+    {
+        self.captures
+    }
+
+    /// Its content over time: 1 while it is owned, else 0.
+    pub fn level(self) -> Level
+        ensures level { result ≡ self.level }
+        ensures content { result.content ≡ (if is_some self.owner then 1 else 0) }
+    {
+        self.level
+    }
+
+    /// A transaction takes it.
+    pub fn seize(&mut self, number: u64, clock: Clock)
+        requires captures { self.old.captures < 1000000000 }
+        requires clock { self.old.level.at ≤ clock }
+        ensures { self.new ≡ seized number clock self.old }
+    {
+        self.owner = Some(number);
+        self.captures += 1;
+        self.level.change(1, clock);
+    }
+
+    /// Its owner gives it back.
+    pub fn release(&mut self, clock: Clock)
+        requires { self.old.level.at ≤ clock }
+        ensures { self.new ≡ released clock self.old }
+    {
+        self.owner = None;
+        self.level.change(0, clock);
+    }
+
+    /// Counts anew from a clock on. Whoever owns it goes on.
+    pub fn reset(&mut self, clock: Clock)
+        ensures { self.new ≡ facility_anew clock self.old }
+    {
+        self.captures = 0;
+        self.level.restart(clock);
+    }
+}

@@ -1,0 +1,118 @@
+ghost use Rattle.std.specs.Prelude.{◌≡◌, ◌+◌, ◌≤◌, if◌then◌else◌};
+ghost use Rattle.gw_entities.specs.Records.{no_line, queued, departed, queue_anew};
+
+use crate::level::Level;
+use gw_nums::Clock;
+use std::marker::Model;
+
+/// A queue: how much is in it, came, and went at once.
+#[derive(Clone, Copy, Debug)]
+pub struct Queue {
+    entries: u64,
+    zero_entries: u64,
+    greatest: u64,
+    level: Level,
+}
+
+impl Model for Queue {
+    ghost use Rattle.std.specs.Prelude.{◌≤◌};
+    ghost use Rattle.gw_entities.specs.Records.{Line};
+
+    ghost Value = { Line };
+
+    ghost view = { λ q. record {
+      entries = q.entries;
+      zero_entries = q.zero_entries;
+      greatest = q.greatest;
+      level = q.level;
+    } };
+
+    ghost invariant = { λ q. q.level.content ≤ q.greatest };
+
+    ghost inverse = { λ l. record {
+      entries = l.entries;
+      zero_entries = l.zero_entries;
+      greatest = l.greatest;
+      level = l.level;
+    } };
+}
+
+impl Queue {
+    /// A queue in which nothing stood yet.
+    pub fn new() -> Queue
+        ensures { result ≡ no_line }
+    {
+        Queue {
+            entries: 0,
+            zero_entries: 0,
+            greatest: 0,
+            level: Level::new(),
+        }
+    }
+
+    /// Units that came.
+    pub fn entries(self) -> u64
+        ensures { result ≡ self.entries }
+    {
+        self.entries
+    }
+
+    /// Units that went in the tick in which they came.
+    pub fn zero_entries(self) -> u64
+        ensures { result ≡ self.zero_entries }
+    {
+        self.zero_entries
+    }
+
+    /// The greatest content.
+    pub fn greatest(self) -> u64
+        ensures value { result ≡ self.greatest }
+        ensures content { self.level.content ≤ result }
+    {
+        self.greatest
+    }
+
+    /// Its content over time.
+    pub fn level(self) -> Level
+        ensures { result ≡ self.level }
+    {
+        self.level
+    }
+
+    /// So many units come.
+    pub fn enter(&mut self, units: u64, clock: Clock)
+        requires entries { self.old.entries + units ≤ 1000000000 }
+        requires content { self.old.level.content + units ≤ 1000000000 }
+        requires clock { self.old.level.at ≤ clock }
+        ensures { self.new ≡ queued units clock self.old }
+    {
+        let content = self.level.content() + units;
+        self.entries += units;
+        self.greatest = self.greatest.max(content);
+        self.level.change(content, clock);
+    }
+
+    /// So many units go; `zero` says that the transaction's last entry was at this clock.
+    pub fn depart(&mut self, units: u64, clock: Clock, zero: bool)
+        requires units { units ≤ self.old.level.content }
+        requires zero { self.old.zero_entries + (if zero then units else 0) ≤ 1000000000 }
+        requires clock { self.old.level.at ≤ clock }
+        ensures { self.new ≡ departed units clock zero self.old }
+    {
+        if zero {
+            self.zero_entries += units;
+        }
+        let content = self.level.content() - units;
+        self.level.change(content, clock);
+    }
+
+    /// Counts anew from a clock on. What stands in it stays.
+    pub fn reset(&mut self, clock: Clock)
+        ensures { self.new ≡ queue_anew clock self.old }
+    {
+        self.entries = 0;
+        self.zero_entries = 0;
+        self.greatest = self.level.content();
+        self.level.restart(clock);
+    }
+}

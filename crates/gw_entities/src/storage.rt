@@ -1,0 +1,114 @@
+ghost use Rattle.std.specs.Prelude.{◌≡◌, ◌+◌, ◌≤◌, nat_le};
+ghost use Rattle.gw_entities.specs.Records.{never_used, entered, left, storage_anew};
+
+use crate::level::Level;
+use gw_nums::Clock;
+use std::marker::Model;
+
+/// A storage: how many units are in use and came into use. How many it has is no matter of the run.
+#[derive(Clone, Copy, Debug)]
+pub struct Storage {
+    entries: u64,
+    least: u64,
+    greatest: u64,
+    level: Level,
+}
+
+impl Model for Storage {
+    ghost use Rattle.std.specs.Prelude.{◌≤◌};
+    ghost use Rattle.gw_entities.specs.Records.{Store};
+
+    ghost Value = { Store };
+
+    ghost view = { λ s. record { entries = s.entries; least = s.least; greatest = s.greatest; level = s.level } };
+
+    ghost invariant = { λ s. (s.least ≤ s.level.content) × (s.level.content ≤ s.greatest) };
+
+    ghost inverse = { λ s. record { entries = s.entries; least = s.least; greatest = s.greatest; level = s.level } };
+}
+
+impl Storage {
+    /// A storage that was never used.
+    pub fn new() -> Storage
+        ensures { result ≡ never_used }
+    {
+        Storage {
+            entries: 0,
+            least: 0,
+            greatest: 0,
+            level: Level::new(),
+        }
+    }
+
+    /// Units that came into use.
+    pub fn entries(self) -> u64
+        ensures { result ≡ self.entries }
+    {
+        self.entries
+    }
+
+    /// The least content.
+    pub fn least(self) -> u64
+        ensures value { result ≡ self.least }
+        ensures content { result ≤ self.level.content }
+    {
+        self.least
+    }
+
+    /// The greatest content.
+    pub fn greatest(self) -> u64
+        ensures value { result ≡ self.greatest }
+        ensures content { self.level.content ≤ result }
+    {
+        self.greatest
+    }
+
+    /// Its content over time: the units in use.
+    pub fn level(self) -> Level
+        ensures { result ≡ self.level }
+    {
+        self.level
+    }
+
+    /// Whether so many more units may come into use, where it has `capacity` units.
+    pub fn fits(self, units: u64, capacity: u64) -> bool
+        ensures { result ≡ nat_le (self.level.content + units) capacity }
+    {
+        let content = self.level.content();
+        content <= capacity && units <= capacity - content
+    }
+
+    /// So many units come into use.
+    pub fn enter(&mut self, units: u64, clock: Clock)
+        requires entries { self.old.entries + units ≤ 1000000000 }
+        requires content { self.old.level.content + units ≤ 1000000000 }
+        requires clock { self.old.level.at ≤ clock }
+        ensures { self.new ≡ entered units clock self.old }
+    {
+        let content = self.level.content() + units;
+        self.entries += units;
+        self.greatest = self.greatest.max(content);
+        self.level.change(content, clock);
+    }
+
+    /// So many units are given back.
+    pub fn leave(&mut self, units: u64, clock: Clock)
+        requires units { units ≤ self.old.level.content }
+        requires clock { self.old.level.at ≤ clock }
+        ensures { self.new ≡ left units clock self.old }
+    {
+        let content = self.level.content() - units;
+        self.least = self.least.min(content);
+        self.level.change(content, clock);
+    }
+
+    /// Counts anew from a clock on. What is in use stays.
+    pub fn reset(&mut self, clock: Clock)
+        ensures { self.new ≡ storage_anew clock self.old }
+    {
+        self.entries = 0;
+        self.least = self.level.content();
+        self.greatest = self.level.content();
+        self.level.restart(clock);
+    }
+}
