@@ -1,8 +1,9 @@
 // What an edit leaves of the recorded runs.
-ghost use Rattle.std.specs.Prelude.{◌≡◌, ◌+◌, ◌≤◌, length, vec_len, vec_capacity, filter, is_some};
+ghost use Rattle.std.specs.Prelude.{◌≡◌, ◌+◌, ◌<◌, ◌≤◌, length, vec_len, vec_capacity, filter, is_some};
 ghost use Rattle.gw_meaning.specs.Listing.{seed_at};
 ghost use Rattle.gw_desk.specs.declared.recording.Recording.{Recording};
-ghost use Rattle.gw_desk.specs.Rebasing.{AreRebased, with_missing};
+ghost use Rattle.gw_desk.specs.Book.{run_in};
+ghost use Rattle.gw_desk.specs.Rebasing.{AreRebased, with_run, with_missing};
 
 use crate::recording::{Recording, run_of};
 use gw_edit::{Edit, rebase, touch_of};
@@ -35,13 +36,23 @@ pub fn add_missing(
     ensures { runs.new.items ≡ with_missing every replications.now runs.old.items }
 {
     for replication in replications {
-        if run_of(runs.as_slice(), replication.number).is_none() {
-            let run = Recorded::new(alloc, every);
-            let number = replication.number;
-            match runs.push(Recording { number, run }) {
-                Ok(()) => (),
-                Err(_) => unreachable!(),
-            }
+        add_if_missing(runs, alloc, replication.number, every);
+    }
+}
+
+// A run of no steps for a replication, if it has none.
+fn add_if_missing(runs: &mut Vec<Recording>, alloc: Global, number: u64, every: u64)
+    requires some { 1 ≤ every }
+    requires room { vec_len runs.old < vec_capacity runs.old }
+    ensures runs { runs.new.items ≡ with_run every number (run_in runs.old.items number) runs.old.items }
+    ensures len { vec_len runs.new ≤ vec_len runs.old + 1 }
+    ensures room { vec_capacity runs.old ≤ vec_capacity runs.new }
+{
+    if run_of(runs.as_slice(), number).is_none() {
+        let run = Recorded::new(alloc, every);
+        match runs.push(Recording { number, run }) {
+            Ok(()) => (),
+            Err(_) => unreachable!(),
         }
     }
 }

@@ -4,9 +4,10 @@ use denote.Enum.Bare.{same_true}
 use Rattle.std.specs.Str.{bytes_eq}
 use Rattle.std.proofs.lemmas.Bool.{and_parts}
 use Rattle.std.proofs.lemmas.Bool.Decides.{Decides-int_eq}
+use Rattle.std.proofs.lemmas.Slice.Eq.{bytes_eq-Decides}
 use Rattle.gw_names.specs.contracts.verb.BlockVerb.{the_type}
 use Rattle.gw_names.specs.declared.verb.BlockVerb.{BlockVerb}
-use Rattle.gw_expr.specs.Term.{Term, Constant}
+use Rattle.gw_expr.specs.Term.{Term, Constant, Named}
 use Rattle.gw_meaning.specs.declared.statement.Statement.{Statement}
 use Rattle.gw_meaning.specs.declared.statement.Block.{Block}
 use Rattle.gw_meaning.specs.declared.statement.Body.{Body}
@@ -15,6 +16,9 @@ use Rattle.gw_edit.specs.Same.{same_term, same_operand, same_operands, same_verb
 
 term_same : (a b : Term) → same_term a b ≡ true → a ≡ b
 term_same (Constant a) (Constant b) h = ap (λ z. Constant z) ((Decides-int_eq a b).0 h)
+term_same (Constant a) (Named b) h = absurd cc
+term_same (Named a) (Constant b) h = absurd cc
+term_same (Named a) (Named b) h = ap (λ n. Named n) ((bytes_eq-Decides a b).0 h)
 
 operand_same : (a b : Option Term) → same_operand a b ≡ true → a ≡ b
 operand_same None None h = refl

@@ -6,7 +6,7 @@ use Rattle.std.specs.Str.{bytes_eq}
 use denote.Enum.Bare.{sameb}
 use Rattle.gw_names.specs.contracts.verb.BlockVerb.{the_type}
 use Rattle.gw_names.specs.declared.verb.BlockVerb.{BlockVerb}
-use Rattle.gw_expr.specs.Term.{Term, Constant}
+use Rattle.gw_expr.specs.Term.{Term, Constant, Named}
 use Rattle.gw_meaning.specs.declared.statement.Statement.{Statement}
 use Rattle.gw_meaning.specs.declared.statement.Block.{Block}
 use Rattle.gw_meaning.specs.declared.statement.Body.{Body}
@@ -15,6 +15,9 @@ use Rattle.gw_meaning.specs.declared.statement.Body.TheVariants as bodies
 -- two operands
 abbrev pub same_term : Term → Term → Bool
 same_term (Constant a) (Constant b) = int_eq a b
+same_term (Constant a) (Named b) = false
+same_term (Named a) (Constant b) = false
+same_term (Named a) (Named b) = bytes_eq a b
 
 abbrev pub same_operand : Option Term → Option Term → Bool
 same_operand None None = true

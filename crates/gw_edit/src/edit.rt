@@ -45,7 +45,7 @@ impl Edit {
                 text: copy_text(alloc, text)?,
             }),
             Edit::Capacity { name, amount } => Ok(Edit::Capacity {
-                name: name.copy(alloc)?,
+                name: name.clone()?,
                 amount: *amount,
             }),
             Edit::Seed { replication, seed } => Ok(Edit::Seed {

@@ -61,5 +61,7 @@ fn same_term(old: &Expr, new: &Expr) -> bool
 {
     match (old.node(), new.node()) {
         (Node::Constant(old), Node::Constant(new)) => old.get() == new.get(),
+        (Node::Named(old), Node::Named(new)) => old == new,
+        _ => false,
     }
 }

@@ -1,3 +1,4 @@
+pub mod ComingLaws
 pub mod Finding
 pub mod Sums
 pub mod TableLaws

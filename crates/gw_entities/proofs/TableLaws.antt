@@ -1,4 +1,4 @@
--- The entries of `Entities` in the words of the map below it.
+-- The entries of `ByKey` in the words of the map below it.
 use Rattle.std.proofs.Common.{◌≡◌, ℕ, Bool, true, false, cond, zero, suc, ◌+◌, List, [], ◌∷◌, take, Option, Some, refl, sym, ap, ◌∙◌, arith}
 use Rattle.std.specs.List.{IsDistinct, AllByRecursion, slice_get}
 use Rattle.std.specs.Cmp.{IsEquivalence}

@@ -1,5 +1,5 @@
 -- Why the sum of a level is that over all ticks.
-use Rattle.std.proofs.Common.{◌≡◌, ℕ, zero, suc, ◌+◌, ◌-◌, ◌*◌, ◌<◌, ◌≤◌, true, false, nat_le, List, [], ◌∷◌, refl, sym, ap, ◌∙◌, arith}
+use Rattle.std.proofs.Common.{◌≡◌, ℕ, zero, suc, ◌+◌, ◌-◌, ◌*◌, ◌<◌, ◌≤◌, true, false, nat_le, max, List, [], ◌∷◌, refl, sym, ap, ◌∙◌, arith}
 use Rattle.std.specs.List.{sum_by, range_with_len}
 use Rattle.std.proofs.lemmas.List.Sums.{sum_by-cons}
 use Rattle.std.proofs.Math.Nat.{mul-zero, mul-suc}
@@ -76,15 +76,27 @@ one_more before at c cs clock l m =
 regrouped : (a b r : ℕ) → (a + b) + r ≡ a + (b + r)
 regrouped a b r = omega arith
 
+-- a change that goes on with the clock stands where it says
+on_with : (course : Course) (c : Change) → Course
+on_with course c = record { content = c.content; sum = sum_up_to course c.clock; at = c.clock }
+
+changed_on : (course : Course) (c : Change) → course.at ≤ c.clock → changed c.content c.clock course ≡ on_with course c
+unfolding on_with
+changed_on course c l =
+    let same : max course.at c.clock ≡ c.clock = omega (arith, l) in
+    ap (λ (n : ℕ). let k : Course = record { content = c.content; sum = sum_up_to course c.clock; at = n } in k) same
+
 sum_is_over : (course : Course) (changes : List Change) (clock : ℕ) → GoOn course.at changes clock →
     sum_up_to (behind course changes) clock
     ≡ course.sum + over (content_in course.content changes) course.at (clock - course.at)
+unfolding on_with
 sum_is_over course [] clock go =
     ap (λ n. course.sum + n)
     (sym (over_constant (content_in course.content []) course.content course.at (clock - course.at) (λ t l h. refl)))
 sum_is_over course (c ∷ cs) clock go =
-    sum_is_over (changed c.content c.clock course) cs clock go.1
-    ∙ (regrouped course.sum (course.content * (c.clock - course.at)) (over (content_in c.content cs) c.clock (clock - c.clock))
+    ap (λ k. sum_up_to (behind k cs) clock) (changed_on course c go.0)
+    ∙ (sum_is_over (on_with course c) cs clock go.1
+    ∙ regrouped course.sum (course.content * (c.clock - course.at)) (over (content_in c.content cs) c.clock (clock - c.clock))
     ∙ ap (λ n. course.sum + n) (sym (one_more course.content course.at c cs clock go.0 (reaches c.clock cs clock go.1))))
 
 pub sum_is_over_ticks : SumIsOverTicks

@@ -1,5 +1,5 @@
 -- A content over time, and the sum of content times the time that it stood. (Manual: what its averages are made of.)
-use Rattle.std.specs.Prelude.{◌≡◌, ℕ, ◌+◌, ◌-◌, ◌*◌, ◌≤◌, List, [], ◌∷◌, if◌then◌else◌, nat_le}
+use Rattle.std.specs.Prelude.{◌≡◌, ℕ, ◌+◌, ◌-◌, ◌*◌, ◌≤◌, List, [], ◌∷◌, if◌then◌else◌, nat_le, max}
 use Rattle.std.specs.List.{sum_by, range_with_len}
 
 pub record Course : Type 0 where
@@ -14,13 +14,14 @@ pub record Course : Type 0 where
 abbrev pub at_first : Course
 at_first = record { content = 0; sum = 0; at = 0 }
 
--- the sum up to a clock: the content has stood since the last change
+-- the sum up to a clock: the content has stood since the last change. A clock before that counts as it.
 abbrev pub sum_up_to : Course → ℕ → ℕ
 sum_up_to course clock = course.sum + course.content * (clock - course.at)
 
--- another content from a clock on
+-- another content from a clock on; the clock of a course does not go back
 abbrev pub changed : ℕ → ℕ → Course → Course
-changed content clock course = record { content = content; sum = sum_up_to course clock; at = clock }
+changed content clock course =
+    record { content = content; sum = sum_up_to course clock; at = max course.at clock }
 
 -- the content as it is, and its sum from a clock on
 abbrev pub restarted : ℕ → Course → Course

@@ -1,3 +1,5 @@
+pub mod Comings
 pub mod Levels
+pub mod Places
 pub mod Records
 pub mod Tables

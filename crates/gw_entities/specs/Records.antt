@@ -1,6 +1,11 @@
--- What facilities, queues and storages keep, and what a block that is entered does to it. (Manual.)
-use Rattle.std.specs.Prelude.{ℕ, ◌+◌, ◌-◌, Bool, Option, Some, None, if◌then◌else◌, min, max}
+-- What facilities, queues and storages keep, and what a block that is entered does to it. (Manual; that a count stays
+-- at its greatest value is our own.)
+use Rattle.std.specs.Prelude.{ℕ, ◌+◌, ◌-◌, ◌^◌, Bool, Option, Some, None, if◌then◌else◌, min, max}
 use Rattle.gw_entities.specs.Levels.{Course, at_first, changed, restarted}
+
+-- a count of 64 bits: it stays at its greatest value
+abbrev pub capped : ℕ → ℕ
+capped n = min n (2 ^ 64 - 1)
 
 -- a facility: its content is 1 while it is owned
 pub record Ownership : Type 0 where
@@ -12,9 +17,10 @@ pub record Ownership : Type 0 where
 abbrev pub never_owned : Ownership
 never_owned = record { owner = None; captures = 0; level = at_first }
 
--- a transaction becomes its owner
+-- a transaction becomes its owner, whoever owned it before
 abbrev pub seized : ℕ → ℕ → Ownership → Ownership
-seized number clock f = record { owner = Some number; captures = f.captures + 1; level = changed 1 clock f.level }
+seized number clock f =
+    record { owner = Some number; captures = capped (f.captures + 1); level = changed 1 clock f.level }
 
 -- nobody owns it
 abbrev pub released : ℕ → Ownership → Ownership
@@ -28,7 +34,7 @@ facility_anew clock f = record { owner = f.owner; captures = 0; level = restarte
 pub record Line : Type 0 where
   -- units that came
   pub entries : ℕ
-  -- units of departs at the clock of the transaction's last entry
+  -- units of departs at the clock at which their transaction last came
   pub zero_entries : ℕ
   pub greatest : ℕ
   pub level : Course
@@ -39,17 +45,17 @@ no_line = record { entries = 0; zero_entries = 0; greatest = 0; level = at_first
 -- so many units come
 abbrev pub queued : ℕ → ℕ → Line → Line
 queued units clock q = record {
-  entries = q.entries + units;
+  entries = capped (q.entries + units);
   zero_entries = q.zero_entries;
-  greatest = max q.greatest (q.level.content + units);
-  level = changed (q.level.content + units) clock q.level;
+  greatest = max q.greatest (capped (q.level.content + units));
+  level = changed (capped (q.level.content + units)) clock q.level;
 }
 
--- so many units go; `zero`: in the tick in which they came
+-- so many units go, at most all; `zero`: at the clock at which their transaction last came
 abbrev pub departed : ℕ → ℕ → Bool → Line → Line
 departed units clock zero q = record {
   entries = q.entries;
-  zero_entries = q.zero_entries + (if zero then units else 0);
+  zero_entries = if zero then capped (q.zero_entries + units) else q.zero_entries;
   greatest = q.greatest;
   level = changed (q.level.content - units) clock q.level;
 }
@@ -77,13 +83,13 @@ never_used = record { entries = 0; least = 0; greatest = 0; level = at_first }
 -- so many units come into use
 abbrev pub entered : ℕ → ℕ → Store → Store
 entered units clock s = record {
-  entries = s.entries + units;
+  entries = capped (s.entries + units);
   least = s.least;
-  greatest = max s.greatest (s.level.content + units);
-  level = changed (s.level.content + units) clock s.level;
+  greatest = max s.greatest (capped (s.level.content + units));
+  level = changed (capped (s.level.content + units)) clock s.level;
 }
 
--- so many units are given back
+-- so many units are given back, at most all
 abbrev pub left : ℕ → ℕ → Store → Store
 left units clock s = record {
   entries = s.entries;

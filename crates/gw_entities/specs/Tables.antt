@@ -1,7 +1,8 @@
--- What a contract sees of `Entities`: keys and values in order of first touch, and what there is room for. (Own: the
+-- What a contract sees of `ByKey`: keys and values in order of first touch, and what there is room for. (Own: the
 -- order.)
 use Rattle.std.specs.Prelude.{◌≡◌, List, [], ◌∷◌, Option, Some, None, if◌then◌else◌}
-use Rattle.std.specs.Map.{lookup}
+use Rattle.std.specs.List.{IsDistinct}
+use Rattle.std.specs.Map.{lookup, keys_of}
 use Rattle.gw_names.specs.declared.key.Key.{Key}
 use Rattle.gw_names.specs.Keys.{key_eq}
 
@@ -19,6 +20,10 @@ module _ {V : Type 0} where
   abbrev pub with_value : List (Key × V) → Key → V → List (Key × V)
   with_value [] key value = (key, value) ∷ []
   with_value (e ∷ es) key value = if key_eq key e.0 then (e.0, value) ∷ es else e ∷ with_value es key value
+
+  -- no key stands twice
+  abbrev pub AreApart : List (Key × V) → Type 0
+  AreApart entries = IsDistinct key_eq (keys_of entries)
 
   -- if it has no value, there is room for one
   abbrev pub HasRoom : Touched V → Key → Type 0

@@ -1,11 +1,11 @@
-ghost use Rattle.std.specs.Prelude.{◌≡◌, ◌<◌, ◌≤◌, is_some, if◌then◌else◌};
+ghost use Rattle.std.specs.Prelude.{◌≡◌, is_some, if◌then◌else◌};
 ghost use Rattle.gw_entities.specs.Records.{never_owned, seized, released, facility_anew};
 
 use crate::level::Level;
 use gw_nums::Clock;
 use std::marker::Model;
 
-/// A facility: who owns it, how often it was taken, and how long it was owned.
+/// A facility: who owns it, how often it was taken, and how long it was owned. The count stays at its greatest value.
 #[derive(Clone, Copy, Debug)]
 pub struct Facility {
     owner: Option<u64>,
@@ -67,20 +67,17 @@ impl Facility {
         self.level
     }
 
-    /// A transaction takes it.
+    /// A transaction takes it, whoever owned it before: whether it may is for the caller to decide.
     pub fn seize(&mut self, number: u64, clock: Clock)
-        requires captures { self.old.captures < 1000000000 }
-        requires clock { self.old.level.at ≤ clock }
         ensures { self.new ≡ seized number clock self.old }
     {
         self.owner = Some(number);
-        self.captures += 1;
+        self.captures = self.captures.saturating_add(1);
         self.level.change(1, clock);
     }
 
-    /// Its owner gives it back.
+    /// Nobody owns it any more.
     pub fn release(&mut self, clock: Clock)
-        requires { self.old.level.at ≤ clock }
         ensures { self.new ≡ released clock self.old }
     {
         self.owner = None;

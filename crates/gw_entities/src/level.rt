@@ -1,10 +1,11 @@
-ghost use Rattle.std.specs.Prelude.{◌≡◌, ◌≤◌, ◌*◌, ◌^◌};
+ghost use Rattle.std.specs.Prelude.{◌≡◌, ◌≤◌, ◌-◌, ◌*◌, ◌^◌, max};
 ghost use Rattle.gw_entities.specs.Levels.{at_first, sum_up_to, changed, restarted};
 
 use gw_nums::Clock;
 use std::marker::Model;
 
-/// A content over time: from 0 to 1,000,000,000, with the sum of content times the time that it stood.
+/// A content over time, with the sum of content times the time that it stood. A clock before the last change counts
+/// as that of the change.
 #[derive(Clone, Copy, Debug)]
 pub struct Level {
     content: u64,
@@ -15,14 +16,14 @@ pub struct Level {
 }
 
 impl Model for Level {
-    ghost use Rattle.std.specs.Prelude.{◌≤◌, ◌*◌};
+    ghost use Rattle.std.specs.Prelude.{◌≤◌, ◌-◌, ◌*◌, ◌^◌};
     ghost use Rattle.gw_entities.specs.Levels.{Course};
 
     ghost Value = { Course };
 
     ghost view = { λ l. record { content = l.content; sum = l.sum; at = l.at } };
 
-    ghost invariant = { λ l. (l.content ≤ 1000000000) × (l.at ≤ 1001000000000) × (l.sum ≤ 1000000000 * l.at) };
+    ghost invariant = { λ l. (l.at ≤ 1001000000000) × (l.sum ≤ (2 ^ 64 - 1) * l.at) };
 
     ghost inverse = { λ c. record { content = c.content; sum = c.sum; at = c.at } };
 }
@@ -41,8 +42,7 @@ impl Level {
 
     /// The content.
     pub fn content(self) -> u64
-        ensures value { result ≡ self.content }
-        ensures bound { result ≤ 1000000000 }
+        ensures { result ≡ self.content }
     {
         self.content
     }
@@ -50,25 +50,22 @@ impl Level {
     /// The sum of content times the time that it stood, up to a clock.
     #[tactic(auto, using(crate::proofs::Sums::sum_within))]
     pub fn sum_up_to(self, clock: Clock) -> u128
-        requires { self.at ≤ clock }
         ensures value { result ≡ sum_up_to self clock }
-        ensures bound { result ≤ 1000000000 * clock }
-        ensures small { result ≤ 10 ^ 22 }
+        ensures bound { result ≤ (2 ^ 64 - 1) * max self.at clock }
+        ensures small { result ≤ 10 ^ 32 }
     {
-        let ticks = clock.time().ticks() - self.at.time().ticks();
+        let ticks = clock.time().ticks().saturating_sub(self.at.time().ticks());
         self.sum + self.content as u128 * ticks as u128
     }
 
     /// Another content from a clock on.
     pub fn change(&mut self, content: u64, clock: Clock)
-        requires content { content ≤ 1000000000 }
-        requires clock { self.old.at ≤ clock }
         ensures { self.new ≡ changed content clock self.old }
     {
         *self = Level {
             content,
             sum: self.sum_up_to(clock),
-            at: clock,
+            at: self.at.max(clock),
         };
     }
 

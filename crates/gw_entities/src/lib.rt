@@ -1,17 +1,20 @@
 //! What facilities, queues and storages keep, and the entities of a run in order of first touch.
 //!
 //! A [`Level`] is a content over time: its sum is exact, tick by tick. [`Facility`], [`Queue`] and [`Storage`] count
-//! what a report tells of them. [`Entities`] keeps a value for each entity; all that it grows by is reserved first.
+//! what a report tells of them; each takes any change. [`ByKey`] keeps a value for each entity, and [`Comings`] who
+//! came to which queue; all that they grow by is reserved first.
 #![tactic(auto)]
 
-mod entities;
+mod by_key;
+mod comings;
 mod facility;
 mod laws;
 mod level;
 mod queue;
 mod storage;
 
-pub use entities::Entities;
+pub use by_key::ByKey;
+pub use comings::Comings;
 pub use facility::Facility;
 pub use laws::sum_is_over_ticks;
 pub use level::Level;

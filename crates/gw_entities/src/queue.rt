@@ -1,11 +1,11 @@
-ghost use Rattle.std.specs.Prelude.{◌≡◌, ◌+◌, ◌≤◌, if◌then◌else◌};
+ghost use Rattle.std.specs.Prelude.{◌≡◌, ◌≤◌};
 ghost use Rattle.gw_entities.specs.Records.{no_line, queued, departed, queue_anew};
 
 use crate::level::Level;
 use gw_nums::Clock;
 use std::marker::Model;
 
-/// A queue: how much is in it, came, and went at once.
+/// A queue: how much is in it, came, and went at once. Each count stays at its greatest value.
 #[derive(Clone, Copy, Debug)]
 pub struct Queue {
     entries: u64,
@@ -57,7 +57,7 @@ impl Queue {
         self.entries
     }
 
-    /// Units that went in the tick in which they came.
+    /// Units of departs at the clock at which their transaction last came.
     pub fn zero_entries(self) -> u64
         ensures { result ≡ self.zero_entries }
     {
@@ -81,28 +81,22 @@ impl Queue {
 
     /// So many units come.
     pub fn enter(&mut self, units: u64, clock: Clock)
-        requires entries { self.old.entries + units ≤ 1000000000 }
-        requires content { self.old.level.content + units ≤ 1000000000 }
-        requires clock { self.old.level.at ≤ clock }
         ensures { self.new ≡ queued units clock self.old }
     {
-        let content = self.level.content() + units;
-        self.entries += units;
+        let content = self.level.content().saturating_add(units);
+        self.entries = self.entries.saturating_add(units);
         self.greatest = self.greatest.max(content);
         self.level.change(content, clock);
     }
 
-    /// So many units go; `zero` says that the transaction's last entry was at this clock.
+    /// So many units go, at most all; `zero` says that the transaction came to the queue at this clock.
     pub fn depart(&mut self, units: u64, clock: Clock, zero: bool)
-        requires units { units ≤ self.old.level.content }
-        requires zero { self.old.zero_entries + (if zero then units else 0) ≤ 1000000000 }
-        requires clock { self.old.level.at ≤ clock }
         ensures { self.new ≡ departed units clock zero self.old }
     {
         if zero {
-            self.zero_entries += units;
+            self.zero_entries = self.zero_entries.saturating_add(units);
         }
-        let content = self.level.content() - units;
+        let content = self.level.content().saturating_sub(units);
         self.level.change(content, clock);
     }
 

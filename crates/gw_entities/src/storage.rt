@@ -5,7 +5,8 @@ use crate::level::Level;
 use gw_nums::Clock;
 use std::marker::Model;
 
-/// A storage: how many units are in use and came into use. How many it has is no matter of the run.
+/// A storage: how many units are in use and came into use. Each count stays at its greatest value. How many units it
+/// has is no matter of the run.
 #[derive(Clone, Copy, Debug)]
 pub struct Storage {
     entries: u64,
@@ -80,24 +81,19 @@ impl Storage {
 
     /// So many units come into use.
     pub fn enter(&mut self, units: u64, clock: Clock)
-        requires entries { self.old.entries + units ≤ 1000000000 }
-        requires content { self.old.level.content + units ≤ 1000000000 }
-        requires clock { self.old.level.at ≤ clock }
         ensures { self.new ≡ entered units clock self.old }
     {
-        let content = self.level.content() + units;
-        self.entries += units;
+        let content = self.level.content().saturating_add(units);
+        self.entries = self.entries.saturating_add(units);
         self.greatest = self.greatest.max(content);
         self.level.change(content, clock);
     }
 
-    /// So many units are given back.
+    /// So many units are given back, at most all.
     pub fn leave(&mut self, units: u64, clock: Clock)
-        requires units { units ≤ self.old.level.content }
-        requires clock { self.old.level.at ≤ clock }
         ensures { self.new ≡ left units clock self.old }
     {
-        let content = self.level.content() - units;
+        let content = self.level.content().saturating_sub(units);
         self.least = self.least.min(content);
         self.level.change(content, clock);
     }

@@ -1,12 +1,14 @@
--- What an operand says, without where it lies in memory. (Manual; so far the constants of the profile.)
-use Rattle.std.specs.Prelude.{ℤ}
+-- What an operand says, without where it lies in memory. (Manual; so far the constants and the names of the profile.)
+use Rattle.std.specs.Prelude.{ℕ, ℤ, List}
 use Rattle.gw_expr.specs.declared.expr.Node.{Node}
 use Rattle.gw_expr.specs.declared.expr.Node.TheVariants as node
 
--- an operand: a constant
+-- an operand: a constant, or a name in upper case
 pub data Term : Type 0 where
   Constant : ℤ → Term
+  Named : List ℕ → Term
 
 -- what a node says
 abbrev pub term_of : Node → Term
 term_of (node.Constant value) = Constant value
+term_of (node.Named name) = Named name

@@ -1,11 +1,12 @@
 ghost use Rattle.std.specs.Prelude.{◌≡◌, IfOk};
-ghost use Rattle.gw_expr.specs.Term.{Constant, term_of};
+ghost use Rattle.gw_expr.specs.Term.{Constant, Named, term_of};
 
+use gw_names::Name;
 use gw_nums::Val;
 use std::alloc::{AllocError, Global};
 use std::marker::Model;
 
-/// An operand that stands for a value.
+/// An operand: one that stands for a value, or a name.
 #[derive(Debug, Drop)]
 pub struct Expr {
     node: Node,
@@ -16,6 +17,8 @@ pub struct Expr {
 pub enum Node {
     /// A whole number.
     Constant(Val),
+    /// A name.
+    Named(Name),
 }
 
 impl Model for Expr {
@@ -36,6 +39,15 @@ impl Expr {
         }
     }
 
+    /// The operand that is a name.
+    pub fn named(name: Name) -> Expr
+        ensures { result ≡ Named name }
+    {
+        Expr {
+            node: Node::Named(name),
+        }
+    }
+
     /// What the operand consists of.
     pub fn node(&self) -> &Node
         ensures { term_of result.now ≡ self.now }
@@ -49,6 +61,7 @@ impl Expr {
     {
         match &self.node {
             Node::Constant(value) => Ok(Expr::constant(*value)),
+            Node::Named(name) => Ok(Expr::named(name.clone()?)),
         }
     }
 }

@@ -1,11 +1,12 @@
 -- What is known of a move in the state in which it is decided, and of the items that are read for it: one line for each choice,
 -- and no law asks further.
-use Rattle.std.proofs.Common.{◌≡◌, ℕ, zero, suc, ◌+◌, ◌<◌, ◌≤◌, nat_eq, nat_le, Bool, true, false, not, List, [], ◌∷◌, length, Option, Some, None, inr, ℤ, refl, ap, sym, subst, ◌∙◌, append-nil, arith}
+use Rattle.std.proofs.Common.{◌≡◌, ℕ, zero, suc, ◌+◌, ◌<◌, ◌≤◌, nat_eq, nat_le, nat_lt, Bool, true, false, not, ◌&&◌, ◌||◌, List, [], ◌∷◌, length, Option, Some, None, inr, ℤ, pos, refl, ap, sym, subst, ◌∙◌, append-nil, arith}
 use Rattle.std.specs.List.{AllByRecursion}
-use Rattle.std.proofs.lemmas.Bool.{cond_both}
+use Rattle.std.proofs.lemmas.Bool.{cond_both, or_parts}
+use Rattle.std.proofs.lemmas.Bool.Decides.{nat_tests}
 use Rattle.std.proofs.lemmas.List.{length-append}
-use Rattle.gw_nums.specs.Range.{is_value, is_negative, magnitude}
-use Rattle.gw_expr.specs.Term.{Term, Constant}
+use Rattle.gw_nums.specs.Range.{is_value, is_negative, is_below, magnitude}
+use Rattle.gw_expr.specs.Term.{Term, Constant, Named}
 use Rattle.gw_streams.specs.declared.stream.Stream.{Stream}
 use Rattle.gw_streams.specs.declared.stream.Stream.TheVariants as streams
 use Rattle.gw_streams.specs.Draws.{is_set, stream_at}
@@ -28,15 +29,19 @@ use Rattle.gw_meaning.specs.declared.moves.Move.{Move}
 use Rattle.gw_meaning.specs.declared.moves.Move.TheVariants as moves
 use Rattle.gw_meaning.specs.Listing.{Listing, block_at, generates_in, is_generate}
 use Rattle.gw_meaning.specs.Numbers.{AreNumbered}
+use Rattle.gw_names.specs.declared.key.Key.{Key}
+use Rattle.gw_entities.specs.Records.{Line}
+use Rattle.gw_entities.specs.Comings.{came}
+use Rattle.gw_meaning.specs.Entities.{line_at}
 use Rattle.gw_meaning.specs.Machine.{Machine, raised, live}
 use Rattle.gw_meaning.specs.Questions.{ask, result_of}
-use Rattle.gw_meaning.specs.Evaluation.{Eval, asks, number_of_draw, draw, value_prog, value_or_zero, spread, sample_within, time_prog}
+use Rattle.gw_meaning.specs.Evaluation.{Eval, asks, number_of_draw, draw, value_prog, value_or_zero, entity_prog, units_prog, spread, sample_within, time_prog}
 use Rattle.gw_meaning.specs.Changes.{decided}
-use Rattle.gw_meaning.specs.Step.{arrival_at, arrival_in_time, arrival_prog, first_of_generate, first_of, first_arrival, with_arrival, prime_prog, arrivals_prog, first_arrivals_prog, start_prog, command_prog, generate_prog, delay_of, advance_prog, terminate_prog, block_prog, enter_prog, try_prog, attempt_prog, least_time, within_prog, clock_prog, pick_prog, scan_prog, move_prog, step_prog}
+use Rattle.gw_meaning.specs.Step.{arrival_at, arrival_in_time, arrival_prog, first_of_generate, first_of, first_arrival, with_arrival, prime_prog, arrivals_prog, first_arrivals_prog, start_prog, command_prog, generate_prog, delay_of, advance_prog, terminate_prog, is_too_many, queue_units, queue_prog, depart_units, depart_prog, block_prog, enter_prog, try_prog, attempt_prog, least_time, within_prog, clock_prog, pick_prog, scan_prog, move_prog, step_prog}
 use Rattle.gw_frame.specs.BlockIds.{IsBlockId, ActiveNames, TransactionNames, ItemNames}
 use Rattle.gw_frame.proofs.Generates.{IsBlockIn, generates_there}
 use Rattle.gw_frame.proofs.Seeds.{uses_seed, ReadsSeed, one_drew, set_first}
-use Rattle.gw_frame.proofs.Keeps.{ProgKeeps, Keeps, all_with, prog_gives, prog_ends, prog_bind, keeps_gives, keeps_ends, keeps_asks, keeps_cond, keeps_stops, keeps_bind}
+use Rattle.gw_frame.proofs.Keeps.{ProgKeeps, Keeps, all_with, prog_gives, prog_ends, prog_bind, keeps_gives, keeps_ends, keeps_asks, keeps_cond, keeps_stops, keeps_unless, keeps_bind}
 
 -- what comes, comes to a block of the version and not before the clock
 pub record IsComing (t : Listing) (s : Machine) (a : Arrival) : Type 0 where
@@ -52,10 +57,27 @@ pub record AreFirst (t : Listing) (s : Machine) (arrivals : List Arrival) : Type
   pub coming : AllByRecursion (IsComing t s) arrivals
   pub few : length arrivals ≤ length t.lines
 
+-- what comes to a queue and what leaves it at once stays within the limit of counts
+pub record Fits (line : Line) (units : ℕ) : Type 0 where
+  pub entries : line.entries + units ≤ 1000000000
+  pub content : line.level.content + units ≤ 1000000000
+
+abbrev pub Leaves : Line → ℕ → Bool → Type 0
+Leaves line units at_once = at_once ≡ true → line.zero_entries + units ≤ 1000000000
+
+within_limit : (n : ℕ) → is_too_many n ≡ false → n ≤ 1000000000
+within_limit n h = grind (arith, nat_tests)
+
+leaves : (line : Line) (units : ℕ) (at_once : Bool) → (at_once && is_too_many (line.zero_entries + units)) ≡ false → Leaves line units at_once
+leaves line units true h = λ is. within_limit (line.zero_entries + units) h
+leaves line units false h = λ is. absurd cc
+
 -- what is known of a change, a fate and a move
 abbrev pub IsDecidedChange : Listing → Machine → Change → Type 0
-IsDecidedChange t s changes.Nothing = Unit {0}
 IsDecidedChange t s (changes.Generate next) = IsComingIfAny t s next
+IsDecidedChange t s (changes.Queue key units) = Fits (line_at s.entities key) units
+IsDecidedChange t s (changes.Depart key units at_once) = Leaves (line_at s.entities key) units at_once
+IsDecidedChange t s change = Unit {0}
 
 abbrev pub IsDecidedFate : Machine → Fate → Type 0
 IsDecidedFate s fates.Active = Unit {0}
@@ -111,10 +133,20 @@ module _ (t : Listing) (seed : ℕ) (s : Machine) where
 
   value_decides : (term : Term) → Decides Whatever (value_prog s term)
   value_decides (Constant value) = keeps_gives tt
+  value_decides (Named name) = keeps_ends
 
   value_or_zero_decides : (term : Option Term) → Decides Whatever (value_or_zero s term)
   value_or_zero_decides None = keeps_gives tt
   value_or_zero_decides (Some term) = value_decides term
+
+  entity_decides : (term : Option Term) → Decides Whatever (entity_prog s term)
+  entity_decides None = keeps_ends
+  entity_decides (Some (Constant n)) = keeps_stops (is_below n (pos 1)) _ (keeps_gives tt)
+  entity_decides (Some (Named name)) = keeps_gives tt
+
+  units_decides : (term : Option Term) → Decides Whatever (units_prog s term)
+  units_decides None = keeps_gives tt
+  units_decides (Some term) = keeps_bind (value_decides term) (λ n h. keeps_stops (is_below n (pos 1)) _ (keeps_gives tt))
 
   sample_within_decides : (mean : ℤ) (range : ℕ) → Decides Whatever (sample_within mean range)
   sample_within_decides mean zero = keeps_gives tt
@@ -224,10 +256,34 @@ module _ (t : Listing) (seed : ℕ) (s : Machine) where
   terminate_decides id count named =
       keeps_bind (value_or_zero_decides count) (λ n h. keeps_stops (is_negative n) _ (keeps_gives (named, tt, tt)))
 
+  queue_units_decides : (id : ℕ) (key : Key) (units : ℕ) → IsBlockId t id → Decides (IsDecided t s) (queue_units id key (line_at s.entities key) units)
+  queue_units_decides id key units named =
+      let line = line_at s.entities key in
+      keeps_unless (is_too_many (line.entries + units) || is_too_many (line.level.content + units)) _ (λ h.
+      (let both = or_parts (is_too_many (line.entries + units)) (is_too_many (line.level.content + units)) h in
+      keeps_gives (named, record { entries = within_limit _ both.0; content = within_limit _ both.1 }, tt)))
+
+  queue_decides : (id : ℕ) (entity units : Option Term) → IsBlockId t id → Decides (IsDecided t s) (queue_prog s id entity units)
+  queue_decides id entity units named = keeps_bind (entity_decides entity)
+      (λ key h. keeps_bind (units_decides units) (λ n k. queue_units_decides id key n named))
+
+  depart_units_decides : (id : ℕ) (key : Key) (at_once : Bool) (units : ℕ) → IsBlockId t id →
+      Decides (IsDecided t s) (depart_units id key (line_at s.entities key) at_once units)
+  depart_units_decides id key at_once units named =
+      let line = line_at s.entities key in
+      keeps_unless (at_once && is_too_many (line.zero_entries + units)) _
+      (λ h. keeps_stops (nat_lt line.level.content units) _ (keeps_gives (named, leaves line units at_once h, tt)))
+
+  depart_decides : (x : Transaction) (id : ℕ) (entity units : Option Term) → IsBlockId t id → Decides (IsDecided t s) (depart_prog s x id entity units)
+  depart_decides x id entity units named = keeps_bind (entity_decides entity) (λ key h. keeps_bind (units_decides units)
+      (λ n k. depart_units_decides id key (came s.entities.comings key x.number) n named))
+
   block_decides : (x : Transaction) (id : ℕ) (b : Block) (verb : BlockVerb) → IsBlockId t id → Decides (IsDecided t s) (block_prog s x id b verb)
   block_decides x id b blocks.Generate named = generate_decides x id (operand b A) (operand b B) (operand b D) (operand b E) named
   block_decides x id b blocks.Advance named = advance_decides id (operand b A) (operand b B) named
   block_decides x id b blocks.Terminate named = terminate_decides id (operand b A) named
+  block_decides x id b blocks.Queue named = queue_decides id (operand b A) (operand b B) named
+  block_decides x id b blocks.Depart named = depart_decides x id (operand b A) (operand b B) named
   block_decides x id b verb named = keeps_ends
 
   -- attempts: an id that is no block ends the run

@@ -73,6 +73,12 @@ pub keeps_stops : {A : Type 0} {t : Listing} {seed : ℕ} {I : Item → Type 0} 
 keeps_stops true stop h = keeps_ends
 keeps_stops false stop h = h
 
+-- the same, where what comes behind the test may know that it does not hold
+pub keeps_unless : {A : Type 0} {t : Listing} {seed : ℕ} {I : Item → Type 0} {Q : A → Type 0} (b : Bool) (stop : Stop) {p : Eval A} →
+    (b ≡ false → Keeps t seed I Q p) → Keeps t seed I Q (stops_if b stop p)
+keeps_unless true stop h = keeps_ends
+keeps_unless false stop h = h refl
+
 pub keeps_bind : {A B : Type 0} {t : Listing} {seed : ℕ} {I : Item → Type 0} {Q : A → Type 0} {R : B → Type 0} {p : Eval A} {k : A → Eval B} →
     Keeps t seed I Q p → ((a : A) → Q a → Keeps t seed I R (k a)) → Keeps t seed I R (p ~> k)
 keeps_bind {I = I} {R = R} first second = record {

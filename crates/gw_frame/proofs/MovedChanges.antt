@@ -10,6 +10,7 @@ use Rattle.gw_meaning.specs.declared.moves.Fate.{Fate}
 use Rattle.gw_meaning.specs.declared.moves.Fate.TheVariants as fates
 use Rattle.gw_meaning.specs.declared.moves.Move.{Move}
 use Rattle.gw_meaning.specs.declared.moves.Move.TheVariants as moves
+use Rattle.gw_meaning.specs.Entities.{Entities, touched}
 use Rattle.gw_meaning.specs.Machine.{Machine, raised}
 use Rattle.gw_meaning.specs.Changes.{crossed, due, Making, making, made, maybe_made, all_made, making_of, with_making, newcomer, placed, started, arrived, marked, fated, changed, entering, picked, advanced, with_active, moved, decided}
 use Rattle.gw_frame.specs.Moved.{IsMove, moved_transaction, moved_event, moved_count, moved_machine}
@@ -21,8 +22,8 @@ module _ (move : ℕ → ℕ) where
   moved_arrival a = record a { id = move a.id }
 
   abbrev pub moved_change : Change → Change
-  moved_change changes.Nothing = changes.Nothing
   moved_change (changes.Generate next) = changes.Generate (option_map moved_arrival next)
+  moved_change change = change
 
   abbrev pub moved_move : Move → Move
   moved_move (moves.Start count arrivals) = moves.Start count (map moved_arrival arrivals)
@@ -65,8 +66,8 @@ module _ (move : ℕ → ℕ) (is : IsMove move) where
   -- entering a block
   marked_moved : (change : Change) (clock : ℕ) (x : Transaction) →
       marked (moved_change move change) clock (moved_transaction move x) ≡ moved_transaction move (marked change clock x)
-  marked_moved changes.Nothing clock x = refl
   marked_moved (changes.Generate next) clock x = refl
+  marked_moved change clock x = refl
 
   fated_moved : (fate : Fate) (x : Transaction) (s : Machine) →
       fated fate (moved_transaction move x) (moved_machine move s) ≡ moved_machine move (fated fate x s)
@@ -75,16 +76,25 @@ module _ (move : ℕ → ℕ) (is : IsMove move) where
   fated_moved (fates.Destroyed count) x s = refl
 
   changed_moved : (change : Change) (s : Machine) → changed (moved_change move change) (moved_machine move s) ≡ moved_machine move (changed change s)
-  changed_moved changes.Nothing s = refl
   changed_moved (changes.Generate next) s = arrived_moved next s
+  changed_moved change s = refl
+
+  touched_moved : (change : Change) (clock number : ℕ) (e : Entities) → touched (moved_change move change) clock number e ≡ touched change clock number e
+  touched_moved (changes.Generate next) clock number e = refl
+  touched_moved change clock number e = refl
 
   entering_moved : (s : Machine) (x : Transaction) (id : ℕ) (change : Change) (fate : Fate) →
       entering (moved_machine move s) (moved_transaction move x) (move id) (moved_change move change) fate ≡
       moved_machine move (entering s x id change fate)
   entering_moved s x id change fate =
-      let there : Machine = record s { counts = crossed fate s.counts x.current id } in
+      let there : Machine = record s { counts = crossed fate s.counts x.current id; entities = touched change s.clock x.number s.entities } in
       let y = marked change s.clock (placed x id) in
-      rw (crossed_moved move is fate s.counts x.current id, marked_moved change s.clock (placed x id), fated_moved fate y there)
+      rw (
+        crossed_moved move is fate s.counts x.current id,
+        touched_moved change s.clock x.number s.entities,
+        marked_moved change s.clock (placed x id),
+        fated_moved fate y there,
+      )
       (changed_moved change (fated fate y there))
 
   picked_moved : (s : Machine) (xs : List Transaction) → picked (moved_machine move s) (map (moved_transaction move) xs) ≡ moved_machine move (picked s xs)

@@ -1,8 +1,8 @@
 -- The step from a moved state follows the step from the state: one line for each choice.
-use Rattle.std.proofs.Common.{◌≡◌, ℕ, zero, suc, nat_eq, nat_le, Bool, true, false, not, List, [], ◌∷◌, map, Option, Some, None, option_map, ℤ, refl, ap, sym}
+use Rattle.std.proofs.Common.{◌≡◌, ℕ, zero, suc, nat_eq, nat_le, nat_lt, ◌+◌, Bool, true, false, not, ◌&&◌, ◌||◌, List, [], ◌∷◌, map, Option, Some, None, option_map, ℤ, pos, refl, ap, sym}
 use Rattle.std.proofs.lemmas.List.{map-append, length-map}
-use Rattle.gw_nums.specs.Range.{is_value, is_negative, magnitude}
-use Rattle.gw_expr.specs.Term.{Term, Constant}
+use Rattle.gw_nums.specs.Range.{is_value, is_negative, is_below, magnitude}
+use Rattle.gw_expr.specs.Term.{Term, Constant, Named}
 use Rattle.gw_streams.specs.declared.stream.Stream.{Stream}
 use Rattle.gw_streams.specs.declared.stream.Stream.TheVariants as streams
 use Rattle.gw_streams.specs.Draws.{stream_at}
@@ -16,9 +16,13 @@ use Rattle.gw_meaning.specs.declared.statement.Command.TheVariants as commands
 use Rattle.gw_meaning.specs.declared.transaction.Transaction.{Transaction}
 use Rattle.gw_meaning.specs.declared.transaction.Event.{Event}
 use Rattle.gw_meaning.specs.declared.moves.Arrival.{Arrival}
+use Rattle.gw_names.specs.declared.key.Key.{Key}
+use Rattle.gw_entities.specs.Records.{Line}
+use Rattle.gw_entities.specs.Comings.{came}
+use Rattle.gw_meaning.specs.Entities.{line_at}
 use Rattle.gw_meaning.specs.Machine.{Machine, raised, live, number_of_active, count_at}
-use Rattle.gw_meaning.specs.Evaluation.{number_of_draw, draw, value_prog, value_or_zero, in_range, spread, sample_within, time_prog}
-use Rattle.gw_meaning.specs.Step.{arrival_at, arrival_in_time, arrival_within, arrival_prog, first_of_generate, first_of, first_arrival, with_arrival, arrivals_prog, first_arrivals_prog, start_prog, command_prog, generate_prog, advance_prog, terminate_prog, block_prog, enter_prog, try_prog, attempt_prog, sooner, least_time, within_prog, clock_prog, pick_prog, scan_prog, move_prog, step_prog, run_prog}
+use Rattle.gw_meaning.specs.Evaluation.{number_of_draw, draw, value_prog, value_or_zero, entity_prog, units_prog, in_range, spread, sample_within, time_prog}
+use Rattle.gw_meaning.specs.Step.{arrival_at, arrival_in_time, arrival_within, arrival_prog, first_of_generate, first_of, first_arrival, with_arrival, arrivals_prog, first_arrivals_prog, start_prog, command_prog, generate_prog, advance_prog, terminate_prog, is_too_many, queue_units, queue_prog, depart_units, depart_prog, block_prog, enter_prog, try_prog, attempt_prog, sooner, least_time, within_prog, clock_prog, pick_prog, scan_prog, move_prog, step_prog, run_prog}
 use Rattle.gw_frame.specs.Moved.{IsMove, moved_transaction, moved_event, moved_machine}
 use Rattle.gw_frame.proofs.Follows.{ProgFollows, prog_gives, prog_asks, prog_bind, Follows, follows_gives, follows_ends, follows_asks, follows_cond, follows_stops, follows_bind}
 use Rattle.gw_frame.proofs.MovedLists.{count_at_moved, none_moved}
@@ -41,10 +45,20 @@ module _ (move : ℕ → ℕ) (is : IsMove move) where
 
   value_follows : (s : Machine) (term : Term) → Follows move same (value_prog s term) (value_prog (moved_machine move s) term)
   value_follows s (Constant value) = follows_gives refl
+  value_follows s (Named name) = follows_ends
 
   value_or_zero_follows : (s : Machine) (term : Option Term) → Follows move same (value_or_zero s term) (value_or_zero (moved_machine move s) term)
   value_or_zero_follows s None = follows_gives refl
   value_or_zero_follows s (Some term) = value_follows s term
+
+  entity_follows : (s : Machine) (term : Option Term) → Follows move same (entity_prog s term) (entity_prog (moved_machine move s) term)
+  entity_follows s None = follows_ends
+  entity_follows s (Some (Constant n)) = follows_stops (is_below n (pos 1)) _ (follows_gives refl)
+  entity_follows s (Some (Named name)) = follows_gives refl
+
+  units_follows : (s : Machine) (term : Option Term) → Follows move same (units_prog s term) (units_prog (moved_machine move s) term)
+  units_follows s None = follows_gives refl
+  units_follows s (Some term) = follows_bind _ (value_follows s term) (λ n. follows_stops (is_below n (pos 1)) _ (follows_gives refl))
 
   in_range_follows : (z : ℤ) → Follows move same (in_range z) (in_range z)
   in_range_follows z = follows_cond (is_value z) (follows_gives refl) follows_ends
@@ -157,11 +171,34 @@ module _ (move : ℕ → ℕ) (is : IsMove move) where
       Follows move (moved_move move) (terminate_prog s id count) (terminate_prog (moved_machine move s) (move id) count)
   terminate_follows s id count = follows_bind _ (value_or_zero_follows s count) (λ n. follows_stops (is_negative n) _ (follows_gives refl))
 
+  queue_units_follows : (id : ℕ) (key : Key) (line : Line) (units : ℕ) →
+      Follows move (moved_move move) (queue_units id key line units) (queue_units (move id) key line units)
+  queue_units_follows id key line units =
+      follows_stops (is_too_many (line.entries + units) || is_too_many (line.level.content + units)) _ (follows_gives refl)
+
+  queue_follows : (s : Machine) (id : ℕ) (entity units : Option Term) →
+      Follows move (moved_move move) (queue_prog s id entity units) (queue_prog (moved_machine move s) (move id) entity units)
+  queue_follows s id entity units = follows_bind _ (entity_follows s entity)
+      (λ key. follows_bind _ (units_follows s units) (λ n. queue_units_follows id key (line_at s.entities key) n))
+
+  depart_units_follows : (id : ℕ) (key : Key) (line : Line) (at_once : Bool) (units : ℕ) →
+      Follows move (moved_move move) (depart_units id key line at_once units) (depart_units (move id) key line at_once units)
+  depart_units_follows id key line at_once units = follows_stops (at_once && is_too_many (line.zero_entries + units)) _
+      (follows_stops (nat_lt line.level.content units) _ (follows_gives refl))
+
+  depart_follows : (s : Machine) (x : Transaction) (id : ℕ) (entity units : Option Term) →
+      Follows move (moved_move move) (depart_prog s x id entity units)
+      (depart_prog (moved_machine move s) (moved_transaction move x) (move id) entity units)
+  depart_follows s x id entity units = follows_bind _ (entity_follows s entity) (λ key. follows_bind _ (units_follows s units)
+      (λ n. depart_units_follows id key (line_at s.entities key) (came s.entities.comings key x.number) n))
+
   block_follows : (s : Machine) (x : Transaction) (id : ℕ) (b : Block) (verb : BlockVerb) →
       Follows move (moved_move move) (block_prog s x id b verb) (block_prog (moved_machine move s) (moved_transaction move x) (move id) b verb)
   block_follows s x id b blocks.Generate = generate_follows s x id (operand b A) (operand b B) (operand b D) (operand b E)
   block_follows s x id b blocks.Advance = advance_follows s id (operand b A) (operand b B)
   block_follows s x id b blocks.Terminate = terminate_follows s id (operand b A)
+  block_follows s x id b blocks.Queue = queue_follows s id (operand b A) (operand b B)
+  block_follows s x id b blocks.Depart = depart_follows s x id (operand b A) (operand b B)
   block_follows s x id b verb = follows_ends
 
   enter_follows : (s : Machine) (x : Transaction) (id : ℕ) (block : Option Block) →

@@ -9,6 +9,7 @@ use Rattle.gw_meaning.specs.declared.moves.Fate.{Fate}
 use Rattle.gw_meaning.specs.declared.moves.Fate.TheVariants as fates
 use Rattle.gw_meaning.specs.declared.moves.Move.TheVariants as moves
 use Rattle.gw_meaning.specs.Listing.{Listing}
+use Rattle.gw_meaning.specs.Entities.{touched}
 use Rattle.gw_meaning.specs.Machine.{Machine}
 use Rattle.gw_meaning.specs.Changes.{crossed, made, making_of, with_making, placed, marked, fated, changed, entering, with_active, picked, moved}
 use Rattle.gw_frame.proofs.Decided.{IsComing, IsDecidedChange}
@@ -16,31 +17,35 @@ use Rattle.gw_frame.proofs.Decided.{IsComing, IsDecidedChange}
 -- the transaction x in its block, before the block changes anything else
 abbrev pub settled : Machine → Transaction → ℕ → Change → Fate → Machine
 settled s x id change fate =
-    fated fate (marked change s.clock (placed x id)) (record s { counts = crossed fate s.counts x.current id })
+    fated fate (marked change s.clock (placed x id)) (record s {
+      counts = crossed fate s.counts x.current id;
+      entities = touched change s.clock x.number s.entities;
+    })
 
 -- what a mark and a fate leave alone
 pub marked_same : (change : Change) (clock : ℕ) (x : Transaction) →
     ((marked change clock x).number ≡ x.number) × ((marked change clock x).current ≡ x.current) × ((marked change clock x).destination ≡ x.destination)
-marked_same changes.Nothing clock x = (refl, refl, refl)
 marked_same (changes.Generate next) clock x = (refl, refl, refl)
+marked_same change clock x = (refl, refl, refl)
 
-pub record IsSettled (s : Machine) (x : Transaction) (id : ℕ) (fate : Fate) (v : Machine) : Type 0 where
+pub record IsSettled (s : Machine) (x : Transaction) (id : ℕ) (change : Change) (fate : Fate) (v : Machine) : Type 0 where
   pub clock : v.clock ≡ s.clock
   pub next : v.next ≡ s.next
   pub current : v.current ≡ s.current
   pub counts : v.counts ≡ crossed fate s.counts x.current id
+  pub entities : v.entities ≡ touched change s.clock x.number s.entities
 
-pub settled_is : (s : Machine) (x : Transaction) (id : ℕ) (change : Change) (fate : Fate) → IsSettled s x id fate (settled s x id change fate)
-settled_is s x id change fates.Active = record { clock = refl; next = refl; current = refl; counts = refl }
-settled_is s x id change (fates.Delayed until) = record { clock = refl; next = refl; current = refl; counts = refl }
-settled_is s x id change (fates.Destroyed count) = record { clock = refl; next = refl; current = refl; counts = refl }
+pub settled_is : (s : Machine) (x : Transaction) (id : ℕ) (change : Change) (fate : Fate) → IsSettled s x id change fate (settled s x id change fate)
+settled_is s x id change fates.Active = record { clock = refl; next = refl; current = refl; counts = refl; entities = refl }
+settled_is s x id change (fates.Delayed until) = record { clock = refl; next = refl; current = refl; counts = refl; entities = refl }
+settled_is s x id change (fates.Destroyed count) = record { clock = refl; next = refl; current = refl; counts = refl; entities = refl }
 
 -- where P holds of the settled state, Q holds behind the block, if it holds with one more transaction made and with none
 changed_has : (P Q : Machine → Type 0) (t : Listing) (s : Machine) (change : Change) (v : Machine) → IsDecidedChange t s change → P v → (P v → Q v) →
     ((a : Arrival) → IsComing t s a → P v → Q (with_making (made a (making_of v)) v)) → Q (changed change v)
-changed_has P Q t s changes.Nothing v coming h none one = none h
 changed_has P Q t s (changes.Generate None) v coming h none one = none h
 changed_has P Q t s (changes.Generate (Some a)) v coming h none one = one a coming h
+changed_has P Q t s change v coming h none one = none h
 
 with_active_has : (P : Machine → Type 0) (o : Option Transaction) (f : Transaction → Machine) (s : Machine) → P s →
     ((x : Transaction) → o ≡ Some x → P (f x)) → P (with_active o f s)

@@ -1,6 +1,5 @@
 pub mod Failures
 pub mod Line
-pub mod Memory
 pub mod Model
 pub mod Reading
 pub mod StdIo

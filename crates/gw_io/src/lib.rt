@@ -5,13 +5,11 @@
 //! and [`read_all`] reads an input to its end. A [`Budget`] counts the calls of [`Source::read`], of which one
 //! session makes [`READ_LIMIT`] at most.
 //!
-//! [`FromRead`] and [`ToWrite`] stand before std's readers and writers, and [`Bytes`] and [`Page`] are a source
-//! and a sink in memory that fail where they are told to.
+//! [`FromRead`] and [`ToWrite`] stand before std's readers and writers.
 #![tactic(auto)]
 
 mod budget;
 mod line;
-mod memory;
 mod model;
 mod room;
 mod sink;
@@ -21,7 +19,6 @@ mod whole;
 
 pub use budget::{Budget, READ_LIMIT, ReadFault, read_byte};
 pub use line::{Line, read_line, without_cr};
-pub use memory::{Bytes, Page};
 pub use model::split_model;
 pub use sink::{Sink, write_all};
 pub use source::{Failed, Source};

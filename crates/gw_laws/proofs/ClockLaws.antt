@@ -30,7 +30,7 @@ abbrev pub IsInTime : Listing → Machine → Type 0
 IsInTime t s = (s.clock ≤ t.horizon) × AreAhead s.clock s.future
 
 -- the same of a state after one with this clock
-abbrev GoesOn : Listing → ℕ → Machine → Type 0
+abbrev pub GoesOn : Listing → ℕ → Machine → Type 0
 GoesOn t clock v = (clock ≤ v.clock) × IsInTime t v
 
 ahead_of_less : (low high : ℕ) (es : List Event) → low ≤ high → AreAhead high es → AreAhead low es
@@ -86,7 +86,7 @@ fated_ahead (fates.Destroyed count) x s decided h = h
 fits : (time horizon : ℕ) → nat_le time horizon ≡ true → time ≤ horizon
 fits time horizon is = grind (arith, nat_tests)
 
-moved_goes_on : (t : Listing) (s : Machine) (m : Move) → IsDecided t s m → IsInTime t s → GoesOn t s.clock (moved s m)
+pub moved_goes_on : (t : Listing) (s : Machine) (m : Move) → IsDecided t s m → IsInTime t s → GoesOn t s.clock (moved s m)
 moved_goes_on t s (moves.Start count arrivals) decided h = (omega arith, (h.0, all_made_ahead t s arrivals (making_of s) decided.coming h.1))
 moved_goes_on t s moves.Command decided h = (omega arith, h)
 moved_goes_on t s (moves.Enter id change fate) decided h =

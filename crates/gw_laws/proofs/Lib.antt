@@ -7,3 +7,5 @@ pub mod NumberLaws
 pub mod ChainLaws
 pub mod TurnLaws
 pub mod LossLaws
+pub mod QueueLaws
+pub mod VerbLaws

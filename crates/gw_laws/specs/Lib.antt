@@ -3,5 +3,7 @@ pub mod Chain
 pub mod Numbering
 pub mod Contents
 pub mod Clock
+pub mod Queues
+pub mod Verbs
 pub use Rattle.gw_meaning.specs.Step
 pub use Rattle.gw_model.specs.Well

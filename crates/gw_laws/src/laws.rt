@@ -3,6 +3,8 @@ ghost use Rattle.gw_laws.specs.Chain.{ChainIsInOrder, ChainIsFirstInFirstOut, Fi
 ghost use Rattle.gw_laws.specs.Clock.{ClockNeverGoesBack, ClockStaysWithin, NothingIsOverdue};
 ghost use Rattle.gw_laws.specs.Contents.{ContentsAreCounts};
 ghost use Rattle.gw_laws.specs.Numbering.{NumbersAreApart, NumbersAreGiven, NumbersAreGivenOnce, OnlyTheActiveGoes};
+ghost use Rattle.gw_laws.specs.Queues.{QueuesAreWithin};
+ghost use Rattle.gw_laws.specs.Verbs.{EachVerbIsEvaluated};
 
 /// The current chain is in order of priority. Of one priority, the first transactions leave it in a step, those that
 /// stay keep their order, and those that come stand behind them. Whoever becomes active was the first of all. Where the
@@ -33,4 +35,14 @@ pub fn clock_goes_on()
     ensures clock { ClockNeverGoesBack }
     ensures within { ClockStaysWithin }
     ensures future { NothingIsOverdue }
+{}
+
+/// No count of a queue is above 1,000,000,000, and no queue changed later than now.
+pub fn queues_are_within()
+    ensures { QueuesAreWithin }
+{}
+
+/// No verb of a block that is read is left out of the evaluation: some block of it is entered in some state.
+pub fn each_verb_is_evaluated()
+    ensures { EachVerbIsEvaluated }
 {}

@@ -1,11 +1,14 @@
 -- Operands by their forms: each list of parts spells operands or has a first fault, and what it spells, or its fault, is what
 -- reading gives.
-use Rattle.std.proofs.Common.{◌≡◌, ℕ, zero, suc, ◌+◌, ◌≤◌, ◌<◌, true, false, List, [], ◌∷◌, ◌++◌, length, Option, Some, None, Ok, Err, refl, sym, ap, subst, ◌⊎◌, inl, inr, arith}
-use Rattle.std.specs.Prelude.{ℤ, option_map, codes}
+use Rattle.std.proofs.Common.{◌≡◌, ℕ, zero, suc, ◌+◌, ◌≤◌, ◌<◌, true, false, List, [], ◌∷◌, ◌++◌, length, Option, Some, None, Ok, Err, refl, sym, ap, subst, ◌∙◌, ◌⊎◌, inl, inr, arith}
+use Rattle.std.specs.Prelude.{ℤ, pos, option_map, codes}
+use Rattle.std.specs.Char.{is_ascii_alphabetic, is_ascii_digit}
 use Rattle.std.specs.Str.{bytes_eq}
 use Rattle.std.proofs.lemmas.Bool.{cases_Bool}
+use Rattle.std.proofs.lemmas.Bool.Decides.{nat_tests}
 use Rattle.std.proofs.lemmas.Slice.Eq.{bytes_eq-Decides}
-use Rattle.gw_expr.specs.Term.{Constant}
+use Rattle.gw_names.specs.Names.{name_of}
+use Rattle.gw_expr.specs.Term.{Term, Constant, Named}
 use Rattle.gw_lines.specs.declared.fault.LineFault.{LineFault}
 use Rattle.gw_lines.specs.declared.fault.LineFault.TheVariants as faults
 use Rattle.gw_lines.specs.declared.form.Kind.{Kind}
@@ -17,13 +20,13 @@ use Rattle.gw_lines.specs.declared.operand.Operand.{Operand}
 use Rattle.gw_lines.specs.declared.operand.Operand.TheVariants as operands
 use Rattle.gw_lines.specs.Numbers.{number_of, value_of, from_one}
 use Rattle.gw_lines.specs.Forms.{is_listed}
-use Rattle.gw_lines.specs.Operands.{operand_in, listed_here, each_of, missing_of, has_more, operands_of}
+use Rattle.gw_lines.specs.Operands.{numbered, or_number, as_value, operand_in, listed_here, each_of, missing_of, has_more, operands_of}
 use Rattle.gw_lines.specs.Parts.{goes_on, part_of, others_of, is_missing}
-use Rattle.gw_lines.specs.Spelling.{SpellsOperand, absent, a_value, a_whole, a_key, SpellsAll, no_form, stands, unwritten}
+use Rattle.gw_lines.specs.Spelling.{SpellsOperand, absent, a_value, a_whole, a_key, named_entity, numbered_entity, SpellsAll, no_form, stands, unwritten}
 use Rattle.gw_lines.specs.Faulty.{Lawful, FirstBad, bad_here, bad_later, AllLawful, FirstMissing, missing_here, missing_later, FaultOfAll, bad_operand, extra_operand, missing_operand}
 use Rattle.gw_lines.proofs.Results.{some, some_is}
 use Rattle.gw_lines.proofs.Fronts.{nonzero}
-use Rattle.gw_lines.proofs.Digits.{number_found, number_again, value_found, value_again, mapped}
+use Rattle.gw_lines.proofs.Digits.{Begins, begins, number_found, number_again, value_found, value_again, mapped}
 
 -- ---- one operand: what a further kind adds
 
@@ -61,6 +64,18 @@ key_is text o h e =
     subst (λ (t : List ℕ). SpellsOperand kinds.Quiet t o) (sym ((bytes_eq-Decides text (codes "NP")).0 h))
     (subst (λ (x : Option Operand). SpellsOperand kinds.Quiet (codes "NP") x) (some_is none o e) a_key)
 
+entity_is : (text : List ℕ) (name : Option (List ℕ)) (o : Option Operand) → name_of text ≡ name
+    → as_value (or_number name text) ≡ Some o → SpellsOperand kinds.Entity text o
+entity_is text (Some name) o is e =
+    subst (λ (x : Option Operand). SpellsOperand kinds.Entity text x) (some_is (some (operands.Value (Named name))) o e)
+    (named_entity text name is)
+entity_is text None o is e =
+    let m = mapped (λ (t : Term). some (operands.Value t)) (numbered text) o e in
+    let k = mapped (λ (n : ℕ). Constant (pos n)) (from_one (number_of 1000000000 text)) m.0 m.1 in
+    let f = from_one_found (number_of 1000000000 text) k.0 k.1 in
+    subst (λ (x : Option Operand). SpellsOperand kinds.Entity text x) (ap (λ (t : Term). some (operands.Value t)) k.2 ∙ m.2)
+    (numbered_entity text k.0 (number_found 1000000000 text k.0 f.0) f.1)
+
 operand_found : (kind : Kind) (text : List ℕ) (o : Option Operand) → operand_in kind text ≡ Some o
     → SpellsOperand kind text o
 operand_found kind [] o e = subst (λ (x : Option Operand). SpellsOperand kind [] x) (some_is none o e) (absent kind)
@@ -71,6 +86,7 @@ operand_found kinds.Quiet (b ∷ bs) o e =
       | inl holds ↦ key_is (b ∷ bs) o holds (rw holds at e)
       | inr fails ↦ absurd (let f = rw fails at e in cc)
     ]
+operand_found kinds.Entity (b ∷ bs) o e = entity_is (b ∷ bs) (name_of (b ∷ bs)) o refl e
 
 value_in_again : (text : List ℕ) (z : ℤ) → value_of text ≡ Some z
     → operand_in kinds.Value text ≡ Some (Some (operands.Value (Constant z)))
@@ -82,12 +98,39 @@ whole_in_again : (most : ℕ) (text : List ℕ) (n : ℕ) → number_of most tex
 whole_in_again most [] n e h = absurd cc
 whole_in_again most (b ∷ bs) n e h = rw (e, from_one_again n h) refl
 
+no_name : (name : List ℕ) → name_of [] ≡ Some name → ⊥
+unfolding name_of
+no_name name e = cc
+
+name_in_again : (text name : List ℕ) → name_of text ≡ Some name
+    → operand_in kinds.Entity text ≡ Some (Some (operands.Value (Named name)))
+name_in_again [] name e = absurd (no_name name e)
+name_in_again (b ∷ bs) name e = rw e refl
+
+no_letter : (b : ℕ) → is_ascii_digit b ≡ true → is_ascii_alphabetic b ≡ false
+no_letter b h = grind (arith, nat_tests)
+
+-- a name does not begin with a digit
+digit_first : (b : ℕ) (bs : List ℕ) → is_ascii_digit b ≡ true → name_of (b ∷ bs) ≡ None
+unfolding name_of
+digit_first b bs h = rw (no_letter b h) refl
+
+number_in_again : (text : List ℕ) (n : ℕ) → Begins text → number_of 1000000000 text ≡ Some n → 1 ≤ n
+    → operand_in kinds.Entity text ≡ Some (Some (operands.Value (Constant (pos n))))
+number_in_again [] n d e h = absurd cc
+number_in_again (b ∷ bs) n d e h =
+    let same : b ≡ d.first = let i = d.is in cc in
+    let digit = subst (λ (c : ℕ). is_ascii_digit c ≡ true) (sym same) d.digit in
+    rw (digit_first b bs digit, e, from_one_again n h) refl
+
 operand_again : {kind : Kind} {text : List ℕ} {o : Option Operand} → SpellsOperand kind text o
     → operand_in kind text ≡ Some o
 operand_again (absent kind) = refl
 operand_again (a_value text z v) = value_in_again text z (value_again v)
 operand_again (a_whole most text n h from) = whole_in_again most text n (number_again most text n h) from
 operand_again a_key = refl
+operand_again (named_entity text name e) = name_in_again text name e
+operand_again (numbered_entity text n h from) = number_in_again text n (begins h.digits) (number_again 1000000000 text n h) from
 
 -- ---- one part
 

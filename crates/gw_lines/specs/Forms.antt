@@ -35,11 +35,17 @@ a_quiet = record { kind = kinds.Quiet; presence = presences.Optional }
 abbrev pub a_seed : Form
 a_seed = record { kind = kinds.Whole 2147483646; presence = presences.Written }
 
+-- an entity, named or numbered
+abbrev pub an_entity : Form
+an_entity = record { kind = kinds.Entity; presence = presences.Required }
+
 -- the forms of each verb's operands, for the verbs that are read so far
 abbrev pub forms_of_block : BlockVerb → Option (List Form)
 forms_of_block blocks.Generate = Some (a_value ∷ a_value ∷ a_value ∷ a_value ∷ a_value ∷ [])
 forms_of_block blocks.Advance = Some (a_value ∷ a_value ∷ [])
 forms_of_block blocks.Terminate = Some (a_value ∷ [])
+forms_of_block blocks.Queue = Some (an_entity ∷ a_value ∷ [])
+forms_of_block blocks.Depart = Some (an_entity ∷ a_value ∷ [])
 forms_of_block verb = None
 
 abbrev pub forms_of_command : CommandVerb → Option (List Form)

@@ -1,8 +1,9 @@
 -- Operands as they are read: the list as it stands behind a verb, and each of its parts by its form. (Manual; the forms
 -- of the profile.)
-use Rattle.std.specs.Prelude.{ℕ, ◌+◌, ◌==◌, Bool, true, List, [], ◌∷◌, ◌++◌, length, Option, Some, None, Result, Ok, Err, option_map, if◌then◌else◌, codes}
+use Rattle.std.specs.Prelude.{ℕ, pos, ◌+◌, ◌==◌, Bool, true, List, [], ◌∷◌, ◌++◌, length, Option, Some, None, Result, Ok, Err, option_map, if◌then◌else◌, codes}
 use Rattle.std.specs.Str.{bytes_eq}
-use Rattle.gw_expr.specs.Term.{Constant}
+use Rattle.gw_names.specs.Names.{name_of}
+use Rattle.gw_expr.specs.Term.{Term, Constant, Named}
 use Rattle.gw_lines.specs.declared.fault.LineFault.{LineFault}
 use Rattle.gw_lines.specs.declared.fault.LineFault.TheVariants as faults
 use Rattle.gw_lines.specs.declared.form.Kind.{Kind}
@@ -23,11 +24,27 @@ listed_of skips (b ∷ bs) = if is_blank b then (if skips then listed_of true bs
 
 -- ---- one operand
 
+-- the number from 1 that a text is
+abbrev pub numbered : List ℕ → Option Term
+numbered text = option_map (λ n. Constant (pos n)) (from_one (number_of 1000000000 text))
+
+abbrev pub or_number : Option (List ℕ) → List ℕ → Option Term
+or_number None text = numbered text
+or_number (Some name) text = Some (Named name)
+
+-- the entity that a text is: a name, or a number from 1
+abbrev pub entity_of : List ℕ → Option Term
+entity_of text = or_number (name_of text) text
+
+abbrev pub as_value : Option Term → Option (Option Operand)
+as_value value = option_map (λ t. Some (operands.Value t)) value
+
 -- what a text that is not empty is, if it is lawful: `NP` says nothing
 abbrev pub given_in : Kind → List ℕ → Option (Option Operand)
 given_in kinds.Value text = option_map (λ z. Some (operands.Value (Constant z))) (value_of text)
 given_in (kinds.Whole most) text = option_map (λ n. Some (operands.Whole n)) (from_one (number_of most text))
 given_in kinds.Quiet text = if bytes_eq text (codes "NP") then Some None else None
+given_in kinds.Entity text = as_value (entity_of text)
 
 -- what a text is, if it is lawful
 abbrev pub operand_in : Kind → List ℕ → Option (Option Operand)

@@ -6,7 +6,7 @@ use Rattle.std.specs.Char.{is_ascii_digit}
 use Rattle.gw_names.specs.declared.verb.Verb.{Verb}
 use Rattle.gw_names.specs.Words.{upper_of}
 use Rattle.gw_names.specs.Names.{name_of}
-use Rattle.gw_expr.specs.Term.{Constant}
+use Rattle.gw_expr.specs.Term.{Constant, Named}
 use Rattle.gw_meaning.specs.declared.statement.Body.{Body}
 use Rattle.gw_meaning.specs.declared.statement.Statement.{Statement}
 use Rattle.gw_meaning.specs.Statements.{verb_of_body}
@@ -56,6 +56,10 @@ pub data SpellsOperand : Kind → List ℕ → Option Operand → Type 0 where
   a_whole : (most : ℕ) (text : List ℕ) (n : ℕ) → Number most text n → 1 ≤ n
       → SpellsOperand (kinds.Whole most) text (Some (operands.Whole n))
   a_key : SpellsOperand kinds.Quiet (codes "NP") None
+  named_entity : (text name : List ℕ) → name_of text ≡ Some name
+      → SpellsOperand kinds.Entity text (Some (operands.Value (Named name)))
+  numbered_entity : (text : List ℕ) (n : ℕ) → Number 1000000000 text n → 1 ≤ n
+      → SpellsOperand kinds.Entity text (Some (operands.Value (Constant (pos n))))
 
 -- the parts of a list spell the operands of its forms: each is listed, or a written one behind the last part is not
 pub data SpellsAll : List Form → List (List ℕ) → List (Option Operand) → Type 0 where

@@ -14,6 +14,8 @@ pub enum Kind {
     Whole { most: u32 },
     /// The key word `NP`, which has no effect.
     Quiet,
+    /// An entity: a name, or a whole number from 1 to 1,000,000,000.
+    Entity,
 }
 
 /// Whether an operand may be absent.
@@ -52,6 +54,7 @@ fn forms_of_block(verb: BlockVerb) -> Option<&'static [Form]>
         BlockVerb::Generate => Some(&[VALUE, VALUE, VALUE, VALUE, VALUE]),
         BlockVerb::Advance => Some(&[VALUE, VALUE]),
         BlockVerb::Terminate => Some(&[VALUE]),
+        BlockVerb::Queue | BlockVerb::Depart => Some(&[ENTITY, VALUE]),
         _ => None,
     }
 }
@@ -70,6 +73,11 @@ fn forms_of_command(verb: CommandVerb) -> Option<&'static [Form]>
 const VALUE: Form = Form {
     kind: Kind::Value,
     presence: Presence::Optional,
+};
+
+const ENTITY: Form = Form {
+    kind: Kind::Entity,
+    presence: Presence::Required,
 };
 
 const COUNT: Form = Form {

@@ -1,9 +1,10 @@
 ghost use Rattle.std.specs.Prelude.{◌≡◌, ◌≤◌, IfSome};
-ghost use Rattle.gw_lines.specs.Numbers.{number_of, value_of};
+ghost use Rattle.gw_lines.specs.Numbers.{number_of, value_of, from_one};
 
 use gw_nums::Val;
 
-const LIMIT: u32 = 1_000_000_000;
+/// The greatest value.
+pub const LIMIT: u32 = 1_000_000_000;
 
 /// The number that digits spell, if it is at most `most`.
 pub fn number(most: u32, text: &[u8]) -> Option<u32>
@@ -24,6 +25,17 @@ pub fn number(most: u32, text: &[u8]) -> Option<u32>
         }
     }
     Some(number as u32)
+}
+
+/// The number from 1 that digits spell, if it is at most `most`.
+pub fn from_one(most: u32, text: &[u8]) -> Option<u32>
+    ensures value { result ≡ from_one (number_of most text.now) }
+    ensures bound { IfSome result (λ n. n ≤ most) }
+{
+    match number(most, text) {
+        Some(0) | None => None,
+        Some(n) => Some(n),
+    }
 }
 
 /// The value that a text spells: a number, with one `-` before it or none.

@@ -1,9 +1,12 @@
-ghost use Rattle.std.specs.Prelude.{◌≡◌};
-ghost use Rattle.gw_lines.specs.Operands.{operand_in, given_in};
+ghost use Rattle.std.specs.Prelude.{◌≡◌, IfOk};
+ghost use Rattle.gw_lines.specs.Operands.{operand_in, given_in, as_value, entity_of, numbered};
 
 use crate::form::Kind;
-use crate::number::{number, value};
+use crate::number::{LIMIT, from_one, value};
 use gw_expr::Expr;
+use gw_names::Name;
+use gw_nums::Val;
+use std::alloc::{AllocError, Global};
 
 /// An operand that was read.
 #[derive(Debug, Drop)]
@@ -14,30 +17,64 @@ pub enum Operand {
 
 /// The operand that a text of this kind is: `None` where it is not lawful, and no operand where it is empty or says
 /// nothing.
-pub fn operand_in(kind: Kind, text: &[u8]) -> Option<Option<Operand>>
-    ensures { result ≡ operand_in kind text.now }
+pub fn operand_in(
+    alloc: Global,
+    kind: Kind,
+    text: &[u8],
+) -> Result<Option<Option<Operand>>, AllocError>
+    ensures { IfOk result (λ o. o ≡ operand_in kind text.now) }
 {
     match text {
-        [] => Some(None),
-        _ => given(kind, text),
+        [] => Ok(Some(None)),
+        _ => given(alloc, kind, text),
     }
 }
 
-fn given(kind: Kind, text: &[u8]) -> Option<Option<Operand>>
-    ensures { result ≡ given_in kind text.now }
+fn given(alloc: Global, kind: Kind, text: &[u8]) -> Result<Option<Option<Operand>>, AllocError>
+    ensures { IfOk result (λ o. o ≡ given_in kind text.now) }
 {
     match kind {
-        Kind::Value => Some(Some(Operand::Value(Expr::constant(value(text)?)))),
-        Kind::Whole { most } => match number(most, text) {
-            Some(0) | None => None,
-            Some(n) => Some(Some(Operand::Whole(n))),
+        Kind::Value => match value(text) {
+            Some(value) => Ok(Some(Some(Operand::Value(Expr::constant(value))))),
+            None => Ok(None),
+        },
+        Kind::Whole { most } => match from_one(most, text) {
+            Some(n) => Ok(Some(Some(Operand::Whole(n)))),
+            None => Ok(None),
         },
         Kind::Quiet => {
             if text == b"NP".as_slice() {
-                Some(None)
+                Ok(Some(None))
             } else {
-                None
+                Ok(None)
             }
         }
+        Kind::Entity => Ok(as_value(entity(alloc, text)?)),
     }
+}
+
+fn as_value(value: Option<Expr>) -> Option<Option<Operand>>
+    ensures { result ≡ as_value value }
+{
+    match value {
+        Some(value) => Some(Some(Operand::Value(value))),
+        None => None,
+    }
+}
+
+// The entity that a text is: a name, or a number from 1.
+fn entity(alloc: Global, text: &[u8]) -> Result<Option<Expr>, AllocError>
+    ensures { IfOk result (λ o. o ≡ entity_of text.now) }
+{
+    match Name::read(alloc, text)? {
+        Some(name) => Ok(Some(Expr::named(name))),
+        None => Ok(numbered(text)),
+    }
+}
+
+fn numbered(text: &[u8]) -> Option<Expr>
+    ensures { result ≡ numbered text.now }
+{
+    let number = from_one(LIMIT, text)?;
+    Some(Expr::constant(Val::new(i64::from(number))?))
 }

@@ -54,7 +54,7 @@ fn read_each(alloc: Global, forms: &[Form], text: &[u8]) -> Result<ReadList, Lin
     for form in forms {
         n += 1;
         let (part, goes_on, others) = first_part(more, rest);
-        add(form, n, more, part, &mut operands)?;
+        add(alloc, form, n, more, part, &mut operands)?;
         missing = missing_after(missing, form, n, part);
         more = goes_on;
         rest = others;
@@ -83,6 +83,7 @@ fn first_part(more: bool, rest: &[u8]) -> (&[u8], bool, &[u8])
 
 // Adds the operand, where the statement lists it: more says that the list goes on here.
 fn add(
+    alloc: Global,
     form: &Form,
     n: u8,
     more: bool,
@@ -94,7 +95,7 @@ fn add(
     if !form.presence.is_listed(more) {
         return Ok(());
     }
-    match operand_in(form.kind, part) {
+    match operand_in(alloc, form.kind, part)? {
         Some(operand) => Ok(operands.push(operand)?),
         None => Err(LineFault::BadOperand(n)),
     }

@@ -6,8 +6,6 @@ mod complaint;
 mod conversation;
 mod number;
 mod run;
-#[cfg(test)]
-mod tests;
 mod words;
 
 use gw_script::{FromRead, ReadFault, ToWrite};

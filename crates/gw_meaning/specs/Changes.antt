@@ -13,6 +13,7 @@ use Rattle.gw_meaning.specs.declared.moves.Fate.{Fate}
 use Rattle.gw_meaning.specs.declared.moves.Fate.TheVariants as fates
 use Rattle.gw_meaning.specs.declared.moves.Move.{Move}
 use Rattle.gw_meaning.specs.declared.moves.Move.TheVariants as moves
+use Rattle.gw_meaning.specs.Entities.{touched, later}
 use Rattle.gw_meaning.specs.Machine.{Machine, raised, count_in, count_at, with_count}
 
 -- the current chain with one more transaction: behind its equals, in front of the first of lower priority
@@ -103,8 +104,8 @@ arrived next s = with_making (maybe_made next (making_of s)) s
 
 -- what a block changes of its transaction
 abbrev pub marked : Change → ℕ → Transaction → Transaction
-marked changes.Nothing clock x = x
 marked (changes.Generate next) clock x = record x { mark = clock }
+marked change clock x = x
 
 -- what becomes of the transaction x: it stays active, is on the future chain, or is gone with its count taken from the
 -- termination count, which completes the START at 0
@@ -120,16 +121,18 @@ fated (fates.Destroyed count) x s =
           (if nat_lt count s.remaining then s.complete else raised s.complete);
     }
 
--- what a block changes else
+-- what a block brings: a GENERATE the next transaction
 abbrev pub changed : Change → Machine → Machine
-changed changes.Nothing s = s
 changed (changes.Generate next) s = arrived next s
+changed change s = s
 
 -- the transaction x entered a block
 abbrev pub entering : Machine → Transaction → ℕ → Change → Fate → Machine
 entering s x id change fate =
-    changed change (fated fate (marked change s.clock (placed x id))
-    (record s { counts = crossed fate s.counts x.current id }))
+    changed change (fated fate (marked change s.clock (placed x id)) (record s {
+      counts = crossed fate s.counts x.current id;
+      entities = touched change s.clock x.number s.entities;
+    }))
 
 -- the first of the current chain is active
 abbrev pub picked : Machine → List Transaction → Machine
@@ -151,6 +154,7 @@ advanced s time = record s {
   current = all_lined_up (due time s.future) s.current;
   future =
       filter (λ e. not (is_due time e)) s.future;
+  entities = later s.clock time s.entities;
 }
 
 -- what a move does, where x is active

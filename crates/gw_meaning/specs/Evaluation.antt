@@ -2,10 +2,12 @@
 -- come in the order of evaluation. (Manual: operands, and a time of A plus or minus B. Our own: whole numbers, what a
 -- draw stands for, and that the seed is asked for at a stream's first draw alone.)
 use Rattle.std.specs.Prelude.{ℕ, zero, suc, ◌+◌, ◌-◌, ◌*◌, ◌/◌, Bool, true, false, List, Option, Some, None, ℤ, pos, ◌+ℤ◌, ◌-ℤ◌, if◌then◌else◌}
-use Rattle.gw_nums.specs.Range.{is_value, is_negative, magnitude}
-use Rattle.gw_expr.specs.Term.{Term, Constant}
+use Rattle.gw_nums.specs.Range.{is_value, is_negative, is_below, magnitude}
+use Rattle.gw_names.specs.declared.key.Key.{Key}
+use Rattle.gw_names.specs.declared.key.Key.TheVariants as keys
+use Rattle.gw_expr.specs.Term.{Term, Constant, Named}
 use Rattle.gw_expr.specs.declared.stop.Stop.{Stop}
-use Rattle.gw_expr.specs.declared.stop.Stop.TheVariants.{NegativeTime, Range}
+use Rattle.gw_expr.specs.declared.stop.Stop.TheVariants.{NegativeTime, Range, BadCount}
 use Rattle.gw_streams.specs.declared.stream.Stream.{Stream}
 use Rattle.gw_streams.specs.declared.stream.Stream.TheVariants as streams
 use Rattle.gw_streams.specs.Draws.{next_of, start_of, stream_at, with_stream}
@@ -49,14 +51,28 @@ number_of_draw (streams.At x) = Gives (next_of x)
 abbrev pub draw : ℕ → Eval ℕ
 draw j = λ before. number_of_draw (stream_at before j) >>= (λ x. Gives (x, with_stream before j (streams.At x)))
 
--- the value of an operand in a state
+-- the value of an operand in a state; a name is none, and no form lets one stand for a value so far
 abbrev pub value_prog : Machine → Term → Eval ℤ
 value_prog s (Constant value) = gives value
+value_prog s (Named name) = ends_with (ends.Error Range)
 
 -- the value of an operand that may be absent, which then counts as 0
 abbrev pub value_or_zero : Machine → Option Term → Eval ℤ
 value_or_zero s None = gives (pos 0)
 value_or_zero s (Some term) = value_prog s term
+
+-- the entity that an operand names: by a name, or by its number from 1 (no form leaves it out)
+abbrev pub entity_prog : Machine → Option Term → Eval Key
+entity_prog s None = ends_with (ends.Error Range)
+entity_prog s (Some (Named name)) = gives (keys.Named name)
+entity_prog s (Some (Constant n)) =
+    stops_if (is_below n (pos 1)) Range (gives (keys.Num (magnitude n)))
+
+-- how many units an operand says: from 1, and 1 where it is absent
+abbrev pub units_prog : Machine → Option Term → Eval ℕ
+units_prog s None = gives 1
+units_prog s (Some term) =
+    value_prog s term ~> (λ n. stops_if (is_below n (pos 1)) BadCount (gives (magnitude n)))
 
 -- where x, from 1 to 2,147,483,646, falls when these are spread evenly over the whole numbers from mean - range to
 -- mean + range

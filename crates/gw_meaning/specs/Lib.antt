@@ -3,6 +3,7 @@ pub mod Statements
 pub mod Texts
 pub mod Listing
 pub mod Numbers
+pub mod Entities
 pub mod Machine
 pub mod Questions
 pub mod Evaluation

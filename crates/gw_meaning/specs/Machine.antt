@@ -1,10 +1,11 @@
--- The state of a run: both clocks, the termination count, what is done, the streams, the chains and the counts of the
--- blocks.
+-- The state of a run: both clocks, the termination count, what is done, the streams, the chains, the entities and the
+-- counts of the blocks.
 -- (Manual; that RESET's clock is kept as a time is our own.)
 use Rattle.std.specs.Prelude.{◌≡◌, ℕ, ◌+◌, ◌-◌, ◌^◌, Bool, false, ◌==◌, List, [], ◌∷◌, Option, Some, None, if◌then◌else◌, min, length, AllPairs}
 use Rattle.gw_nums.specs.Range.{is_below}
 use Rattle.gw_streams.specs.declared.stream.Stream.{Stream}
 use Rattle.gw_streams.specs.Draws.{untouched}
+use Rattle.gw_meaning.specs.Entities.{Entities, no_entities}
 use Rattle.gw_meaning.specs.declared.transaction.Transaction.{Transaction}
 use Rattle.gw_meaning.specs.declared.transaction.Event.{Event}
 use Rattle.gw_meaning.specs.declared.transaction.Count.{Count}
@@ -32,6 +33,7 @@ pub record Machine : Type 0 where
   pub future : List Event
   -- what is counted at each block, in the order of first use
   pub counts : List (ℕ × Count)
+  pub entities : Entities
 
 -- a chain in order of priority: no transaction stands behind one of lower priority
 abbrev pub AreInOrder : List Transaction → Type 0
@@ -53,6 +55,7 @@ zero_state = record {
   current = [];
   future = [];
   counts = [];
+  entities = no_entities;
 }
 
 -- one more; a count of 64 bits stays at its greatest value, which no run is long enough to reach

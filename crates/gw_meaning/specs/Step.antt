@@ -1,10 +1,11 @@
 -- A step: which move it is, by questions; then the move. One definition for each choice, with what is chosen by as an
 -- argument. (Manual: the order of the scan. Our own: commands, priming and picking as steps of their own, and the order
 -- in which a GENERATE's operands are met.)
-use Rattle.std.specs.Prelude.{ℕ, zero, suc, ◌+◌, Bool, true, false, ◌==◌, List, [], ◌∷◌, ◌++◌, Option, Some, None, Result, Ok, Err, ℤ, if◌then◌else◌, nat_le, min, not}
+use Rattle.std.specs.Prelude.{ℕ, zero, suc, ◌+◌, Bool, true, false, ◌==◌, List, [], ◌∷◌, ◌++◌, Option, Some, None, Result, Ok, Err, ℤ, ◌&&◌, ◌||◌, if◌then◌else◌, nat_le, nat_lt, min, not}
 use Rattle.gw_nums.specs.Range.{is_negative, magnitude}
 use Rattle.gw_expr.specs.Term.{Term}
-use Rattle.gw_expr.specs.declared.stop.Stop.TheVariants.{NegativeTime, NoNextBlock, TooManyTransactions, BadCount}
+use Rattle.gw_expr.specs.declared.stop.Stop.TheVariants.{NegativeTime, DepartTooMany, NoNextBlock, TooManyTransactions, BadCount, TooManyUnits}
+use Rattle.gw_names.specs.declared.key.Key.{Key}
 use Rattle.gw_names.specs.declared.verb.BlockVerb.{BlockVerb}
 use Rattle.gw_names.specs.declared.verb.BlockVerb.TheVariants as blocks
 use Rattle.gw_meaning.specs.declared.item.Item.{Item}
@@ -27,8 +28,11 @@ use Rattle.gw_meaning.specs.declared.moves.Move.TheVariants as moves
 use Rattle.gw_meaning.specs.Statements.{A, B, C, D, E, operand, is_generate_verb}
 use Rattle.gw_meaning.specs.Listing.{Listing}
 use Rattle.gw_meaning.specs.Machine.{Machine, zero_state, raised, live, count_at}
+use Rattle.gw_entities.specs.Records.{Line}
+use Rattle.gw_entities.specs.Comings.{came}
+use Rattle.gw_meaning.specs.Entities.{line_at}
 use Rattle.gw_meaning.specs.Questions.{Prog, Gives, Ends, Asks, result_of, items_of, ◌>>=◌}
-use Rattle.gw_meaning.specs.Evaluation.{Eval, gives, ends_with, asks, ◌~>◌, stops_if, value_prog, value_or_zero, time_prog}
+use Rattle.gw_meaning.specs.Evaluation.{Eval, gives, ends_with, asks, ◌~>◌, stops_if, value_prog, value_or_zero, entity_prog, units_prog, time_prog}
 use Rattle.gw_meaning.specs.Changes.{decided}
 
 -- The next transaction of a GENERATE: its limit, then the time, then its priority.
@@ -120,12 +124,38 @@ terminate_prog s id count =
     value_or_zero s count ~> (λ n. stops_if (is_negative n) BadCount
     (gives (moves.Enter id changes.Nothing (fates.Destroyed (magnitude n)))))
 
+-- QUEUE and DEPART, of an entity and so many units. A content and a count of entries go to 1,000,000,000, and no more
+-- units leave than there are.
+abbrev pub is_too_many : ℕ → Bool
+is_too_many n = nat_lt 1000000000 n
+
+abbrev pub queue_units : ℕ → Key → Line → ℕ → Eval Move
+queue_units id key line units =
+    stops_if (is_too_many (line.entries + units) || is_too_many (line.level.content + units)) TooManyUnits
+    (gives (moves.Enter id (changes.Queue key units) fates.Active))
+
+abbrev pub queue_prog : Machine → ℕ → Option Term → Option Term → Eval Move
+queue_prog s id entity units =
+    entity_prog s entity ~> (λ key. units_prog s units ~> (λ n. queue_units id key (line_at s.entities key) n))
+
+abbrev pub depart_units : ℕ → Key → Line → Bool → ℕ → Eval Move
+depart_units id key line at_once units =
+    stops_if (at_once && is_too_many (line.zero_entries + units)) TooManyUnits
+    (stops_if (nat_lt line.level.content units) DepartTooMany
+    (gives (moves.Enter id (changes.Depart key units at_once) fates.Active)))
+
+abbrev pub depart_prog : Machine → Transaction → ℕ → Option Term → Option Term → Eval Move
+depart_prog s x id entity units = entity_prog s entity ~> (λ key. units_prog s units ~>
+    (λ n. depart_units id key (line_at s.entities key) (came s.entities.comings key x.number) n))
+
 -- by the block's verb; no other verb is read so far
 abbrev pub block_prog : Machine → Transaction → ℕ → Block → BlockVerb → Eval Move
 block_prog s x id b blocks.Generate =
     generate_prog s x id (operand b A) (operand b B) (operand b D) (operand b E)
 block_prog s x id b blocks.Advance = advance_prog s id (operand b A) (operand b B)
 block_prog s x id b blocks.Terminate = terminate_prog s id (operand b A)
+block_prog s x id b blocks.Queue = queue_prog s id (operand b A) (operand b B)
+block_prog s x id b blocks.Depart = depart_prog s x id (operand b A) (operand b B)
 block_prog s x id b verb = ends_with (ends.Error NoNextBlock)
 
 abbrev pub enter_prog : Machine → Transaction → ℕ → Option Block → Eval Move

@@ -1,5 +1,6 @@
 use crate::row::Row;
 use crate::statement_id::StatementId;
+use gw_names::Key;
 use gw_nums::{Clock, Time, Val};
 
 /// A transaction that a GENERATE is to make.
@@ -13,11 +14,15 @@ pub struct Arrival {
 }
 
 /// What a block changes beside the counts of blocks.
-#[derive(Clone, Copy, Debug)]
+#[derive(Debug, Drop)]
 pub enum Change {
     Nothing,
     /// A GENERATE sets the mark time of its transaction and makes the next one, if any.
     Generate { next: Option<Arrival> },
+    /// So many units come to a queue.
+    Queue { key: Key, units: u64 },
+    /// So many units leave a queue; `at_once` says that the transaction came there while the clock stands as it does.
+    Depart { key: Key, units: u64, at_once: bool },
 }
 
 /// What becomes of the transaction that entered a block.

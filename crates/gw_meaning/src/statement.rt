@@ -142,7 +142,7 @@ impl Statement {
         ensures { IfOk result (λ s. s ≡ self.now) }
     {
         let label = match &self.label {
-            Some(name) => Some(name.copy(alloc)?),
+            Some(name) => Some(name.clone()?),
             None => None,
         };
         let body = self.body.copy(alloc)?;

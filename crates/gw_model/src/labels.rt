@@ -28,7 +28,7 @@ pub fn labels_of(
         index -= 1;
         let line = &lines[index];
         if let Some(name) = block_label(line) {
-            let old = labels.insert(name.copy(alloc)?, line.number)?;
+            let old = labels.insert(name.clone()?, line.number)?;
             if old.is_some() {
                 return Err(ModelFault::LabelTwice);
             }

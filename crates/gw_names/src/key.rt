@@ -1,8 +1,8 @@
-ghost use Rattle.std.specs.Prelude.{◌≡◌, IfOk};
+ghost use Rattle.std.specs.Prelude.{◌≡◌};
 ghost use Rattle.gw_names.specs.Keys.{key_eq, key_input};
 
 use crate::name::Name;
-use std::alloc::{AllocError, Global};
+use std::alloc::AllocError;
 use std::hash::{Hash, Hasher};
 
 /// What an entity is called: a number from 1, or a name.
@@ -12,14 +12,14 @@ pub enum Key {
     Named(Name),
 }
 
-impl Key {
-    /// An equal key.
-    pub fn copy(&self, alloc: Global) -> Result<Key, AllocError>
-        ensures { IfOk result (λ k. k ≡ self.now) }
-    {
+/// An equal key, as cheap as that of a [`Name`].
+impl Clone for Key {
+    ghost is_clone = { λ key copy. copy ≡ key };
+
+    fn clone(&self) -> Result<Key, AllocError> {
         match self {
             Key::Num(number) => Ok(Key::Num(*number)),
-            Key::Named(name) => Ok(Key::Named(name.copy(alloc)?)),
+            Key::Named(name) => Ok(Key::Named(name.clone()?)),
         }
     }
 }

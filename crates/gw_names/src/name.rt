@@ -9,23 +9,25 @@ use crate::verb::Verb;
 use std::alloc::{AllocError, Global};
 use std::cmp::Ordering;
 use std::marker::Model;
+use std::sync::ArcSlice;
 
 /// A name of a label, an entity or a definition, in upper case: 1 to 200 letters, digits and `_`, first a
-/// letter, and neither a verb nor the class of an attribute.
+/// letter, and neither a verb nor the class of an attribute. Its clones share the bytes.
 #[derive(Debug, Drop)]
 pub struct Name {
-    bytes: Vec<u8>,
+    bytes: ArcSlice<u8>,
 }
 
 impl Model for Name {
     ghost use Rattle.std.specs.Prelude.{ℕ, List, ◌≡◌, Some};
+    ghost use Rattle.std.specs.Arc.{arc_slice_items};
     ghost use Rattle.gw_names.specs.Names.{name_of};
 
     ghost Value = { List ℕ };
 
-    ghost view = { λ n. n.bytes.items };
+    ghost view = { λ n. arc_slice_items n.bytes };
 
-    ghost invariant = { λ n. name_of n.bytes.items ≡ Some n.bytes.items };
+    ghost invariant = { λ n. name_of (arc_slice_items n.bytes) ≡ Some (arc_slice_items n.bytes) };
 }
 
 impl Name {
@@ -41,7 +43,9 @@ impl Name {
         if is_barred(&bytes) {
             return Ok(None);
         }
-        Ok(Some(Name { bytes }))
+        Ok(Some(Name {
+            bytes: ArcSlice::from_vec(bytes)?,
+        }))
     }
 
     /// The name's bytes.
@@ -52,20 +56,22 @@ impl Name {
         self.bytes.as_slice()
     }
 
-    /// An equal name.
-    pub fn copy(&self, alloc: Global) -> Result<Name, AllocError>
-        ensures { IfOk result (λ n. n ≡ self.now) }
-    {
-        Ok(Name {
-            bytes: Vec::from_slice(alloc, self.bytes.as_slice())?,
-        })
-    }
-
     // Whether the two are the same name.
     fn is(&self, other: &Name) -> bool
         ensures value { result ≡ bytes_eq self.now other.now }
     {
         self.bytes.as_slice() == other.bytes.as_slice()
+    }
+}
+
+/// An equal name, which shares the bytes: no memory is wanted, and only a full count of sharers refuses it.
+impl Clone for Name {
+    ghost is_clone = { λ name copy. copy ≡ name };
+
+    fn clone(&self) -> Result<Name, AllocError> {
+        Ok(Name {
+            bytes: self.bytes.clone()?,
+        })
     }
 }
 

@@ -164,8 +164,8 @@ complete_fated (fates.Delayed until) x s = omega arith
 complete_fated (fates.Destroyed count) x s = complete_done _ s.complete
 
 complete_changed : (change : Change) (s : Machine) (n : ℕ) → s.complete ≤ n + 1 → (changed change s).complete ≤ n + 1
-complete_changed changes.Nothing s n h = h
 complete_changed (changes.Generate next) s n h = h
+complete_changed change s n h = h
 
 pub complete_moved : (s : Machine) (m : Move) → (moved s m).complete ≤ s.complete + 1
 complete_moved s (moves.Start count arrivals) = omega arith

@@ -1,5 +1,5 @@
 -- The report of a version with its ids renamed is the report.
-use Rattle.std.proofs.Common.{◌≡◌, ℕ, suc, true, false, cond, List, [], ◌∷◌, ◌++◌, map, filter, length, Option, Some, None, is_some, option_map, option_to_list, unwrap_or, refl, ap, ap₂, ◌∙◌}
+use Rattle.std.proofs.Common.{◌≡◌, ℕ, suc, true, false, cond, ◌&&◌, List, [], ◌∷◌, ◌++◌, map, filter, length, Option, Some, None, is_some, option_map, option_to_list, unwrap_or, refl, ap, ap₂, ◌∙◌}
 use Rattle.std.specs.Prelude.{decimal, nat_le}
 use Rattle.std.specs.List.{flat_map}
 use Rattle.gw_meaning.specs.declared.statement.Block.{Block}
@@ -7,7 +7,7 @@ use Rattle.gw_meaning.specs.declared.statement.Statement.{Statement}
 use Rattle.gw_meaning.specs.declared.statement.Numbered.{Numbered}
 use Rattle.gw_meaning.specs.declared.transaction.Transaction.{Transaction}
 use Rattle.gw_meaning.specs.declared.transaction.Event.{Event}
-use Rattle.gw_meaning.specs.Listing.{Listing, block_of, block_of_body, is_block, seed_in}
+use Rattle.gw_meaning.specs.Listing.{Listing, block_of, block_of_body, is_block, has_label, labelled_in, label_at, seed_in}
 use Rattle.gw_meaning.specs.Machine.{Machine, count_at}
 use Rattle.gw_frame.specs.Moved.{moved_machine, moved_transaction, moved_event, moved_count}
 use Rattle.gw_frame.specs.Renamed.{AreRenamed, IsRenamed}
@@ -16,7 +16,9 @@ use Rattle.gw_frame.proofs.Renaming.{after_renamed, position_renamed}
 use Rattle.gw_report.specs.Layout.{section_of, table_of}
 use Rattle.gw_report.specs.Cells.{signed}
 use Rattle.gw_report.specs.Chains.{position_of, next_number, line_of, put_by, by_time, current_line, future_line, current_columns, future_columns, current_text, future_text}
-use Rattle.gw_report.specs.Blocks.{label_text, name_lines_of, name_lines, block_line, block_lines_of, block_lines, name_columns, block_columns, names_text, blocks_text}
+use Rattle.gw_report.specs.Names.{name_columns, names_in_block, names_of, names_in, each_once, value_by, next_by, name_lines, names_text}
+use Rattle.gw_report.specs.Blocks.{label_text, block_line, block_lines_of, block_lines, block_columns, blocks_text}
+use Rattle.gw_report.specs.Queues.{queue_line, queues_text}
 use Rattle.gw_report.specs.Report.{seed_of, title_text, head_columns, head_text, text_of}
 use Rattle.gw_report.specs.Renamed.{RenamedText}
 
@@ -75,22 +77,42 @@ module _ (move : ℕ → ℕ) (t u : Listing) (r : IsRenamed move t u) where
   unfolding future_text
   future_renamed s = ap (section_of future_columns) (ap (map (future_line u)) (order_renamed s.future) ∙ events_renamed (by_time s.future))
 
+  -- the names, and their values
+  label_renamed : (name : List ℕ) (ls ms : List Numbered) → AreRenamed move ls ms → labelled_in name ms ≡ option_map move (labelled_in name ls)
+  label_renamed name [] [] h = refl
+  label_renamed name [] (m ∷ ms) h = absurd h
+  label_renamed name (l ∷ ls) [] h = absurd h
+  label_renamed name (l ∷ ls) (m ∷ ms) h =
+      ap (λ (x : Statement). cond (is_some (block_of_body x.body) && has_label name x.label) (Some m.number) (labelled_in name ms)) h.1 ∙
+      cond_under (option_map move) (is_block l && has_label name l.statement.label) _ _ _ _ (ap Some h.0) (label_renamed name ls ms h.2)
+
+  value_renamed : (next : ℕ) (o : Option ℕ) → value_by u next (option_map move o) ≡ value_by t next o
+  value_renamed next None = refl
+  value_renamed next (Some p) = id_renamed p
+
+  next_by_renamed : (next : ℕ) (o : Option ℕ) → next_by next (option_map move o) ≡ next_by next o
+  next_by_renamed next None = refl
+  next_by_renamed next (Some p) = refl
+
+  name_lines_renamed : (next : ℕ) (names : List (List ℕ)) → name_lines u next names ≡ name_lines t next names
+  name_lines_renamed next [] = refl
+  name_lines_renamed next (name ∷ names) =
+      let label = label_renamed name t.lines u.lines r.lines in
+      let value = ap (value_by u next) label ∙ value_renamed next (label_at t name) in
+      let behind = ap (next_by next) label ∙ next_by_renamed next (label_at t name) in
+      ap₂ (λ v ns. (name ∷ decimal v ∷ []) ∷ ns) value (ap (λ n. name_lines u n names) behind ∙ name_lines_renamed (next_by next (label_at t name)) names)
+
+  named_renamed : (ls ms : List Numbered) → AreRenamed move ls ms → flat_map names_of ms ≡ flat_map names_of ls
+  named_renamed [] [] h = refl
+  named_renamed [] (m ∷ ms) h = absurd h
+  named_renamed (l ∷ ls) [] h = absurd h
+  named_renamed (l ∷ ls) (m ∷ ms) h =
+      ap₂ ◌++◌ (ap (λ (x : Statement). option_to_list x.label ++ names_in_block (block_of_body x.body)) h.1) (named_renamed ls ms h.2)
+
+  pub names_renamed : name_lines u 10000 (names_in u) ≡ name_lines t 10000 (names_in t)
+  names_renamed = ap (λ names. name_lines u 10000 (each_once names)) (named_renamed t.lines u.lines r.lines) ∙ name_lines_renamed 10000 (names_in t)
+
   -- the lines of blocks
-  name_by : (n : ℕ) (o : Option Block) (label : Option (List ℕ)) → name_lines_of u (move n) o label ≡ name_lines_of t n o label
-  name_by n None label = refl
-  name_by n (Some block) None = refl
-  name_by n (Some block) (Some label) = ap (λ p. (label ∷ decimal p ∷ []) ∷ []) (id_renamed n)
-
-  name_renamed : (l m : Numbered) → m.number ≡ move l.number → m.statement ≡ l.statement → name_lines u m ≡ name_lines t l
-  name_renamed l m number statement =
-      ap₂ (λ n (s : Statement). name_lines_of u n (block_of_body s.body) s.label) number statement ∙ name_by l.number (block_of l) l.statement.label
-
-  pub names_renamed : (ls ms : List Numbered) → AreRenamed move ls ms → flat_map (name_lines u) ms ≡ flat_map (name_lines t) ls
-  names_renamed [] [] h = refl
-  names_renamed [] (m ∷ ms) h = absurd h
-  names_renamed (l ∷ ls) [] h = absurd h
-  names_renamed (l ∷ ls) (m ∷ ms) h = ap₂ ◌++◌ (name_renamed l m h.0 h.1) (names_renamed ls ms h.2)
-
   row_renamed : (s : Machine) (l m : Numbered) (block : Block) → m.number ≡ move l.number → m.statement ≡ l.statement →
       block_line u m block (count_at (map (moved_count move) s.counts) m.number) ≡ block_line t l block (count_at s.counts l.number)
   unfolding block_line
@@ -143,11 +165,15 @@ seed_renamed move t u rep r = ap (λ rs. unwrap_or (seed_in rs rep) 0) r.replica
 
 names_text_renamed : (move : ℕ → ℕ) (t u : Listing) → IsRenamed move t u → names_text u ≡ names_text t
 unfolding names_text
-names_text_renamed move t u r = ap (section_of name_columns) (names_renamed move t u r t.lines u.lines r.lines)
+names_text_renamed move t u r = ap (section_of name_columns) (names_renamed move t u r)
 
 blocks_text_renamed : (move : ℕ → ℕ) (t u : Listing) (s : Machine) → IsRenamed move t u → blocks_text u (moved_machine move s) ≡ blocks_text t s
 unfolding blocks_text
 blocks_text_renamed move t u s r = ap (table_of block_columns) (blocks_renamed move t u r s t.lines u.lines r.lines)
+
+queues_text_renamed : (move : ℕ → ℕ) (s : Machine) → queues_text (moved_machine move s) ≡ queues_text s
+unfolding queues_text queue_line
+queues_text_renamed move s = refl
 
 pub renamed_text : RenamedText
 unfolding text_of
@@ -155,7 +181,9 @@ renamed_text move t u rep k s outcome r =
     ap₂ ◌++◌
     (ap₂ ◌++◌
     (ap₂ ◌++◌
+    (ap₂ ◌++◌
     (ap₂ ◌++◌ (ap₂ ◌++◌ (ap (λ seed. title_text rep seed k outcome) (seed_renamed move t u rep r)) (head_renamed move t u s r)) (names_text_renamed move t u r))
     (blocks_text_renamed move t u s r))
+    (queues_text_renamed move s))
     (current_renamed move t u r s))
     (future_renamed move t u r s)

@@ -1,5 +1,6 @@
 -- A row, column by column; a number in a cell.
-use Rattle.std.proofs.Common.{◌≡◌, ℕ, ℤ, pos, negsuc, ap, ◌+◌, ◌<◌, List, [], ◌∷◌, ◌⊎◌, length, get_or, drop, refl, inl, inr, add-one, drop-cons}
+use Rattle.std.proofs.Common.{◌≡◌, ℕ, ℤ, pos, negsuc, ap, ◌∙◌, ◌+◌, ◌<◌, List, [], ◌∷◌, ◌⊎◌, Some, None, slice_get, length, get_or, drop, refl, inl, inr, add-one, drop-cons, arith}
+use Rattle.std.proofs.lemmas.Option.{slice_get_within, slice_get-get_or, get_or_from_slice_get}
 use Rattle.std.specs.Fmt.{decimal, signed_decimal}
 use Rattle.gw_report.specs.Layout.{Column, row_behind}
 use Rattle.gw_report.specs.Cells.{signed}
@@ -23,3 +24,14 @@ row_ended before columns texts h = elim h [
 pub signed_is : (z : ℤ) → signed z ≡ signed_decimal z
 signed_is (pos n) = refl
 signed_is (negsuc n) = ap (λ m. 45 ∷ decimal m) (add-one n)
+
+-- an element that is read, in front of those behind it
+pub got_drop : {X : Type 0} (xs : List X) (i : ℕ) (x : X) → slice_get xs i ≡ Some x → drop i xs ≡ x ∷ drop (i + 1) xs
+got_drop xs i x h =
+    let within = slice_get_within xs i x h in
+    item_drop xs i x within ∙ ap (λ y. y ∷ drop (i + 1) xs) (get_or_from_slice_get xs i x x h)
+
+-- within a list there is an element
+pub none_left : {X : Type 0} (xs : List X) (i : ℕ) → i < length xs → slice_get xs i ≡ None → ⊥
+none_left [] i h none = omega arith
+none_left (x ∷ xs) i h none = let some = slice_get-get_or (x ∷ xs) i x h in cc

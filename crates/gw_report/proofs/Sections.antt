@@ -1,5 +1,5 @@
 -- A section by the bytes of its lines.
-use Rattle.std.proofs.Common.{◌≡◌, ℕ, List, [], ◌∷◌, ◌++◌, map, refl, ap, append-nil}
+use Rattle.std.proofs.Common.{◌≡◌, ℕ, ◌+◌, List, [], ◌∷◌, ◌++◌, Some, slice_get, map, drop, refl, ap, sym, ◌∙◌, append-nil, append_assoc}
 use Rattle.std.specs.List.{flat_map}
 use Rattle.std.proofs.lemmas.List.Concat.{flat_map-append}
 use Rattle.gw_meaning.specs.Listing.{Listing}
@@ -10,6 +10,7 @@ use Rattle.gw_meaning.specs.declared.statement.Numbered.{Numbered}
 use Rattle.gw_report.specs.Blocks.{block_columns, block_line, block_lines}
 use Rattle.gw_report.specs.Layout.{Column, row_of, row_behind, rows_of, section_of, cell_of}
 use Rattle.gw_report.specs.Cells.{if_any, under_heading}
+use Rattle.gw_report.proofs.Rows.{got_drop}
 
 -- a line has a byte
 record HasByte (text : List ℕ) : Type 0 where
@@ -52,3 +53,13 @@ pub rows_mapped : {X Y : Type 0} (columns : List Column) (f : Y → List (List �
     flat_map (λ x. row_of columns (f (g x))) xs ≡ rows_of columns (map f (map g xs))
 rows_mapped columns f g [] = refl
 rows_mapped columns f g (x ∷ xs) = ap (λ l. row_of columns (f (g x)) ++ l) (rows_mapped columns f g xs)
+
+-- a row more: in front of what is left stands the element that was read
+pub row_more : {X : Type 0} (columns : List Column) (f : X → List (List ℕ)) (xs : List X) (i : ℕ) (x : X) (before after whole : List ℕ) →
+    slice_get xs i ≡ Some x → after ≡ before ++ row_of columns (f x) →
+    before ++ rows_of columns (map f (drop i xs)) ≡ whole → after ++ rows_of columns (map f (drop (i + 1) xs)) ≡ whole
+row_more columns f xs i x before after whole here put left =
+    ap (λ l. l ++ rows_of columns (map f (drop (i + 1) xs))) put
+    ∙ append_assoc before (row_of columns (f x)) (rows_of columns (map f (drop (i + 1) xs)))
+    ∙ sym (ap (λ ys. before ++ rows_of columns (map f ys)) (got_drop xs i x here))
+    ∙ left

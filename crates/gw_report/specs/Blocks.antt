@@ -8,13 +8,8 @@ use Rattle.gw_meaning.specs.declared.statement.Block.{Block}
 use Rattle.gw_meaning.specs.declared.statement.Numbered.{Numbered}
 use Rattle.gw_meaning.specs.declared.transaction.Count.{Count}
 use Rattle.gw_report.specs.declared.column.Side.TheVariants.{Left, Right}
-use Rattle.gw_report.specs.Layout.{Column, section_of, table_of}
+use Rattle.gw_report.specs.Layout.{Column, table_of}
 use Rattle.gw_report.specs.Chains.{position_of}
-
--- the columns of the labels, and of the blocks
-abbrev pub name_columns : List Column
-name_columns = record { title = codes "NAME"; width = 10; side = Left } ∷
-    record { title = codes "VALUE"; width = 10; side = Right } ∷ []
 
 abbrev pub block_columns : List Column
 block_columns =
@@ -30,15 +25,6 @@ abbrev pub label_text : Option (List ℕ) → List ℕ
 label_text None = []
 label_text (Some label) = label
 
--- a block's line in the list of labels: the label and the block's position; none where it has no label
-abbrev pub name_lines_of : Listing → ℕ → Option Block → Option (List ℕ) → List (List (List ℕ))
-name_lines_of t number None label = []
-name_lines_of t number (Some block) None = []
-name_lines_of t number (Some block) (Some label) = (label ∷ decimal (position_of t (Some number)) ∷ []) ∷ []
-
-abbrev pub name_lines : Listing → Numbered → List (List (List ℕ))
-name_lines t line = name_lines_of t line.number (block_of line) line.statement.label
-
 -- a block's line in the list of blocks: its label, its position, its verb, and its counts
 unfoldable pub block_line : Listing → Numbered → Block → Count → List (List ℕ)
 block_line t line block count =
@@ -51,10 +37,6 @@ block_lines_of t s line (Some block) = block_line t line block (count_at s.count
 
 abbrev pub block_lines : Listing → Machine → Numbered → List (List (List ℕ))
 block_lines t s line = block_lines_of t s line (block_of line)
-
--- the labels of blocks, in the order of the statements
-unfoldable pub names_text : Listing → List ℕ
-names_text t = section_of name_columns (flat_map (name_lines t) t.lines)
 
 -- the blocks, in order
 unfoldable pub blocks_text : Listing → Machine → List ℕ

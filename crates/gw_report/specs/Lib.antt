@@ -1,7 +1,11 @@
 pub mod Layout
 pub mod Cells
 pub mod Chains
+pub mod Names
+pub mod NameKeys
 pub mod Blocks
+pub mod Entities
+pub mod Queues
 pub mod Report
 pub mod Renamed
 pub use Rattle.gw_meaning.specs.Listing

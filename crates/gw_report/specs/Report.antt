@@ -7,7 +7,9 @@ use Rattle.gw_meaning.specs.declared.item.Outcome.{Outcome}
 use Rattle.gw_meaning.specs.declared.item.Outcome.TheVariants.{Complete, Horizon, Dry, Error}
 use Rattle.gw_report.specs.declared.column.Side.TheVariants.{Right}
 use Rattle.gw_report.specs.Layout.{Column, table_of}
-use Rattle.gw_report.specs.Blocks.{names_text, blocks_text}
+use Rattle.gw_report.specs.Names.{names_text}
+use Rattle.gw_report.specs.Blocks.{blocks_text}
+use Rattle.gw_report.specs.Queues.{queues_text}
 use Rattle.gw_report.specs.Chains.{current_text, future_text}
 
 -- how the run of a START stands, as a word; an error with its number behind an X
@@ -48,4 +50,4 @@ head_text t s = table_of head_columns ((decimal s.since ∷ decimal s.clock ∷ 
 -- the whole report, section behind section
 unfoldable pub text_of : Listing → ℕ → ℕ → Machine → Outcome → List ℕ
 text_of t rep k s outcome = title_text rep (seed_of t rep) k outcome ++ head_text t s ++ names_text t ++
-    blocks_text t s ++ current_text t s ++ future_text t s
+    blocks_text t s ++ queues_text s ++ current_text t s ++ future_text t s

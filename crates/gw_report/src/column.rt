@@ -1,6 +1,6 @@
 ghost use Rattle.std.specs.Prelude.{◌≡◌, ◌++◌, ◌∷◌, OnOk, [], map, decimal};
 ghost use Rattle.gw_report.specs.Layout.{blanks, cell_of, row_of, heading_of};
-ghost use Rattle.gw_report.specs.Cells.{column_of, text_of_cell, signed};
+ghost use Rattle.gw_report.specs.Cells.{column_of, text_of_cell, signed, digit_of, decimals};
 
 use gw_nums::Val;
 use itoa::Buffer;
@@ -23,6 +23,8 @@ pub enum Cell<'a> {
     Text(&'a [u8]),
     Number(u64),
     Signed(Val),
+    /// A number of thousandths, in three decimals.
+    Thousandths(u128),
 }
 
 /// Appends the heading of a section.
@@ -68,6 +70,7 @@ fn put_cell(out: &mut Vec<u8>, column: &Column, cell: &Cell) -> Result<(), Alloc
         Cell::Text(text) => put_text(out, column, text),
         Cell::Number(number) => put_number(out, column, number),
         Cell::Signed(value) => put_signed(out, column, value),
+        Cell::Thousandths(number) => put_thousandths(out, column, number),
     }
 }
 
@@ -86,19 +89,59 @@ fn put_signed(out: &mut Vec<u8>, column: &Column, value: Val) -> Result<(), Allo
     put_text(out, column, digits.format(value.get()).as_bytes())
 }
 
+fn put_thousandths(out: &mut Vec<u8>, column: &Column, number: u128) -> Result<(), AllocError>
+    ensures { OnOk result (out.new.items ≡ out.old.items ++ cell_of (column_of column.now) (decimals number)) }
+{
+    let mut digits = Buffer::new();
+    let fraction = [
+        b'.',
+        digit_of(number / 100),
+        digit_of(number / 10),
+        digit_of(number),
+    ];
+    put_parts(
+        out,
+        column,
+        digits.format(number / 1000).as_bytes(),
+        &fraction,
+    )
+}
+
+// The last digit of a number.
+fn digit_of(number: u128) -> u8
+    ensures { result ≡ digit_of number }
+{
+    b'0' + (number % 10) as u8
+}
+
 fn put_text(out: &mut Vec<u8>, column: &Column, text: &[u8]) -> Result<(), AllocError>
     ensures { OnOk result (out.new.items ≡ out.old.items ++ cell_of (column_of column.now) text.now) }
 {
+    put_parts(out, column, text, b"")
+}
+
+// A text of two parts.
+fn put_parts(
+    out: &mut Vec<u8>,
+    column: &Column,
+    front: &[u8],
+    back: &[u8],
+) -> Result<(), AllocError>
+    ensures { OnOk result (out.new.items ≡ out.old.items ++
+        cell_of (column_of column.now) (front.now ++ back.now)) }
+{
     let Column(_, width, side) = *column;
-    let spare = width.saturating_sub(text.len());
+    let spare = width.saturating_sub(front.len() + back.len());
     match side {
         Side::Left => {
-            out.extend_from_slice(text)?;
+            out.extend_from_slice(front)?;
+            out.extend_from_slice(back)?;
             put_blanks(out, spare)
         }
         Side::Right => {
             put_blanks(out, spare)?;
-            out.extend_from_slice(text)
+            out.extend_from_slice(front)?;
+            out.extend_from_slice(back)
         }
     }
 }

@@ -8,12 +8,14 @@
 mod blocks;
 mod column;
 mod current;
+mod entity;
 mod future;
 mod head;
 mod laws;
 mod line;
 mod names;
 mod position;
+mod queues;
 mod report;
 mod section;
 mod title;

@@ -1,42 +1,126 @@
-ghost use Rattle.std.specs.Prelude.{◌≡◌, ◌++◌, OnOk};
-ghost use Rattle.gw_report.specs.Layout.{rows_of};
-ghost use Rattle.gw_report.specs.Blocks.{name_columns, name_lines, names_text};
+ghost use Rattle.std.specs.Prelude.{◌≡◌, ◌<◌, ◌^◌, ◌-◌, ◌++◌, ◌∷◌, [], OnOk, IfOk};
+ghost use Rattle.std.specs.List.{flat_map};
+ghost use Rattle.indexmap.specs.IndexSet.{insert_all};
+ghost use Rattle.gw_names.specs.Keys.{key_eq};
+ghost use Rattle.gw_meaning.specs.Listing.{label_at};
+ghost use Rattle.gw_report.specs.Layout.{row_of, rows_of};
+ghost use Rattle.gw_report.specs.Names.{name_columns, name_line, name_lines, names_in, names_of, names_text};
+ghost use Rattle.gw_report.specs.Names.{names_in_operand, next_by};
+ghost use Rattle.gw_report.specs.NameKeys.{as_keys, names_among};
 
 use crate::column::{Cell, Column, Side, put_row};
 use crate::position::position_of;
 use crate::section::put_section;
-use gw_meaning::{Body, Numbered};
+use gw_expr::{Expr, Node};
+use gw_meaning::Numbered;
 use gw_model::Version;
-use std::alloc::AllocError;
+use gw_names::{Key, Name};
+use indexmap::IndexSet;
+use std::alloc::{AllocError, Global};
 
 const NAME_COLUMNS: [Column; 2] = [
     Column(b"NAME", 10, Side::Left),
     Column(b"VALUE", 10, Side::Right),
 ];
 
-/// Appends the labels of the blocks, in the order of the statements.
+// The first value of a name that labels no block.
+const FIRST_VALUE: u64 = 10_000;
+
+/// Appends the names, each once, in order of first appearance.
 pub fn put_names(out: &mut Vec<u8>, version: &Version) -> Result<(), AllocError>
     ensures { OnOk result (out.new.items ≡ out.old.items ++ names_text version.now) }
 {
-    let mut lines = Vec::new(*out.allocator());
-    for line in version.lines() {
-        put_name(&mut lines, version, line)?;
-    }
+    let alloc = *out.allocator();
+    let names = names_of(alloc, version)?;
+    let lines = name_lines(alloc, version, names.as_slice())?;
     put_section(out, &NAME_COLUMNS, lines.as_slice())
 }
 
-// The line of a block with a label.
-fn put_name(out: &mut Vec<u8>, version: &Version, line: &Numbered) -> Result<(), AllocError>
-    ensures { OnOk result (out.new.items ≡ out.old.items ++ rows_of name_columns (name_lines version.now line.now)) }
+// The names of a version.
+fn names_of(alloc: Global, version: &Version) -> Result<IndexSet<Key>, AllocError>
+    ensures { IfOk result (λ names. names.keys ≡ as_keys (names_in version.now)) }
 {
-    match (&line.statement.body, &line.statement.label) {
-        (Body::Block(_), Some(label)) => {
-            let cells = [
-                Cell::Text(label.as_bytes()),
-                Cell::Number(position_of(version, Some(line.number))),
-            ];
-            put_row(out, &NAME_COLUMNS, &cells)
-        }
-        _ => Ok(()),
+    let mut names = IndexSet::new(alloc);
+    for line in version.lines() {
+        add_statement(&mut names, line)?;
     }
+    Ok(names)
+}
+
+// Adds what a statement names.
+fn add_statement(names: &mut IndexSet<Key>, line: &Numbered) -> Result<(), AllocError>
+    ensures { OnOk result (names.new.keys ≡ insert_all key_eq names.old.keys (as_keys (names_of line.now))) }
+{
+    if let Some(label) = &line.statement.label {
+        add_name(names, label)?;
+    }
+    match line.block() {
+        Some(block) => add_operands(names, block.operands.as_slice()),
+        None => Ok(()),
+    }
+}
+
+// Adds what operands name, from left to right.
+fn add_operands(names: &mut IndexSet<Key>, operands: &[Option<Expr>]) -> Result<(), AllocError>
+    ensures { OnOk result (names.new.keys ≡
+        insert_all key_eq names.old.keys (as_keys (flat_map names_in_operand operands.now))) }
+{
+    for operand in operands {
+        add_operand(names, operand)?;
+    }
+    Ok(())
+}
+
+// Adds what an operand names.
+fn add_operand(names: &mut IndexSet<Key>, operand: &Option<Expr>) -> Result<(), AllocError>
+    ensures { OnOk result (names.new.keys ≡
+        insert_all key_eq names.old.keys (as_keys (names_in_operand operand.now))) }
+{
+    let Some(expr) = operand else {
+        return Ok(());
+    };
+    match expr.node() {
+        Node::Constant(_) => Ok(()),
+        Node::Named(name) => add_name(names, name),
+    }
+}
+
+// Adds a name, unless it is there.
+fn add_name(names: &mut IndexSet<Key>, name: &Name) -> Result<(), AllocError>
+    ensures { OnOk result (names.new.keys ≡ insert_all key_eq names.old.keys (as_keys (name.now ∷ []))) }
+{
+    names.insert(Key::Named(name.clone()?))?;
+    Ok(())
+}
+
+// The lines of the names.
+fn name_lines(alloc: Global, version: &Version, names: &[Key]) -> Result<Vec<u8>, AllocError>
+    ensures { IfOk result (λ lines. lines.items ≡
+        rows_of name_columns (name_lines version.now 10000 (names_among names.now))) }
+{
+    let mut lines = Vec::new(alloc);
+    let mut next = FIRST_VALUE;
+    for key in names {
+        if let Key::Named(name) = key {
+            next = put_name(&mut lines, version, next, name)?;
+        }
+    }
+    Ok(lines)
+}
+
+// The line of a name. Gives the next value behind it.
+fn put_name(out: &mut Vec<u8>, version: &Version, next: u64, name: &Name) -> Result<u64, AllocError>
+    requires { next < 2 ^ 64 - 1 }
+    ensures row { OnOk result (out.new.items ≡ out.old.items ++
+        row_of name_columns (name_line version.now next name.now)) }
+    ensures next { IfOk result (λ n. n ≡ next_by next (label_at version.now name.now)) }
+{
+    let label = version.label(name);
+    let (value, behind) = match label {
+        Some(_) => (position_of(version, label), next),
+        None => (next, next + 1),
+    };
+    let cells = [Cell::Text(name.as_bytes()), Cell::Number(value)];
+    put_row(out, &NAME_COLUMNS, &cells)?;
+    Ok(behind)
 }

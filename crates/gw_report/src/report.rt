@@ -7,6 +7,7 @@ use crate::current::put_current;
 use crate::future::put_future;
 use crate::head::put_head;
 use crate::names::put_names;
+use crate::queues::put_queues;
 use crate::title::put_title;
 use gw_meaning::Outcome;
 use gw_model::Version;
@@ -31,6 +32,7 @@ pub fn print(
     put_head(&mut text, version, state)?;
     put_names(&mut text, version)?;
     put_blocks(&mut text, version, state)?;
+    put_queues(&mut text, state)?;
     put_current(&mut text, version, state)?;
     put_future(&mut text, version, state)?;
     Ok(text)

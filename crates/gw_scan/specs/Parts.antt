@@ -1,5 +1,11 @@
 -- What a contract sees of the parts of a state. (Our own.)
-use Rattle.std.specs.Prelude.{ℕ, Bool, List}
+use Rattle.std.specs.Prelude.{ℕ, ◌<◌, Bool, List}
+use Rattle.gw_entities.specs.Records.{Line}
+use Rattle.gw_entities.specs.Tables.{Touched, HasRoom}
+use Rattle.gw_entities.specs.Comings.{Arrivals}
+use Rattle.gw_meaning.specs.declared.moves.Change.{Change}
+use Rattle.gw_meaning.specs.declared.moves.Change.TheVariants as changes
+use Rattle.gw_meaning.specs.Entities.{Entities}
 
 -- the clocks
 pub record Times : Type 0 where
@@ -24,3 +30,17 @@ pub record Chain (A : Type 0) : Type 0 where
   pub items : List A
   -- how many more it takes without memory
   pub room : ℕ
+
+-- the entities, with what there is room for
+pub record Stock : Type 0 where
+  pub queues : Touched Line
+  pub comings : Arrivals
+
+abbrev pub entities_of : Stock → Entities
+entities_of e = record { queues = e.queues.entries; comings = e.comings.comings }
+
+-- there is room for what a change adds
+abbrev pub HasRoomFor : Stock → Change → Type 0
+HasRoomFor e (changes.Queue key units) = HasRoom e.queues key × (0 < e.comings.room)
+HasRoomFor e (changes.Depart key units at_once) = HasRoom e.queues key
+HasRoomFor e change = Unit {0}

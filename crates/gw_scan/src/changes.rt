@@ -80,7 +80,9 @@ impl State {
         {
             self.counts.reserve(arrival.id)?;
         }
+        self.entities.reserve(&change)?;
         if let Some(x) = self.active.take() {
+            let number = x.number;
             self.counts.cross(x.current, id, &fate);
             let transaction = mark(&change, self.clocks.clock(), enter(x, id));
             match &fate {
@@ -97,6 +99,7 @@ impl State {
             {
                 make(&mut self.next, &mut self.future, &mut self.counts, *arrival);
             }
+            self.entities.touch(change, self.clocks.clock(), number);
         }
         Ok(())
     }
@@ -115,6 +118,7 @@ impl State {
     {
         self.current.reserve(self.future.len())?;
         self.future.take_due(&mut self.current, clock.time());
+        self.entities.go_on(self.clocks.clock(), clock);
         self.clocks.advance(clock);
         Ok(())
     }
@@ -125,11 +129,11 @@ fn mark(change: &Change, clock: Clock, x: Transaction) -> Transaction
     ensures { result ≡ marked change.now clock x }
 {
     match change {
-        Change::Nothing => x,
         Change::Generate { .. } => Transaction {
             mark: clock.time(),
             ..x
         },
+        _ => x,
     }
 }
 

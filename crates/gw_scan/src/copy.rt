@@ -14,6 +14,7 @@ impl State {
         let current = self.current.copy()?;
         let future = self.future.copy()?;
         let counts = self.counts.copy()?;
+        let entities = self.entities.copy()?;
         Ok(State {
             clocks: self.clocks,
             progress: self.progress,
@@ -23,6 +24,7 @@ impl State {
             current,
             future,
             counts,
+            entities,
         })
     }
 }

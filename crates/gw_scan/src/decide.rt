@@ -159,6 +159,8 @@ impl State {
             BlockVerb::Generate => self.generate_of(case, notes, x, id, block),
             BlockVerb::Advance => self.advance_of(case, notes, id, block),
             BlockVerb::Terminate => self.terminate_of(case, notes, id, block),
+            BlockVerb::Queue => self.queue_of(case, notes, id, block),
+            BlockVerb::Depart => self.depart_of(case, notes, x, id, block),
             _ => Err(Halt::End(End::Error(Stop::NoNextBlock))),
         }
     }

@@ -1,13 +1,15 @@
 ghost use Rattle.std.specs.Prelude.{◌≡◌, IfOk, option_copied};
 ghost use Rattle.gw_meaning.specs.Machine.{zero_state, count_at};
+ghost use Rattle.gw_scan.specs.Parts.{entities_of};
 
 use crate::clocks::Clocks;
 use crate::counts::Counts;
 use crate::current::CurrentChain;
+use crate::entities::Entities;
 use crate::future::FutureChain;
 use crate::progress::Progress;
 use gw_meaning::{Count, StatementId, Transaction};
-use gw_nums::Time;
+use gw_nums::{Clock, Time};
 use gw_streams::Streams;
 use std::alloc::Global;
 use std::marker::Model;
@@ -23,10 +25,12 @@ pub struct State {
     pub(crate) current: CurrentChain,
     pub(crate) future: FutureChain,
     pub(crate) counts: Counts,
+    pub(crate) entities: Entities,
 }
 
 impl Model for State {
     ghost use Rattle.gw_meaning.specs.Machine.{Machine};
+    ghost use Rattle.gw_scan.specs.Parts.{entities_of};
 
     ghost Value = { Machine };
 
@@ -43,6 +47,7 @@ impl Model for State {
       current = s.current.items;
       future = s.future.items;
       counts = s.counts.entries;
+      entities = entities_of s.entities;
     } };
 }
 
@@ -60,6 +65,7 @@ impl State {
             current: CurrentChain::new(alloc),
             future: FutureChain::new(alloc),
             counts: Counts::new(alloc),
+            entities: Entities::new(alloc),
         }
     }
 
@@ -68,6 +74,13 @@ impl State {
         ensures { result ≡ self.now.clock }
     {
         self.clocks.clock().time()
+    }
+
+    /// The absolute clock, as the levels of entities take it.
+    pub fn clock_now(&self) -> Clock
+        ensures { result ≡ self.now.clock }
+    {
+        self.clocks.clock()
     }
 
     /// The absolute clock at the last RESET or CLEAR, from which the relative clock counts.
@@ -117,6 +130,13 @@ impl State {
         ensures { result.now.items ≡ self.now.future }
     {
         &self.future
+    }
+
+    /// The queues, and who came to which while the clock stands as it does.
+    pub fn entities(&self) -> &Entities
+        ensures { entities_of result.now ≡ self.now.entities }
+    {
+        &self.entities
     }
 
     /// What is counted at the block with this statement id.

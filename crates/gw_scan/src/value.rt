@@ -1,12 +1,14 @@
-// The values of operands.
+// What operands stand for: values, entities and units.
 ghost use Rattle.std.specs.Prelude.{◌≡◌, ◌++◌, option_copied};
-ghost use Rattle.gw_meaning.specs.Evaluation.{value_prog, value_or_zero};
+ghost use Rattle.gw_meaning.specs.Evaluation.{value_prog, value_or_zero, entity_prog, units_prog};
 ghost use Rattle.gw_scan.specs.Deciding.{Decides};
 
 use crate::case::{Case, Halt};
 use crate::notes::Notes;
 use crate::state::State;
-use gw_expr::{Expr, Node};
+use gw_expr::{Expr, Node, Stop};
+use gw_meaning::End;
+use gw_names::Key;
 use gw_nums::Val;
 
 impl State {
@@ -18,6 +20,7 @@ impl State {
         let _ = notes;
         match operand.node() {
             Node::Constant(value) => Ok(*value),
+            Node::Named(_) => Err(Halt::End(End::Error(Stop::Range))),
         }
     }
 
@@ -35,5 +38,50 @@ impl State {
             Some(expr) => self.value(case, notes, expr),
             None => Ok(Val::ZERO),
         }
+    }
+
+    // The entity that an operand names.
+    pub(crate) fn entity(
+        &self,
+        _case: Case,
+        notes: &mut Notes,
+        operand: Option<&Expr>,
+    ) -> Result<Key, Halt>
+        ensures { Decides _case.entry.version.now _case.entry.seed (entity_prog self.now (option_copied operand.entry))
+            result notes.old notes.new }
+    {
+        let _ = notes;
+        let Some(expr) = operand else {
+            return Err(Halt::End(End::Error(Stop::Range)));
+        };
+        match expr.node() {
+            Node::Named(name) => Ok(Key::Named(name.clone()?)),
+            Node::Constant(number) => {
+                if number.get() < 1 {
+                    return Err(Halt::End(End::Error(Stop::Range)));
+                }
+                Ok(Key::Num(number.magnitude() as u32))
+            }
+        }
+    }
+
+    // How many units an operand says, and 1 where it is absent.
+    pub(crate) fn units(
+        &self,
+        case: Case,
+        notes: &mut Notes,
+        operand: Option<&Expr>,
+    ) -> Result<u64, Halt>
+        ensures { Decides case.entry.version.now case.entry.seed (units_prog self.now (option_copied operand.entry))
+            result notes.old notes.new }
+    {
+        let Some(expr) = operand else {
+            return Ok(1);
+        };
+        let units = self.value(case, notes, expr)?;
+        if units.get() < 1 {
+            return Err(Halt::End(End::Error(Stop::BadCount)));
+        }
+        Ok(units.magnitude())
     }
 }

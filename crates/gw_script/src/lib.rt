@@ -17,8 +17,7 @@ mod sessions;
 pub use fault::{Fault, Over};
 pub use gw_desk::{Desk, Keeper, points_are_found};
 pub use gw_io::{
-    Budget, Bytes, Failed, FromRead, Page, READ_LIMIT, ReadFault, Sink, Source, ToWrite,
-    split_model,
+    Budget, Failed, FromRead, READ_LIMIT, ReadFault, Sink, Source, ToWrite, split_model,
 };
 pub use opening::{Options, open};
 pub use sessions::{session, session_on};

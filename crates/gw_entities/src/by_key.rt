@@ -1,0 +1,114 @@
+ghost use Rattle.std.specs.Prelude.{◌≡◌, [], length, None, slice_get, IfOk, OnOk, OnErr};
+ghost use Rattle.std.specs.Option.{option_map};
+ghost use Rattle.gw_entities.specs.Tables.{value_of, with_value, HasRoom, AreApart};
+
+use gw_names::Key;
+use indexmap::IndexMap;
+use std::alloc::{AllocError, Global};
+use std::marker::Model;
+
+/// A value for each entity, in order of first touch.
+#[derive(Drop)]
+pub struct ByKey<V: Copy> {
+    map: IndexMap<Key, V>,
+    // A copy of the key that room was made for, if it has no value yet.
+    ready: Option<Key>,
+}
+
+impl<V: Copy> Model for ByKey<V> {
+    ghost use Rattle.std.specs.Prelude.{◌<◌, IsSome};
+    ghost use Rattle.indexmap.specs.IndexMap.{spare};
+    ghost use Rattle.gw_entities.specs.Tables.{Touched};
+
+    ghost Value = { Touched V };
+
+    ghost view = { λ t. record { entries = t.map.entries; ready = t.ready } };
+
+    ghost invariant = { λ t. IsSome t.ready → 0 < spare t.map };
+}
+
+impl<V: Copy> ByKey<V> {
+    /// Nothing is touched yet.
+    pub fn new(alloc: Global) -> ByKey<V>
+        ensures { result.entries ≡ [] }
+    {
+        ByKey {
+            map: IndexMap::new(alloc),
+            ready: None,
+        }
+    }
+
+    /// How many entities were touched. None stands twice among the entries.
+    pub fn len(&self) -> usize
+        ensures len { result ≡ length self.now.entries }
+        ensures distinct { AreApart self.now.entries }
+    {
+        self.map.len()
+    }
+
+    /// The value of an entity.
+    pub fn get(&self, key: &Key) -> Option<V>
+        ensures { result ≡ value_of self.now.entries key.now }
+    {
+        self.map.get(key).copied()
+    }
+
+    /// Makes room for an entity: it needs no memory where the entity has a value, and never fails there. It changes no
+    /// value. Room for another entity that has none is gone, unless it fails: then all is as it was.
+    pub fn reserve(&mut self, key: &Key) -> Result<(), AllocError>
+        ensures ok { OnOk result (HasRoom self.new key.now) }
+        ensures err { OnErr result (value_of self.old.entries key.now ≡ None) }
+        ensures unchanged { OnErr result (self.new ≡ self.old) }
+        ensures entries { self.new.entries ≡ self.old.entries }
+    {
+        if !self.map.contains_key(key) {
+            let copy = key.clone()?;
+            self.map.reserve(1)?;
+            self.ready = Some(copy);
+        }
+        Ok(())
+    }
+
+    /// Sets the value of an entity: in place where it has one, else behind the others.
+    pub fn set(&mut self, key: &Key, value: V)
+        requires { HasRoom self.old key.now }
+        ensures { self.new.entries ≡ with_value self.old.entries key.now value }
+    {
+        match self.map.get_mut(key) {
+            Some(kept) => *kept = value,
+            None => match self.ready.take() {
+                Some(key) => match self.map.insert(key, value) {
+                    Ok(_) => (),
+                    Err(_) => unreachable!(),
+                },
+                None => unreachable!(),
+            },
+        }
+    }
+
+    /// The entity at an index, in order of first touch, and its value.
+    pub fn at(&self, index: usize) -> Option<(&Key, V)>
+        ensures { option_map (λ p. (p.0.now, p.1)) result ≡ slice_get self.now.entries index }
+    {
+        let (key, value) = self.map.get_index(index)?;
+        Some((key, *value))
+    }
+
+    /// Entities of the same values.
+    pub fn copy(&self) -> Result<ByKey<V>, AllocError>
+        ensures { IfOk result (λ t. t.entries ≡ self.now.entries) }
+    {
+        let alloc = *self.map.allocator();
+        let len = self.map.len();
+        let mut map = IndexMap::with_capacity(alloc, len)?;
+        for i in 0..len {
+            match self.map.get_index(i) {
+                Some((key, value)) => {
+                    map.insert(key.clone()?, *value)?;
+                }
+                None => unreachable!(),
+            }
+        }
+        Ok(ByKey { map, ready: None })
+    }
+}

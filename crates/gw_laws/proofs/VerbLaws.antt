@@ -1,0 +1,73 @@
+-- A block of each verb that is read, and a state in which a transaction enters it.
+use Rattle.std.proofs.Common.{[], ◌∷◌, Option, Some, pos, false, refl}
+use Rattle.gw_names.specs.declared.verb.BlockVerb.TheVariants as blocks
+use Rattle.gw_names.specs.declared.key.Key.TheVariants as keys
+use Rattle.gw_expr.specs.Term.{Term, Named}
+use Rattle.gw_entities.specs.Records.{queued, no_line}
+use Rattle.gw_meaning.specs.declared.transaction.Transaction.{Transaction}
+use Rattle.gw_meaning.specs.declared.moves.Change.TheVariants as changes
+use Rattle.gw_meaning.specs.declared.moves.Fate.TheVariants as fates
+use Rattle.gw_meaning.specs.Machine.{Machine, zero_state}
+use Rattle.gw_laws.specs.Verbs.{EachVerbIsEvaluated}
+
+-- a transaction on its way to its GENERATE
+abbrev first : Transaction
+first = record { number = 1; priority = pos 0; mark = 0; current = 0; destination = Some 1 }
+
+abbrev line : Option Term
+line = Some (Named [])
+
+-- a state with a unit in that queue
+abbrev one_there : Machine
+one_there = record zero_state {
+  entities =
+      record { queues = (keys.Named [], queued 1 0 no_line) ∷ []; comings = [] };
+}
+
+pub each_verb_is_evaluated : EachVerbIsEvaluated
+each_verb_is_evaluated blocks.Generate forms is = record {
+  block = record { verb = blocks.Generate; operands = [] };
+  state = zero_state;
+  transaction = first;
+  change = (changes.Generate (Some (record { id = 1; time = 0; priority = pos 0 })));
+  fate = fates.Active;
+  of_verb = refl;
+  enters = refl;
+}
+each_verb_is_evaluated blocks.Advance forms is = record {
+  block = record { verb = blocks.Advance; operands = [] };
+  state = zero_state;
+  transaction = first;
+  change = changes.Nothing;
+  fate = fates.Active;
+  of_verb = refl;
+  enters = refl;
+}
+each_verb_is_evaluated blocks.Terminate forms is = record {
+  block = record { verb = blocks.Terminate; operands = [] };
+  state = zero_state;
+  transaction = first;
+  change = changes.Nothing;
+  fate = (fates.Destroyed 0);
+  of_verb = refl;
+  enters = refl;
+}
+each_verb_is_evaluated blocks.Queue forms is = record {
+  block = record { verb = blocks.Queue; operands = line ∷ [] };
+  state = zero_state;
+  transaction = first;
+  change = (changes.Queue (keys.Named []) 1);
+  fate = fates.Active;
+  of_verb = refl;
+  enters = refl;
+}
+each_verb_is_evaluated blocks.Depart forms is = record {
+  block = record { verb = blocks.Depart; operands = line ∷ [] };
+  state = one_there;
+  transaction = first;
+  change = (changes.Depart (keys.Named []) 1 false);
+  fate = fates.Active;
+  of_verb = refl;
+  enters = refl;
+}
+each_verb_is_evaluated verb forms is = absurd cc

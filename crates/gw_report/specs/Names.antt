@@ -1,0 +1,64 @@
+-- The names of a version, each once, with its value. (Manual: names, and that a block's name has its position. Our own:
+-- the order, and that the others have 10000, 10001 and so on in it.)
+use Rattle.std.specs.Prelude.{ℕ, ◌+◌, not, List, [], ◌∷◌, ◌++◌, Option, Some, None, option_to_list, filter, decimal}
+use Rattle.std.specs.Prelude.{codes}
+use Rattle.std.specs.List.{flat_map}
+use Rattle.std.specs.Str.{bytes_eq}
+use Rattle.gw_expr.specs.Term.{Term, Constant, Named}
+use Rattle.gw_meaning.specs.Listing.{Listing, block_of, label_at}
+use Rattle.gw_meaning.specs.declared.statement.Block.{Block}
+use Rattle.gw_meaning.specs.declared.statement.Numbered.{Numbered}
+use Rattle.gw_report.specs.declared.column.Side.TheVariants.{Left, Right}
+use Rattle.gw_report.specs.Layout.{Column, section_of}
+use Rattle.gw_report.specs.Chains.{position_of}
+
+abbrev pub name_columns : List Column
+name_columns = record { title = codes "NAME"; width = 10; side = Left } ∷
+    record { title = codes "VALUE"; width = 10; side = Right } ∷ []
+
+-- the names in an operand, and in a block, from left to right
+abbrev pub names_in_term : Term → List (List ℕ)
+names_in_term (Constant value) = []
+names_in_term (Named name) = name ∷ []
+
+abbrev pub names_in_operand : Option Term → List (List ℕ)
+names_in_operand None = []
+names_in_operand (Some term) = names_in_term term
+
+abbrev pub names_in_block : Option Block → List (List ℕ)
+names_in_block None = []
+names_in_block (Some block) = flat_map names_in_operand block.operands
+
+-- what a statement names: the label first
+abbrev pub names_of : Numbered → List (List ℕ)
+names_of line = option_to_list line.statement.label ++ names_in_block (block_of line)
+
+-- each once, where it stands first
+abbrev pub each_once : List (List ℕ) → List (List ℕ)
+each_once [] = []
+each_once (name ∷ names) = name ∷ filter (λ other. not (bytes_eq other name)) (each_once names)
+
+abbrev pub names_in : Listing → List (List ℕ)
+names_in t = each_once (flat_map names_of t.lines)
+
+-- the value of a name that labels a block, or none; and the next free value behind it
+abbrev pub value_by : Listing → ℕ → Option ℕ → ℕ
+value_by t next None = next
+value_by t next (Some id) = position_of t (Some id)
+
+abbrev pub next_by : ℕ → Option ℕ → ℕ
+next_by next None = next + 1
+next_by next (Some id) = next
+
+-- a name and its value, where `next` is the next one that is free
+abbrev pub name_line : Listing → ℕ → List ℕ → List (List ℕ)
+name_line t next name = name ∷ decimal (value_by t next (label_at t name)) ∷ []
+
+abbrev pub name_lines : Listing → ℕ → List (List ℕ) → List (List (List ℕ))
+name_lines t next [] = []
+name_lines t next (name ∷ names) =
+    name_line t next name ∷ name_lines t (next_by next (label_at t name)) names
+
+-- the names, in order of first appearance
+unfoldable pub names_text : Listing → List ℕ
+names_text t = section_of name_columns (name_lines t 10000 (names_in t))
