@@ -1,20 +1,22 @@
 -- A version with its places renamed is answered alike, and so is the version made anew.
-use Rattle.std.proofs.Common.{◌≡◌, ℕ, zero, suc, ◌+◌, ◌&&◌, ◌||◌, nat_eq, nat_lt, Bool, true, false, cond, List, [], ◌∷◌, length, filter, Option, Some, None, Result, Ok, Err, refl, ap, ap₂, is_some, option_map, ◌∙◌, arith}
+use Rattle.std.proofs.Common.{◌≡◌, ℕ, zero, suc, ◌+◌, ◌||◌, nat_eq, nat_lt, Bool, true, false, cond, not, List, [], ◌∷◌, length, filter, Option, Some, None, Result, Ok, Err, refl, ap, ap₂, is_some, option_map, ◌∙◌, arith}
+use Rattle.std.specs.List.{list_any}
+use Rattle.gw_expr.specs.Term.{Term, Label}
 use Rattle.gw_meaning.specs.declared.item.End.{End}
 use Rattle.gw_meaning.specs.declared.item.Outcome.{Outcome}
 use Rattle.gw_meaning.specs.declared.statement.Statement.{Statement}
 use Rattle.gw_meaning.specs.declared.statement.Numbered.{Numbered}
-use Rattle.gw_meaning.specs.Listing.{Listing, block_of, block_of_body, has_label, labelled_in, is_start, starts, seed_at, seed_in}
+use Rattle.gw_meaning.specs.Listing.{Listing, block_of, block_of_body, labelled_in, is_start, starts, seed_at, seed_in}
 use Rattle.gw_meaning.specs.Machine.{Machine, zero_state}
 use Rattle.gw_meaning.specs.Step.{step}
 use Rattle.gw_meaning.specs.Point.{outcome_of}
 use Rattle.gw_model.specs.Listed.{numbered}
 use Rattle.gw_model.proofs.Numbers.{numbered_listed}
-use Rattle.gw_frame.specs.Moved.{moved_machine, moved_result}
-use Rattle.gw_model.specs.Faults.{is_labelled, has_label_twice}
+use Rattle.gw_frame.specs.Moved.{IsMove, moved_machine, moved_result}
+use Rattle.gw_model.specs.Faults.{is_labelled, has_label_twice, is_unknown, block_operands, names_unknown, has_unknown_label}
 use Rattle.gw_model.specs.Listed.{block_label}
 use Rattle.gw_frame.specs.Renamed.{statements_of, AreRenamed, IsSameModel, IsRenamed}
-use Rattle.gw_frame.proofs.Renaming.{commands_renamed}
+use Rattle.gw_frame.proofs.Renaming.{commands_renamed, label_renamed}
 use Rattle.gw_frame.proofs.RenamedRuns.{renamed_step}
 use Rattle.gw_frame.proofs.Renumbering.{has_renaming}
 use Rattle.gw_report.proofs.Renaming.{renamed_text}
@@ -99,37 +101,55 @@ answered_anew t are =
     same_answers t (anew t) same are (numbered_listed 1 statements (omega arith))
 
 -- labels and numbers of statements
-label_renamed : (move : ℕ → ℕ) (name : List ℕ) (ls ms : List Numbered) → AreRenamed move ls ms →
-    labelled_in name ms ≡ option_map move (labelled_in name ls)
-label_renamed move name [] [] r = refl
-label_renamed move name [] (m ∷ ms) r = absurd r
-label_renamed move name (l ∷ ls) [] r = absurd r
-label_renamed move name (l ∷ ls) (m ∷ ms) r =
-    let same : (is_some (block_of m) && has_label name m.statement.label) ≡ (is_some (block_of l) && has_label name l.statement.label) =
-    ap (λ (s : Statement). is_some (block_of_body s.body) && has_label name s.label) r.1 in
-    rw (same, r.0)
-    (elim (is_some (block_of l) && has_label name l.statement.label) as
-    (λ b. cond b (Some (move l.number)) (labelled_in name ms) ≡ option_map move (cond b (Some l.number) (labelled_in name ls)))
-    [ true ↦ refl | false ↦ label_renamed move name ls ms r.2 ])
-
 there_renamed : (move : ℕ → ℕ) (o : Option ℕ) → is_some (option_map move o) ≡ is_some o
 there_renamed move None = refl
 there_renamed move (Some n) = refl
 
-labelled_renamed : (move : ℕ → ℕ) (label : Option (List ℕ)) (ls ms : List Numbered) → AreRenamed move ls ms → is_labelled label ms ≡ is_labelled label ls
-labelled_renamed move None ls ms r = refl
-labelled_renamed move (Some name) ls ms r = ap is_some (label_renamed move name ls ms r) ∙ there_renamed move (labelled_in name ls)
+known_renamed : (move : ℕ → ℕ) → IsMove move → (ls ms : List Numbered) → AreRenamed move ls ms → (name : List ℕ) →
+    is_some (labelled_in name ms) ≡ is_some (labelled_in name ls)
+known_renamed move is ls ms r name = ap is_some (label_renamed move is name ls ms r) ∙ there_renamed move (labelled_in name ls)
+
+labelled_renamed : (move : ℕ → ℕ) → IsMove move → (label : Option (List ℕ)) (ls ms : List Numbered) → AreRenamed move ls ms →
+    is_labelled label ms ≡ is_labelled label ls
+labelled_renamed move is None ls ms r = refl
+labelled_renamed move is (Some name) ls ms r = known_renamed move is ls ms r name
 
 abbrev label_of_statement : Statement → Option (List ℕ)
 label_of_statement s = cond (is_some (block_of_body s.body)) s.label None
 
-twice_renamed : (move : ℕ → ℕ) (ls ms : List Numbered) → AreRenamed move ls ms → has_label_twice ms ≡ has_label_twice ls
-twice_renamed move [] [] r = refl
-twice_renamed move [] (m ∷ ms) r = absurd r
-twice_renamed move (l ∷ ls) [] r = absurd r
-twice_renamed move (l ∷ ls) (m ∷ ms) r =
+twice_renamed : (move : ℕ → ℕ) → IsMove move → (ls ms : List Numbered) → AreRenamed move ls ms → has_label_twice ms ≡ has_label_twice ls
+twice_renamed move is [] [] r = refl
+twice_renamed move is [] (m ∷ ms) r = absurd r
+twice_renamed move is (l ∷ ls) [] r = absurd r
+twice_renamed move is (l ∷ ls) (m ∷ ms) r =
     let same : block_label m ≡ block_label l = ap label_of_statement r.1 in
-    ap₂ (λ a b. a || b) (ap (λ label. is_labelled label ms) same ∙ labelled_renamed move (block_label l) ls ms r.2) (twice_renamed move ls ms r.2)
+    ap₂ (λ a b. a || b) (ap (λ label. is_labelled label ms) same ∙ labelled_renamed move is (block_label l) ls ms r.2) (twice_renamed move is ls ms r.2)
+
+-- the operands of equal statements, where the same labels are known
+operand_unknown : (known known' : List ℕ → Bool) → ((name : List ℕ) → known' name ≡ known name) → (o : Option Term) → is_unknown known' o ≡ is_unknown known o
+operand_unknown known known' same (Some (Label name)) = ap not (same name)
+operand_unknown known known' same o = refl
+
+operands_unknown : (known known' : List ℕ → Bool) → ((name : List ℕ) → known' name ≡ known name) → (os : List (Option Term)) →
+    list_any (is_unknown known') os ≡ list_any (is_unknown known) os
+operands_unknown known known' same [] = refl
+operands_unknown known known' same (o ∷ os) = ap₂ (λ a b. a || b) (operand_unknown known known' same o) (operands_unknown known known' same os)
+
+lines_unknown : (known known' : List ℕ → Bool) → ((name : List ℕ) → known' name ≡ known name) → (move : ℕ → ℕ) (ls ms : List Numbered) →
+    AreRenamed move ls ms → list_any (names_unknown known') ms ≡ list_any (names_unknown known) ls
+lines_unknown known known' same move [] [] r = refl
+lines_unknown known known' same move [] (m ∷ ms) r = absurd r
+lines_unknown known known' same move (l ∷ ls) [] r = absurd r
+lines_unknown known known' same move (l ∷ ls) (m ∷ ms) r =
+    let line : names_unknown known' m ≡ names_unknown known l =
+    ap (λ (s : Statement). list_any (is_unknown known') (block_operands (block_of_body s.body))) r.1 ∙
+    operands_unknown known known' same (block_operands (block_of l)) in
+    ap₂ (λ a b. a || b) line (lines_unknown known known' same move ls ms r.2)
+
+unknown_renamed : (move : ℕ → ℕ) → IsMove move → (ls ms : List Numbered) → AreRenamed move ls ms → has_unknown_label ms ≡ has_unknown_label ls
+unfolding has_unknown_label
+unknown_renamed move is ls ms r =
+    lines_unknown (λ name. is_some (labelled_in name ls)) (λ name. is_some (labelled_in name ms)) (known_renamed move is ls ms r) move ls ms r
 
 length_renamed : (move : ℕ → ℕ) (ls ms : List Numbered) → AreRenamed move ls ms → length ms ≡ length ls
 length_renamed move [] [] r = refl
@@ -142,4 +162,9 @@ faulty_anew t are =
     let statements = statements_of t.lines in
     let same : IsSameModel t (anew t) = record { statements = same_statements 1 statements; horizon = refl; replications = refl; limit = refl } in
     let found = has_renaming t (anew t) same are (numbered_listed 1 statements (omega arith)) in
-    rw (length_renamed found.0 t.lines (anew t).lines found.1.lines, twice_renamed found.0 t.lines (anew t).lines found.1.lines) refl
+    let is = found.1.is_move in
+    rw (
+      length_renamed found.0 t.lines (anew t).lines found.1.lines,
+      twice_renamed found.0 is t.lines (anew t).lines found.1.lines,
+      unknown_renamed found.0 is t.lines (anew t).lines found.1.lines,
+    ) refl

@@ -88,6 +88,7 @@ model_refused models.TooMany is = absurd cc
 model_refused models.BadSeed is = absurd cc
 model_refused models.BadHorizon is = absurd cc
 model_refused models.LabelTwice is = absurd cc
+model_refused models.NoSuchLabel is = absurd cc
 model_refused models.Memory is = absurd cc
 
 unless_refused : (o : Option ModelFault) (v : Listing) → unless_faulty o v ≡ Err faults.HistoryFull → ⊥

@@ -30,8 +30,10 @@ module _ (t : Listing) (e : Edit) (u : Listing) (old cur : List Recording) (i : 
         let apart : k ≡ i → ⊥ = λ e. grind (arith, nat_tests) in
         rw (get_or-set_other cur i k x d apart) (done k d (grind (arith, nat_tests)))
 
-  pub rest_stays : (k : ℕ) (d : Recording) → i + 1 ≤ k → get_or (set cur i x) k d ≡ get_or old k d
-  rest_stays k d more = get_or-set_other cur i k x d (λ e. omega (arith, e, more)) ∙ rest k d (omega (arith, more))
+pub rest_stays : (old cur : List Recording) (i : ℕ) (x : Recording) →
+    ((k : ℕ) (d : Recording) → i ≤ k → get_or cur k d ≡ get_or old k d) →
+    (k : ℕ) (d : Recording) → i + 1 ≤ k → get_or (set cur i x) k d ≡ get_or old k d
+rest_stays old cur i x rest k d more = get_or-set_other cur i k x d (λ e. omega (arith, e, more)) ∙ rest k d (omega (arith, more))
 
 -- what a run list with these runs gives for a number
 abbrev pub IsRebasedOf : Listing → Edit → Listing → ℕ → Option Tape → Option Tape → Type 0

@@ -5,7 +5,7 @@ ghost use Rattle.gw_desk.specs.Editing.{Accepts, Refuses};
 
 use crate::desk::Desk;
 use crate::rebase::{add_missing, keep_those_of, rebase_all};
-use gw_edit::{Edit, EditFault, apply};
+use gw_edit::{Edit, EditFault, apply, touch_of};
 use std::alloc::Global;
 
 /// How many edits a desk accepts.
@@ -29,10 +29,11 @@ impl Desk {
             Ok(new) => new,
             Err(fault) => return Err(fault),
         };
+        let touch = touch_of(&self.version, &edit, &new)?;
         self.runs.reserve(new.replications().len())?;
         self.edits.reserve(1)?;
         new.numbered();
-        rebase_all(&mut self.runs, &self.version, &edit, &new);
+        rebase_all(&mut self.runs, &self.version, &touch);
         add_missing(&mut self.runs, alloc, new.replications(), self.every);
         keep_those_of(&mut self.runs, &new);
         self.version = new;

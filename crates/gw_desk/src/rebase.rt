@@ -1,26 +1,28 @@
 // What an edit leaves of the recorded runs.
 ghost use Rattle.std.specs.Prelude.{◌≡◌, ◌+◌, ◌<◌, ◌≤◌, length, vec_len, vec_capacity, filter, is_some};
-ghost use Rattle.gw_meaning.specs.Listing.{seed_at};
+ghost use Rattle.gw_meaning.specs.Listing.{Listing, seed_at};
+ghost use Rattle.gw_edit.specs.declared.edit.Edit.{Edit};
+ghost use Rattle.gw_edit.specs.Touching.{touching_of};
 ghost use Rattle.gw_desk.specs.declared.recording.Recording.{Recording};
 ghost use Rattle.gw_desk.specs.Book.{run_in};
 ghost use Rattle.gw_desk.specs.Rebasing.{AreRebased, with_run, with_missing};
 
 use crate::recording::{Recording, run_of};
-use gw_edit::{Edit, rebase, touch_of};
+use gw_edit::{Touch, rebase};
 use gw_meaning::Replication;
 use gw_model::Version;
 use gw_record::Recorded;
 use std::alloc::Global;
 
-// The recorded runs behind the edit of a version to a new one.
-pub fn rebase_all(runs: &mut Vec<Recording>, old: &Version, edit: &Edit, new: &Version)
-    ensures rebased { AreRebased old.now edit.now new.now runs.old.items runs.new.items }
+// The recorded runs behind an edit of a version, by what the edit touches.
+pub fn rebase_all(runs: &mut Vec<Recording>, old: &Version, touch: &Touch)
+    ensures rebased { (e : Edit) (u : Listing) → touch.now ≡ touching_of old.now e u →
+        AreRebased old.now e u runs.old.items runs.new.items }
     ensures len { vec_len runs.new ≡ vec_len runs.old }
     ensures room { vec_capacity runs.new ≡ vec_capacity runs.old }
 {
-    let touch = touch_of(old, edit, new);
     for recording in runs.iter_mut() {
-        rebase(&mut recording.run, old, &touch, recording.number);
+        rebase(&mut recording.run, old, touch, recording.number);
     }
 }
 

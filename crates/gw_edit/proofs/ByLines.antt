@@ -1,9 +1,11 @@
 -- Items that are answered by lists: the statements say something to the item, each by itself, and its answer is made of what
 -- they say, in order. One that says nothing to it may come in or go out, and one may come for another that says the same.
 -- These are all items but those of a block, which go by its number, and those of a command, which go by how many are in front.
-use Rattle.std.proofs.Common.{◌≡◌, ℕ, zero, suc, Bool, true, false, cond, not, ◌&&◌, slice_get, List, [], ◌∷◌, ◌++◌, Option, Some, None, is_some, ◌||◌, refl, ap, sym, subst, ◌∙◌, ⊎_elim}
+use Rattle.std.proofs.Common.{◌≡◌, ℕ, zero, suc, Bool, true, false, cond, not, ◌&&◌, slice_get, List, [], ◌∷◌, ◌++◌, Option, Some, None, is_some, ◌||◌, refl, ap, ap₂, sym, subst, ◌∙◌, ⊎_elim}
 use mathlib.Core.Bool.{true≢false}
 use Rattle.std.specs.List.{filter_map, cons_option}
+use Rattle.std.specs.Str.{bytes_eq}
+use Rattle.std.proofs.lemmas.Slice.Eq.{bytes_eq-Decides}
 use Rattle.std.proofs.lemmas.Bool.{cases_Bool, or_parts}
 use Rattle.std.proofs.lemmas.List.Elements.{filter_map-append}
 use Rattle.std.proofs.lemmas.List.Folds.{list_any-append}
@@ -13,14 +15,14 @@ use Rattle.gw_meaning.specs.declared.statement.Body.{Body}
 use Rattle.gw_meaning.specs.declared.statement.Body.TheVariants as bodies
 use Rattle.gw_meaning.specs.declared.statement.Statement.{Statement}
 use Rattle.gw_meaning.specs.declared.statement.Numbered.{Numbered}
-use Rattle.gw_meaning.specs.Listing.{Listing, block_of_body, is_block, is_generate, is_generate_body, generates_in}
+use Rattle.gw_meaning.specs.Listing.{Listing, block_of_body, is_block, is_generate, is_generate_body, has_label, labelled_in, generates_in}
 use Rattle.gw_meaning.specs.Questions.{Answer, ask}
 use Rattle.gw_meaning.specs.Reads.{is_use}
-use Rattle.gw_edit.specs.Same.{same_statement}
+use Rattle.gw_edit.specs.Same.{same_statement, same_label}
 use Rattle.gw_edit.specs.declared.touch.Probe.{Probe}
 use Rattle.gw_edit.specs.declared.touch.Probe.TheVariants.{CommandsFrom}
-use Rattle.gw_edit.specs.Touching.{block_before, command_from, given, one_if, block_places, block_probes, line_probes, change_places, block_change, is_probed, is_touched}
-use Rattle.gw_edit.proofs.SameBlocks.{statement_same}
+use Rattle.gw_edit.specs.Touching.{block_before, command_from, given, one_if, label_if, block_places, block_probes, line_probes, change_places, label_places, block_change, is_probed, is_touched}
+use Rattle.gw_edit.proofs.SameBlocks.{statement_same, label_same}
 
 -- what is not touched by probes is not touched by any part of them
 pub untouched_both : (ps qs : List Probe) (i : Item) → is_touched (ps ++ qs) i ≡ false → (is_touched ps i ≡ false) × (is_touched qs i ≡ false)
@@ -87,6 +89,12 @@ no_generate t place line false is h = no_generate_of line.statement.body is
 generate_none : (line : Numbered) → is_generate line ≡ false → generate_of line ≡ None
 generate_none line none = ap (λ b. cond b (Some line.number) None) none
 
+-- a block that comes for a block touches what its change touches, and labels
+pub change_parts : (line : Numbered) (s : Statement) (i : Item) → is_touched (block_change line (changed_line line s)) i ≡ false →
+    (is_touched (given (change_places (not (same_statement line.statement s)) line (changed_line line s))) i ≡ false) ×
+    (is_touched (given (label_places (not (same_label line.statement.label s.label)) line (changed_line line s))) i ≡ false)
+change_parts line s i h = untouched_both _ _ i h
+
 same_generate : (line : Numbered) (s : Statement) → is_touched (block_change line (changed_line line s)) items.Generates ≡ false →
     is_generate (changed_line line s) ≡ is_generate line
 same_generate line s h =
@@ -94,11 +102,62 @@ same_generate line s h =
     (λ (same : same_statement line.statement s ≡ true). ap is_generate_body (sym (statement_same line.statement s same)))
     (λ (other : same_statement line.statement s ≡ false).
     let either = is_generate line || is_generate (changed_line line s) in
-    let untouched = untouched_at (change_places (not (same_statement line.statement s)) line (changed_line line s)) 1 _ items.Generates refl h in
+    let untouched = untouched_at (change_places (not (same_statement line.statement s)) line (changed_line line s)) 1 _ items.Generates refl
+    (change_parts line s items.Generates h).0 in
     let none = not_wanted (not (same_statement line.statement s) && either) items.Generates refl untouched in
     let parts = or_parts (is_generate line) (is_generate (changed_line line s)) (subst (λ (b : Bool). (not b && either) ≡ false) other none) in
     parts.1 ∙ sym parts.0)
     (cases_Bool (same_statement line.statement s))
+
+-- two names are other ones in either order
+bytes_other : (a b : List ℕ) → bytes_eq a b ≡ false → bytes_eq b a ≡ false
+bytes_other a b h = ⊎_elim
+    (λ (same : bytes_eq b a ≡ true). absurd (let is : b ≡ a = (bytes_eq-Decides b a).0 same in
+    let itself : bytes_eq a a ≡ false = subst (λ x. bytes_eq a x ≡ false) is h in true≢false (sym ((bytes_eq-Decides a a).1 refl) ∙ itself)))
+    (λ (other : bytes_eq b a ≡ false). other) (cases_Bool (bytes_eq b a))
+
+-- the block with a label
+module _ (name : List ℕ) where
+  abbrev label_of : Numbered → Option ℕ
+  label_of line = cond (is_block line && has_label name line.statement.label) (Some line.number) None
+
+  abbrev first : List ℕ → Option ℕ
+  first [] = None
+  first (n ∷ ns) = Some n
+
+  label_listed : (lines : List Numbered) → labelled_in name lines ≡ first (filter_map label_of lines)
+  label_listed [] = refl
+  label_listed (line ∷ lines) =
+      elim (is_block line && has_label name line.statement.label) as (λ b. cond b (Some line.number) (labelled_in name lines) ≡
+      first (cons_option (cond b (Some line.number) None) (filter_map label_of lines)))
+      [ true ↦ refl | false ↦ label_listed lines ]
+
+  -- a label that was wanted and is left untouched is another one
+  other_label : (label : Option (List ℕ)) → probed_at (label_if true label) (items.Label name) ≡ false → has_label name label ≡ false
+  other_label None h = refl
+  other_label (Some label) h = bytes_other name label h
+
+  no_label : (t : Listing) (place : ℕ) (line : Numbered) (block : Bool) → is_block line ≡ block →
+      is_touched (cond block (block_probes t place line) (CommandsFrom (command_from t place) ∷ [])) (items.Label name) ≡ false → label_of line ≡ None
+  no_label t place line true is h =
+      let other = other_label line.statement.label (untouched_at (block_places (block_before t place) line) 4 _ (items.Label name) refl h) in
+      ap (λ c. cond c (Some line.number) None) (ap₂ (λ a b. a && b) is other)
+  no_label t place line false is h = ap (λ c. cond (c && has_label name line.statement.label) (Some line.number) None) is
+
+  label_there : (line : Numbered) (s : Statement) (same : Bool) → same_label line.statement.label s.label ≡ same →
+      is_touched (given (label_places (not same) line (changed_line line s))) (items.Label name) ≡ false →
+      has_label name s.label ≡ has_label name line.statement.label
+  label_there line s true is h = ap (has_label name) (sym (label_same line.statement.label s.label is))
+  label_there line s false is h =
+      let places = label_places true line (changed_line line s) in
+      other_label s.label (untouched_at places 1 _ (items.Label name) refl h) ∙
+      sym (other_label line.statement.label (untouched_at places 0 _ (items.Label name) refl h))
+
+  label_changed : (line : Numbered) (s : Statement) → is_block line ≡ true → is_block (changed_line line s) ≡ true →
+      is_touched (block_change line (changed_line line s)) (items.Label name) ≡ false → label_of (changed_line line s) ≡ label_of line
+  label_changed line s was is h =
+      let labels = label_there line s (same_label line.statement.label s.label) refl (change_parts line s (items.Label name) h).1 in
+      ap (λ c. cond c (Some line.number) None) (ap₂ (λ a b. a && b) (is ∙ sym was) labels)
 
 -- the items of a block and those of a command are the others
 abbrev pub IsListed : Item → Type 0
@@ -119,6 +178,14 @@ by_lines items.Generates listed = record {
   is = λ t seed. generates_listed t.lines;
   line = λ t place line h. generate_none line (no_generate t place line (is_block line) refl h);
   change = λ line s was is h. ap (λ b. cond b (Some line.number) None) (same_generate line s h);
+}
+by_lines (items.Label name) listed = record {
+  X = ℕ;
+  says = label_of name;
+  made = λ horizon seed ns. first name ns;
+  is = λ t seed. label_listed name t.lines;
+  line = λ t place line h. no_label name t place line (is_block line) refl h;
+  change = λ line s was is h. label_changed name line s was is h;
 }
 by_lines item listed = record {
   X = Unit {0};

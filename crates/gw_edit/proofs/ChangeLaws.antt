@@ -13,7 +13,7 @@ use Rattle.gw_edit.specs.Same.{same_statement}
 use Rattle.gw_edit.specs.Touching.{lines_before, one_if, line_probes, change_places, block_change, splice_probes, is_touched}
 use Rattle.gw_edit.proofs.Fronts.{block_in, block_behind, after_behind, commands_behind}
 use Rattle.gw_edit.proofs.SameBlocks.{statement_same}
-use Rattle.gw_edit.proofs.ByLines.{untouched_both, probed_at, untouched_at, changed_line, by_lines, changed_alike}
+use Rattle.gw_edit.proofs.ByLines.{untouched_both, probed_at, untouched_at, changed_line, change_parts, by_lines, changed_alike}
 use Rattle.gw_edit.proofs.LineLaws.{command_none, line_alike}
 
 module _ (back : List Numbered) (line : Numbered) (s : Statement) where
@@ -72,7 +72,8 @@ module _ (t u : Listing) (place : ℕ) (line : Numbered) (s : Statement) (back :
         (λ (same : same_statement line.statement s ≡ true).
         block_alike k (block_here back line s k (ap block_of_body (sym (statement_same line.statement s same)))))
         (λ (other : same_statement line.statement s ≡ false).
-        let untouched = untouched_at (change_places (not (same_statement line.statement s)) line (changed_line line s)) 0 _ (items.Block k) refl h in
+        let untouched = untouched_at (change_places (not (same_statement line.statement s)) line (changed_line line s)) 0 _ (items.Block k) refl
+        (change_parts line s (items.Block k) h).0 in
         let wanted = subst (λ (b : Bool). probed_at (one_if (not b) (items.Block line.number)) (items.Block k) ≡ false) other untouched in
         block_alike k (block_other back line s k (other_way k line.number wanted)))
         (cases_Bool (same_statement line.statement s))

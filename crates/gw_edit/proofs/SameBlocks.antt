@@ -1,24 +1,43 @@
 -- Statements that are the same are the same block.
-use Rattle.std.proofs.Common.{◌≡◌, ◌≤◌, ◌<◌, true, false, length, arith, List, [], ◌∷◌, get_or, Option, Some, None, refl, sym, ap, ap₂, ◌∙◌, rules}
+use Rattle.std.proofs.Common.{◌≡◌, ℕ, zero, suc, ℤ, pos, negsuc, ◌==◌, ◌≤◌, ◌<◌, true, false, length, arith, List, [], ◌∷◌, get_or, Option, Some, None, refl, sym, ap, ap₂, ◌∙◌, rules}
 use denote.Enum.Bare.{same_true}
 use Rattle.std.specs.Str.{bytes_eq}
-use Rattle.std.proofs.lemmas.Bool.{and_parts}
+use Rattle.std.specs.Ordering.{int_eq}
+use Rattle.std.proofs.lemmas.Bool.{and_parts, eqb-true}
 use Rattle.std.proofs.lemmas.Bool.Decides.{Decides-int_eq}
 use Rattle.std.proofs.lemmas.Slice.Eq.{bytes_eq-Decides}
 use Rattle.gw_names.specs.contracts.verb.BlockVerb.{the_type}
 use Rattle.gw_names.specs.declared.verb.BlockVerb.{BlockVerb}
-use Rattle.gw_expr.specs.Term.{Term, Constant, Named}
+use Rattle.gw_expr.specs.Term.{Term, Constant, Named, Label, Fraction}
 use Rattle.gw_meaning.specs.declared.statement.Statement.{Statement}
 use Rattle.gw_meaning.specs.declared.statement.Block.{Block}
 use Rattle.gw_meaning.specs.declared.statement.Body.{Body}
 use Rattle.gw_meaning.specs.declared.statement.Body.TheVariants as bodies
-use Rattle.gw_edit.specs.Same.{same_term, same_operand, same_operands, same_verb, same_block, same_body, same_statement}
+use Rattle.gw_edit.specs.Same.{kind_of, number_of, bytes_of, same_term, same_operand, same_operands, same_verb, same_block, same_body, same_statement, same_label}
+
+-- the operand that is told so
+abbrev told : ℕ → ℤ → List ℕ → Term
+told zero z bytes = Constant z
+told (suc zero) z bytes = Named bytes
+told (suc (suc zero)) z bytes = Label bytes
+told (suc (suc (suc n))) (pos part) bytes = Fraction part
+told (suc (suc (suc n))) (negsuc part) bytes = Fraction part
+
+told_back : (a : Term) → told (kind_of a) (number_of a) (bytes_of a) ≡ a
+told_back (Constant z) = refl
+told_back (Named name) = refl
+told_back (Label name) = refl
+told_back (Fraction part) = refl
 
 term_same : (a b : Term) → same_term a b ≡ true → a ≡ b
-term_same (Constant a) (Constant b) h = ap (λ z. Constant z) ((Decides-int_eq a b).0 h)
-term_same (Constant a) (Named b) h = absurd cc
-term_same (Named a) (Constant b) h = absurd cc
-term_same (Named a) (Named b) h = ap (λ n. Named n) ((bytes_eq-Decides a b).0 h)
+term_same a b h =
+    let outer = and_parts (kind_of a == kind_of b) _ h in
+    let inner = and_parts (int_eq (number_of a) (number_of b)) (bytes_eq (bytes_of a) (bytes_of b)) outer.1 in
+    let kinds = eqb-true (kind_of a) (kind_of b) outer.0 in
+    let numbers = (Decides-int_eq (number_of a) (number_of b)).0 inner.0 in
+    let bytes = (bytes_eq-Decides (bytes_of a) (bytes_of b)).0 inner.1 in
+    sym (told_back a) ∙ (ap (λ k. told k (number_of a) (bytes_of a)) kinds ∙
+    (ap₂ (told (kind_of b)) numbers bytes ∙ told_back b))
 
 operand_same : (a b : Option Term) → same_operand a b ≡ true → a ≡ b
 operand_same None None h = refl
@@ -57,3 +76,10 @@ body_same (bodies.Command c) (bodies.Command d) h = absurd cc
 
 pub statement_same : (s s' : Statement) → same_statement s s' ≡ true → s.body ≡ s'.body
 statement_same s s' h = body_same s.body s'.body ((and_parts (bytes_eq s.operands s'.operands) (same_body s.body s'.body) h).1)
+
+-- so are labels
+pub label_same : (a b : Option (List ℕ)) → same_label a b ≡ true → a ≡ b
+label_same None None h = refl
+label_same None (Some b) h = absurd cc
+label_same (Some a) None h = absurd cc
+label_same (Some a) (Some b) h = ap (λ name. Some name) ((bytes_eq-Decides a b).0 h)

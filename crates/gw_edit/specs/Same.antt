@@ -1,23 +1,38 @@
 -- When a block is the block that it was: it has the same verb and the same operands, as they are listed and as they are
 -- read. Its label does not count. (Our own.)
-use Rattle.std.specs.Prelude.{Bool, true, false, ◌&&◌, List, [], ◌∷◌, Option, Some, None}
+use Rattle.std.specs.Prelude.{ℕ, ◌==◌, Bool, true, false, ◌&&◌, ℤ, pos, List, [], ◌∷◌, Option, Some, None}
 use Rattle.std.specs.Ordering.{int_eq}
 use Rattle.std.specs.Str.{bytes_eq}
 use denote.Enum.Bare.{sameb}
 use Rattle.gw_names.specs.contracts.verb.BlockVerb.{the_type}
 use Rattle.gw_names.specs.declared.verb.BlockVerb.{BlockVerb}
-use Rattle.gw_expr.specs.Term.{Term, Constant, Named}
+use Rattle.gw_expr.specs.Term.{Term, Constant, Named, Label, Fraction}
 use Rattle.gw_meaning.specs.declared.statement.Statement.{Statement}
 use Rattle.gw_meaning.specs.declared.statement.Block.{Block}
 use Rattle.gw_meaning.specs.declared.statement.Body.{Body}
 use Rattle.gw_meaning.specs.declared.statement.Body.TheVariants as bodies
 
+-- what tells an operand from all others: its kind, its number and its bytes
+abbrev pub kind_of : Term → ℕ
+kind_of (Constant z) = 0
+kind_of (Named name) = 1
+kind_of (Label name) = 2
+kind_of (Fraction part) = 3
+
+abbrev pub number_of : Term → ℤ
+number_of (Constant z) = z
+number_of (Fraction part) = pos part
+number_of term = pos 0
+
+abbrev pub bytes_of : Term → List ℕ
+bytes_of (Named name) = name
+bytes_of (Label name) = name
+bytes_of term = []
+
 -- two operands
 abbrev pub same_term : Term → Term → Bool
-same_term (Constant a) (Constant b) = int_eq a b
-same_term (Constant a) (Named b) = false
-same_term (Named a) (Constant b) = false
-same_term (Named a) (Named b) = bytes_eq a b
+same_term a b =
+    (kind_of a == kind_of b) && (int_eq (number_of a) (number_of b) && bytes_eq (bytes_of a) (bytes_of b))
 
 abbrev pub same_operand : Option Term → Option Term → Bool
 same_operand None None = true
@@ -46,3 +61,10 @@ same_body body body' = false
 
 abbrev pub same_statement : Statement → Statement → Bool
 same_statement s s' = bytes_eq s.operands s'.operands && same_body s.body s'.body
+
+-- two labels, of which either may be none
+abbrev pub same_label : Option (List ℕ) → Option (List ℕ) → Bool
+same_label None None = true
+same_label None (Some b) = false
+same_label (Some a) None = false
+same_label (Some a) (Some b) = bytes_eq a b

@@ -12,7 +12,7 @@ use Rattle.gw_edit.specs.declared.edit.Edit.{Edit}
 use Rattle.gw_edit.specs.declared.edit.Edit.TheVariants as edits
 use Rattle.gw_edit.specs.declared.touch.Probe.{Probe}
 use Rattle.gw_edit.specs.declared.touch.Probe.TheVariants.{One, CommandsFrom, Beyond}
-use Rattle.gw_edit.specs.Same.{same_statement}
+use Rattle.gw_edit.specs.Same.{same_statement, same_label}
 
 -- whether a probe is of an item: of that one, of a command from the first one on, of a later time than the last one
 abbrev pub is_probed : Probe → Item → Bool
@@ -51,14 +51,19 @@ abbrev pub behind : Option ℕ → Option Probe
 behind None = None
 behind (Some number) = Some (One (After number))
 
--- a block that comes in or goes out: what comes after the block in front of it, itself and what comes after itself, and
--- the list of GENERATEs where it is one. (Where it comes in, the version before had no block with its number, so that
--- no step of a recorded run can have read the two of its own; they stand here since the versions answer them in two
--- ways.)
+-- the label of a statement, where it has one and it is wanted
+abbrev pub label_if : Bool → Option (List ℕ) → Option Probe
+label_if wanted None = None
+label_if wanted (Some name) = one_if wanted (items.Label name)
+
+-- a block that comes in or goes out: what comes after the block in front of it, itself and what comes after itself, the
+-- list of GENERATEs where it is one, and its label. (Where it comes in, the version before had no block with its number,
+-- so that no step of a recorded run can have read the two of its own; they stand here since the versions answer them in
+-- two ways.)
 abbrev pub block_places : Option ℕ → Numbered → List (Option Probe)
 block_places front line =
     behind front ∷ Some (One (items.Block line.number)) ∷ Some (One (After line.number))
-    ∷ one_if (is_generate line) Generates ∷ []
+    ∷ one_if (is_generate line) Generates ∷ label_if true line.statement.label ∷ []
 
 abbrev pub block_probes : Listing → ℕ → Numbered → List Probe
 block_probes t place line = given (block_places (block_before t place) line)
@@ -74,8 +79,14 @@ abbrev pub change_places : Bool → Numbered → Numbered → List (Option Probe
 change_places other old new =
     one_if other (items.Block old.number) ∷ one_if (other && (is_generate old || is_generate new)) Generates ∷ []
 
+-- its label, and the one before, where they differ
+abbrev pub label_places : Bool → Numbered → Numbered → List (Option Probe)
+label_places other old new = label_if other old.statement.label ∷ label_if other new.statement.label ∷ []
+
 abbrev pub block_change : Numbered → Numbered → List Probe
-block_change old new = given (change_places (not (same_statement old.statement new.statement)) old new)
+block_change old new =
+    given (change_places (not (same_statement old.statement new.statement)) old new)
+    ++ given (label_places (not (same_label old.statement.label new.statement.label)) old new)
 
 -- of a statement, where there is one
 abbrev pub probes_of : Listing → ℕ → Option Numbered → List Probe

@@ -1,9 +1,10 @@
 ghost use Rattle.std.specs.Prelude.{◌≡◌};
-ghost use Rattle.gw_edit.specs.Same.{same_term, same_operand, same_operands, same_verb, same_block, same_body, same_statement};
+ghost use Rattle.gw_edit.specs.Same.{same_term, same_operand, same_operands, same_verb, same_block, same_body, same_statement, same_label, kind_of, number_of, bytes_of};
+ghost use Rattle.gw_expr.specs.Term.{term_of};
 
 use gw_expr::{Expr, Node};
 use gw_meaning::{Block, Body, Statement};
-use gw_names::BlockVerb;
+use gw_names::{BlockVerb, Name};
 
 /// Whether both are blocks with the same verb and operands. Labels do not count.
 pub fn same_statement(old: &Statement, new: &Statement) -> bool
@@ -59,9 +60,48 @@ fn same_operand(old: &Option<Expr>, new: &Option<Expr>) -> bool
 fn same_term(old: &Expr, new: &Expr) -> bool
     ensures { result ≡ same_term old.now new.now }
 {
-    match (old.node(), new.node()) {
-        (Node::Constant(old), Node::Constant(new)) => old.get() == new.get(),
-        (Node::Named(old), Node::Named(new)) => old == new,
+    let (old, new) = (old.node(), new.node());
+    kind(old) == kind(new) && number(old) == number(new) && bytes(old) == bytes(new)
+}
+
+// What tells an operand from all others: its kind, its number and its bytes.
+fn kind(node: &Node) -> u8
+    ensures { result ≡ kind_of (term_of node.now) }
+{
+    match node {
+        Node::Constant(_) => 0,
+        Node::Named(_) => 1,
+        Node::Label(_) => 2,
+        Node::Fraction(_) => 3,
+    }
+}
+
+fn number(node: &Node) -> i64
+    ensures { result ≡ number_of (term_of node.now) }
+{
+    match node {
+        Node::Constant(value) => value.get(),
+        Node::Fraction(part) => i64::from(*part),
+        Node::Named(_) | Node::Label(_) => 0,
+    }
+}
+
+fn bytes(node: &Node) -> &[u8]
+    ensures { result.now ≡ bytes_of (term_of node.now) }
+{
+    match node {
+        Node::Named(name) | Node::Label(name) => name.as_bytes(),
+        Node::Constant(_) | Node::Fraction(_) => b"",
+    }
+}
+
+/// Whether two labels are one, or neither is there.
+pub fn same_label(old: &Option<Name>, new: &Option<Name>) -> bool
+    ensures { result ≡ same_label old.now new.now }
+{
+    match (old, new) {
+        (None, None) => true,
+        (Some(old), Some(new)) => old == new,
         _ => false,
     }
 }

@@ -1,12 +1,14 @@
-ghost use Rattle.std.specs.Prelude.{◌≡◌, ◌++◌, [], ◌∷◌, Some, None, option_copied};
-ghost use Rattle.gw_edit.specs.Touching.{touching_of, seed_touching, seed_probes, everywhere, given, one_if, block_places, block_before, command_from, line_probes, probes_of, splice_probes, block_change, same_seed};
+ghost use Rattle.std.specs.Prelude.{◌≡◌, IfOk, ◌++◌, [], ◌∷◌, Some, None, option_copied};
+ghost use Rattle.gw_edit.specs.Touching.{touching_of, seed_touching, seed_probes, everywhere, given, one_if, label_if, block_places, block_before, command_from, line_probes, probes_of, splice_probes, block_change, same_seed};
 
 use crate::edit::Edit;
 use crate::lines::{count_commands, last_block, line_at, lines_before};
-use crate::same::same_statement;
+use crate::same::{same_label, same_statement};
 use gw_meaning::{Item, Numbered, StatementId};
 use gw_model::Version;
+use gw_names::Name;
 use gw_nums::Time;
+use std::alloc::AllocError;
 use std::marker::Model;
 
 /// Items that a run may have asked for. Blocks go by their statement ids.
@@ -20,8 +22,7 @@ pub enum Probe {
     Beyond(Time),
 }
 
-/// What an edit touches: at most eight probes in every replication, and the seed in one of them, if any. It takes no
-/// memory.
+/// What an edit touches: at most ten probes in every replication, and the seed in one of them, if any.
 #[derive(Debug, Drop)]
 pub struct Touch {
     // Those of the statement that goes, or of an edit of no statement.
@@ -32,8 +33,8 @@ pub struct Touch {
     pub(crate) reseeded: Option<u64>,
 }
 
-/// At most four probes.
-pub type Probes = [Option<Probe>; 4];
+/// At most five probes.
+pub type Probes = [Option<Probe>; 5];
 
 impl Model for Touch {
     ghost use Rattle.std.specs.Prelude.{◌++◌};
@@ -44,9 +45,9 @@ impl Model for Touch {
     ghost view = { λ t. record { probes = given t.first ++ given t.rest; reseeded = t.reseeded } };
 }
 
-/// What the edit of a version to a new one touches.
-pub fn touch_of(old: &Version, edit: &Edit, new: &Version) -> Touch
-    ensures { result ≡ touching_of old.now edit.now new.now }
+/// What the edit of a version to a new one touches. It shares the names of labels.
+pub fn touch_of(old: &Version, edit: &Edit, new: &Version) -> Result<Touch, AllocError>
+    ensures { IfOk result (λ touch. touch ≡ touching_of old.now edit.now new.now) }
 {
     match edit {
         Edit::Insert { place, .. } => splice_touch(old, *place, None, line_at(new.lines(), *place)),
@@ -57,17 +58,17 @@ pub fn touch_of(old: &Version, edit: &Edit, new: &Version) -> Touch
             line_at(old.lines(), *place),
             line_at(new.lines(), *place),
         ),
-        Edit::Seed { replication, .. } => seed_touch(
+        Edit::Seed { replication, .. } => Ok(seed_touch(
             *replication,
             old.seed(*replication),
             new.seed(*replication),
-        ),
-        Edit::Horizon { .. } => alone(Some(Probe::Beyond(old.horizon().min(new.horizon())))),
-        Edit::Capacity { .. } | Edit::Replicate { .. } | Edit::Drop { .. } => alone(None),
+        )),
+        Edit::Horizon { .. } => Ok(alone(Some(Probe::Beyond(old.horizon().min(new.horizon()))))),
+        Edit::Capacity { .. } | Edit::Replicate { .. } | Edit::Drop { .. } => Ok(alone(None)),
     }
 }
 
-// At most four probes of a statement that goes, or of no statement, and at most four of one that comes in.
+// The probes of a statement that goes, or of no statement, and those of one that comes in.
 fn both(first: Probes, rest: Probes) -> Touch
     ensures { result ≡ everywhere (given first ++ given rest) }
 {
@@ -89,7 +90,7 @@ fn alone(probe: Option<Probe>) -> Touch
 fn two(first: Option<Probe>, second: Option<Probe>) -> Probes
     ensures { given result ≡ given (first ∷ second ∷ []) }
 {
-    [first, second, None, None]
+    [first, second, None, None, None]
 }
 
 // A replication's seed, before and after.
@@ -129,49 +130,50 @@ fn splice_touch(
     place: u64,
     goes: Option<&Numbered>,
     comes: Option<&Numbered>,
-) -> Touch
-    ensures { result ≡ everywhere
-        (splice_probes version.now place (option_copied goes.entry) (option_copied comes.entry)) }
+) -> Result<Touch, AllocError>
+    ensures { IfOk result (λ touch. touch ≡ everywhere
+        (splice_probes version.now place (option_copied goes.entry) (option_copied comes.entry))) }
 {
     match (goes, comes) {
         (Some(old), Some(new)) => change_touch(version, place, old, new),
-        _ => both(
-            probes_of(version, place, goes),
-            probes_of(version, place, comes),
-        ),
+        _ => Ok(both(
+            probes_of(version, place, goes)?,
+            probes_of(version, place, comes)?,
+        )),
     }
 }
 
-fn probes_of(version: &Version, place: u64, line: Option<&Numbered>) -> Probes
-    ensures { given result ≡ probes_of version.now place (option_copied line.entry) }
+fn probes_of(version: &Version, place: u64, line: Option<&Numbered>) -> Result<Probes, AllocError>
+    ensures { IfOk result (λ probes. given probes ≡ probes_of version.now place (option_copied line.entry)) }
 {
     match line {
         Some(line) => line_probes(version, place, line),
-        None => two(None, None),
+        None => Ok(two(None, None)),
     }
 }
 
-fn line_probes(version: &Version, place: u64, line: &Numbered) -> Probes
-    ensures { given result ≡ line_probes version.now place line.now }
+fn line_probes(version: &Version, place: u64, line: &Numbered) -> Result<Probes, AllocError>
+    ensures { IfOk result (λ probes. given probes ≡ line_probes version.now place line.now) }
 {
     if line.is_block() {
         block_probes(block_before(version, place), line)
     } else {
         let commands = Probe::CommandsFrom(command_from(version, place));
-        two(Some(commands), None)
+        Ok(two(Some(commands), None))
     }
 }
 
 // A block that comes in or goes out behind the block in front of it.
-fn block_probes(front: Option<StatementId>, line: &Numbered) -> Probes
-    ensures { result ≡ block_places front line.now }
+fn block_probes(front: Option<StatementId>, line: &Numbered) -> Result<Probes, AllocError>
+    ensures { IfOk result (λ probes. probes ≡ block_places front line.now) }
 {
-    [
+    Ok([
         front.map(|id| Probe::One(Item::After(id))),
         Some(Probe::One(Item::Block(line.number))),
         Some(Probe::One(Item::After(line.number))),
         one_if(line.is_generate(), Item::Generates),
-    ]
+        label_if(true, &line.statement.label)?,
+    ])
 }
 
 // An item, where it is wanted.
@@ -181,33 +183,53 @@ fn one_if(wanted: bool, item: Item) -> Option<Probe>
     if wanted { Some(Probe::One(item)) } else { None }
 }
 
+// A label, where there is one and it is wanted.
+fn label_if(wanted: bool, label: &Option<Name>) -> Result<Option<Probe>, AllocError>
+    ensures { IfOk result (λ probe. probe ≡ label_if wanted label.now) }
+{
+    match label {
+        Some(name) => Ok(one_if(wanted, Item::Label(name.clone()?))),
+        None => Ok(None),
+    }
+}
+
 // A line that has another statement.
-fn change_touch(version: &Version, place: u64, old: &Numbered, new: &Numbered) -> Touch
-    ensures { result ≡ everywhere (splice_probes version.now place (Some old.now) (Some new.now)) }
+fn change_touch(
+    version: &Version,
+    place: u64,
+    old: &Numbered,
+    new: &Numbered,
+) -> Result<Touch, AllocError>
+    ensures { IfOk result (λ touch. touch ≡ everywhere
+        (splice_probes version.now place (Some old.now) (Some new.now))) }
 {
     if old.is_block() && new.is_block() {
         block_change(old, new)
     } else {
-        both(
-            line_probes(version, place, old),
-            line_probes(version, place, new),
-        )
+        Ok(both(
+            line_probes(version, place, old)?,
+            line_probes(version, place, new)?,
+        ))
     }
 }
 
 // A block for a block.
-fn block_change(old: &Numbered, new: &Numbered) -> Touch
-    ensures { result ≡ everywhere (block_change old.now new.now) }
+fn block_change(old: &Numbered, new: &Numbered) -> Result<Touch, AllocError>
+    ensures { IfOk result (λ touch. touch ≡ everywhere (block_change old.now new.now)) }
 {
     let other = !same_statement(&old.statement, &new.statement);
     let generates = other && (old.is_generate() || new.is_generate());
-    both(
+    let relabelled = !same_label(&old.statement.label, &new.statement.label);
+    Ok(both(
         two(
             one_if(other, Item::Block(old.number)),
             one_if(generates, Item::Generates),
         ),
-        two(None, None),
-    )
+        two(
+            label_if(relabelled, &old.statement.label)?,
+            label_if(relabelled, &new.statement.label)?,
+        ),
+    ))
 }
 
 // The last block in front of a place.

@@ -1,14 +1,19 @@
--- What an operand says, without where it lies in memory. (Manual; so far the constants and the names of the profile.)
+-- What an operand says, without where it lies in memory. (Manual; so far the constants, the names, the labels and the
+-- fractions of the profile.)
 use Rattle.std.specs.Prelude.{ℕ, ℤ, List}
 use Rattle.gw_expr.specs.declared.expr.Node.{Node}
 use Rattle.gw_expr.specs.declared.expr.Node.TheVariants as node
 
--- an operand: a constant, or a name in upper case
+-- an operand: a constant, a name in upper case, a block's label in upper case, or a fraction in millionths
 pub data Term : Type 0 where
   Constant : ℤ → Term
   Named : List ℕ → Term
+  Label : List ℕ → Term
+  Fraction : ℕ → Term
 
 -- what a node says
 abbrev pub term_of : Node → Term
 term_of (node.Constant value) = Constant value
 term_of (node.Named name) = Named name
+term_of (node.Label name) = Label name
+term_of (node.Fraction millionths) = Fraction millionths

@@ -1,12 +1,12 @@
 ghost use Rattle.std.specs.Prelude.{◌≡◌, IfOk};
-ghost use Rattle.gw_expr.specs.Term.{Constant, Named, term_of};
+ghost use Rattle.gw_expr.specs.Term.{Constant, Fraction, Label, Named, term_of};
 
 use gw_names::Name;
 use gw_nums::Val;
 use std::alloc::{AllocError, Global};
 use std::marker::Model;
 
-/// An operand: one that stands for a value, or a name.
+/// An operand: one that stands for a value, a name, a block's label or a fraction.
 #[derive(Debug, Drop)]
 pub struct Expr {
     node: Node,
@@ -19,6 +19,10 @@ pub enum Node {
     Constant(Val),
     /// A name.
     Named(Name),
+    /// A block's label.
+    Label(Name),
+    /// A fraction, in millionths.
+    Fraction(u32),
 }
 
 impl Model for Expr {
@@ -48,6 +52,24 @@ impl Expr {
         }
     }
 
+    /// The operand that is a block's label.
+    pub fn label(name: Name) -> Expr
+        ensures { result ≡ Label name }
+    {
+        Expr {
+            node: Node::Label(name),
+        }
+    }
+
+    /// The operand that is a fraction, in millionths.
+    pub fn fraction(millionths: u32) -> Expr
+        ensures { result ≡ Fraction millionths }
+    {
+        Expr {
+            node: Node::Fraction(millionths),
+        }
+    }
+
     /// What the operand consists of.
     pub fn node(&self) -> &Node
         ensures { term_of result.now ≡ self.now }
@@ -62,6 +84,8 @@ impl Expr {
         match &self.node {
             Node::Constant(value) => Ok(Expr::constant(*value)),
             Node::Named(name) => Ok(Expr::named(name.clone()?)),
+            Node::Label(name) => Ok(Expr::label(name.clone()?)),
+            Node::Fraction(millionths) => Ok(Expr::fraction(*millionths)),
         }
     }
 }

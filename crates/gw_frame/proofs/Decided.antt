@@ -1,12 +1,12 @@
 -- What is known of a move in the state in which it is decided, and of the items that are read for it: one line for each choice,
 -- and no law asks further.
-use Rattle.std.proofs.Common.{◌≡◌, ℕ, zero, suc, ◌+◌, ◌<◌, ◌≤◌, nat_eq, nat_le, nat_lt, Bool, true, false, not, ◌&&◌, ◌||◌, List, [], ◌∷◌, length, Option, Some, None, inr, ℤ, pos, refl, ap, sym, subst, ◌∙◌, append-nil, arith}
+use Rattle.std.proofs.Common.{◌≡◌, ℕ, zero, suc, ◌+◌, ◌<◌, ◌≤◌, nat_eq, nat_le, nat_lt, Bool, true, false, cond, not, ◌&&◌, ◌||◌, List, [], ◌∷◌, length, Option, Some, None, is_some, inr, ℤ, pos, refl, ap, sym, subst, ◌∙◌, append-nil, arith}
 use Rattle.std.specs.List.{AllByRecursion}
 use Rattle.std.proofs.lemmas.Bool.{cond_both, or_parts}
 use Rattle.std.proofs.lemmas.Bool.Decides.{nat_tests}
 use Rattle.std.proofs.lemmas.List.{length-append}
 use Rattle.gw_nums.specs.Range.{is_value, is_negative, is_below, magnitude}
-use Rattle.gw_expr.specs.Term.{Term, Constant, Named}
+use Rattle.gw_expr.specs.Term.{Term, Constant, Named, Label, Fraction}
 use Rattle.gw_streams.specs.declared.stream.Stream.{Stream}
 use Rattle.gw_streams.specs.declared.stream.Stream.TheVariants as streams
 use Rattle.gw_streams.specs.Draws.{is_set, stream_at}
@@ -21,25 +21,28 @@ use Rattle.gw_meaning.specs.declared.statement.Command.TheVariants as commands
 use Rattle.gw_meaning.specs.declared.statement.Numbered.{Numbered}
 use Rattle.gw_meaning.specs.declared.transaction.Transaction.{Transaction}
 use Rattle.gw_meaning.specs.declared.moves.Arrival.{Arrival}
+use Rattle.gw_meaning.specs.declared.entity_change.Deed.{Deed}
+use Rattle.gw_meaning.specs.declared.entity_change.Deed.TheVariants as deeds
 use Rattle.gw_meaning.specs.declared.moves.Change.{Change}
 use Rattle.gw_meaning.specs.declared.moves.Change.TheVariants as changes
 use Rattle.gw_meaning.specs.declared.moves.Fate.{Fate}
 use Rattle.gw_meaning.specs.declared.moves.Fate.TheVariants as fates
 use Rattle.gw_meaning.specs.declared.moves.Move.{Move}
 use Rattle.gw_meaning.specs.declared.moves.Move.TheVariants as moves
-use Rattle.gw_meaning.specs.Listing.{Listing, block_at, generates_in, is_generate}
+use Rattle.gw_meaning.specs.Listing.{Listing, block_at, label_at, generates_in, is_generate}
 use Rattle.gw_meaning.specs.Numbers.{AreNumbered}
 use Rattle.gw_names.specs.declared.key.Key.{Key}
 use Rattle.gw_entities.specs.Records.{Line}
 use Rattle.gw_entities.specs.Comings.{came}
-use Rattle.gw_meaning.specs.Entities.{line_at}
-use Rattle.gw_meaning.specs.Machine.{Machine, raised, live}
+use Rattle.gw_meaning.specs.Entities.{facility_at, line_at}
+use Rattle.gw_meaning.specs.Machine.{Machine, raised, live, delay_at}
 use Rattle.gw_meaning.specs.Questions.{ask, result_of}
-use Rattle.gw_meaning.specs.Evaluation.{Eval, asks, number_of_draw, draw, value_prog, value_or_zero, entity_prog, units_prog, spread, sample_within, time_prog}
+use Rattle.gw_meaning.specs.Evaluation.{Eval, asks, number_of_draw, draw, value_prog, value_or_zero, entity_prog, units_prog, spread, millionths, sample_within, time_prog}
 use Rattle.gw_meaning.specs.Changes.{decided}
-use Rattle.gw_meaning.specs.Step.{arrival_at, arrival_in_time, arrival_prog, first_of_generate, first_of, first_arrival, with_arrival, prime_prog, arrivals_prog, first_arrivals_prog, start_prog, command_prog, generate_prog, delay_of, advance_prog, terminate_prog, is_too_many, queue_units, queue_prog, depart_units, depart_prog, block_prog, enter_prog, try_prog, attempt_prog, least_time, within_prog, clock_prog, pick_prog, scan_prog, move_prog, step_prog}
+use Rattle.gw_meaning.specs.Step.{arrival_at, arrival_in_time, arrival_prog, first_of_generate, first_of, first_arrival, with_arrival, prime_prog, arrivals_prog, first_arrivals_prog, start_prog, command_prog, generate_prog, delay_of, advance_prog, terminate_prog, is_too_many, queue_units, queue_prog, depart_units, depart_prog, seize_or_wait, seize_prog, first_number, is_owner, release_to, release_prog, go_to, lead_to, transfer_prog, block_prog, enter_prog, try_prog, attempt_prog, least_time, within_prog, clock_prog, pick_prog, scan_prog, move_prog, step_prog}
 use Rattle.gw_frame.specs.BlockIds.{IsBlockId, ActiveNames, TransactionNames, ItemNames}
 use Rattle.gw_frame.proofs.Generates.{IsBlockIn, generates_there}
+use Rattle.gw_frame.proofs.Labels.{label_there}
 use Rattle.gw_frame.proofs.Seeds.{uses_seed, ReadsSeed, one_drew, set_first}
 use Rattle.gw_frame.proofs.Keeps.{ProgKeeps, Keeps, all_with, prog_gives, prog_ends, prog_bind, keeps_gives, keeps_ends, keeps_asks, keeps_cond, keeps_stops, keeps_unless, keeps_bind}
 
@@ -72,11 +75,17 @@ leaves : (line : Line) (units : ℕ) (at_once : Bool) → (at_once && is_too_man
 leaves line units true h = λ is. within_limit (line.zero_entries + units) h
 leaves line units false h = λ is. absurd cc
 
--- what is known of a change, a fate and a move
+-- what is known of a deed, a change, a fate and a move
+abbrev pub IsDecidedDeed : Machine → Key → Deed → Type 0
+IsDecidedDeed s key (deeds.Queue units) = Fits (line_at s.entities key) units
+IsDecidedDeed s key (deeds.Depart units at_once) = Leaves (line_at s.entities key) units at_once
+IsDecidedDeed s key deeds.Seize = is_some (facility_at s.entities key).owner ≡ false
+IsDecidedDeed s key (deeds.Release next) = next ≡ first_number (delay_at s.delays key)
+
 abbrev pub IsDecidedChange : Listing → Machine → Change → Type 0
 IsDecidedChange t s (changes.Generate next) = IsComingIfAny t s next
-IsDecidedChange t s (changes.Queue key units) = Fits (line_at s.entities key) units
-IsDecidedChange t s (changes.Depart key units at_once) = Leaves (line_at s.entities key) units at_once
+IsDecidedChange t s (changes.Transfer to) = AreNumbered t.lines → IsBlockId t to
+IsDecidedChange t s (changes.Entity change) = IsDecidedDeed s change.0 change.1
 IsDecidedChange t s change = Unit {0}
 
 abbrev pub IsDecidedFate : Machine → Fate → Type 0
@@ -88,6 +97,7 @@ abbrev pub IsDecided : Listing → Machine → Move → Type 0
 IsDecided t s (moves.Start count arrivals) = AreFirst t s arrivals
 IsDecided t s moves.Command = Unit {0}
 IsDecided t s (moves.Enter id change fate) = IsBlockId t id × IsDecidedChange t s change × IsDecidedFate s fate
+IsDecided t s (moves.Refuse id key) = IsBlockId t id × (is_some (facility_at s.entities key).owner ≡ true)
 IsDecided t s moves.Pick = s.active ≡ None
 IsDecided t s (moves.Clock time) = (least_time s.future ≡ Some time) × (nat_le time t.horizon ≡ true)
 
@@ -134,6 +144,8 @@ module _ (t : Listing) (seed : ℕ) (s : Machine) where
   value_decides : (term : Term) → Decides Whatever (value_prog s term)
   value_decides (Constant value) = keeps_gives tt
   value_decides (Named name) = keeps_ends
+  value_decides (Label name) = keeps_ends
+  value_decides (Fraction part) = keeps_ends
 
   value_or_zero_decides : (term : Option Term) → Decides Whatever (value_or_zero s term)
   value_or_zero_decides None = keeps_gives tt
@@ -143,6 +155,8 @@ module _ (t : Listing) (seed : ℕ) (s : Machine) where
   entity_decides None = keeps_ends
   entity_decides (Some (Constant n)) = keeps_stops (is_below n (pos 1)) _ (keeps_gives tt)
   entity_decides (Some (Named name)) = keeps_gives tt
+  entity_decides (Some (Label name)) = keeps_ends
+  entity_decides (Some (Fraction part)) = keeps_ends
 
   units_decides : (term : Option Term) → Decides Whatever (units_prog s term)
   units_decides None = keeps_gives tt
@@ -278,12 +292,52 @@ module _ (t : Listing) (seed : ℕ) (s : Machine) where
   depart_decides x id entity units named = keeps_bind (entity_decides entity) (λ key h. keeps_bind (units_decides units)
       (λ n k. depart_units_decides id key (came s.entities.comings key x.number) n named))
 
+  seize_or_wait_decides : (id : ℕ) (key : Key) (owned : Bool) → is_some (facility_at s.entities key).owner ≡ owned → IsBlockId t id →
+      Decides (IsDecided t s) (seize_or_wait id key owned)
+  seize_or_wait_decides id key true is named = keeps_gives (named, is)
+  seize_or_wait_decides id key false is named = keeps_gives (named, is, tt)
+
+  seize_decides : (id : ℕ) (entity : Option Term) → IsBlockId t id → Decides (IsDecided t s) (seize_prog s id entity)
+  seize_decides id entity named = keeps_bind (entity_decides entity)
+      (λ key h. seize_or_wait_decides id key (is_some (facility_at s.entities key).owner) refl named)
+
+  release_to_decides : (id : ℕ) (key : Key) (owns : Bool) → IsBlockId t id →
+      Decides (IsDecided t s) (release_to id key owns (first_number (delay_at s.delays key)))
+  release_to_decides id key owns named = keeps_stops (not owns) _ (keeps_gives (named, refl, tt))
+
+  release_decides : (x : Transaction) (id : ℕ) (entity : Option Term) → IsBlockId t id → Decides (IsDecided t s) (release_prog s x id entity)
+  release_decides x id entity named = keeps_bind (entity_decides entity)
+      (λ key h. release_to_decides id key (is_owner (facility_at s.entities key).owner x.number) named)
+
+  go_to_decides : (id : ℕ) (name : List ℕ) (to : Option ℕ) → label_at t name ≡ to → IsBlockId t id → Decides (IsDecided t s) (go_to id to)
+  go_to_decides id name None is named = keeps_ends
+  go_to_decides id name (Some to) is named = keeps_gives (named, (λ numbered. inr (label_there t.lines name to numbered is)), tt)
+
+  lead_to_decides : (id : ℕ) (label : Option Term) → IsBlockId t id → Decides (IsDecided t s) (lead_to id label)
+  lead_to_decides id (Some (Label name)) named =
+      keeps_asks (items.Label name) refl (λ numbered there. tt) (go_to_decides id name (label_at t name) refl named)
+  lead_to_decides id (Some (Constant n)) named = keeps_gives (named, tt, tt)
+  lead_to_decides id (Some (Named name)) named = keeps_gives (named, tt, tt)
+  lead_to_decides id (Some (Fraction part)) named = keeps_gives (named, tt, tt)
+  lead_to_decides id None named = keeps_gives (named, tt, tt)
+
+  transfer_decides : (id : ℕ) (fraction near far : Option Term) → IsBlockId t id → Decides (IsDecided t s) (transfer_prog id fraction near far)
+  transfer_decides id (Some (Fraction part)) near far named = keeps_bind (draw_decides 0 (omega arith))
+      (λ x h. lead_to_decides id (cond (nat_lt (millionths x) part) far near) named)
+  transfer_decides id (Some (Constant n)) near far named = lead_to_decides id near named
+  transfer_decides id (Some (Named name)) near far named = lead_to_decides id near named
+  transfer_decides id (Some (Label name)) near far named = lead_to_decides id near named
+  transfer_decides id None near far named = lead_to_decides id near named
+
   block_decides : (x : Transaction) (id : ℕ) (b : Block) (verb : BlockVerb) → IsBlockId t id → Decides (IsDecided t s) (block_prog s x id b verb)
   block_decides x id b blocks.Generate named = generate_decides x id (operand b A) (operand b B) (operand b D) (operand b E) named
   block_decides x id b blocks.Advance named = advance_decides id (operand b A) (operand b B) named
   block_decides x id b blocks.Terminate named = terminate_decides id (operand b A) named
   block_decides x id b blocks.Queue named = queue_decides id (operand b A) (operand b B) named
   block_decides x id b blocks.Depart named = depart_decides x id (operand b A) (operand b B) named
+  block_decides x id b blocks.Seize named = seize_decides id (operand b A) named
+  block_decides x id b blocks.Release named = release_decides x id (operand b A) named
+  block_decides x id b blocks.Transfer named = transfer_decides id (operand b A) (operand b B) (operand b C) named
   block_decides x id b verb named = keeps_ends
 
   -- attempts: an id that is no block ends the run

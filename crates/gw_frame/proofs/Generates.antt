@@ -9,7 +9,7 @@ use Rattle.gw_meaning.specs.declared.statement.Numbered.{Numbered}
 use Rattle.gw_meaning.specs.Listing.{block_of, block_of_body, is_generate_body, is_generate, line_in, generates_in}
 use Rattle.gw_meaning.specs.Numbers.{AreNumbered}
 
-found_behind : (line : Numbered) (lines : List Numbered) (n : ℕ) (block : Block) → line_in lines line.number ≡ None →
+pub found_behind : (line : Numbered) (lines : List Numbered) (n : ℕ) (block : Block) → line_in lines line.number ≡ None →
     option_and_then block_of (line_in lines n) ≡ Some block → option_and_then block_of (line_in (line ∷ lines) n) ≡ Some block
 found_behind line lines n block apart there =
     elim (cases_Bool (nat_eq line.number n)) [

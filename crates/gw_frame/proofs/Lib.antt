@@ -2,6 +2,7 @@ pub mod Asking
 pub mod ReadLaws
 pub mod Follows
 pub mod MovedLists
+pub mod Delays
 pub mod MovedChanges
 pub mod MovedSteps
 pub mod Renaming
@@ -10,6 +11,7 @@ pub mod RenamedRuns
 pub mod Seeds
 pub mod Keeps
 pub mod Generates
+pub mod Labels
 pub mod Decided
 pub mod Moves
 pub mod Running

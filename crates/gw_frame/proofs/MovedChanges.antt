@@ -2,6 +2,10 @@
 use Rattle.std.proofs.Common.{◌≡◌, ℕ, List, [], ◌∷◌, ◌++◌, map, Option, Some, None, option_map, refl, ap, ap₂, sym, ◌∙◌}
 use Rattle.std.proofs.lemmas.List.{map-append}
 use Rattle.gw_meaning.specs.declared.transaction.Transaction.{Transaction}
+use Rattle.gw_names.specs.declared.key.Key.{Key}
+use Rattle.gw_entities.specs.Tables.{with_value}
+use Rattle.gw_meaning.specs.declared.entity_change.Deed.{Deed}
+use Rattle.gw_meaning.specs.declared.entity_change.Deed.TheVariants as deeds
 use Rattle.gw_meaning.specs.declared.moves.Arrival.{Arrival}
 use Rattle.gw_streams.specs.declared.stream.Stream.{Stream}
 use Rattle.gw_meaning.specs.declared.moves.Change.{Change}
@@ -11,10 +15,11 @@ use Rattle.gw_meaning.specs.declared.moves.Fate.TheVariants as fates
 use Rattle.gw_meaning.specs.declared.moves.Move.{Move}
 use Rattle.gw_meaning.specs.declared.moves.Move.TheVariants as moves
 use Rattle.gw_meaning.specs.Entities.{Entities, touched}
-use Rattle.gw_meaning.specs.Machine.{Machine, raised}
-use Rattle.gw_meaning.specs.Changes.{crossed, due, Making, making, made, maybe_made, all_made, making_of, with_making, newcomer, placed, started, arrived, marked, fated, changed, entering, picked, advanced, with_active, moved, decided}
-use Rattle.gw_frame.specs.Moved.{IsMove, moved_transaction, moved_event, moved_count, moved_machine}
-use Rattle.gw_frame.proofs.MovedLists.{made_one_moved, crossed_moved, all_lined_up_moved, due_moved, later_moved}
+use Rattle.gw_meaning.specs.Machine.{Machine, raised, delay_at}
+use Rattle.gw_meaning.specs.Changes.{crossed, due, Making, making, made, maybe_made, all_made, making_of, with_making, newcomer, placed, started, arrived, lined_up, marked, fated, let_in, first_let_in, admitted, changed, entering, bound, refused, picked, advanced, with_active, moved, decided}
+use Rattle.gw_frame.specs.Moved.{IsMove, moved_transaction, moved_event, moved_delay, moved_count, moved_machine}
+use Rattle.gw_frame.proofs.MovedLists.{made_one_moved, crossed_moved, lined_up_moved, all_lined_up_moved, due_moved, later_moved}
+use Rattle.gw_frame.proofs.Delays.{delay_at_moved, with_delay_moved}
 
 module _ (move : ℕ → ℕ) where
   -- what is to be made, what a block changes, and a move, with their ids moved
@@ -23,12 +28,14 @@ module _ (move : ℕ → ℕ) where
 
   abbrev pub moved_change : Change → Change
   moved_change (changes.Generate next) = changes.Generate (option_map moved_arrival next)
+  moved_change (changes.Transfer to) = changes.Transfer (move to)
   moved_change change = change
 
   abbrev pub moved_move : Move → Move
   moved_move (moves.Start count arrivals) = moves.Start count (map moved_arrival arrivals)
   moved_move moves.Command = moves.Command
   moved_move (moves.Enter id change fate) = moves.Enter (move id) (moved_change change) fate
+  moved_move (moves.Refuse id key) = moves.Refuse (move id) key
   moved_move moves.Pick = moves.Pick
   moved_move (moves.Clock time) = moves.Clock time
 
@@ -67,6 +74,7 @@ module _ (move : ℕ → ℕ) (is : IsMove move) where
   marked_moved : (change : Change) (clock : ℕ) (x : Transaction) →
       marked (moved_change move change) clock (moved_transaction move x) ≡ moved_transaction move (marked change clock x)
   marked_moved (changes.Generate next) clock x = refl
+  marked_moved (changes.Transfer to) clock x = refl
   marked_moved change clock x = refl
 
   fated_moved : (fate : Fate) (x : Transaction) (s : Machine) →
@@ -75,12 +83,30 @@ module _ (move : ℕ → ℕ) (is : IsMove move) where
   fated_moved (fates.Delayed until) x s = rw (map-append (moved_event move) s.future) refl
   fated_moved (fates.Destroyed count) x s = refl
 
+  let_in_moved : (x : Transaction) (destination : Option ℕ) (s : Machine) →
+      let_in (moved_transaction move x) (option_map move destination) (moved_machine move s) ≡ moved_machine move (let_in x destination s)
+  let_in_moved x None s = rw (lined_up_moved move x s.current) refl
+  let_in_moved x (Some id) s = rw (lined_up_moved move (placed x id) s.current, crossed_moved move is fates.Active s.counts x.current id) refl
+
+  first_let_in_moved : (key : Key) (chain : List Transaction) (s : Machine) →
+      first_let_in key (map (moved_transaction move) chain) (moved_machine move s) ≡ moved_machine move (first_let_in key chain s)
+  first_let_in_moved key [] s = refl
+  first_let_in_moved key (x ∷ xs) s =
+      rw (with_delay_moved move s.delays key xs) (let_in_moved x x.destination (record s { delays = with_value s.delays key xs }))
+
+  admitted_moved : (key : Key) (deed : Deed) (s : Machine) → admitted key deed (moved_machine move s) ≡ moved_machine move (admitted key deed s)
+  admitted_moved key (deeds.Release next) s = rw (delay_at_moved move s.delays key) (first_let_in_moved key (delay_at s.delays key) s)
+  admitted_moved key deed s = refl
+
   changed_moved : (change : Change) (s : Machine) → changed (moved_change move change) (moved_machine move s) ≡ moved_machine move (changed change s)
   changed_moved (changes.Generate next) s = arrived_moved next s
-  changed_moved change s = refl
+  changed_moved (changes.Entity change) s = admitted_moved change.0 change.1 s
+  changed_moved (changes.Transfer to) s = refl
+  changed_moved changes.Nothing s = refl
 
   touched_moved : (change : Change) (clock number : ℕ) (e : Entities) → touched (moved_change move change) clock number e ≡ touched change clock number e
   touched_moved (changes.Generate next) clock number e = refl
+  touched_moved (changes.Transfer to) clock number e = refl
   touched_moved change clock number e = refl
 
   entering_moved : (s : Machine) (x : Transaction) (id : ℕ) (change : Change) (fate : Fate) →
@@ -96,6 +122,16 @@ module _ (move : ℕ → ℕ) (is : IsMove move) where
         fated_moved fate y there,
       )
       (changed_moved change (fated fate y there))
+
+  refused_moved : (s : Machine) (x : Transaction) (id : ℕ) (key : Key) →
+      refused (moved_machine move s) (moved_transaction move x) (move id) key ≡ moved_machine move (refused s x id key)
+  refused_moved s x id key =
+      rw (
+        delay_at_moved move s.delays key,
+        lined_up_moved move (bound x id) (delay_at s.delays key),
+        with_delay_moved move s.delays key (lined_up (bound x id) (delay_at s.delays key)),
+      )
+      refl
 
   picked_moved : (s : Machine) (xs : List Transaction) → picked (moved_machine move s) (map (moved_transaction move) xs) ≡ moved_machine move (picked s xs)
   picked_moved s [] = refl
@@ -114,6 +150,7 @@ module _ (move : ℕ → ℕ) (is : IsMove move) where
   moved_moved s (moves.Start count arrivals) = started_moved s count arrivals
   moved_moved s moves.Command = refl
   moved_moved s (moves.Enter id change fate) = with_active_moved s s.active _ _ (λ x. entering_moved s x id change fate)
+  moved_moved s (moves.Refuse id key) = with_active_moved s s.active _ _ (λ x. refused_moved s x id key)
   moved_moved s moves.Pick = picked_moved s s.current
   moved_moved s (moves.Clock time) = advanced_moved s time
 

@@ -1,8 +1,8 @@
 -- The step from a moved state follows the step from the state: one line for each choice.
-use Rattle.std.proofs.Common.{◌≡◌, ℕ, zero, suc, nat_eq, nat_le, nat_lt, ◌+◌, Bool, true, false, not, ◌&&◌, ◌||◌, List, [], ◌∷◌, map, Option, Some, None, option_map, ℤ, pos, refl, ap, sym}
+use Rattle.std.proofs.Common.{◌≡◌, ℕ, zero, suc, nat_eq, nat_le, nat_lt, ◌+◌, Bool, true, false, cond, not, ◌&&◌, ◌||◌, List, [], ◌∷◌, map, Option, Some, None, is_some, option_map, ℤ, pos, refl, ap, sym, ◌∙◌}
 use Rattle.std.proofs.lemmas.List.{map-append, length-map}
 use Rattle.gw_nums.specs.Range.{is_value, is_negative, is_below, magnitude}
-use Rattle.gw_expr.specs.Term.{Term, Constant, Named}
+use Rattle.gw_expr.specs.Term.{Term, Constant, Named, Label, Fraction}
 use Rattle.gw_streams.specs.declared.stream.Stream.{Stream}
 use Rattle.gw_streams.specs.declared.stream.Stream.TheVariants as streams
 use Rattle.gw_streams.specs.Draws.{stream_at}
@@ -19,13 +19,14 @@ use Rattle.gw_meaning.specs.declared.moves.Arrival.{Arrival}
 use Rattle.gw_names.specs.declared.key.Key.{Key}
 use Rattle.gw_entities.specs.Records.{Line}
 use Rattle.gw_entities.specs.Comings.{came}
-use Rattle.gw_meaning.specs.Entities.{line_at}
-use Rattle.gw_meaning.specs.Machine.{Machine, raised, live, number_of_active, count_at}
-use Rattle.gw_meaning.specs.Evaluation.{number_of_draw, draw, value_prog, value_or_zero, entity_prog, units_prog, in_range, spread, sample_within, time_prog}
-use Rattle.gw_meaning.specs.Step.{arrival_at, arrival_in_time, arrival_within, arrival_prog, first_of_generate, first_of, first_arrival, with_arrival, arrivals_prog, first_arrivals_prog, start_prog, command_prog, generate_prog, advance_prog, terminate_prog, is_too_many, queue_units, queue_prog, depart_units, depart_prog, block_prog, enter_prog, try_prog, attempt_prog, sooner, least_time, within_prog, clock_prog, pick_prog, scan_prog, move_prog, step_prog, run_prog}
+use Rattle.gw_meaning.specs.Entities.{facility_at, line_at}
+use Rattle.gw_meaning.specs.Machine.{Machine, raised, live, number_of_active, count_at, delay_at, waiting}
+use Rattle.gw_meaning.specs.Evaluation.{number_of_draw, draw, value_prog, value_or_zero, entity_prog, units_prog, in_range, spread, millionths, sample_within, time_prog}
+use Rattle.gw_meaning.specs.Step.{arrival_at, arrival_in_time, arrival_within, arrival_prog, first_of_generate, first_of, first_arrival, with_arrival, arrivals_prog, first_arrivals_prog, start_prog, command_prog, generate_prog, advance_prog, terminate_prog, is_too_many, queue_units, queue_prog, depart_units, depart_prog, seize_or_wait, seize_prog, first_number, is_owner, release_to, release_prog, go_to, lead_to, transfer_prog, block_prog, enter_prog, try_prog, attempt_prog, sooner, least_time, within_prog, clock_prog, pick_prog, scan_prog, move_prog, step_prog, run_prog}
 use Rattle.gw_frame.specs.Moved.{IsMove, moved_transaction, moved_event, moved_machine}
 use Rattle.gw_frame.proofs.Follows.{ProgFollows, prog_gives, prog_asks, prog_bind, Follows, follows_gives, follows_ends, follows_asks, follows_cond, follows_stops, follows_bind}
 use Rattle.gw_frame.proofs.MovedLists.{count_at_moved, none_moved}
+use Rattle.gw_frame.proofs.Delays.{delay_at_moved, waiting_moved}
 use Rattle.gw_frame.proofs.MovedChanges.{moved_arrival, moved_move, decided_moved}
 
 abbrev same : {A : Type 0} → A → A
@@ -46,6 +47,8 @@ module _ (move : ℕ → ℕ) (is : IsMove move) where
   value_follows : (s : Machine) (term : Term) → Follows move same (value_prog s term) (value_prog (moved_machine move s) term)
   value_follows s (Constant value) = follows_gives refl
   value_follows s (Named name) = follows_ends
+  value_follows s (Label name) = follows_ends
+  value_follows s (Fraction part) = follows_ends
 
   value_or_zero_follows : (s : Machine) (term : Option Term) → Follows move same (value_or_zero s term) (value_or_zero (moved_machine move s) term)
   value_or_zero_follows s None = follows_gives refl
@@ -55,6 +58,8 @@ module _ (move : ℕ → ℕ) (is : IsMove move) where
   entity_follows s None = follows_ends
   entity_follows s (Some (Constant n)) = follows_stops (is_below n (pos 1)) _ (follows_gives refl)
   entity_follows s (Some (Named name)) = follows_gives refl
+  entity_follows s (Some (Label name)) = follows_ends
+  entity_follows s (Some (Fraction part)) = follows_ends
 
   units_follows : (s : Machine) (term : Option Term) → Follows move same (units_prog s term) (units_prog (moved_machine move s) term)
   units_follows s None = follows_gives refl
@@ -77,7 +82,10 @@ module _ (move : ℕ → ℕ) (is : IsMove move) where
   active_moved (Some x) = refl
 
   live_moved : (s : Machine) → live (moved_machine move s) ≡ live s
-  live_moved s = rw (active_moved s.active, length-map s.current (moved_transaction move), length-map s.future (moved_event move)) refl
+  live_moved s =
+      let current = length-map s.current (moved_transaction move) in
+      let future = length-map s.future (moved_event move) in
+      rw (active_moved s.active, current, future, waiting_moved move s.delays, length-map (waiting s.delays) (moved_transaction move)) refl
 
   least_time_moved : (es : List Event) → least_time (map (moved_event move) es) ≡ least_time es
   least_time_moved [] = refl
@@ -192,6 +200,53 @@ module _ (move : ℕ → ℕ) (is : IsMove move) where
   depart_follows s x id entity units = follows_bind _ (entity_follows s entity) (λ key. follows_bind _ (units_follows s units)
       (λ n. depart_units_follows id key (line_at s.entities key) (came s.entities.comings key x.number) n))
 
+  seize_or_wait_follows : (id : ℕ) (key : Key) (owned : Bool) →
+      Follows move (moved_move move) (seize_or_wait id key owned) (seize_or_wait (move id) key owned)
+  seize_or_wait_follows id key true = follows_gives refl
+  seize_or_wait_follows id key false = follows_gives refl
+
+  seize_follows : (s : Machine) (id : ℕ) (entity : Option Term) →
+      Follows move (moved_move move) (seize_prog s id entity) (seize_prog (moved_machine move s) (move id) entity)
+  seize_follows s id entity = follows_bind _ (entity_follows s entity)
+      (λ key. seize_or_wait_follows id key (is_some (facility_at s.entities key).owner))
+
+  first_number_moved : (chain : List Transaction) → first_number (map (moved_transaction move) chain) ≡ first_number chain
+  first_number_moved [] = refl
+  first_number_moved (x ∷ xs) = refl
+
+  next_moved : (s : Machine) (key : Key) → first_number (delay_at (moved_machine move s).delays key) ≡ first_number (delay_at s.delays key)
+  next_moved s key = ap first_number (delay_at_moved move s.delays key) ∙ first_number_moved (delay_at s.delays key)
+
+  release_to_follows : (id : ℕ) (key : Key) (owns : Bool) (next : Option ℕ) →
+      Follows move (moved_move move) (release_to id key owns next) (release_to (move id) key owns next)
+  release_to_follows id key owns next = follows_stops (not owns) _ (follows_gives refl)
+
+  release_follows : (s : Machine) (x : Transaction) (id : ℕ) (entity : Option Term) →
+      Follows move (moved_move move) (release_prog s x id entity) (release_prog (moved_machine move s) (moved_transaction move x) (move id) entity)
+  release_follows s x id entity = follows_bind _ (entity_follows s entity)
+      (λ key. rw (next_moved s key)
+      (release_to_follows id key (is_owner (facility_at s.entities key).owner x.number) (first_number (delay_at s.delays key))))
+
+  go_to_follows : (id : ℕ) (to : Option ℕ) → Follows move (moved_move move) (go_to id to) (go_to (move id) (option_map move to))
+  go_to_follows id None = follows_ends
+  go_to_follows id (Some to) = follows_gives refl
+
+  lead_to_follows : (id : ℕ) (label : Option Term) → Follows move (moved_move move) (lead_to id label) (lead_to (move id) label)
+  lead_to_follows id (Some (Label name)) = follows_asks (items.Label name) (go_to_follows id)
+  lead_to_follows id (Some (Constant n)) = follows_gives refl
+  lead_to_follows id (Some (Named name)) = follows_gives refl
+  lead_to_follows id (Some (Fraction part)) = follows_gives refl
+  lead_to_follows id None = follows_gives refl
+
+  transfer_follows : (id : ℕ) (fraction near far : Option Term) →
+      Follows move (moved_move move) (transfer_prog id fraction near far) (transfer_prog (move id) fraction near far)
+  transfer_follows id (Some (Fraction part)) near far =
+      follows_bind _ (draw_follows 1) (λ x. lead_to_follows id (cond (nat_lt (millionths x) part) far near))
+  transfer_follows id (Some (Constant n)) near far = lead_to_follows id near
+  transfer_follows id (Some (Named name)) near far = lead_to_follows id near
+  transfer_follows id (Some (Label name)) near far = lead_to_follows id near
+  transfer_follows id None near far = lead_to_follows id near
+
   block_follows : (s : Machine) (x : Transaction) (id : ℕ) (b : Block) (verb : BlockVerb) →
       Follows move (moved_move move) (block_prog s x id b verb) (block_prog (moved_machine move s) (moved_transaction move x) (move id) b verb)
   block_follows s x id b blocks.Generate = generate_follows s x id (operand b A) (operand b B) (operand b D) (operand b E)
@@ -199,6 +254,9 @@ module _ (move : ℕ → ℕ) (is : IsMove move) where
   block_follows s x id b blocks.Terminate = terminate_follows s id (operand b A)
   block_follows s x id b blocks.Queue = queue_follows s id (operand b A) (operand b B)
   block_follows s x id b blocks.Depart = depart_follows s x id (operand b A) (operand b B)
+  block_follows s x id b blocks.Seize = seize_follows s id (operand b A)
+  block_follows s x id b blocks.Release = release_follows s x id (operand b A)
+  block_follows s x id b blocks.Transfer = transfer_follows id (operand b A) (operand b B) (operand b C)
   block_follows s x id b verb = follows_ends
 
   enter_follows : (s : Machine) (x : Transaction) (id : ℕ) (block : Option Block) →

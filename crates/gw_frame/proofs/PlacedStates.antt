@@ -1,25 +1,30 @@
 -- What a move makes of a state names only blocks of the version, where the state does; and so does every state of a run, and
 -- every item that it reads.
-use Rattle.std.proofs.Common.{ℕ, nat_eq, Bool, true, false, cond, not, List, [], ◌∷◌, filter, Option, Some, None, inl, refl, sym, subst, ◌∙◌}
+use Rattle.std.proofs.Common.{◌≡◌, ℕ, nat_eq, Bool, true, false, cond, not, List, [], ◌∷◌, filter, Option, Some, None, inl, refl, sym, subst, ◌∙◌}
 use Rattle.std.specs.List.{AllByRecursion}
 use Rattle.gw_nums.specs.Range.{is_below}
 use Rattle.gw_meaning.specs.declared.item.Item.{Item}
 use Rattle.gw_meaning.specs.declared.transaction.Transaction.{Transaction}
 use Rattle.gw_meaning.specs.declared.transaction.Event.{Event}
 use Rattle.gw_meaning.specs.declared.transaction.Count.{Count}
+use Rattle.gw_names.specs.declared.key.Key.{Key}
+use Rattle.gw_entities.specs.Tables.{with_value}
 use Rattle.gw_meaning.specs.declared.moves.Arrival.{Arrival}
 use Rattle.gw_meaning.specs.declared.moves.Change.{Change}
+use Rattle.gw_meaning.specs.declared.moves.Change.TheVariants as changes
 use Rattle.gw_meaning.specs.declared.moves.Fate.{Fate}
 use Rattle.gw_meaning.specs.declared.moves.Fate.TheVariants as fates
 use Rattle.gw_meaning.specs.declared.moves.Move.{Move}
 use Rattle.gw_meaning.specs.declared.moves.Move.TheVariants as moves
 use Rattle.gw_meaning.specs.Listing.{Listing}
-use Rattle.gw_meaning.specs.Machine.{Machine, count_in, with_count}
-use Rattle.gw_meaning.specs.Changes.{lined_up, all_lined_up, left_at, left, is_due, due, Making, made, all_made, making_of, with_making, started, placed, fated, moved}
-use Rattle.gw_frame.specs.BlockIds.{IsBlockId, TransactionNames, ActiveNames, EventNames, CountNames, StateNames, ItemNames, StatesNameBlocks, StepsReadBlocks}
+use Rattle.gw_meaning.specs.Numbers.{AreNumbered}
+use Rattle.gw_meaning.specs.Machine.{Machine, count_in, with_count, delay_at}
+use Rattle.gw_meaning.specs.Changes.{lined_up, all_lined_up, left_at, left, crossed, is_due, due, Making, made, all_made, making_of, with_making, started, placed, marked, fated, let_in, bound, refused, moved}
+use Rattle.gw_frame.specs.BlockIds.{IsBlockId, IsIdIfAny, TransactionNames, ActiveNames, EventNames, DelayNames, CountNames, StateNames, ItemNames, StatesNameBlocks, StepsReadBlocks}
 use Rattle.gw_frame.proofs.Keeps.{all_with}
-use Rattle.gw_frame.proofs.Decided.{IsComing, IsDecided, IsRead, step_decides}
-use Rattle.gw_frame.proofs.Moves.{settled, marked_same, entered_has, picked_has}
+use Rattle.gw_frame.proofs.Decided.{IsComing, IsDecidedChange, IsDecided, IsRead, step_decides}
+use Rattle.gw_frame.proofs.Moves.{leaving, Brings, settled, with_active_has, entered_has, picked_has}
+use Rattle.gw_frame.proofs.Delays.{delay_has, with_delay_has}
 use Rattle.gw_frame.proofs.Running.{over_run}
 use Rattle.gw_frame.proofs.ReadLaws.{step_reads, reads_there}
 
@@ -69,6 +74,7 @@ module _ (t : Listing) where
     active = h.active;
     current = h.current;
     future = all_with (EventNames t) w.future _ h.future (record { current = inl refl; destination = coming.id }, tt);
+    delays = h.delays;
     counts = with_count_names w.counts a.id _ coming.id h.counts;
   }
 
@@ -79,45 +85,97 @@ module _ (t : Listing) where
 
   -- entering a block
   fated_names : (fate : Fate) (x : Transaction) (s : Machine) → TransactionNames t x → StateNames t s → StateNames t (fated fate x s)
-  fated_names fates.Active x s named h = record { active = named; current = h.current; future = h.future; counts = h.counts }
+  fated_names fates.Active x s named h = record { active = named; current = h.current; future = h.future; delays = h.delays; counts = h.counts }
   fated_names (fates.Delayed until) x s named h =
-      record { active = tt; current = h.current; future = all_with (EventNames t) s.future _ h.future (named, tt); counts = h.counts }
-  fated_names (fates.Destroyed count) x s named h = record { active = tt; current = h.current; future = h.future; counts = h.counts }
+      record { active = tt; current = h.current; future = all_with (EventNames t) s.future _ h.future (named, tt); delays = h.delays; counts = h.counts }
+  fated_names (fates.Destroyed count) x s named h = record { active = tt; current = h.current; future = h.future; delays = h.delays; counts = h.counts }
+
+  marked_names : (s : Machine) (x : Transaction) (id : ℕ) (change : Change) → AreNumbered t.lines → IsDecidedChange t s change → IsBlockId t id →
+      TransactionNames t (marked change s.clock (placed x id))
+  marked_names s x id (changes.Generate next) numbered coming named = record { current = named; destination = tt }
+  marked_names s x id (changes.Transfer to) numbered coming named = record { current = named; destination = coming numbered }
+  marked_names s x id (changes.Entity change) numbered coming named = record { current = named; destination = tt }
+  marked_names s x id changes.Nothing numbered coming named = record { current = named; destination = tt }
 
   settled_names : (s : Machine) (x : Transaction) (id : ℕ) (change : Change) (fate : Fate) → StateNames t s → TransactionNames t x → IsBlockId t id →
-      StateNames t (settled s x id change fate)
-  settled_names s x id change fate h moving named =
-      let same = marked_same change s.clock (placed x id) in
+      TransactionNames t (marked change s.clock (placed x id)) → StateNames t (settled s x id change fate)
+  settled_names s x id change fate h moving named there =
       let counts = with_count_names (left s.counts x.current) id _ named (left_names s.counts x.current moving.current h.counts) in
-      fated_names fate _ _ (record { current = rw same.1 named; destination = rw same.2 tt })
-      (record { active = h.active; current = h.current; future = h.future; counts = counts })
+      fated_names fate _ _ there (record { active = h.active; current = h.current; future = h.future; delays = h.delays; counts = counts })
+
+  crossed_names : (cs : List (ℕ × Count)) (from to : ℕ) → IsBlockId t from → IsBlockId t to → AllByRecursion (CountNames t) cs →
+      AllByRecursion (CountNames t) (crossed fates.Active cs from to)
+  crossed_names cs from to left_there there all = with_count_names (left cs from) to _ there (left_names cs from left_there all)
+
+  let_in_names : (x : Transaction) (destination : Option ℕ) (s : Machine) → TransactionNames t x → IsIdIfAny t destination → StateNames t s →
+      StateNames t (let_in x destination s)
+  let_in_names x None s waits to h =
+      record { active = h.active; current = lined_up_names x s.current waits h.current; future = h.future; delays = h.delays; counts = h.counts }
+  let_in_names x (Some id) s waits to h = record {
+    active = h.active;
+    current = lined_up_names (placed x id) s.current (record { current = to; destination = tt }) h.current;
+    future = h.future;
+    delays = h.delays;
+    counts = crossed_names s.counts x.current id waits.current to h.counts;
+  }
+
+  delay_names : (s : Machine) (key : Key) → StateNames t s → AllByRecursion (TransactionNames t) (delay_at s.delays key)
+  delay_names s key h = delay_has (λ chain. AllByRecursion (TransactionNames t) chain) s.delays key tt h.delays
+
+  with_delay_names : (s : Machine) (key : Key) (xs : List Transaction) → AllByRecursion (TransactionNames t) xs → StateNames t s →
+      AllByRecursion (DelayNames t) (with_value s.delays key xs)
+  with_delay_names s key xs all h = with_delay_has (λ chain. AllByRecursion (TransactionNames t) chain) s.delays key xs all h.delays
+
+  waits_names : (v : Machine) (key : Key) (x : Transaction) (xs : List Transaction) → delay_at v.delays key ≡ x ∷ xs → StateNames t v →
+      StateNames t (let_in x x.destination (leaving v key xs))
+  waits_names v key x xs is h =
+      let all : AllByRecursion (TransactionNames t) (x ∷ xs) = subst (λ chain. AllByRecursion (TransactionNames t) chain) is (delay_names v key h) in
+      let_in_names x x.destination (leaving v key xs) all.0 all.0.destination
+      (record { active = h.active; current = h.current; future = h.future; delays = with_delay_names v key xs all.1 h; counts = h.counts })
+
+  refused_names : (s : Machine) (x : Transaction) (id : ℕ) (key : Key) → StateNames t s → TransactionNames t x → IsBlockId t id →
+      StateNames t (refused s x id key)
+  refused_names s x id key h named there = record {
+    active = tt;
+    current = h.current;
+    future = h.future;
+    delays = with_delay_names s key _
+        (lined_up_names (bound x id) (delay_at s.delays key) (record { current = named.current; destination = there }) (delay_names s key h)) h;
+    counts = h.counts;
+  }
+
+  active_names : (s : Machine) (x : Transaction) → s.active ≡ Some x → StateNames t s → TransactionNames t x
+  active_names s x is h = let here : ActiveNames t (Some x) = subst (λ o. ActiveNames t o) is h.active in here
 
   -- moves
-  moved_names : (s : Machine) (m : Move) → IsDecided t s m → StateNames t s → StateNames t (moved s m)
-  moved_names s (moves.Start count arrivals) decided h = all_made_names s arrivals (making_of s) (started count s) decided.coming
-      (record { active = h.active; current = h.current; future = h.future; counts = h.counts })
-  moved_names s moves.Command decided h = record { active = h.active; current = h.current; future = h.future; counts = h.counts }
-  moved_names s (moves.Enter id change fate) decided h =
+  moved_names : (s : Machine) (m : Move) → AreNumbered t.lines → IsDecided t s m → StateNames t s → StateNames t (moved s m)
+  moved_names s (moves.Start count arrivals) numbered decided h = all_made_names s arrivals (making_of s) (started count s) decided.coming
+      (record { active = h.active; current = h.current; future = h.future; delays = h.delays; counts = h.counts })
+  moved_names s moves.Command numbered decided h = record { active = h.active; current = h.current; future = h.future; delays = h.delays; counts = h.counts }
+  moved_names s (moves.Enter id change fate) numbered decided h =
       entered_has (StateNames t) (StateNames t) t s id change fate decided.1 h
-      (λ x is. settled_names s x id change fate h (let here : ActiveNames t (Some x) = subst (λ o. ActiveNames t o) is h.active in here) decided.0)
-      (λ v k. k) (λ a v coming k. made_names s a (making_of v) v coming k)
-  moved_names s moves.Pick decided h = picked_has (StateNames t) s s.current h
+      (λ x is. settled_names s x id change fate h (active_names s x is h) decided.0 (marked_names s x id change numbered decided.1 decided.0))
+      (λ v. record { nothing = λ k. k; one = λ a coming k. made_names s a (making_of v) v coming k; waits = waits_names v })
+  moved_names s (moves.Refuse id key) numbered decided h =
+      with_active_has (StateNames t) s.active (λ x. refused s x id key) s h (λ x is. refused_names s x id key h (active_names s x is h) decided.0)
+  moved_names s moves.Pick numbered decided h = picked_has (StateNames t) s s.current h
       (λ x xs is. (let all : AllByRecursion (TransactionNames t) (x ∷ xs) = subst (λ chain. AllByRecursion (TransactionNames t) chain) is h.current in
-      record { active = all.0; current = all.1; future = h.future; counts = h.counts }))
-  moved_names s (moves.Clock time) decided h = record {
+      record { active = all.0; current = all.1; future = h.future; delays = h.delays; counts = h.counts }))
+  moved_names s (moves.Clock time) numbered decided h = record {
     active = h.active;
     current = all_lined_up_names (due time s.future) s.current (due_names time s.future h.future) h.current;
     future = later_names time s.future h.future;
+    delays = h.delays;
     counts = h.counts;
   }
 
 -- each state of a run, with what its step reads
 pub run_names : StatesNameBlocks
 run_names t seed n s numbered =
-    over_run t seed (λ n s. StateNames t s) (record { active = tt; current = tt; future = tt; counts = tt })
+    over_run t seed (λ n s. StateNames t s) (record { active = tt; current = tt; future = tt; delays = tt; counts = tt })
     (λ n s m streams there decided h.
-    let next = moved_names t s m decided h in
-    record { active = next.active; current = next.current; future = next.future; counts = next.counts })
+    let next = moved_names t s m numbered decided h in
+    record { active = next.active; current = next.current; future = next.future; delays = next.delays; counts = next.counts })
     n s
 
 all_read : (t : Listing) (s : Machine) (is : List Item) → ((i : Item) → IsRead t s i → ItemNames t i) → AllByRecursion (IsRead t s) is →

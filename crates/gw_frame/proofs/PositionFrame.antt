@@ -9,8 +9,8 @@ use Rattle.gw_meaning.specs.Listing.{Listing}
 use Rattle.gw_meaning.specs.Machine.{Machine}
 use Rattle.gw_meaning.specs.Step.{step, run}
 use Rattle.gw_meaning.specs.Reads.{reads}
-use Rattle.gw_frame.specs.Moved.{moved_item, moved_transaction, moved_event, moved_count, moved_machine}
-use Rattle.gw_frame.specs.BlockIds.{IsBlockId, IsIdIfAny, TransactionNames, ActiveNames, EventNames, CountNames, StateNames, ItemNames}
+use Rattle.gw_frame.specs.Moved.{moved_item, moved_transaction, moved_event, moved_delay, moved_count, moved_machine}
+use Rattle.gw_frame.specs.BlockIds.{IsBlockId, IsIdIfAny, TransactionNames, ActiveNames, EventNames, DelayNames, CountNames, StateNames, ItemNames}
 use Rattle.gw_frame.specs.Positions.{position_of, shifted, FrameInPositions}
 use Rattle.gw_frame.proofs.ReadLaws.{unseen_reads}
 use Rattle.gw_frame.proofs.Running.{last_step}
@@ -46,9 +46,12 @@ module _ (t u : Listing) (f g h : ℕ → ℕ) (same : (p : ℕ) → IsBlockId t
       transaction_same s.current there.current also.current in
       let future = list_same (EventNames t) (EventNames u) (moved_event f) (moved_event g) (moved_event h)
       (λ e k l. ap (λ x. let y : Event = record e { transaction = x } in y) (transaction_same e.transaction k l)) s.future there.future also.future in
+      let delays = list_same (DelayNames t) (DelayNames u) (moved_delay f) (moved_delay g) (moved_delay h)
+      (λ d k l. ap (λ chain. (d.0, chain)) (list_same (TransactionNames t) (TransactionNames u) (moved_transaction f) (moved_transaction g)
+      (moved_transaction h) transaction_same d.1 k l)) s.delays there.delays also.delays in
       let counts = list_same (CountNames t) (CountNames u) (moved_count f) (moved_count g) (moved_count h) (λ c k l. ap (λ p. (p, c.1)) (same c.0 k l))
       s.counts there.counts also.counts in
-      rw (active, current, future, counts) refl
+      rw (active, current, future, delays, counts) refl
 
   item_same : (i : Item) → ItemNames t i → ItemNames u i → moved_item f i ≡ moved_item h (moved_item g i)
   item_same (items.Block p) there also = ap (λ q. items.Block q) (same p there also)

@@ -1,10 +1,10 @@
 -- A version with its ids renamed answers renamed, and two versions with the same statements are one renamed.
-use Rattle.std.proofs.Common.{◌≡◌, ℕ, ◌+◌, nat_eq, Bool, true, false, cond, List, [], ◌∷◌, map, Option, Some, None, is_some, option_map, option_and_then, filter_map, refl, ap, ap₂, ◌∙◌}
+use Rattle.std.proofs.Common.{◌≡◌, ℕ, ◌+◌, nat_eq, Bool, true, false, cond, ◌&&◌, List, [], ◌∷◌, map, Option, Some, None, is_some, option_map, option_and_then, filter_map, refl, ap, ap₂, ◌∙◌}
 use Rattle.std.specs.List.{cons_option}
 use Rattle.gw_meaning.specs.declared.item.Item.TheVariants as items
 use Rattle.gw_meaning.specs.declared.statement.Statement.{Statement}
 use Rattle.gw_meaning.specs.declared.statement.Numbered.{Numbered}
-use Rattle.gw_meaning.specs.Listing.{block_of, block_of_body, command_of, command_of_body, is_block, is_generate, is_generate_body, line_in, first_block, after_in, position_in, generates_in, nth}
+use Rattle.gw_meaning.specs.Listing.{block_of, block_of_body, command_of, command_of_body, is_block, is_generate, is_generate_body, has_label, line_in, first_block, after_in, position_in, labelled_in, generates_in, nth}
 use Rattle.gw_meaning.specs.Questions.{ask}
 use Rattle.gw_frame.specs.Moved.{IsMove}
 use Rattle.gw_frame.specs.Renamed.{AreRenamed, RenamedAnswers}
@@ -61,6 +61,16 @@ module _ (move : ℕ → ℕ) (is : IsMove move) where
       rw (same_test l m p r.0, same_kind l m r.1)
       (ap (λ o. cond (nat_eq l.number p) (cond (is_block l) (Some (before + 1)) None) o) (position_renamed (cond (is_block l) (before + 1) before) ls ms r.2 p))
 
+  pub label_renamed : (name : List ℕ) (ls ms : List Numbered) → AreRenamed move ls ms → labelled_in name ms ≡ option_map move (labelled_in name ls)
+  label_renamed name [] [] r = refl
+  label_renamed name [] (m ∷ ms) r = absurd r
+  label_renamed name (l ∷ ls) [] r = absurd r
+  label_renamed name (l ∷ ls) (m ∷ ms) r =
+      rw (ap (λ (s : Statement). is_some (block_of_body s.body) && has_label name s.label) r.1)
+      (elim (is_block l && has_label name l.statement.label) as (λ b. cond b (Some m.number) (labelled_in name ms) ≡
+      option_map move (cond b (Some l.number) (labelled_in name ls)))
+      [ true ↦ ap (λ n. Some n) r.0 | false ↦ label_renamed name ls ms r.2 ])
+
   pub generates_renamed : (ls ms : List Numbered) → AreRenamed move ls ms → generates_in ms ≡ map move (generates_in ls)
   generates_renamed [] [] r = refl
   generates_renamed [] (m ∷ ms) r = absurd r
@@ -80,6 +90,7 @@ commands_renamed move (l ∷ ls) (m ∷ ms) r = ap₂ cons_option (ap (λ (s : S
 pub renamed_answers : RenamedAnswers
 renamed_answers move t u seed r (items.Block id) = block_renamed move r.is_move t.lines u.lines r.lines id
 renamed_answers move t u seed r (items.After id) = after_renamed move r.is_move t.lines u.lines r.lines id
+renamed_answers move t u seed r (items.Label name) = label_renamed move r.is_move name t.lines u.lines r.lines
 renamed_answers move t u seed r items.Generates = generates_renamed move r.is_move t.lines u.lines r.lines
 renamed_answers move t u seed r (items.Cmd i) = ap (λ cs. nth cs i) (commands_renamed move t.lines u.lines r.lines)
 renamed_answers move t u seed r item = ap (λ n. ask (record t { horizon = n }) seed item) r.horizon

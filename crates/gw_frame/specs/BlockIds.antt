@@ -1,7 +1,8 @@
 -- Which statement ids a state and an item name: a state of a run names none but those of the version's blocks, and
 -- its steps read no other. (Our own.)
-use Rattle.std.specs.Prelude.{ℕ, ◌≡◌, ◌⊎◌, Option, Some, None, Ok}
+use Rattle.std.specs.Prelude.{ℕ, ◌≡◌, ◌⊎◌, List, Option, Some, None, Ok}
 use Rattle.std.specs.List.{AllByRecursion}
+use Rattle.gw_names.specs.declared.key.Key.{Key}
 use Rattle.gw_meaning.specs.declared.item.Item.{Item}
 use Rattle.gw_meaning.specs.declared.item.Item.TheVariants as items
 use Rattle.gw_meaning.specs.declared.statement.Block.{Block}
@@ -18,7 +19,7 @@ use Rattle.gw_meaning.specs.Reads.{reads}
 abbrev pub IsBlockId : Listing → ℕ → Type 0
 IsBlockId t id = (id ≡ 0) ⊎ ((block : Block) × (block_at t id ≡ Some block))
 
--- what names no other id: an id that there may be, a transaction, an event and a count
+-- what names no other id: an id that there may be, a transaction, an event, a delay chain and a count
 abbrev pub IsIdIfAny : Listing → Option ℕ → Type 0
 IsIdIfAny t None = Unit {0}
 IsIdIfAny t (Some id) = IsBlockId t id
@@ -34,6 +35,9 @@ ActiveNames t (Some x) = TransactionNames t x
 abbrev pub EventNames : Listing → Event → Type 0
 EventNames t e = TransactionNames t e.transaction
 
+abbrev pub DelayNames : Listing → Key × List Transaction → Type 0
+DelayNames t d = AllByRecursion (TransactionNames t) d.1
+
 abbrev pub CountNames : Listing → ℕ × Count → Type 0
 CountNames t c = IsBlockId t c.0
 
@@ -42,6 +46,7 @@ pub record StateNames (t : Listing) (s : Machine) : Type 0 where
   pub active : ActiveNames t s.active
   pub current : AllByRecursion (TransactionNames t) s.current
   pub future : AllByRecursion (EventNames t) s.future
+  pub delays : AllByRecursion (DelayNames t) s.delays
   pub counts : AllByRecursion (CountNames t) s.counts
 
 -- an item: those of a block name its id, and no other does

@@ -1,6 +1,7 @@
 -- The ids of blocks given other names, wherever they stand: in questions, answers and states; and what it is for a
 -- version to answer accordingly. Operands, ends and streams name no id. (Our own.)
-use Rattle.std.specs.Prelude.{◌≡◌, ℕ, map, option_map, Result, Ok, Err}
+use Rattle.std.specs.Prelude.{◌≡◌, ℕ, List, map, option_map, Result, Ok, Err}
+use Rattle.gw_names.specs.declared.key.Key.{Key}
 use Rattle.gw_meaning.specs.declared.item.Item.{Item}
 use Rattle.gw_meaning.specs.declared.item.Item.TheVariants as items
 use Rattle.gw_meaning.specs.declared.item.End.{End}
@@ -23,9 +24,10 @@ module _ (move : ℕ → ℕ) where
   moved_item (items.After id) = items.After (move id)
   moved_item item = item
 
-  -- its answer: what comes after a block and the list of GENERATEs name ids, and no other does
+  -- its answer: what comes after a block, the block with a label and the list of GENERATEs name ids, and no other does
   abbrev pub moved_answer : (i : Item) → Answer i → Answer (moved_item i)
   moved_answer (items.After id) after = option_map move after
+  moved_answer (items.Label name) id = option_map move id
   moved_answer items.Generates ids = map move ids
   moved_answer item answer = answer
 
@@ -35,6 +37,9 @@ module _ (move : ℕ → ℕ) where
 
   abbrev pub moved_event : Event → Event
   moved_event e = record e { transaction = moved_transaction e.transaction }
+
+  abbrev pub moved_delay : Key × List Transaction → Key × List Transaction
+  moved_delay d = (d.0, map moved_transaction d.1)
 
   abbrev pub moved_count : ℕ × Count → ℕ × Count
   moved_count c = (move c.0, c.1)
@@ -46,6 +51,7 @@ module _ (move : ℕ → ℕ) where
         current = map moved_transaction s.current;
         future =
             map moved_event s.future;
+        delays = map moved_delay s.delays;
         counts = map moved_count s.counts;
       }
 

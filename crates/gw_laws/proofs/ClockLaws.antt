@@ -13,13 +13,14 @@ use Rattle.gw_meaning.specs.declared.moves.Move.{Move}
 use Rattle.gw_meaning.specs.declared.moves.Move.TheVariants as moves
 use Rattle.gw_meaning.specs.Listing.{Listing}
 use Rattle.gw_meaning.specs.Machine.{Machine}
-use Rattle.gw_meaning.specs.Changes.{Making, made, all_made, making_of, fated, is_due, moved}
+use Rattle.gw_meaning.specs.Changes.{Making, made, all_made, making_of, fated, refused, is_due, moved}
 use Rattle.gw_meaning.specs.Step.{run, sooner, least_time}
 use Rattle.gw_frame.proofs.Keeps.{all_with}
 use Rattle.gw_frame.proofs.Decided.{IsComing, IsDecidedFate, IsDecided}
-use Rattle.gw_frame.proofs.Moves.{settled_is, entered_has, picked_has}
+use Rattle.gw_frame.proofs.Moves.{settled_is, leaving, with_active_has, entered_has, picked_has}
 use Rattle.gw_frame.proofs.Running.{over_run, over_rest}
 use Rattle.gw_laws.specs.Clock.{ClockNeverGoesBack, ClockStaysWithin, NothingIsOverdue}
+use Rattle.gw_laws.proofs.Waiting.{let_in_is}
 
 -- no time lies before this one
 abbrev pub AreAhead : ℕ → List Event → Type 0
@@ -93,8 +94,14 @@ moved_goes_on t s (moves.Enter id change fate) decided h =
     let P : Machine → Type 0 = λ v. (v.clock ≡ s.clock) × AreAhead s.clock v.future in
     let whole : P (moved s (moves.Enter id change fate)) =
     entered_has P P t s id change fate decided.1 (refl, h.1) (λ x is. ((settled_is s x id change fate).clock, fated_ahead fate _ _ decided.2 h.1))
-    (λ v k. k) (λ a v coming k. (k.0, all_with (λ (e : Event). s.clock ≤ e.time) v.future _ k.1 (coming.ahead, tt))) in
+    (λ v. record {
+      nothing = λ k. k;
+      one = λ a coming k. (k.0, all_with (λ (e : Event). s.clock ≤ e.time) v.future _ k.1 (coming.ahead, tt));
+      waits = λ key x xs is k. (let same = let_in_is x x.destination (leaving v key xs) in rw (same.clock, same.future) k);
+    }) in
     rw whole.0 (omega arith, (h.0, whole.1))
+moved_goes_on t s (moves.Refuse id key) decided h =
+    with_active_has (GoesOn t s.clock) s.active (λ x. refused s x id key) s (omega arith, h) (λ x is. (omega arith, h))
 moved_goes_on t s moves.Pick decided h = picked_has (GoesOn t s.clock) s s.current (omega arith, h) (λ x xs is. (omega arith, h))
 moved_goes_on t s (moves.Clock time) decided h = (
   least_is_ahead s.clock s.future time decided.0 h.1,

@@ -1,24 +1,26 @@
 -- Each block's content is the number of the transactions that stand in it, move by move and over a run.
-use Rattle.std.proofs.Common.{◌≡◌, ℕ, ◌+◌, ◌-◌, ◌<◌, ◌≤◌, ◌^◌, nat_eq, Bool, true, false, List, [], ◌∷◌, Some, Ok, refl, ap, sym, ◌∙◌, arith}
+use Rattle.std.proofs.Common.{◌≡◌, ℕ, ◌+◌, ◌-◌, ◌<◌, ◌≤◌, ◌^◌, nat_eq, Bool, true, false, List, [], ◌∷◌, Option, Some, None, Ok, refl, ap, sym, ◌∙◌, arith}
 use Rattle.std.proofs.lemmas.Bool.{ne_eqb}
+use Rattle.gw_names.specs.declared.key.Key.{Key}
 use Rattle.gw_meaning.specs.declared.transaction.Transaction.{Transaction}
 use Rattle.gw_meaning.specs.declared.moves.Arrival.{Arrival}
 use Rattle.gw_meaning.specs.declared.moves.Change.{Change}
 use Rattle.gw_meaning.specs.declared.moves.Fate.{Fate}
+use Rattle.gw_meaning.specs.declared.moves.Fate.TheVariants as fates
 use Rattle.gw_meaning.specs.declared.moves.Move.{Move}
 use Rattle.gw_meaning.specs.declared.moves.Move.TheVariants as moves
 use Rattle.gw_meaning.specs.Listing.{Listing}
-use Rattle.gw_meaning.specs.Machine.{Machine}
-use Rattle.gw_meaning.specs.Changes.{Making, made, all_made, making_of, with_making, newcomer, placed, started, moved}
+use Rattle.gw_meaning.specs.Machine.{Machine, delay_at}
+use Rattle.gw_meaning.specs.Changes.{Making, made, all_made, making_of, with_making, newcomer, placed, started, let_in, refused, moved}
 use Rattle.gw_meaning.specs.Step.{run}
 use Rattle.gw_model.specs.Well.{Well}
 use Rattle.gw_laws.specs.Living.{living}
 use Rattle.gw_laws.specs.Contents.{ContentsAreCounts}
 use Rattle.gw_frame.proofs.Decided.{IsDecided}
-use Rattle.gw_frame.proofs.Moves.{settled, settled_is, marked_same, entered_has, picked_has}
+use Rattle.gw_frame.proofs.Moves.{settled, settled_is, marked_same, leaving, with_active_has, entered_has, picked_has}
 use Rattle.gw_frame.proofs.Running.{over_run}
 use Rattle.gw_laws.proofs.Counts.{content, content_crossed, content_made}
-use Rattle.gw_laws.proofs.Crowd.{one, remains, many, future_many, crowd, many_living, many_is, active_crowd, future_push, settled_crowd, picked_crowd, advanced_crowd}
+use Rattle.gw_laws.proofs.Crowd.{one, remains, many, others, crowd, many_living, many_is, active_crowd, future_push, settled_crowd, settled_fewer, refused_crowd, leaving_crowd, let_in_crowd, picked_crowd, advanced_crowd}
 use Rattle.gw_laws.proofs.Room.{anyone, all_within}
 
 abbrev pub stands_in : ℕ → Transaction → Bool
@@ -58,7 +60,7 @@ all_made_counted (a ∷ rest) w s h = all_made_counted rest (made a w) s (made_c
 settled_counted : (s : Machine) (x : Transaction) (id : ℕ) (change : Change) (fate : Fate) → crowd anyone s < 2 ^ 64 - 1 → s.active ≡ Some x →
     IsCounted s → IsCounted (settled s x id change fate)
 settled_counted s x id change fate room is h p some =
-    let rest = many (stands_in p) s.current + future_many (stands_in p) s.future in
+    let rest = others (stands_in p) s in
     let was = active_crowd (stands_in p) s x is in
     let fewer = crowd_fewer (stands_in p) s in
     let before = h p some in
@@ -67,13 +69,37 @@ settled_counted s x id change fate room is h p some =
     let whole = content_crossed fate s.counts x.current id p rest (omega arith) (omega arith) in
     ap (λ cs. content cs p) (settled_is s x id change fate).counts ∙ omega arith
 
+-- who waited and is let in goes into the block that it waited for
+waits_counted : (v : Machine) (key : Key) (x : Transaction) (xs : List Transaction) (to : Option ℕ) → delay_at v.delays key ≡ x ∷ xs →
+    crowd anyone v < 2 ^ 64 - 1 → IsCounted v → IsCounted (let_in x to (leaving v key xs))
+waits_counted v key x xs None is room h p some =
+    let before = leaving_crowd (stands_in p) v key x xs is in
+    let after = let_in_crowd (stands_in p) x None (leaving v key xs) in
+    let was = h p some in
+    omega arith
+waits_counted v key x xs (Some id) is room h p some =
+    let before = leaving_crowd (stands_in p) v key x xs is in
+    let after = let_in_crowd (stands_in p) x (Some id) (leaving v key xs) in
+    let fewer = crowd_fewer (stands_in p) v in
+    let was = h p some in
+    let whole = content_crossed fates.Active v.counts x.current id p (crowd (stands_in p) (leaving v key xs)) (omega arith) (omega arith) in
+    omega arith
+
 -- each move
 moved_counted : (t : Listing) (s : Machine) (m : Move) → crowd anyone s < 2 ^ 64 - 1 → IsDecided t s m → IsCounted s → IsCounted (moved s m)
 moved_counted t s (moves.Start count arrivals) room decided h = all_made_counted arrivals (making_of s) (started count s) h
 moved_counted t s moves.Command room decided h = h
 moved_counted t s (moves.Enter id change fate) room decided h =
-    entered_has IsCounted IsCounted t s id change fate decided.1 h (λ x is. settled_counted s x id change fate room is h) (λ v k. k)
-    (λ a v coming k. made_counted a (making_of v) v k)
+    entered_has (λ v. (crowd anyone v < 2 ^ 64 - 1) × IsCounted v) IsCounted t s id change fate decided.1 h
+    (λ x is. (let fewer = settled_fewer anyone s x id change fate is refl in (omega arith, settled_counted s x id change fate room is h)))
+    (λ v. record {
+      nothing = λ k. k.1;
+      one = λ a coming k. made_counted a (making_of v) v k.1;
+      waits = λ key x xs is k. waits_counted v key x xs x.destination is k.0 k.1;
+    })
+moved_counted t s (moves.Refuse id key) room decided h =
+    with_active_has IsCounted s.active (λ x. refused s x id key) s h
+    (λ x is p some. h p some ∙ sym (refused_crowd (stands_in p) s x id key is refl))
 moved_counted t s moves.Pick room decided h =
     picked_has IsCounted s s.current h (λ x xs is p some. h p some ∙ sym (picked_crowd (stands_in p) s x xs decided is))
 moved_counted t s (moves.Clock time) room decided h = λ p some. h p some ∙ sym (advanced_crowd (stands_in p) s time)

@@ -1,18 +1,22 @@
 -- How many of the living transactions pass a test: what a move does to the chains, it does not do to their number.
-use Rattle.std.proofs.Common.{◌≡◌, ℕ, ◌+◌, Bool, true, false, cond, not, ◌≤◌, List, [], ◌∷◌, ◌++◌, map, filter, Option, Some, None, refl, ap, inl, inr, arith}
+use Rattle.std.proofs.Common.{◌≡◌, ℕ, ◌+◌, Bool, true, false, cond, not, ◌≤◌, List, [], ◌∷◌, ◌++◌, map, filter, Option, Some, None, unwrap_or, refl, ap, inl, inr, arith}
 use Rattle.std.specs.Prelude.{option_to_list, count_by}
 use Rattle.std.proofs.lemmas.Bool.{cond_both, cases_Bool}
 use Rattle.std.proofs.lemmas.List.Recursion.{is_count_by}
 use Rattle.gw_nums.specs.Range.{is_below}
+use Rattle.gw_names.specs.declared.key.Key.{Key}
+use Rattle.gw_names.specs.Keys.{key_eq}
+use Rattle.gw_entities.specs.Tables.{value_of, with_value}
 use Rattle.gw_meaning.specs.declared.transaction.Transaction.{Transaction}
 use Rattle.gw_meaning.specs.declared.transaction.Event.{Event}
 use Rattle.gw_meaning.specs.declared.moves.Change.{Change}
 use Rattle.gw_meaning.specs.declared.moves.Fate.{Fate}
 use Rattle.gw_meaning.specs.declared.moves.Fate.TheVariants as fates
-use Rattle.gw_meaning.specs.Machine.{Machine}
-use Rattle.gw_meaning.specs.Changes.{lined_up, all_lined_up, is_due, due, placed, marked, fated, picked, advanced}
-use Rattle.gw_frame.proofs.Moves.{settled}
+use Rattle.gw_meaning.specs.Machine.{Machine, delay_at, waiting}
+use Rattle.gw_meaning.specs.Changes.{lined_up, all_lined_up, is_due, due, placed, marked, fated, let_in, bound, refused, picked, advanced}
+use Rattle.gw_frame.proofs.Moves.{settled, leaving}
 use Rattle.gw_laws.specs.Living.{living}
+use Rattle.gw_laws.proofs.Waiting.{let_in_as}
 
 -- 1 where a test is passed
 abbrev pub one : Bool → ℕ
@@ -45,30 +49,35 @@ module _ (test : Transaction → Bool) where
   future_many [] = 0
   future_many (e ∷ es) = one (test e.transaction) + future_many es
 
-  -- of all the living
+  -- of all the living but the active one, and of all
+  abbrev pub others : Machine → ℕ
+  others s = many s.current + future_many s.future + many (waiting s.delays)
+
   abbrev pub crowd : Machine → ℕ
-  crowd s = active_many s.active + many s.current + future_many s.future
+  crowd s = active_many s.active + others s
 
   -- where there is an active one
-  pub active_crowd : (s : Machine) (x : Transaction) → s.active ≡ Some x → crowd s ≡ one (test x) + (many s.current + future_many s.future)
+  pub active_crowd : (s : Machine) (x : Transaction) → s.active ≡ Some x → crowd s ≡ one (test x) + others s
   active_crowd s x is = let here = ap active_many is in omega arith
 
-  many_append : (xs ys : List Transaction) → many (xs ++ ys) ≡ many xs + many ys
+  pub many_append : (xs ys : List Transaction) → many (xs ++ ys) ≡ many xs + many ys
   many_append [] ys = omega arith
   many_append (x ∷ xs) ys = let rest = many_append xs ys in omega arith
 
-  many_active : (o : Option Transaction) → many (option_to_list o) ≡ active_many o
+  pub many_active : (o : Option Transaction) → many (option_to_list o) ≡ active_many o
   many_active None = refl
   many_active (Some x) = omega arith
 
-  many_future : (es : List Event) → many (map (λ (e : Event). e.transaction) es) ≡ future_many es
+  pub many_future : (es : List Event) → many (map (λ (e : Event). e.transaction) es) ≡ future_many es
   many_future [] = refl
   many_future (e ∷ es) = let rest = many_future es in omega arith
 
   pub many_living : (s : Machine) → many (living s) ≡ crowd s
   many_living s =
-      let whole = many_append (option_to_list s.active) (s.current ++ map (λ (e : Event). e.transaction) s.future) in
-      let chains = many_append s.current (map (λ (e : Event). e.transaction) s.future) in
+      let events = map (λ (e : Event). e.transaction) s.future in
+      let whole = many_append (option_to_list s.active) (s.current ++ (events ++ waiting s.delays)) in
+      let chains = many_append s.current (events ++ waiting s.delays) in
+      let behind = many_append events (waiting s.delays) in
       let one' = many_active s.active in
       let future = many_future s.future in
       omega arith
@@ -114,14 +123,61 @@ module _ (test : Transaction → Bool) where
       let parts = future_parts time s.future in
       omega arith
 
+  -- those who wait, with another delay chain in the place of one
+  pub waiting_with : (ds : List (Key × List Transaction)) (key : Key) (xs : List Transaction) →
+      many (waiting (with_value ds key xs)) + many (delay_at ds key) ≡ many (waiting ds) + many xs
+  waiting_with [] key xs = let whole = many_append xs [] in omega arith
+  waiting_with (d ∷ ds) key xs = go (key_eq key d.0) (waiting_with ds key xs) where
+    go : (b : Bool) → many (waiting (with_value ds key xs)) + many (delay_at ds key) ≡ many (waiting ds) + many xs →
+        many (waiting (cond b ((d.0, xs) ∷ ds) (d ∷ with_value ds key xs))) + many (unwrap_or (cond b (Some d.1) (value_of ds key)) [])
+        ≡ many (waiting (d ∷ ds)) + many xs
+    go true rest =
+        let before = many_append d.1 (waiting ds) in
+        let after = many_append xs (waiting ds) in
+        omega arith
+    go false rest =
+        let before = many_append d.1 (waiting ds) in
+        let after = many_append d.1 (waiting (with_value ds key xs)) in
+        omega arith
+
+  -- so does refusing the active one, who waits from then on
+  pub refused_crowd : (s : Machine) (x : Transaction) (id : ℕ) (key : Key) → s.active ≡ Some x → test (bound x id) ≡ test x →
+      crowd (refused s x id key) ≡ crowd s
+  refused_crowd s x id key is same =
+      let was = active_crowd s x is in
+      let one' = ap one same in
+      let more = many_lined (bound x id) (delay_at s.delays key) in
+      let chains = waiting_with s.delays key (lined_up (bound x id) (delay_at s.delays key)) in
+      omega arith
+
+  -- so does letting in the first of a delay chain, who leaves it and comes onto the current chain
+  pub leaving_crowd : (s : Machine) (key : Key) (x : Transaction) (xs : List Transaction) → delay_at s.delays key ≡ x ∷ xs →
+      crowd s ≡ one (test x) + crowd (leaving s key xs)
+  leaving_crowd s key x xs is =
+      let chains = waiting_with s.delays key xs in
+      let first = ap many is in
+      omega arith
+
+  pub let_in_crowd : (x : Transaction) (to : Option ℕ) (s : Machine) → crowd (let_in x to s) ≡ one (test (let_in_as x to)) + crowd s
+  let_in_crowd x None s = let more = many_lined x s.current in omega arith
+  let_in_crowd x (Some id) s = let more = many_lined (placed x id) s.current in omega arith
+
+  pub waits_crowd : (s : Machine) (key : Key) (x : Transaction) (xs : List Transaction) → delay_at s.delays key ≡ x ∷ xs →
+      test (let_in_as x x.destination) ≡ test x → crowd (let_in x x.destination (leaving s key xs)) ≡ crowd s
+  waits_crowd s key x xs is same =
+      let before = leaving_crowd s key x xs is in
+      let after = let_in_crowd x x.destination (leaving s key xs) in
+      let one' = ap one same in
+      omega arith
+
   -- so does entering a block, but for a transaction that is destroyed
-  fated_crowd : (fate : Fate) (x : Transaction) (s : Machine) → crowd (fated fate x s) ≡ remains fate (one (test x)) + (many s.current + future_many s.future)
+  fated_crowd : (fate : Fate) (x : Transaction) (s : Machine) → crowd (fated fate x s) ≡ remains fate (one (test x)) + others s
   fated_crowd fates.Active x s = omega arith
   fated_crowd (fates.Delayed until) x s = let push = future_push s.future (record { time = until; transaction = x }) in omega arith
   fated_crowd (fates.Destroyed count) x s = omega arith
 
   pub settled_crowd : (s : Machine) (x : Transaction) (id : ℕ) (change : Change) (fate : Fate) → crowd (settled s x id change fate) ≡
-      remains fate (one (test (marked change s.clock (placed x id)))) + (many s.current + future_many s.future)
+      remains fate (one (test (marked change s.clock (placed x id)))) + others s
   settled_crowd s x id change fate = fated_crowd fate (marked change s.clock (placed x id)) _
 
   pub settled_fewer : (s : Machine) (x : Transaction) (id : ℕ) (change : Change) (fate : Fate) → s.active ≡ Some x →

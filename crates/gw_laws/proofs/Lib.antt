@@ -1,11 +1,17 @@
 pub mod ClockLaws
+pub mod Entries
+pub mod Waiting
 pub mod Crowd
 pub mod Counts
 pub mod Room
 pub mod ContentLaws
 pub mod NumberLaws
 pub mod ChainLaws
+pub mod DelayLaws
+pub mod OwnerLaws
 pub mod TurnLaws
 pub mod LossLaws
+pub mod PlaceLaws
+pub mod FacilityLaws
 pub mod QueueLaws
 pub mod VerbLaws

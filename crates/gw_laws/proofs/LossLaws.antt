@@ -1,5 +1,5 @@
 -- No transaction but the active one ceases to live in a step.
-use Rattle.std.proofs.Common.{◌≡◌, ℕ, ◌≤◌, ◌⊎◌, true, List, [], ◌∷◌, Some, sym, ap, subst, ◌∙◌, arith, inl, inr}
+use Rattle.std.proofs.Common.{◌≡◌, ℕ, ◌≤◌, ◌⊎◌, true, List, [], ◌∷◌, Some, refl, sym, ap, subst, ◌∙◌, arith, inl, inr}
 use Rattle.std.proofs.lemmas.Bool.{cases_Bool, cases_eq, cases_lt, ne_eqb, false≢true}
 use Rattle.gw_meaning.specs.declared.transaction.Transaction.{Transaction}
 use Rattle.gw_meaning.specs.declared.moves.Arrival.{Arrival}
@@ -7,14 +7,14 @@ use Rattle.gw_meaning.specs.declared.moves.Move.{Move}
 use Rattle.gw_meaning.specs.declared.moves.Move.TheVariants as moves
 use Rattle.gw_meaning.specs.Listing.{Listing}
 use Rattle.gw_meaning.specs.Machine.{Machine}
-use Rattle.gw_meaning.specs.Changes.{Making, made, all_made, making_of, with_making, newcomer, started, moved}
+use Rattle.gw_meaning.specs.Changes.{Making, made, all_made, making_of, with_making, newcomer, started, refused, moved}
 use Rattle.gw_meaning.proofs.Programs.{run_on}
 use Rattle.gw_laws.specs.Living.{living}
 use Rattle.gw_laws.specs.Numbering.{OnlyTheActiveGoes, lives}
 use Rattle.gw_frame.proofs.Decided.{IsDecided, step_decides}
-use Rattle.gw_frame.proofs.Moves.{entered_has, picked_has}
-use Rattle.gw_laws.proofs.Crowd.{one, crowd, active_crowd, many_living, future_push, settled_crowd, picked_crowd, advanced_crowd}
-use Rattle.gw_laws.proofs.NumberLaws.{has_number, not_alive, alive}
+use Rattle.gw_frame.proofs.Moves.{with_active_has, entered_has, picked_has}
+use Rattle.gw_laws.proofs.Crowd.{one, crowd, active_crowd, many_living, future_push, settled_crowd, refused_crowd, picked_crowd, advanced_crowd}
+use Rattle.gw_laws.proofs.NumberLaws.{has_number, waits_same, not_alive, alive}
 
 module _ (k : ℕ) where
   -- a transaction with this number lives, or was the active one before
@@ -48,7 +48,15 @@ module _ (k : ℕ) where
             let now = settled_crowd (has_number k) s x id change fate in
             inl (omega (arith, h, not', was, now))
       ])
-      (λ v g. g) (λ a v coming g. elim g [ inl here ↦ inl (made_lives a (making_of v) v here) | inr was ↦ inr was ])
+      (λ v. record {
+        nothing = λ g. g;
+        one = λ a coming g. elim g [ inl here ↦ inl (made_lives a (making_of v) v here) | inr was ↦ inr was ];
+        waits = λ key x xs is g.
+            (let same = waits_same k v key x xs is in elim g [ inl here ↦ inl (omega (arith, same, here)) | inr was ↦ inr was ]);
+      })
+  moved_lives t s (moves.Refuse id key) decided h =
+      with_active_has (LivesOn s) s.active (λ x. refused s x id key) s (inl h)
+      (λ x is. let same = refused_crowd (has_number k) s x id key is refl in inl (omega (arith, h, same)))
   moved_lives t s moves.Pick decided h =
       picked_has (LivesOn s) s s.current (inl h) (λ x xs is. let same = picked_crowd (has_number k) s x xs decided is in inl (omega (arith, h, same)))
   moved_lives t s (moves.Clock time) decided h = let same = advanced_crowd (has_number k) s time in inl (omega (arith, h, same))

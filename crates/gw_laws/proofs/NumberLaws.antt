@@ -5,21 +5,23 @@ use Rattle.std.specs.List.{AllByRecursion, list_any}
 use Rattle.std.proofs.lemmas.Bool.{cases_Bool, false≢true, eq-eqb, ne_eqb, cases_eq, cases_lt}
 use Rattle.std.proofs.lemmas.List.Elements.{All-from_recursion}
 use Rattle.std.proofs.lemmas.List.Kept.{AllPairs-cons}
+use Rattle.gw_names.specs.declared.key.Key.{Key}
 use Rattle.gw_meaning.specs.declared.transaction.Transaction.{Transaction}
 use Rattle.gw_meaning.specs.declared.moves.Arrival.{Arrival}
 use Rattle.gw_meaning.specs.declared.moves.Move.{Move}
 use Rattle.gw_meaning.specs.declared.moves.Move.TheVariants as moves
 use Rattle.gw_meaning.specs.Listing.{Listing}
-use Rattle.gw_meaning.specs.Machine.{Machine}
-use Rattle.gw_meaning.specs.Changes.{Making, made, all_made, making_of, with_making, newcomer, placed, started, moved}
+use Rattle.gw_meaning.specs.Machine.{Machine, delay_at}
+use Rattle.gw_meaning.specs.Changes.{Making, made, all_made, making_of, with_making, newcomer, placed, started, let_in, refused, moved}
 use Rattle.gw_meaning.specs.Step.{run}
 use Rattle.gw_model.specs.Well.{Well}
 use Rattle.gw_laws.specs.Living.{living}
 use Rattle.gw_laws.specs.Numbering.{NumbersAreApart, NumbersAreGiven, NumbersAreGivenOnce}
 use Rattle.gw_frame.proofs.Decided.{IsDecided}
-use Rattle.gw_frame.proofs.Moves.{settled, settled_is, marked_same, entered_has, picked_has}
+use Rattle.gw_frame.proofs.Moves.{settled, settled_is, marked_same, leaving, with_active_has, entered_has, picked_has}
 use Rattle.gw_frame.proofs.Running.{over_run, over_rest}
-use Rattle.gw_laws.proofs.Crowd.{one, many, crowd, many_living, future_push, settled_fewer, picked_crowd, advanced_crowd}
+use Rattle.gw_laws.proofs.Waiting.{let_in_number, let_in_is}
+use Rattle.gw_laws.proofs.Crowd.{one, many, crowd, many_living, future_push, settled_fewer, refused_crowd, waits_crowd, picked_crowd, advanced_crowd}
 use Rattle.gw_laws.proofs.Room.{all_within}
 
 abbrev pub has_number : ℕ → Transaction → Bool
@@ -61,6 +63,11 @@ all_made_numbered : (arrivals : List Arrival) (w : Making) (s : Machine) → w.n
 all_made_numbered [] w s room h = h
 all_made_numbered (a ∷ rest) w s room h = all_made_numbered rest (made a w) s (omega arith) (made_numbered a w s (omega arith) h)
 
+-- who waited and is let in keeps the number
+pub waits_same : (k : ℕ) (v : Machine) (key : Key) (x : Transaction) (xs : List Transaction) → delay_at v.delays key ≡ x ∷ xs →
+    crowd (has_number k) (let_in x x.destination (leaving v key xs)) ≡ crowd (has_number k) v
+waits_same k v key x xs is = waits_crowd (has_number k) v key x xs is (ap (λ n. nat_eq n k) (let_in_number x x.destination))
+
 -- each move
 moved_numbered : (t : Listing) (s : Machine) (m : Move) → s.next + length t.lines < 2 ^ 64 - 1 → IsDecided t s m → IsNumbered s → IsNumbered (moved s m)
 moved_numbered t s (moves.Start count arrivals) room decided h =
@@ -75,7 +82,16 @@ moved_numbered t s (moves.Enter id change fate) room decided h =
       same_numbered s v next
           (λ k. settled_fewer (has_number k) s x id change fate is (ap (λ n. nat_eq n k) (marked_same change s.clock (placed x id)).0)) h,
     ))
-    (λ v k. k.1) (λ a v coming k. made_numbered a (making_of v) v (omega (arith, k.0)) k.1)
+    (λ v. record {
+      nothing = λ k. k.1;
+      one = λ a coming k. made_numbered a (making_of v) v (omega (arith, k.0)) k.1;
+      waits = λ key x xs is k.
+          same_numbered v (let_in x x.destination (leaving v key xs)) (let_in_is x x.destination (leaving v key xs)).next
+          (λ i. let same = waits_same i v key x xs is in omega arith) k.1;
+    })
+moved_numbered t s (moves.Refuse id key) room decided h =
+    with_active_has IsNumbered s.active (λ x. refused s x id key) s h
+    (λ x is. same_numbered s (refused s x id key) refl (λ k. let same = refused_crowd (has_number k) s x id key is refl in omega arith) h)
 moved_numbered t s moves.Pick room decided h =
     picked_has IsNumbered s s.current h
     (λ x xs is. record {
@@ -161,7 +177,17 @@ module _ (k : ℕ) where
       let next : v.next ≡ s.next = (settled_is s x id change fate).next in
       let fewer = settled_fewer (has_number k) s x id change fate is (ap (λ n. nat_eq n k) (marked_same change s.clock (placed x id)).0) in
       (next, (omega (arith, next, h.0), omega (arith, fewer, h.1))))
-      (λ v g. g.1) (λ a v coming g. made_gone a (making_of v) v (omega (arith, room, g.0)) g.1)
+      (λ v. record {
+        nothing = λ g. g.1;
+        one = λ a coming g. made_gone a (making_of v) v (omega (arith, room, g.0)) g.1;
+        waits = λ key x xs is g.
+            (let same = waits_same k v key x xs is in
+            let next = (let_in_is x x.destination (leaving v key xs)).next in
+            (omega (arith, next, g.1.0), omega (arith, same, g.1.1)));
+      })
+  moved_gone t s (moves.Refuse id key) room decided h =
+      with_active_has (IsGone k) s.active (λ x. refused s x id key) s h
+      (λ x is. let same = refused_crowd (has_number k) s x id key is refl in (h.0, omega (arith, same, h.1)))
   moved_gone t s moves.Pick room decided h =
       picked_has (IsGone k) s s.current h (λ x xs is. let same = picked_crowd (has_number k) s x xs decided is in (h.0, omega (arith, same, h.1)))
   moved_gone t s (moves.Clock time) room decided h = let same = advanced_crowd (has_number k) s time in (h.0, omega (arith, same, h.1))

@@ -1,27 +1,28 @@
 -- The queues, move by move and over a run.
-use Rattle.std.proofs.Common.{ℕ, ◌≤◌, Bool, true, false, cond, List, [], ◌∷◌, Some, unwrap_or, refl, arith}
-use Rattle.std.specs.List.{AllByRecursion}
+use Rattle.std.proofs.Common.{ℕ, ◌≤◌, Bool, true, false, List, [], ◌∷◌, refl, arith}
 use Rattle.std.proofs.lemmas.List.Elements.{All-from_recursion}
 use Rattle.gw_names.specs.declared.key.Key.{Key}
-use Rattle.gw_names.specs.Keys.{key_eq}
 use Rattle.gw_entities.specs.Records.{Line, no_line, queued, departed}
-use Rattle.gw_entities.specs.Tables.{value_of, with_value}
+use Rattle.gw_meaning.specs.declared.entity_change.Deed.{Deed}
+use Rattle.gw_meaning.specs.declared.entity_change.Deed.TheVariants as deeds
 use Rattle.gw_meaning.specs.declared.moves.Change.{Change}
 use Rattle.gw_meaning.specs.declared.moves.Change.TheVariants as changes
 use Rattle.gw_meaning.specs.declared.moves.Move.{Move}
 use Rattle.gw_meaning.specs.declared.moves.Move.TheVariants as moves
 use Rattle.gw_meaning.specs.Listing.{Listing}
-use Rattle.gw_meaning.specs.Entities.{Entities, line_at, touched}
+use Rattle.gw_meaning.specs.Entities.{Entities, line_at, done, touched}
 use Rattle.gw_meaning.specs.Machine.{Machine}
-use Rattle.gw_meaning.specs.Changes.{moved}
-use Rattle.gw_frame.proofs.Decided.{IsDecidedChange, IsDecided, Fits, Leaves}
-use Rattle.gw_frame.proofs.Moves.{settled_is, entered_has, picked_has}
+use Rattle.gw_meaning.specs.Changes.{refused, moved}
+use Rattle.gw_frame.proofs.Decided.{IsDecidedDeed, IsDecidedChange, IsDecided, Fits, Leaves}
+use Rattle.gw_frame.proofs.Moves.{settled_is, leaving, with_active_has, entered_has, picked_has}
 use Rattle.gw_frame.proofs.Running.{over_run}
 use Rattle.gw_laws.specs.Queues.{IsWithin, QueuesAreWithin}
+use Rattle.gw_laws.proofs.Entries.{Each, at_has, with_has}
+use Rattle.gw_laws.proofs.Waiting.{let_in_is}
 use Rattle.gw_laws.proofs.ClockLaws.{IsInTime, moved_goes_on}
 
 abbrev AreWithin : ℕ → List (Key × Line) → Type 0
-AreWithin clock = AllByRecursion (λ (q : Key × Line). IsWithin clock q.1)
+AreWithin clock = Each (IsWithin clock)
 
 -- a queue that nothing touched
 none_within : (clock : ℕ) → IsWithin clock no_line
@@ -29,21 +30,7 @@ none_within clock =
     record { entries = omega arith; zero_entries = omega arith; greatest = omega arith; content = omega arith; at = omega arith }
 
 line_within : (clock : ℕ) (e : Entities) (key : Key) → AreWithin clock e.queues → IsWithin clock (line_at e key)
-line_within clock e key = go e.queues where
-  go : (qs : List (Key × Line)) → AreWithin clock qs → IsWithin clock (line_at (record { queues = qs; comings = e.comings }) key)
-  go [] all = none_within clock
-  go (q ∷ qs) all = here (key_eq key q.0) (go qs all.1) where
-    here : (b : Bool) → IsWithin clock (unwrap_or (value_of qs key) no_line) → IsWithin clock (unwrap_or (cond b (Some q.1) (value_of qs key)) no_line)
-    here true rest = all.0
-    here false rest = rest
-
-with_value_within : (clock : ℕ) (qs : List (Key × Line)) (key : Key) (line : Line) → IsWithin clock line → AreWithin clock qs →
-    AreWithin clock (with_value qs key line)
-with_value_within clock [] key line is all = (is, tt)
-with_value_within clock (q ∷ qs) key line is all = go (key_eq key q.0) (with_value_within clock qs key line is all.1) where
-  go : (b : Bool) → AreWithin clock (with_value qs key line) → AreWithin clock (cond b ((q.0, line) ∷ qs) (q ∷ with_value qs key line))
-  go true rest = (is, all.1)
-  go false rest = (all.0, rest)
+line_within clock e key all = at_has (IsWithin clock) no_line e.queues key (none_within clock) all
 
 -- what a block makes of one
 queued_within : (clock units : ℕ) (q : Line) → Fits q units → IsWithin clock q → IsWithin clock (queued units clock q)
@@ -73,12 +60,18 @@ departed_within clock units false q leaves h =
       at = omega (arith, h.at);
     }
 
+done_within : (s : Machine) (key : Key) (deed : Deed) (number : ℕ) → IsDecidedDeed s key deed → AreWithin s.clock s.entities.queues →
+    AreWithin s.clock (done key deed s.clock number s.entities).queues
+done_within s key (deeds.Queue units) number fits all =
+    with_has (IsWithin s.clock) s.entities.queues key _ (queued_within s.clock units _ fits (line_within s.clock s.entities key all)) all
+done_within s key (deeds.Depart units at_once) number leaves all =
+    with_has (IsWithin s.clock) s.entities.queues key _ (departed_within s.clock units at_once _ leaves (line_within s.clock s.entities key all)) all
+done_within s key deeds.Seize number decided all = all
+done_within s key (deeds.Release next) number decided all = all
+
 touched_within : (t : Listing) (s : Machine) (change : Change) (number : ℕ) → IsDecidedChange t s change → AreWithin s.clock s.entities.queues →
     AreWithin s.clock (touched change s.clock number s.entities).queues
-touched_within t s (changes.Queue key units) number fits all =
-    with_value_within s.clock s.entities.queues key _ (queued_within s.clock units _ fits (line_within s.clock s.entities key all)) all
-touched_within t s (changes.Depart key units at_once) number leaves all =
-    with_value_within s.clock s.entities.queues key _ (departed_within s.clock units at_once _ leaves (line_within s.clock s.entities key all)) all
+touched_within t s (changes.Entity change) number decided all = done_within s change.0 change.1 number decided all
 touched_within t s change number decided all = all
 
 -- a later clock
@@ -104,7 +97,13 @@ moved_within t s (moves.Enter id change fate) decided on all =
     let P : Machine → Type 0 = λ v. AreWithin v.clock v.entities.queues in
     entered_has P P t s id change fate decided.1 all
     (λ x is. (let same = settled_is s x id change fate in rw (same.clock, same.entities) (touched_within t s change x.number decided.1 all)))
-    (λ v k. k) (λ a v coming k. k)
+    (λ v. record {
+      nothing = λ k. k;
+      one = λ a coming k. k;
+      waits = λ key x xs is k. (let same = let_in_is x x.destination (leaving v key xs) in rw (same.clock, same.entities) k);
+    })
+moved_within t s (moves.Refuse id key) decided on all =
+    with_active_has (λ v. AreWithin v.clock v.entities.queues) s.active (λ x. refused s x id key) s all (λ x is. all)
 moved_within t s moves.Pick decided on all =
     picked_has (λ v. AreWithin v.clock v.entities.queues) s s.current all (λ x xs is. all)
 moved_within t s (moves.Clock time) decided on all = later_within s.clock time s.entities.queues on all

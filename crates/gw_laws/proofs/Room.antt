@@ -6,13 +6,14 @@ use Rattle.gw_meaning.specs.declared.moves.Move.{Move}
 use Rattle.gw_meaning.specs.declared.moves.Move.TheVariants as moves
 use Rattle.gw_meaning.specs.Listing.{Listing}
 use Rattle.gw_meaning.specs.Machine.{Machine}
-use Rattle.gw_meaning.specs.Changes.{Making, made, all_made, making_of, with_making, newcomer, started, moved}
+use Rattle.gw_meaning.specs.Changes.{Making, made, all_made, making_of, with_making, newcomer, started, let_in, refused, moved}
 use Rattle.gw_meaning.specs.Step.{run}
 use Rattle.gw_model.specs.Well.{Well}
 use Rattle.gw_frame.proofs.Decided.{IsDecided}
-use Rattle.gw_frame.proofs.Moves.{settled, settled_is, entered_has, picked_has}
+use Rattle.gw_frame.proofs.Moves.{settled, settled_is, leaving, with_active_has, entered_has, picked_has}
 use Rattle.gw_frame.proofs.Running.{over_run}
-use Rattle.gw_laws.proofs.Crowd.{crowd, future_push, settled_fewer, picked_crowd, advanced_crowd}
+use Rattle.gw_laws.proofs.Waiting.{let_in_is}
+use Rattle.gw_laws.proofs.Crowd.{crowd, future_push, settled_fewer, refused_crowd, waits_crowd, picked_crowd, advanced_crowd}
 
 abbrev pub anyone : Transaction → Bool
 anyone x = true
@@ -53,8 +54,20 @@ moved_within t s moves.Command most few decided h = record { next = omega (arith
 moved_within t s (moves.Enter id change fate) most few decided h =
     entered_has (IsWithin most) (IsWithin (most + 2000)) t s id change fate decided.1 (within_more most (most + 2000) s (omega arith) h)
     (λ x is. same_within most s (settled s x id change fate) (settled_is s x id change fate).next (settled_fewer anyone s x id change fate is refl) h)
-    (λ v k. within_more most (most + 2000) v (omega arith) k)
-    (λ a v coming k. within_more (most + 1) (most + 2000) (with_making (made a (making_of v)) v) (omega arith) (made_within most a (making_of v) v k))
+    (λ v. record {
+      nothing = λ k. within_more most (most + 2000) v (omega arith) k;
+      one = λ a coming k. within_more (most + 1) (most + 2000) (with_making (made a (making_of v)) v) (omega arith) (made_within most a (making_of v) v k);
+      waits = λ key x xs is k.
+          (let w = let_in x x.destination (leaving v key xs) in
+          let same = waits_crowd anyone v key x xs is refl in
+          within_more most (most + 2000) w (omega arith)
+          (same_within most v w (let_in_is x x.destination (leaving v key xs)).next (omega arith) k));
+    })
+moved_within t s (moves.Refuse id key) most few decided h =
+    with_active_has (IsWithin (most + 2000)) s.active (λ x. refused s x id key) s (within_more most (most + 2000) s (omega arith) h)
+    (λ x is.
+    let same = refused_crowd anyone s x id key is refl in
+    record { next = omega (arith, h.next); crowd = omega (arith, h.crowd) })
 moved_within t s moves.Pick most few decided h =
     picked_has (IsWithin (most + 2000)) s s.current (within_more most (most + 2000) s (omega arith) h)
     (λ x xs is.

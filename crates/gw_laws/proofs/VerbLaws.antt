@@ -1,10 +1,11 @@
 -- A block of each verb that is read, and a state in which a transaction enters it.
-use Rattle.std.proofs.Common.{[], ◌∷◌, Option, Some, pos, false, refl}
+use Rattle.std.proofs.Common.{[], ◌∷◌, Option, Some, None, pos, false, refl}
 use Rattle.gw_names.specs.declared.verb.BlockVerb.TheVariants as blocks
 use Rattle.gw_names.specs.declared.key.Key.TheVariants as keys
 use Rattle.gw_expr.specs.Term.{Term, Named}
-use Rattle.gw_entities.specs.Records.{queued, no_line}
+use Rattle.gw_entities.specs.Records.{never_owned, seized, queued, no_line}
 use Rattle.gw_meaning.specs.declared.transaction.Transaction.{Transaction}
+use Rattle.gw_meaning.specs.declared.entity_change.Deed.TheVariants as deeds
 use Rattle.gw_meaning.specs.declared.moves.Change.TheVariants as changes
 use Rattle.gw_meaning.specs.declared.moves.Fate.TheVariants as fates
 use Rattle.gw_meaning.specs.Machine.{Machine, zero_state}
@@ -17,15 +18,22 @@ first = record { number = 1; priority = pos 0; mark = 0; current = 0; destinatio
 abbrev line : Option Term
 line = Some (Named [])
 
+-- a state in which it owns that facility
+abbrev owned : Machine
+owned = record zero_state {
+  entities =
+      record { facilities = (keys.Named [], seized 1 0 never_owned) ∷ []; queues = []; comings = [] };
+}
+
 -- a state with a unit in that queue
 abbrev one_there : Machine
 one_there = record zero_state {
   entities =
-      record { queues = (keys.Named [], queued 1 0 no_line) ∷ []; comings = [] };
+      record { facilities = []; queues = (keys.Named [], queued 1 0 no_line) ∷ []; comings = [] };
 }
 
 pub each_verb_is_evaluated : EachVerbIsEvaluated
-each_verb_is_evaluated blocks.Generate forms is = record {
+each_verb_is_evaluated blocks.Generate given forms is = record {
   block = record { verb = blocks.Generate; operands = [] };
   state = zero_state;
   transaction = first;
@@ -34,7 +42,7 @@ each_verb_is_evaluated blocks.Generate forms is = record {
   of_verb = refl;
   enters = refl;
 }
-each_verb_is_evaluated blocks.Advance forms is = record {
+each_verb_is_evaluated blocks.Advance given forms is = record {
   block = record { verb = blocks.Advance; operands = [] };
   state = zero_state;
   transaction = first;
@@ -43,7 +51,7 @@ each_verb_is_evaluated blocks.Advance forms is = record {
   of_verb = refl;
   enters = refl;
 }
-each_verb_is_evaluated blocks.Terminate forms is = record {
+each_verb_is_evaluated blocks.Terminate given forms is = record {
   block = record { verb = blocks.Terminate; operands = [] };
   state = zero_state;
   transaction = first;
@@ -52,22 +60,49 @@ each_verb_is_evaluated blocks.Terminate forms is = record {
   of_verb = refl;
   enters = refl;
 }
-each_verb_is_evaluated blocks.Queue forms is = record {
+each_verb_is_evaluated blocks.Queue given forms is = record {
   block = record { verb = blocks.Queue; operands = line ∷ [] };
   state = zero_state;
   transaction = first;
-  change = (changes.Queue (keys.Named []) 1);
+  change = (changes.Entity (keys.Named [], deeds.Queue 1));
   fate = fates.Active;
   of_verb = refl;
   enters = refl;
 }
-each_verb_is_evaluated blocks.Depart forms is = record {
+each_verb_is_evaluated blocks.Depart given forms is = record {
   block = record { verb = blocks.Depart; operands = line ∷ [] };
   state = one_there;
   transaction = first;
-  change = (changes.Depart (keys.Named []) 1 false);
+  change = (changes.Entity (keys.Named [], deeds.Depart 1 false));
   fate = fates.Active;
   of_verb = refl;
   enters = refl;
 }
-each_verb_is_evaluated verb forms is = absurd cc
+each_verb_is_evaluated blocks.Seize given forms is = record {
+  block = record { verb = blocks.Seize; operands = line ∷ [] };
+  state = zero_state;
+  transaction = first;
+  change = (changes.Entity (keys.Named [], deeds.Seize));
+  fate = fates.Active;
+  of_verb = refl;
+  enters = refl;
+}
+each_verb_is_evaluated blocks.Release given forms is = record {
+  block = record { verb = blocks.Release; operands = line ∷ [] };
+  state = owned;
+  transaction = first;
+  change = (changes.Entity (keys.Named [], deeds.Release None));
+  fate = fates.Active;
+  of_verb = refl;
+  enters = refl;
+}
+each_verb_is_evaluated blocks.Transfer given forms is = record {
+  block = record { verb = blocks.Transfer; operands = [] };
+  state = zero_state;
+  transaction = first;
+  change = changes.Nothing;
+  fate = fates.Active;
+  of_verb = refl;
+  enters = refl;
+}
+each_verb_is_evaluated verb given forms is = absurd cc

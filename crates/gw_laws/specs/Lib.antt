@@ -1,8 +1,11 @@
 pub mod Living
+pub mod Places
 pub mod Chain
+pub mod Delays
 pub mod Numbering
 pub mod Contents
 pub mod Clock
+pub mod Facilities
 pub mod Queues
 pub mod Verbs
 pub use Rattle.gw_meaning.specs.Step

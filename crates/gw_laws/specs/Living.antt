@@ -2,8 +2,9 @@
 use Rattle.std.specs.Prelude.{List, ◌++◌, map, option_to_list}
 use Rattle.gw_meaning.specs.declared.transaction.Transaction.{Transaction}
 use Rattle.gw_meaning.specs.declared.transaction.Event.{Event}
-use Rattle.gw_meaning.specs.Machine.{Machine}
+use Rattle.gw_meaning.specs.Machine.{Machine, waiting}
 
--- the active one, those on the current chain and those on the future chain
+-- the active one, those on the current chain, those on the future chain and those who wait on a delay chain
 abbrev pub living : Machine → List Transaction
-living s = option_to_list s.active ++ (s.current ++ map (λ (e : Event). e.transaction) s.future)
+living s =
+    option_to_list s.active ++ (s.current ++ (map (λ (e : Event). e.transaction) s.future ++ waiting s.delays))

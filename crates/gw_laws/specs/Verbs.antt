@@ -1,5 +1,5 @@
 -- Each verb of a block that is read is evaluated. (Our own: what is read so far.)
-use Rattle.std.specs.Prelude.{◌≡◌, List, Some}
+use Rattle.std.specs.Prelude.{◌≡◌, Bool, List, Some}
 use Rattle.gw_names.specs.declared.verb.BlockVerb.{BlockVerb}
 use Rattle.gw_meaning.specs.declared.statement.Block.{Block}
 use Rattle.gw_meaning.specs.declared.transaction.Transaction.{Transaction}
@@ -24,4 +24,5 @@ pub record CanBeEntered (verb : BlockVerb) : Type 0 where
       Gives (moves.Enter 1 change fate, state.streams)
 
 abbrev pub EachVerbIsEvaluated : Type 0
-EachVerbIsEvaluated = (verb : BlockVerb) (forms : List Form) → forms_of_block verb ≡ Some forms → CanBeEntered verb
+EachVerbIsEvaluated =
+    (verb : BlockVerb) (given : Bool) (forms : List Form) → forms_of_block verb given ≡ Some forms → CanBeEntered verb

@@ -2,7 +2,11 @@
 ghost use Rattle.gw_laws.specs.Chain.{ChainIsInOrder, ChainIsFirstInFirstOut, FirstBecomesActive, AllOfATimeCome};
 ghost use Rattle.gw_laws.specs.Clock.{ClockNeverGoesBack, ClockStaysWithin, NothingIsOverdue};
 ghost use Rattle.gw_laws.specs.Contents.{ContentsAreCounts};
+ghost use Rattle.gw_laws.specs.Delays.{DelaysAreInOrder, DelaysAreFirstInFirstOut};
+ghost use Rattle.gw_laws.specs.Delays.{WhoWaitsIsBound, FirstTakesOver, NobodyWaitsAtAFreeFacility};
+ghost use Rattle.gw_laws.specs.Facilities.{FacilitiesAreUsed};
 ghost use Rattle.gw_laws.specs.Numbering.{NumbersAreApart, NumbersAreGiven, NumbersAreGivenOnce, OnlyTheActiveGoes};
+ghost use Rattle.gw_laws.specs.Places.{EachHasAPlace, EachHasOnePlace};
 ghost use Rattle.gw_laws.specs.Queues.{QueuesAreWithin};
 ghost use Rattle.gw_laws.specs.Verbs.{EachVerbIsEvaluated};
 
@@ -16,6 +20,18 @@ pub fn chain_in_order()
     ensures come { AllOfATimeCome }
 {}
 
+/// Each delay chain is in order of priority. Of one priority, the first transactions leave it in a step, those that
+/// stay keep their order, and those that come stand behind them. Whoever waits has a block to go to. Where a chain gets
+/// shorter, its first transaction has left it: it stands on the current chain, in that block, and owns the facility.
+/// Nobody waits at a free facility.
+pub fn delays_in_order()
+    ensures order { DelaysAreInOrder }
+    ensures turn { DelaysAreFirstInFirstOut }
+    ensures bound { WhoWaitsIsBound }
+    ensures first { FirstTakesOver }
+    ensures free { NobodyWaitsAtAFreeFacility }
+{}
+
 /// No two transactions have one number, and each number was given: it is below the next one. No number is given twice.
 /// In a step no transaction but the active one ceases to live.
 pub fn numbers_apart()
@@ -23,6 +39,13 @@ pub fn numbers_apart()
     ensures given { NumbersAreGiven }
     ensures once { NumbersAreGivenOnce }
     ensures loss { OnlyTheActiveGoes }
+{}
+
+/// Each transaction stands in exactly one place: it is active, on the current chain, on the future chain, or on the
+/// delay chain of one facility.
+pub fn each_has_one_place()
+    ensures some { EachHasAPlace }
+    ensures one { EachHasOnePlace }
 {}
 
 /// A block's content is the number of the transactions that stand in it.
@@ -35,6 +58,12 @@ pub fn clock_goes_on()
     ensures clock { ClockNeverGoesBack }
     ensures within { ClockStaysWithin }
     ensures future { NothingIsOverdue }
+{}
+
+/// A facility has no more captures than steps were made. Its content is 1 while it is owned and 0 while it is free. It
+/// was owned for no longer than the clock has run, and it did not change later than now.
+pub fn facilities_are_used()
+    ensures { FacilitiesAreUsed }
 {}
 
 /// No count of a queue is above 1,000,000,000, and no queue changed later than now.

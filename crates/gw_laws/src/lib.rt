@@ -1,14 +1,14 @@
 //! What holds of every run from zero, whatever its version: laws above the definition of a step.
 //!
-//! The current chain is in order of priority, and first in first out within. No two transactions have one number, and
-//! none is given twice.
+//! The current chain and each delay chain are in order of priority, and first in first out within. Nobody waits at a
+//! free facility. No two transactions have one number, none is given twice, and each stands in exactly one place.
 //! A block's content is the number of the transactions that stand in it. The clock never goes back, and stays within
-//! the horizon. No count of a queue passes its limit.
+//! the horizon. No facility has more captures than steps were made, and no count of a queue passes its limit.
 #![tactic(auto)]
 
 mod laws;
 
 pub use laws::{
-    chain_in_order, clock_goes_on, contents_are_counts, each_verb_is_evaluated, numbers_apart,
-    queues_are_within,
+    chain_in_order, clock_goes_on, contents_are_counts, delays_in_order, each_has_one_place,
+    each_verb_is_evaluated, facilities_are_used, numbers_apart, queues_are_within,
 };

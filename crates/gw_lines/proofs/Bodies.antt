@@ -9,7 +9,7 @@ use Rattle.gw_lines.specs.declared.fault.LineFault.TheVariants as faults
 use Rattle.gw_lines.specs.declared.form.Form.{Form}
 use Rattle.gw_lines.specs.Reading.{◌>>=◌}
 use Rattle.gw_lines.specs.Forms.{forms_of, fields_of, lacks}
-use Rattle.gw_lines.specs.Parts.{parts_of}
+use Rattle.gw_lines.specs.Parts.{is_given, parts_of}
 use Rattle.gw_lines.specs.Bodies.{body_with, enough, in_forms, by_forms, body_of}
 use Rattle.gw_lines.specs.Spelling.{SpellsAll, Says}
 use Rattle.gw_lines.specs.Faulty.{OperandFault, in_list, lacking}
@@ -26,18 +26,18 @@ spelled_gives verb forms parts body s v =
     rw (operands_spelled s, b) refl
 
 pub said_again : {verb : Verb} {parts : List (List ℕ)} {body : Body} → Says verb parts body
-    → by_forms verb (forms_of verb) parts ≡ Ok body
+    → by_forms verb (forms_of verb (is_given parts)) parts ≡ Ok body
 said_again {verb} {parts} {body} s =
     rw s.are_forms (spelled_gives verb s.forms parts body s.operands s.of_verb ∙ rw s.enough refl)
 
 pub fault_again : {verb : Verb} {parts : List (List ℕ)} {f : LineFault} → OperandFault verb parts f
-    → by_forms verb (forms_of verb) parts ≡ Err f
+    → by_forms verb (forms_of verb (is_given parts)) parts ≡ Err f
 unfolding in_forms
 fault_again (in_list verb forms parts f e h) = rw (e, operands_faulted h) refl
 fault_again (lacking verb forms parts os e s l) = rw (e, operands_spelled s, l) refl
 
 -- the parts say a statement, or have a first fault
-verdict : (verb : Verb) (forms : List Form) (parts : List (List ℕ)) → forms_of verb ≡ Some forms
+verdict : (verb : Verb) (forms : List Form) (parts : List (List ℕ)) → forms_of verb (is_given parts) ≡ Some forms
     → ((body : Body) × Says verb parts body) ⊎ ((f : LineFault) × OperandFault verb parts f)
 verdict verb forms parts e =
     elim (operands_verdict forms parts) [
@@ -45,7 +45,7 @@ verdict verb forms parts e =
       | inl s ↦ elim (cases_Bool (lacks verb s.0)) [
         | inl l ↦ inr (faults.MissingOperand 1, lacking verb forms parts s.0 e s.1 l)
         | inr enough ↦
-            let m = made_with verb forms e s.1 in
+            let m = made_with verb (is_given parts) forms e s.1 in
             inl (
               m.body,
               record {
@@ -59,12 +59,12 @@ verdict verb forms parts e =
       ]
     ]
 
-some_forms : (verb : Verb) (o : Option (List Form)) → forms_of verb ≡ o
-    → (forms_of verb ≡ None) ⊎ ((forms : List Form) × (forms_of verb ≡ Some forms))
-some_forms verb None e = inl e
-some_forms verb (Some forms) e = inr (forms, e)
+some_forms : (o : Option (List Form)) → (o ≡ None) ⊎ ((forms : List Form) × (o ≡ Some forms))
+some_forms None = inl refl
+some_forms (Some forms) = inr (forms, refl)
 
-pub body_to_come : (verb : Verb) (text : List ℕ) → forms_of verb ≡ None → body_of verb text ≡ Err faults.UnknownVerb
+pub body_to_come : (verb : Verb) (text : List ℕ) → forms_of verb (is_given (parts_of text)) ≡ None
+    → body_of verb text ≡ Err faults.UnknownVerb
 unfolding body_of
 body_to_come verb text e = rw e refl
 
@@ -72,7 +72,7 @@ pub body_found : (verb : Verb) (text : List ℕ) (body : Body) → body_of verb 
     → Says verb (parts_of text) body
 unfolding body_of
 body_found verb text body h =
-    elim (some_forms verb (forms_of verb) refl) [
+    elim (some_forms (forms_of verb (is_given (parts_of text)))) [
       | inl none ↦ not_both (body_of verb text) body faults.UnknownVerb h (body_to_come verb text none)
       | inr some ↦ elim (verdict verb some.0 (parts_of text) some.1) [
         | inl s ↦ subst (λ (x : Body). Says verb (parts_of text) x) (ok_is s.0 body (sym (said_again s.1) ∙ h)) s.1
@@ -86,10 +86,10 @@ body_again text s = said_again s
 
 -- what a verb's operands fail with: it is still to come, or the first fault of its operands
 pub body_fault : (verb : Verb) (text : List ℕ) (f : LineFault) → body_of verb text ≡ Err f
-    → ((forms_of verb ≡ None) × (faults.UnknownVerb ≡ f)) ⊎ OperandFault verb (parts_of text) f
+    → ((forms_of verb (is_given (parts_of text)) ≡ None) × (faults.UnknownVerb ≡ f)) ⊎ OperandFault verb (parts_of text) f
 unfolding body_of
 body_fault verb text f h =
-    elim (some_forms verb (forms_of verb) refl) [
+    elim (some_forms (forms_of verb (is_given (parts_of text)))) [
       | inl none ↦ inl (none, err_is (body_of verb text) faults.UnknownVerb f (body_to_come verb text none) h)
       | inr some ↦ elim (verdict verb some.0 (parts_of text) some.1) [
         | inl s ↦ not_both (body_of verb text) s.0 f (said_again s.1) h

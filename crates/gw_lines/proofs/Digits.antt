@@ -18,7 +18,7 @@ fits_back n most h = grind (arith, nat_tests)
 none_before : (b : ℕ) → 0 * 10 + (b - 48) ≡ b - 48
 none_before b = omega arith
 
-number_on : {most : ℕ} {text : List ℕ} {n : ℕ} (d : Digits text n) (rest : List ℕ) → n ≤ most
+pub number_on : {most : ℕ} {text : List ℕ} {n : ℕ} (d : Digits text n) (rest : List ℕ) → n ≤ most
     → number_after most 0 (text ++ rest) ≡ number_after most n rest
 number_on {most} (first_digit b h) rest small = rw (h, none_before b, fits (b - 48) most small) refl
 number_on {most} (next_digit text n b d h) rest small =
@@ -46,7 +46,7 @@ number_again most text n h =
     of_after most text (begins h.digits) ∙ ap (number_after most 0) (sym (append-nil text))
     ∙ number_on h.digits [] h.small
 
-number_taken : (most n : ℕ) (front rest : List ℕ) (m : ℕ) → Digits front n → n ≤ most
+pub number_taken : (most n : ℕ) (front rest : List ℕ) (m : ℕ) → Digits front n → n ≤ most
     → number_after most n rest ≡ Some m → Number most (front ++ rest) m
 number_taken most n front [] m d small e =
     let is : n ≡ m = some_is n m e in

@@ -2,6 +2,7 @@ pub mod Results
 pub mod Fronts
 pub mod Models
 pub mod Digits
+pub mod Fractions
 pub mod Kept
 pub mod Parts
 pub mod Spelled

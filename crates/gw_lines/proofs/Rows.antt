@@ -1,6 +1,6 @@
 -- A statement is made of its operands, and operands of a verb's forms make a statement. All blocks are one case; a command
 -- has a row in `built` and a row in `command_made`.
-use Rattle.std.proofs.Common.{◌≡◌, ℕ, Bool, true, List, [], ◌∷◌, Option, Some, None, refl, ap, subst}
+use Rattle.std.proofs.Common.{◌≡◌, ℕ, Bool, true, false, List, [], ◌∷◌, Option, Some, None, refl, ap, subst}
 use Rattle.std.specs.Prelude.{map}
 use Rattle.gw_names.specs.declared.verb.BlockVerb.{BlockVerb}
 use Rattle.gw_names.specs.declared.verb.BlockVerb.TheVariants as blocks
@@ -47,9 +47,11 @@ abbrev forms_are_values : Option (List Form) → Bool
 forms_are_values None = true
 forms_are_values (Some forms) = are_all is_value forms
 
-block_values : (verb : BlockVerb) → forms_are_values (forms_of_block verb) ≡ true
-block_values blocks.Generate = refl
-block_values verb = refl
+block_values : (verb : BlockVerb) (given : Bool) → forms_are_values (forms_of_block verb given) ≡ true
+block_values blocks.Generate given = refl
+block_values blocks.Transfer true = refl
+block_values blocks.Transfer false = refl
+block_values verb given = refl
 
 pub record Made (verb : Verb) (os : List (Option Operand)) : Type 0 where
   pub body : Body
@@ -81,14 +83,14 @@ command_made command_verbs.Rmult =
     λ parts os s. (let vs = wholes refl s in makes (bodies.Command (commands.Rmult vs.0)) vs.1)
 command_made verb = tt
 
-made : (verb : Verb) → MadeOf verb (forms_of verb)
-made (verbs.Block verb) = block_made verb (forms_of_block verb) (block_values verb)
-made (verbs.Definition verb) = tt
-made (verbs.Command verb) = command_made verb
+made : (verb : Verb) (given : Bool) → MadeOf verb (forms_of verb given)
+made (verbs.Block verb) given = block_made verb (forms_of_block verb given) (block_values verb given)
+made (verbs.Definition verb) given = tt
+made (verbs.Command verb) given = command_made verb
 
 -- operands of a verb's forms make a statement
-pub made_with : (verb : Verb) (forms : List Form) {parts : List (List ℕ)} {os : List (Option Operand)} → forms_of verb ≡ Some forms
-    → SpellsAll forms parts os → Made verb os
-made_with verb forms {parts} {os} e s =
-    let m : MadeOf verb (Some forms) = subst (λ (x : Option (List Form)). MadeOf verb x) e (made verb) in
+pub made_with : (verb : Verb) (given : Bool) (forms : List Form) {parts : List (List ℕ)} {os : List (Option Operand)}
+    → forms_of verb given ≡ Some forms → SpellsAll forms parts os → Made verb os
+made_with verb given forms {parts} {os} e s =
+    let m : MadeOf verb (Some forms) = subst (λ (x : Option (List Form)). MadeOf verb x) e (made verb given) in
     m parts os s

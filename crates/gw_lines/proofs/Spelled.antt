@@ -8,7 +8,7 @@ use Rattle.std.proofs.lemmas.Bool.{cases_Bool}
 use Rattle.std.proofs.lemmas.Bool.Decides.{nat_tests}
 use Rattle.std.proofs.lemmas.Slice.Eq.{bytes_eq-Decides}
 use Rattle.gw_names.specs.Names.{name_of}
-use Rattle.gw_expr.specs.Term.{Term, Constant, Named}
+use Rattle.gw_expr.specs.Term.{Term, Constant, Fraction, Label, Named}
 use Rattle.gw_lines.specs.declared.fault.LineFault.{LineFault}
 use Rattle.gw_lines.specs.declared.fault.LineFault.TheVariants as faults
 use Rattle.gw_lines.specs.declared.form.Kind.{Kind}
@@ -18,15 +18,16 @@ use Rattle.gw_lines.specs.declared.form.Presence.TheVariants as presences
 use Rattle.gw_lines.specs.declared.form.Form.{Form}
 use Rattle.gw_lines.specs.declared.operand.Operand.{Operand}
 use Rattle.gw_lines.specs.declared.operand.Operand.TheVariants as operands
-use Rattle.gw_lines.specs.Numbers.{number_of, value_of, from_one}
+use Rattle.gw_lines.specs.Numbers.{number_of, value_of, from_one, fraction_of}
 use Rattle.gw_lines.specs.Forms.{is_listed}
-use Rattle.gw_lines.specs.Operands.{numbered, or_number, as_value, operand_in, listed_here, each_of, missing_of, has_more, operands_of}
+use Rattle.gw_lines.specs.Operands.{numbered, or_number, label_of, as_value, operand_in, listed_here, each_of, missing_of, has_more, operands_of}
 use Rattle.gw_lines.specs.Parts.{goes_on, part_of, others_of, is_missing}
-use Rattle.gw_lines.specs.Spelling.{SpellsOperand, absent, a_value, a_whole, a_key, named_entity, numbered_entity, SpellsAll, no_form, stands, unwritten}
+use Rattle.gw_lines.specs.Spelling.{SpellsOperand, absent, a_value, a_whole, a_key, named_entity, numbered_entity, a_fraction, a_label, SpellsAll, no_form, stands, unwritten}
 use Rattle.gw_lines.specs.Faulty.{Lawful, FirstBad, bad_here, bad_later, AllLawful, FirstMissing, missing_here, missing_later, FaultOfAll, bad_operand, extra_operand, missing_operand}
 use Rattle.gw_lines.proofs.Results.{some, some_is}
 use Rattle.gw_lines.proofs.Fronts.{nonzero}
 use Rattle.gw_lines.proofs.Digits.{Begins, begins, number_found, number_again, value_found, value_again, mapped}
+use Rattle.gw_lines.proofs.Fractions.{fraction_found, fraction_again}
 
 -- ---- one operand: what a further kind adds
 
@@ -76,6 +77,21 @@ entity_is text None o is e =
     subst (λ (x : Option Operand). SpellsOperand kinds.Entity text x) (ap (λ (t : Term). some (operands.Value t)) k.2 ∙ m.2)
     (numbered_entity text k.0 (number_found 1000000000 text k.0 f.0) f.1)
 
+fraction_is : (text : List ℕ) (o : Option Operand)
+    → as_value (option_map (λ (n : ℕ). Fraction n) (fraction_of text)) ≡ Some o → SpellsOperand kinds.Fraction text o
+fraction_is text o e =
+    let m = mapped (λ (t : Term). some (operands.Value t)) (option_map (λ (n : ℕ). Fraction n) (fraction_of text)) o e in
+    let k = mapped (λ (n : ℕ). Fraction n) (fraction_of text) m.0 m.1 in
+    subst (λ (x : Option Operand). SpellsOperand kinds.Fraction text x) (ap (λ (t : Term). some (operands.Value t)) k.2 ∙ m.2)
+    (a_fraction text k.0 (fraction_found text k.0 k.1))
+
+label_is : (text : List ℕ) (o : Option Operand) → as_value (label_of text) ≡ Some o → SpellsOperand kinds.Label text o
+label_is text o e =
+    let m = mapped (λ (t : Term). some (operands.Value t)) (label_of text) o e in
+    let k = mapped (λ (name : List ℕ). Label name) (name_of text) m.0 m.1 in
+    subst (λ (x : Option Operand). SpellsOperand kinds.Label text x) (ap (λ (t : Term). some (operands.Value t)) k.2 ∙ m.2)
+    (a_label text k.0 k.1)
+
 operand_found : (kind : Kind) (text : List ℕ) (o : Option Operand) → operand_in kind text ≡ Some o
     → SpellsOperand kind text o
 operand_found kind [] o e = subst (λ (x : Option Operand). SpellsOperand kind [] x) (some_is none o e) (absent kind)
@@ -87,6 +103,8 @@ operand_found kinds.Quiet (b ∷ bs) o e =
       | inr fails ↦ absurd (let f = rw fails at e in cc)
     ]
 operand_found kinds.Entity (b ∷ bs) o e = entity_is (b ∷ bs) (name_of (b ∷ bs)) o refl e
+operand_found kinds.Fraction (b ∷ bs) o e = fraction_is (b ∷ bs) o e
+operand_found kinds.Label (b ∷ bs) o e = label_is (b ∷ bs) o e
 
 value_in_again : (text : List ℕ) (z : ℤ) → value_of text ≡ Some z
     → operand_in kinds.Value text ≡ Some (Some (operands.Value (Constant z)))
@@ -123,6 +141,16 @@ number_in_again (b ∷ bs) n d e h =
     let digit = subst (λ (c : ℕ). is_ascii_digit c ≡ true) (sym same) d.digit in
     rw (digit_first b bs digit, e, from_one_again n h) refl
 
+fraction_in_again : (text : List ℕ) (n : ℕ) → fraction_of text ≡ Some n
+    → operand_in kinds.Fraction text ≡ Some (Some (operands.Value (Fraction n)))
+fraction_in_again [] n e = absurd cc
+fraction_in_again (b ∷ bs) n e = rw e refl
+
+label_in_again : (text name : List ℕ) → name_of text ≡ Some name
+    → operand_in kinds.Label text ≡ Some (Some (operands.Value (Label name)))
+label_in_again [] name e = absurd (no_name name e)
+label_in_again (b ∷ bs) name e = rw e refl
+
 operand_again : {kind : Kind} {text : List ℕ} {o : Option Operand} → SpellsOperand kind text o
     → operand_in kind text ≡ Some o
 operand_again (absent kind) = refl
@@ -131,6 +159,8 @@ operand_again (a_whole most text n h from) = whole_in_again most text n (number_
 operand_again a_key = refl
 operand_again (named_entity text name e) = name_in_again text name e
 operand_again (numbered_entity text n h from) = number_in_again text n (begins h.digits) (number_again 1000000000 text n h) from
+operand_again (a_fraction text n f) = fraction_in_again text n (fraction_again f)
+operand_again (a_label text name e) = label_in_again text name e
 
 -- ---- one part
 

@@ -16,7 +16,7 @@ use Rattle.gw_lines.specs.declared.operand.Operand.TheVariants as operands
 use Rattle.gw_lines.specs.Reading.{◌>>=◌}
 use Rattle.gw_lines.specs.Forms.{forms_of, lacks}
 use Rattle.gw_lines.specs.Operands.{operands_of}
-use Rattle.gw_lines.specs.Parts.{others_of, parts_of}
+use Rattle.gw_lines.specs.Parts.{is_given, others_of, parts_of}
 
 -- an operand as a value
 abbrev pub value_in : Option Operand → Option Term
@@ -75,4 +75,4 @@ by_forms verb (Some forms) parts = in_forms verb forms parts
 
 -- the body that an operand list is behind a verb
 unfoldable pub body_of : Verb → List ℕ → Result Body LineFault
-body_of verb text = by_forms verb (forms_of verb) (parts_of text)
+body_of verb text = by_forms verb (forms_of verb (is_given (parts_of text))) (parts_of text)

@@ -18,6 +18,7 @@ is_in class.Operand b = not (b == 44)
 is_in class.Code b = not (b == 59)
 is_in class.Line b = not (b == 10)
 is_in class.Part b = not (b == 124)
+is_in class.Whole b = not (b == 46)
 
 -- what stands at the front, of one class
 abbrev pub front_of : Class → List ℕ → List ℕ

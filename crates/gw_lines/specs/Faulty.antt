@@ -12,7 +12,7 @@ use Rattle.gw_lines.specs.declared.operand.Operand.{Operand}
 use Rattle.gw_lines.specs.Reading.{OrMemory}
 use Rattle.gw_lines.specs.Classes.{are_plain}
 use Rattle.gw_lines.specs.Forms.{forms_of, lacks}
-use Rattle.gw_lines.specs.Parts.{parts_of, part_of, others_of, is_missing}
+use Rattle.gw_lines.specs.Parts.{parts_of, part_of, is_given, others_of, is_missing}
 use Rattle.gw_lines.specs.Lines.{verb_in, is_command, is_remark}
 use Rattle.gw_lines.specs.Spelling.{AreIn, Stops, SpellsOperand, SpellsAll, Head, Label, ArePlain, Cut, HasWords}
 
@@ -55,9 +55,9 @@ pub data FaultOfAll : List Form → List (List ℕ) → LineFault → Type 0 whe
 -- the first fault of a verb's operands: that of their list, or they lack one though none of them is required
 pub data OperandFault : Verb → List (List ℕ) → LineFault → Type 0 where
   in_list : (verb : Verb) (forms : List Form) (parts : List (List ℕ)) (f : LineFault)
-      → forms_of verb ≡ Some forms → FaultOfAll forms parts f → OperandFault verb parts f
+      → forms_of verb (is_given parts) ≡ Some forms → FaultOfAll forms parts f → OperandFault verb parts f
   lacking : (verb : Verb) (forms : List Form) (parts : List (List ℕ)) (os : List (Option Operand))
-      → forms_of verb ≡ Some forms → SpellsAll forms parts os → lacks verb os ≡ true
+      → forms_of verb (is_given parts) ≡ Some forms → SpellsAll forms parts os → lacks verb os ≡ true
       → OperandFault verb parts (faults.MissingOperand 1)
 
 -- words whose first two are no verbs: the first, and the second or nothing
@@ -81,8 +81,8 @@ pub data WordsFault : List ℕ → LineFault → Type 0 where
   bad_label : (words word : List ℕ) (verb : Verb) (kept : List ℕ) → Head words (Some word) verb kept
       → ArePlain (Some word) kept → (is_command verb ≡ true) ⊎ (name_of word ≡ None) → WordsFault words faults.BadLabel
   verb_to_come : (words : List ℕ) (word : Option (List ℕ)) (verb : Verb) (kept : List ℕ) (label : Option (List ℕ))
-      → Head words word verb kept → ArePlain word kept → Label word verb label → forms_of verb ≡ None
-      → WordsFault words faults.UnknownVerb
+      → Head words word verb kept → ArePlain word kept → Label word verb label
+      → forms_of verb (is_given (parts_of (upper_of kept))) ≡ None → WordsFault words faults.UnknownVerb
   operand_fault : (words : List ℕ) (word : Option (List ℕ)) (verb : Verb) (kept : List ℕ) (label : Option (List ℕ))
       (f : LineFault)
       → Head words word verb kept → ArePlain word kept → Label word verb label

@@ -39,24 +39,48 @@ a_seed = record { kind = kinds.Whole 2147483646; presence = presences.Written }
 abbrev pub an_entity : Form
 an_entity = record { kind = kinds.Entity; presence = presences.Required }
 
--- the forms of each verb's operands, for the verbs that are read so far
-abbrev pub forms_of_block : BlockVerb → Option (List Form)
-forms_of_block blocks.Generate = Some (a_value ∷ a_value ∷ a_value ∷ a_value ∷ a_value ∷ [])
-forms_of_block blocks.Advance = Some (a_value ∷ a_value ∷ [])
-forms_of_block blocks.Terminate = Some (a_value ∷ [])
-forms_of_block blocks.Queue = Some (an_entity ∷ a_value ∷ [])
-forms_of_block blocks.Depart = Some (an_entity ∷ a_value ∷ [])
-forms_of_block verb = None
+-- a fraction, or nothing
+abbrev pub a_chance : Form
+a_chance = record { kind = kinds.Fraction; presence = presences.Optional }
+
+-- a fraction
+abbrev pub a_fraction : Form
+a_fraction = record { kind = kinds.Fraction; presence = presences.Required }
+
+-- a block's label
+abbrev pub a_label : Form
+a_label = record { kind = kinds.Label; presence = presences.Required }
+
+-- a block's label, or nothing
+abbrev pub another_label : Form
+another_label = record { kind = kinds.Label; presence = presences.Optional }
+
+-- a TRANSFER goes to a label, or, with a fraction before it, to one of two, the first of which may be absent
+abbrev pub forms_of_transfer : Bool → List Form
+forms_of_transfer false = a_chance ∷ a_label ∷ []
+forms_of_transfer true = a_fraction ∷ another_label ∷ a_label ∷ []
+
+-- the forms of each verb's operands, for the verbs that are read so far: given says whether the first operand is
+abbrev pub forms_of_block : BlockVerb → Bool → Option (List Form)
+forms_of_block blocks.Generate given = Some (a_value ∷ a_value ∷ a_value ∷ a_value ∷ a_value ∷ [])
+forms_of_block blocks.Advance given = Some (a_value ∷ a_value ∷ [])
+forms_of_block blocks.Terminate given = Some (a_value ∷ [])
+forms_of_block blocks.Queue given = Some (an_entity ∷ a_value ∷ [])
+forms_of_block blocks.Depart given = Some (an_entity ∷ a_value ∷ [])
+forms_of_block blocks.Seize given = Some (an_entity ∷ [])
+forms_of_block blocks.Release given = Some (an_entity ∷ [])
+forms_of_block blocks.Transfer given = Some (forms_of_transfer given)
+forms_of_block verb given = None
 
 abbrev pub forms_of_command : CommandVerb → Option (List Form)
 forms_of_command command_verbs.Start = Some (a_count ∷ a_quiet ∷ [])
 forms_of_command command_verbs.Rmult = Some (a_seed ∷ a_seed ∷ a_seed ∷ a_seed ∷ a_seed ∷ a_seed ∷ a_seed ∷ [])
 forms_of_command verb = None
 
-abbrev pub forms_of : Verb → Option (List Form)
-forms_of (verbs.Block verb) = forms_of_block verb
-forms_of (verbs.Definition verb) = None
-forms_of (verbs.Command verb) = forms_of_command verb
+abbrev pub forms_of : Verb → Bool → Option (List Form)
+forms_of (verbs.Block verb) given = forms_of_block verb given
+forms_of (verbs.Definition verb) given = None
+forms_of (verbs.Command verb) given = forms_of_command verb
 
 abbrev pub value : Option Term → Option Operand
 value v = option_map (λ t. operands.Value t) v

@@ -1,6 +1,8 @@
--- Whole numbers as they are read, digit by digit. (Manual; the greatest number is our own.)
-use Rattle.std.specs.Prelude.{ℕ, ℤ, pos, neg_ℤ, ◌+◌, ◌-◌, ◌*◌, ◌==◌, List, [], ◌∷◌, Option, Some, None, option_map, if◌then◌else◌, nat_le}
+-- Numbers as they are read, digit by digit. (Manual; the greatest number and a fraction's places are our own.)
+use Rattle.std.specs.Prelude.{ℕ, ℤ, pos, neg_ℤ, ◌+◌, ◌-◌, ◌*◌, ◌==◌, ◌&&◌, not, Bool, List, [], ◌∷◌, length, drop, Option, Some, None, option_map, if◌then◌else◌, nat_le, nat_lt, codes}
 use Rattle.std.specs.Char.{is_ascii_digit}
+use Rattle.gw_lines.specs.declared.class.Class.TheVariants as class
+use Rattle.gw_lines.specs.Classes.{front_of, rest_of, is_nothing, tail_of}
 
 -- the number that digits spell behind those of n, if it is at most `most`
 abbrev pub number_after : ℕ → ℕ → List ℕ → Option ℕ
@@ -27,3 +29,27 @@ value_of (b ∷ bs) =
 abbrev pub from_one : Option ℕ → Option ℕ
 from_one None = None
 from_one (Some n) = if n == 0 then None else Some n
+
+-- the number that digits spell behind those of another
+abbrev pub number_then : ℕ → Option ℕ → List ℕ → Option ℕ
+number_then most None text = None
+number_then most (Some n) text = number_after most n text
+
+-- whether a text has a point, something else besides, and six places at most: what begins with the point is handed in,
+-- and what stands behind it
+abbrev pub is_pointed : List ℕ → List ℕ → List ℕ → Bool
+is_pointed text point decimals =
+    not (is_nothing point) && (nat_lt 1 (length text) && nat_le (length decimals) 6)
+
+-- the millionths that digits before and behind a point spell: the digits with zeros behind them, up to six places
+abbrev pub millionths_of : List ℕ → List ℕ → Option ℕ
+millionths_of whole decimals =
+    number_then 1000000 (number_then 1000000 (number_after 1000000 0 whole) decimals)
+    (drop (length decimals) (codes "000000"))
+
+-- the fraction that a text spells, in millionths
+abbrev pub fraction_of : List ℕ → Option ℕ
+fraction_of text =
+    if is_pointed text (rest_of class.Whole text) (tail_of (rest_of class.Whole text))
+    then millionths_of (front_of class.Whole text) (tail_of (rest_of class.Whole text))
+    else None

@@ -3,7 +3,7 @@
 use Rattle.std.specs.Prelude.{ℕ, pos, ◌+◌, ◌==◌, Bool, true, List, [], ◌∷◌, ◌++◌, length, Option, Some, None, Result, Ok, Err, option_map, if◌then◌else◌, codes}
 use Rattle.std.specs.Str.{bytes_eq}
 use Rattle.gw_names.specs.Names.{name_of}
-use Rattle.gw_expr.specs.Term.{Term, Constant, Named}
+use Rattle.gw_expr.specs.Term.{Term, Constant, Fraction, Label, Named}
 use Rattle.gw_lines.specs.declared.fault.LineFault.{LineFault}
 use Rattle.gw_lines.specs.declared.fault.LineFault.TheVariants as faults
 use Rattle.gw_lines.specs.declared.form.Kind.{Kind}
@@ -13,7 +13,7 @@ use Rattle.gw_lines.specs.declared.operand.Operand.{Operand}
 use Rattle.gw_lines.specs.declared.operand.Operand.TheVariants as operands
 use Rattle.gw_lines.specs.Reading.{◌>>=◌}
 use Rattle.gw_lines.specs.Classes.{is_blank}
-use Rattle.gw_lines.specs.Numbers.{number_of, value_of, from_one}
+use Rattle.gw_lines.specs.Numbers.{number_of, value_of, from_one, fraction_of}
 use Rattle.gw_lines.specs.Forms.{is_listed}
 use Rattle.gw_lines.specs.Parts.{split, goes_on, part_of, others_of, is_missing}
 
@@ -36,6 +36,10 @@ or_number (Some name) text = Some (Named name)
 abbrev pub entity_of : List ℕ → Option Term
 entity_of text = or_number (name_of text) text
 
+-- the label that a text is
+abbrev pub label_of : List ℕ → Option Term
+label_of text = option_map (λ name. Label name) (name_of text)
+
 abbrev pub as_value : Option Term → Option (Option Operand)
 as_value value = option_map (λ t. Some (operands.Value t)) value
 
@@ -45,6 +49,8 @@ given_in kinds.Value text = option_map (λ z. Some (operands.Value (Constant z))
 given_in (kinds.Whole most) text = option_map (λ n. Some (operands.Whole n)) (from_one (number_of most text))
 given_in kinds.Quiet text = if bytes_eq text (codes "NP") then Some None else None
 given_in kinds.Entity text = as_value (entity_of text)
+given_in kinds.Fraction text = as_value (option_map (λ n. Fraction n) (fraction_of text))
+given_in kinds.Label text = as_value (label_of text)
 
 -- what a text is, if it is lawful
 abbrev pub operand_in : Kind → List ℕ → Option (Option Operand)

@@ -1,5 +1,5 @@
 -- The parts of an operand list: what stands between its commas. (Manual.)
-use Rattle.std.specs.Prelude.{ℕ, ◌==◌, ◌&&◌, Bool, true, false, List, [], ◌∷◌, if◌then◌else◌}
+use Rattle.std.specs.Prelude.{ℕ, ◌==◌, ◌&&◌, not, Bool, true, false, List, [], ◌∷◌, if◌then◌else◌}
 use Rattle.gw_lines.specs.declared.form.Form.{Form}
 use Rattle.gw_lines.specs.Classes.{is_nothing, with_byte}
 use Rattle.gw_lines.specs.Forms.{is_required}
@@ -23,6 +23,10 @@ goes_on (part ∷ parts) = true
 abbrev pub part_of : List (List ℕ) → List ℕ
 part_of [] = []
 part_of (part ∷ parts) = part
+
+-- whether the first operand is given: it is not empty
+abbrev pub is_given : List (List ℕ) → Bool
+is_given parts = not (is_nothing (part_of parts))
 
 -- the parts behind it
 abbrev pub others_of : {X : Type 0} → List X → List X

@@ -1,12 +1,12 @@
 -- What a line spells: a relation by cases on the text, apart from how it is read. (Manual: the statement format. Our
 -- own: the length, the greatest numbers, `NP`.)
-use Rattle.std.specs.Prelude.{ℕ, ◌+◌, ◌-◌, ◌*◌, ◌≤◌, ◌≡◌, ◌≢◌, ◌==◌, ◌&&◌, not, ℤ, pos, neg_ℤ, Bool, true, false, List, [], ◌∷◌, ◌++◌, length, Option, Some, None, IfSome, codes}
+use Rattle.std.specs.Prelude.{ℕ, ◌+◌, ◌-◌, ◌*◌, ◌^◌, ◌≤◌, ◌≡◌, ◌≢◌, ◌==◌, ◌&&◌, not, ℤ, pos, neg_ℤ, Bool, true, false, List, [], ◌∷◌, ◌++◌, length, Option, Some, None, IfSome, codes}
 use Rattle.std.specs.List.{list_all}
 use Rattle.std.specs.Char.{is_ascii_digit}
 use Rattle.gw_names.specs.declared.verb.Verb.{Verb}
 use Rattle.gw_names.specs.Words.{upper_of}
 use Rattle.gw_names.specs.Names.{name_of}
-use Rattle.gw_expr.specs.Term.{Constant, Named}
+use Rattle.gw_expr.specs.Term as terms
 use Rattle.gw_meaning.specs.declared.statement.Body.{Body}
 use Rattle.gw_meaning.specs.declared.statement.Statement.{Statement}
 use Rattle.gw_meaning.specs.Statements.{verb_of_body}
@@ -20,7 +20,7 @@ use Rattle.gw_lines.specs.declared.operand.Operand.{Operand}
 use Rattle.gw_lines.specs.declared.operand.Operand.TheVariants as operands
 use Rattle.gw_lines.specs.Classes.{is_in, is_blank, are_plain}
 use Rattle.gw_lines.specs.Forms.{forms_of, fields_of, lacks, is_listed}
-use Rattle.gw_lines.specs.Parts.{parts_of, goes_on, part_of, others_of, is_missing}
+use Rattle.gw_lines.specs.Parts.{parts_of, goes_on, part_of, is_given, others_of, is_missing}
 use Rattle.gw_lines.specs.Lines.{verb_in, is_command, is_remark}
 
 -- each byte is of the class
@@ -48,18 +48,33 @@ pub data Value : List ℕ → ℤ → Type 0 where
   without_sign : (text : List ℕ) (n : ℕ) → Number 1000000000 text n → Value text (pos n)
   with_sign : (text : List ℕ) (n : ℕ) → Number 1000000000 text n → Value (45 ∷ text) (neg_ℤ (pos n))
 
+-- a fraction, in millionths: digits with a point, of which at most six behind it, and at most 1
+pub record Fraction (text : List ℕ) (millionths : ℕ) : Type 0 where
+  pub whole : List ℕ
+  pub decimals : List ℕ
+  pub point : text ≡ whole ++ 46 ∷ decimals
+  pub number : ℕ
+  pub digits : Digits (whole ++ decimals) number
+  pub places : length decimals ≤ 6
+  pub value : millionths ≡ number * 10 ^ (6 - length decimals)
+  pub small : millionths ≤ 1000000
+
 -- a text of a kind, and the operand that it says: none where it is empty, nor for the key word that has no effect
 pub data SpellsOperand : Kind → List ℕ → Option Operand → Type 0 where
   absent : (kind : Kind) → SpellsOperand kind [] None
   a_value : (text : List ℕ) (z : ℤ) → Value text z
-      → SpellsOperand kinds.Value text (Some (operands.Value (Constant z)))
+      → SpellsOperand kinds.Value text (Some (operands.Value (terms.Constant z)))
   a_whole : (most : ℕ) (text : List ℕ) (n : ℕ) → Number most text n → 1 ≤ n
       → SpellsOperand (kinds.Whole most) text (Some (operands.Whole n))
   a_key : SpellsOperand kinds.Quiet (codes "NP") None
   named_entity : (text name : List ℕ) → name_of text ≡ Some name
-      → SpellsOperand kinds.Entity text (Some (operands.Value (Named name)))
+      → SpellsOperand kinds.Entity text (Some (operands.Value (terms.Named name)))
   numbered_entity : (text : List ℕ) (n : ℕ) → Number 1000000000 text n → 1 ≤ n
-      → SpellsOperand kinds.Entity text (Some (operands.Value (Constant (pos n))))
+      → SpellsOperand kinds.Entity text (Some (operands.Value (terms.Constant (pos n))))
+  a_fraction : (text : List ℕ) (n : ℕ) → Fraction text n
+      → SpellsOperand kinds.Fraction text (Some (operands.Value (terms.Fraction n)))
+  a_label : (text name : List ℕ) → name_of text ≡ Some name
+      → SpellsOperand kinds.Label text (Some (operands.Value (terms.Label name)))
 
 -- the parts of a list spell the operands of its forms: each is listed, or a written one behind the last part is not
 pub data SpellsAll : List Form → List (List ℕ) → List (Option Operand) → Type 0 where
@@ -74,7 +89,7 @@ pub data SpellsAll : List Form → List (List ℕ) → List (Option Operand) →
 -- what the operands of a verb say: a statement that has them
 pub record Says (verb : Verb) (parts : List (List ℕ)) (body : Body) : Type 0 where
   pub forms : List Form
-  pub are_forms : forms_of verb ≡ Some forms
+  pub are_forms : forms_of verb (is_given parts) ≡ Some forms
   pub of_verb : verb_of_body body ≡ verb
   pub operands : SpellsAll forms parts (fields_of body)
   pub enough : lacks verb (fields_of body) ≡ false

@@ -6,7 +6,7 @@ ghost use Rattle.gw_lines.specs.Bodies.{body_of, in_forms, body_with, command_wi
 use crate::fault::LineFault;
 use crate::form::{Form, forms_of, lacks};
 use crate::operand::Operand;
-use crate::operands::read_operands;
+use crate::operands::{is_given, read_operands};
 use gw_expr::Expr;
 use gw_meaning::{Block, Body, Command, Row};
 use gw_names::{CommandVerb, Verb};
@@ -17,7 +17,7 @@ use std::alloc::{AllocError, Global};
 pub fn read_body(alloc: Global, verb: Verb, text: &[u8]) -> Result<Body, LineFault>
     ensures { Gives (λ b. b) result (body_of verb text.now) }
 {
-    match forms_of(verb) {
+    match forms_of(verb, is_given(text)) {
         Some(forms) => in_forms(alloc, verb, forms, text),
         None => Err(LineFault::UnknownVerb),
     }

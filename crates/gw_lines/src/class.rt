@@ -17,6 +17,8 @@ pub enum Class {
     Line,
     /// Bytes of one line of an edit: all but `|`.
     Part,
+    /// Bytes before a decimal point: all but `.`.
+    Whole,
 }
 
 impl Class {
@@ -32,6 +34,7 @@ impl Class {
             Class::Code => b != b';',
             Class::Line => b != b'\n',
             Class::Part => b != b'|',
+            Class::Whole => b != b'.',
         }
     }
 }

@@ -1,6 +1,6 @@
 ghost use Rattle.std.specs.Prelude.{◌≡◌, ◌≤◌, IfSome, length};
 ghost use Rattle.std.specs.Option.{option_copied};
-ghost use Rattle.gw_lines.specs.Forms.{forms_of, forms_of_block, forms_of_command, lacks, is_listed, is_required, is_absent};
+ghost use Rattle.gw_lines.specs.Forms.{forms_of, forms_of_block, forms_of_transfer, forms_of_command, lacks, is_listed, is_required, is_absent};
 
 use crate::operand::Operand;
 use gw_names::{BlockVerb, CommandVerb, Verb};
@@ -16,6 +16,10 @@ pub enum Kind {
     Quiet,
     /// An entity: a name, or a whole number from 1 to 1,000,000,000.
     Entity,
+    /// A fraction: digits with a point, six of them at most behind it, from 0 to 1.
+    Fraction,
+    /// A block's label.
+    Label,
 }
 
 /// Whether an operand may be absent.
@@ -34,20 +38,20 @@ pub struct Form {
     pub presence: Presence,
 }
 
-/// The forms of a verb's operands, if the verb is read so far.
-pub fn forms_of(verb: Verb) -> Option<&'static [Form]>
-    ensures forms { option_copied result ≡ forms_of verb }
+/// The forms of a verb's operands, if the verb is read so far: given says whether the first operand is given.
+pub fn forms_of(verb: Verb, given: bool) -> Option<&'static [Form]>
+    ensures forms { option_copied result ≡ forms_of verb given }
     ensures few { IfSome result (λ f. length f.now ≤ 7) }
 {
     match verb {
-        Verb::Block(verb) => forms_of_block(verb),
+        Verb::Block(verb) => forms_of_block(verb, given),
         Verb::Definition(_) => None,
         Verb::Command(verb) => forms_of_command(verb),
     }
 }
 
-fn forms_of_block(verb: BlockVerb) -> Option<&'static [Form]>
-    ensures forms { option_copied result ≡ forms_of_block verb }
+fn forms_of_block(verb: BlockVerb, given: bool) -> Option<&'static [Form]>
+    ensures forms { option_copied result ≡ forms_of_block verb given }
     ensures few { IfSome result (λ f. length f.now ≤ 7) }
 {
     match verb {
@@ -55,7 +59,21 @@ fn forms_of_block(verb: BlockVerb) -> Option<&'static [Form]>
         BlockVerb::Advance => Some(&[VALUE, VALUE]),
         BlockVerb::Terminate => Some(&[VALUE]),
         BlockVerb::Queue | BlockVerb::Depart => Some(&[ENTITY, VALUE]),
+        BlockVerb::Seize | BlockVerb::Release => Some(&[ENTITY]),
+        BlockVerb::Transfer => Some(forms_of_transfer(given)),
         _ => None,
+    }
+}
+
+// A TRANSFER goes to a label, or, with a fraction before it, to one of two, the first of which may be absent.
+fn forms_of_transfer(given: bool) -> &'static [Form]
+    ensures forms { result.now ≡ forms_of_transfer given }
+    ensures few { length result.now ≤ 7 }
+{
+    if given {
+        &[FRACTION, ANOTHER_LABEL, LABEL]
+    } else {
+        &[CHANCE, LABEL]
     }
 }
 
@@ -97,6 +115,26 @@ const SEED: Form = Form {
         most: 2_147_483_646,
     },
     presence: Presence::Written,
+};
+
+const CHANCE: Form = Form {
+    kind: Kind::Fraction,
+    presence: Presence::Optional,
+};
+
+const FRACTION: Form = Form {
+    kind: Kind::Fraction,
+    presence: Presence::Required,
+};
+
+const LABEL: Form = Form {
+    kind: Kind::Label,
+    presence: Presence::Required,
+};
+
+const ANOTHER_LABEL: Form = Form {
+    kind: Kind::Label,
+    presence: Presence::Optional,
 };
 
 /// Whether the operands lack one, though none of them is required: a GENERATE has a mean or a limit.

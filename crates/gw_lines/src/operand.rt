@@ -1,8 +1,8 @@
 ghost use Rattle.std.specs.Prelude.{◌≡◌, IfOk};
-ghost use Rattle.gw_lines.specs.Operands.{operand_in, given_in, as_value, entity_of, numbered};
+ghost use Rattle.gw_lines.specs.Operands.{operand_in, given_in, as_value, entity_of, numbered, label_of};
 
 use crate::form::Kind;
-use crate::number::{LIMIT, from_one, value};
+use crate::number::{LIMIT, fraction, from_one, value};
 use gw_expr::Expr;
 use gw_names::Name;
 use gw_nums::Val;
@@ -50,6 +50,11 @@ fn given(alloc: Global, kind: Kind, text: &[u8]) -> Result<Option<Option<Operand
             }
         }
         Kind::Entity => Ok(as_value(entity(alloc, text)?)),
+        Kind::Fraction => match fraction(text) {
+            Some(millionths) => Ok(Some(Some(Operand::Value(Expr::fraction(millionths))))),
+            None => Ok(None),
+        },
+        Kind::Label => Ok(as_value(label(alloc, text)?)),
     }
 }
 
@@ -77,4 +82,14 @@ fn numbered(text: &[u8]) -> Option<Expr>
 {
     let number = from_one(LIMIT, text)?;
     Some(Expr::constant(Val::new(i64::from(number))?))
+}
+
+// The label that a text is.
+fn label(alloc: Global, text: &[u8]) -> Result<Option<Expr>, AllocError>
+    ensures { IfOk result (λ o. o ≡ label_of text.now) }
+{
+    match Name::read(alloc, text)? {
+        Some(name) => Ok(Some(Expr::label(name))),
+        None => Ok(None),
+    }
 }

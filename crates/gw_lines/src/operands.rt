@@ -1,7 +1,7 @@
 ghost use Rattle.std.specs.Prelude.{◌≡◌, ◌≤◌, length, IfOk};
 ghost use Rattle.gw_lines.specs.Reading.{Gives};
 ghost use Rattle.gw_lines.specs.Operands.{left, added, each_of, missing_of, has_more, operands_of, missing_after};
-ghost use Rattle.gw_lines.specs.Parts.{parts_of, goes_on, part_of, others_of};
+ghost use Rattle.gw_lines.specs.Parts.{parts_of, goes_on, part_of, is_given, others_of};
 
 use crate::class::{Class, piece};
 use crate::fault::LineFault;
@@ -28,6 +28,15 @@ pub fn read_operands(
         Some(n) => Err(LineFault::MissingOperand(n)),
         None => Ok(list.operands),
     }
+}
+
+/// Whether the first operand of a list is given.
+#[tactic(auto, using(crate::proofs::Parts::left_whole))]
+pub fn is_given(text: &[u8]) -> bool
+    ensures { result ≡ is_given (parts_of text.now) }
+{
+    let (part, _, _) = first_part(!text.is_empty(), text);
+    !part.is_empty()
 }
 
 // A list that was read: the operands, and what its faults are, if it has some.

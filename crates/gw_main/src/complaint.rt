@@ -59,6 +59,7 @@ fn model_text(fault: ModelFault) -> &'static [u8]
         ModelFault::BadSeed => b"model refused: M6\n",
         ModelFault::BadHorizon => b"model refused: M7\n",
         ModelFault::LabelTwice => b"model refused: M1\n",
+        ModelFault::NoSuchLabel => b"model refused: M2\n",
         ModelFault::Memory => b"model refused: M8\n",
     }
 }

@@ -1,11 +1,16 @@
 -- What a move does to a state. (Manual: the chains and the counts of blocks. Our own: that an ADVANCE of 0 leaves the
--- transaction active, and that a time is fixed when the transaction comes onto the future chain.)
+-- transaction active, that a time is fixed when the transaction comes onto the future chain, and that who waited for a
+-- facility enters its SEIZE block in the step that gives it back.)
 use Rattle.std.specs.Prelude.{ℕ, ◌-◌, Bool, true, not, ◌==◌, List, [], ◌∷◌, ◌++◌, Option, Some, None, if◌then◌else◌, filter, nat_lt}
 use Rattle.gw_nums.specs.Range.{is_below}
 use Rattle.gw_meaning.specs.declared.transaction.Transaction.{Transaction}
 use Rattle.gw_meaning.specs.declared.transaction.Event.{Event}
 use Rattle.gw_meaning.specs.declared.transaction.Count.{Count}
 use Rattle.gw_streams.specs.declared.stream.Stream.{Stream}
+use Rattle.gw_names.specs.declared.key.Key.{Key}
+use Rattle.gw_entities.specs.Tables.{with_value}
+use Rattle.gw_meaning.specs.declared.entity_change.Deed.{Deed}
+use Rattle.gw_meaning.specs.declared.entity_change.Deed.TheVariants as deeds
 use Rattle.gw_meaning.specs.declared.moves.Arrival.{Arrival}
 use Rattle.gw_meaning.specs.declared.moves.Change.{Change}
 use Rattle.gw_meaning.specs.declared.moves.Change.TheVariants as changes
@@ -14,7 +19,7 @@ use Rattle.gw_meaning.specs.declared.moves.Fate.TheVariants as fates
 use Rattle.gw_meaning.specs.declared.moves.Move.{Move}
 use Rattle.gw_meaning.specs.declared.moves.Move.TheVariants as moves
 use Rattle.gw_meaning.specs.Entities.{touched, later}
-use Rattle.gw_meaning.specs.Machine.{Machine, raised, count_in, count_at, with_count}
+use Rattle.gw_meaning.specs.Machine.{Machine, raised, count_in, count_at, with_count, delay_at}
 
 -- the current chain with one more transaction: behind its equals, in front of the first of lower priority
 abbrev pub lined_up : Transaction → List Transaction → List Transaction
@@ -105,6 +110,7 @@ arrived next s = with_making (maybe_made next (making_of s)) s
 -- what a block changes of its transaction
 abbrev pub marked : Change → ℕ → Transaction → Transaction
 marked (changes.Generate next) clock x = record x { mark = clock }
+marked (changes.Transfer to) clock x = record x { destination = Some to }
 marked change clock x = x
 
 -- what becomes of the transaction x: it stays active, is on the future chain, or is gone with its count taken from the
@@ -121,9 +127,26 @@ fated (fates.Destroyed count) x s =
           (if nat_lt count s.remaining then s.complete else raised s.complete);
     }
 
--- what a block brings: a GENERATE the next transaction
+-- a transaction that waited at a block enters it, and goes to the current chain behind its equals
+abbrev pub let_in : Transaction → Option ℕ → Machine → Machine
+let_in x None s = record s { current = lined_up x s.current }
+let_in x (Some id) s =
+    record s { current = lined_up (placed x id) s.current; counts = crossed fates.Active s.counts x.current id }
+
+-- the first of a delay chain, where there is one, leaves it and is let in
+abbrev pub first_let_in : Key → List Transaction → Machine → Machine
+first_let_in key [] s = s
+first_let_in key (x ∷ xs) s = let_in x x.destination (record s { delays = with_value s.delays key xs })
+
+-- whom a deed lets in
+abbrev pub admitted : Key → Deed → Machine → Machine
+admitted key (deeds.Release next) s = first_let_in key (delay_at s.delays key) s
+admitted key deed s = s
+
+-- what a block brings: a GENERATE the next transaction, and the change of an entity those whom it lets in
 abbrev pub changed : Change → Machine → Machine
 changed (changes.Generate next) s = arrived next s
+changed (changes.Entity change) s = admitted change.0 change.1 s
 changed change s = s
 
 -- the transaction x entered a block
@@ -133,6 +156,17 @@ entering s x id change fate =
       counts = crossed fate s.counts x.current id;
       entities = touched change s.clock x.number s.entities;
     }))
+
+-- a transaction that is to enter a block
+abbrev pub bound : Transaction → ℕ → Transaction
+bound x id = record x { destination = Some id }
+
+-- the transaction x is refused at a block, and waits for the facility
+abbrev pub refused : Machine → Transaction → ℕ → Key → Machine
+refused s x id key = record s {
+  active = None;
+  delays = with_value s.delays key (lined_up (bound x id) (delay_at s.delays key));
+}
 
 -- the first of the current chain is active
 abbrev pub picked : Machine → List Transaction → Machine
@@ -166,6 +200,7 @@ abbrev pub moved : Machine → Move → Machine
 moved s (moves.Start count arrivals) = with_making (all_made arrivals (making_of s)) (started count s)
 moved s moves.Command = record s { commands = raised s.commands }
 moved s (moves.Enter id change fate) = with_active s.active (λ x. entering s x id change fate) s
+moved s (moves.Refuse id key) = with_active s.active (λ x. refused s x id key) s
 moved s moves.Pick = picked s s.current
 moved s (moves.Clock time) = advanced s time
 

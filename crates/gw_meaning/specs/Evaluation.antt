@@ -51,10 +51,11 @@ number_of_draw (streams.At x) = Gives (next_of x)
 abbrev pub draw : ℕ → Eval ℕ
 draw j = λ before. number_of_draw (stream_at before j) >>= (λ x. Gives (x, with_stream before j (streams.At x)))
 
--- the value of an operand in a state; a name is none, and no form lets one stand for a value so far
+-- the value of an operand in a state; a name, a label and a fraction are none, and no form lets one stand for a value so
+-- far
 abbrev pub value_prog : Machine → Term → Eval ℤ
 value_prog s (Constant value) = gives value
-value_prog s (Named name) = ends_with (ends.Error Range)
+value_prog s term = ends_with (ends.Error Range)
 
 -- the value of an operand that may be absent, which then counts as 0
 abbrev pub value_or_zero : Machine → Option Term → Eval ℤ
@@ -67,6 +68,7 @@ entity_prog s None = ends_with (ends.Error Range)
 entity_prog s (Some (Named name)) = gives (keys.Named name)
 entity_prog s (Some (Constant n)) =
     stops_if (is_below n (pos 1)) Range (gives (keys.Num (magnitude n)))
+entity_prog s (Some term) = ends_with (ends.Error Range)
 
 -- how many units an operand says: from 1, and 1 where it is absent
 abbrev pub units_prog : Machine → Option Term → Eval ℕ
@@ -78,6 +80,10 @@ units_prog s (Some term) =
 -- mean + range
 abbrev pub spread : ℤ → ℕ → ℕ → ℤ
 spread mean range x = (mean -ℤ pos range) +ℤ pos ((x - 1) * (2 * range + 1) / 2147483646)
+
+-- the same x as a part of a million, from 0 to 999,999
+abbrev pub millionths : ℕ → ℕ
+millionths x = (x - 1) * 1000000 / 2147483646
 
 -- a number, where it is a value
 abbrev pub in_range : ℤ → Eval ℤ

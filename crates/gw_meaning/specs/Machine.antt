@@ -1,8 +1,10 @@
 -- The state of a run: both clocks, the termination count, what is done, the streams, the chains, the entities and the
 -- counts of the blocks.
 -- (Manual; that RESET's clock is kept as a time is our own.)
-use Rattle.std.specs.Prelude.{◌≡◌, ℕ, ◌+◌, ◌-◌, ◌^◌, Bool, false, ◌==◌, List, [], ◌∷◌, Option, Some, None, if◌then◌else◌, min, length, AllPairs}
+use Rattle.std.specs.Prelude.{◌≡◌, ℕ, ◌+◌, ◌-◌, ◌^◌, Bool, false, ◌==◌, List, [], ◌∷◌, ◌++◌, Option, Some, None, if◌then◌else◌, min, length, unwrap_or, AllPairs}
 use Rattle.gw_nums.specs.Range.{is_below}
+use Rattle.gw_names.specs.declared.key.Key.{Key}
+use Rattle.gw_entities.specs.Tables.{value_of}
 use Rattle.gw_streams.specs.declared.stream.Stream.{Stream}
 use Rattle.gw_streams.specs.Draws.{untouched}
 use Rattle.gw_meaning.specs.Entities.{Entities, no_entities}
@@ -31,6 +33,9 @@ pub record Machine : Type 0 where
   pub current : List Transaction
   -- the future chain, in the order of coming onto it
   pub future : List Event
+  -- the delay chain of each facility that somebody waited for, in the order of first waiting: who waits has the block
+  -- that refused it as its destination
+  pub delays : List (Key × List Transaction)
   -- what is counted at each block, in the order of first use
   pub counts : List (ℕ × Count)
   pub entities : Entities
@@ -54,6 +59,7 @@ zero_state = record {
   active = None;
   current = [];
   future = [];
+  delays = [];
   counts = [];
   entities = no_entities;
 }
@@ -83,10 +89,19 @@ abbrev pub with_count : List (ℕ × Count) → ℕ → Count → List (ℕ × C
 with_count [] id c = (id, c) ∷ []
 with_count (d ∷ ds) id c = if id == d.0 then (d.0, c) ∷ ds else d ∷ with_count ds id c
 
+-- the delay chain of a facility, by priority, first in first out within
+abbrev pub delay_at : List (Key × List Transaction) → Key → List Transaction
+delay_at delays key = unwrap_or (value_of delays key) []
+
+-- all who wait on a delay chain
+abbrev pub waiting : List (Key × List Transaction) → List Transaction
+waiting [] = []
+waiting (d ∷ ds) = d.1 ++ waiting ds
+
 -- how many transactions live
 abbrev pub number_of_active : Option Transaction → ℕ
 number_of_active None = 0
 number_of_active (Some x) = 1
 
 abbrev pub live : Machine → ℕ
-live s = number_of_active s.active + length s.current + length s.future
+live s = number_of_active s.active + length s.current + length s.future + length (waiting s.delays)

@@ -1,10 +1,10 @@
 -- A step: which move it is, by questions; then the move. One definition for each choice, with what is chosen by as an
 -- argument. (Manual: the order of the scan. Our own: commands, priming and picking as steps of their own, and the order
--- in which a GENERATE's operands are met.)
-use Rattle.std.specs.Prelude.{ℕ, zero, suc, ◌+◌, Bool, true, false, ◌==◌, List, [], ◌∷◌, ◌++◌, Option, Some, None, Result, Ok, Err, ℤ, ◌&&◌, ◌||◌, if◌then◌else◌, nat_le, nat_lt, min, not}
+-- in which a GENERATE's operands are met, and that a facility refuses its own owner, too.)
+use Rattle.std.specs.Prelude.{ℕ, zero, suc, ◌+◌, Bool, true, false, ◌==◌, List, [], ◌∷◌, ◌++◌, Option, Some, None, Result, Ok, Err, ℤ, ◌&&◌, ◌||◌, if◌then◌else◌, nat_le, nat_lt, min, not, is_some}
 use Rattle.gw_nums.specs.Range.{is_negative, magnitude}
-use Rattle.gw_expr.specs.Term.{Term}
-use Rattle.gw_expr.specs.declared.stop.Stop.TheVariants.{NegativeTime, DepartTooMany, NoNextBlock, TooManyTransactions, BadCount, TooManyUnits}
+use Rattle.gw_expr.specs.Term.{Term, Label, Fraction}
+use Rattle.gw_expr.specs.declared.stop.Stop.TheVariants.{NegativeTime, NotOwner, DepartTooMany, NoNextBlock, TooManyTransactions, BadCount, TooManyUnits}
 use Rattle.gw_names.specs.declared.key.Key.{Key}
 use Rattle.gw_names.specs.declared.verb.BlockVerb.{BlockVerb}
 use Rattle.gw_names.specs.declared.verb.BlockVerb.TheVariants as blocks
@@ -20,6 +20,7 @@ use Rattle.gw_meaning.specs.declared.transaction.Event.{Event}
 use Rattle.gw_streams.specs.declared.stream.Stream.{Stream}
 use Rattle.gw_streams.specs.Draws.{all_set}
 use Rattle.gw_meaning.specs.declared.moves.Arrival.{Arrival}
+use Rattle.gw_meaning.specs.declared.entity_change.Deed.TheVariants as deeds
 use Rattle.gw_meaning.specs.declared.moves.Change.TheVariants as changes
 use Rattle.gw_meaning.specs.declared.moves.Fate.{Fate}
 use Rattle.gw_meaning.specs.declared.moves.Fate.TheVariants as fates
@@ -27,12 +28,12 @@ use Rattle.gw_meaning.specs.declared.moves.Move.{Move}
 use Rattle.gw_meaning.specs.declared.moves.Move.TheVariants as moves
 use Rattle.gw_meaning.specs.Statements.{A, B, C, D, E, operand, is_generate_verb}
 use Rattle.gw_meaning.specs.Listing.{Listing}
-use Rattle.gw_meaning.specs.Machine.{Machine, zero_state, raised, live, count_at}
+use Rattle.gw_meaning.specs.Machine.{Machine, zero_state, raised, live, count_at, delay_at}
 use Rattle.gw_entities.specs.Records.{Line}
 use Rattle.gw_entities.specs.Comings.{came}
-use Rattle.gw_meaning.specs.Entities.{line_at}
+use Rattle.gw_meaning.specs.Entities.{facility_at, line_at}
 use Rattle.gw_meaning.specs.Questions.{Prog, Gives, Ends, Asks, result_of, items_of, ◌>>=◌}
-use Rattle.gw_meaning.specs.Evaluation.{Eval, gives, ends_with, asks, ◌~>◌, stops_if, value_prog, value_or_zero, entity_prog, units_prog, time_prog}
+use Rattle.gw_meaning.specs.Evaluation.{Eval, gives, ends_with, asks, ◌~>◌, stops_if, value_prog, value_or_zero, entity_prog, units_prog, millionths, draw, time_prog}
 use Rattle.gw_meaning.specs.Changes.{decided}
 
 -- The next transaction of a GENERATE: its limit, then the time, then its priority.
@@ -132,7 +133,7 @@ is_too_many n = nat_lt 1000000000 n
 abbrev pub queue_units : ℕ → Key → Line → ℕ → Eval Move
 queue_units id key line units =
     stops_if (is_too_many (line.entries + units) || is_too_many (line.level.content + units)) TooManyUnits
-    (gives (moves.Enter id (changes.Queue key units) fates.Active))
+    (gives (moves.Enter id (changes.Entity (key, deeds.Queue units)) fates.Active))
 
 abbrev pub queue_prog : Machine → ℕ → Option Term → Option Term → Eval Move
 queue_prog s id entity units =
@@ -142,11 +143,55 @@ abbrev pub depart_units : ℕ → Key → Line → Bool → ℕ → Eval Move
 depart_units id key line at_once units =
     stops_if (at_once && is_too_many (line.zero_entries + units)) TooManyUnits
     (stops_if (nat_lt line.level.content units) DepartTooMany
-    (gives (moves.Enter id (changes.Depart key units at_once) fates.Active)))
+    (gives (moves.Enter id (changes.Entity (key, deeds.Depart units at_once)) fates.Active)))
 
 abbrev pub depart_prog : Machine → Transaction → ℕ → Option Term → Option Term → Eval Move
 depart_prog s x id entity units = entity_prog s entity ~> (λ key. units_prog s units ~>
     (λ n. depart_units id key (line_at s.entities key) (came s.entities.comings key x.number) n))
+
+-- SEIZE, of a facility that may be owned; RELEASE, by its owner, for the first that waits.
+abbrev pub seize_or_wait : ℕ → Key → Bool → Eval Move
+seize_or_wait id key true = gives (moves.Refuse id key)
+seize_or_wait id key false = gives (moves.Enter id (changes.Entity (key, deeds.Seize)) fates.Active)
+
+abbrev pub seize_prog : Machine → ℕ → Option Term → Eval Move
+seize_prog s id entity =
+    entity_prog s entity ~> (λ key. seize_or_wait id key (is_some (facility_at s.entities key).owner))
+
+-- the number of the first transaction of a chain
+abbrev pub first_number : List Transaction → Option ℕ
+first_number [] = None
+first_number (x ∷ xs) = Some x.number
+
+-- whether the transaction with a number owns it
+abbrev pub is_owner : Option ℕ → ℕ → Bool
+is_owner None number = false
+is_owner (Some owner) number = owner == number
+
+abbrev pub release_to : ℕ → Key → Bool → Option ℕ → Eval Move
+release_to id key owns next =
+    stops_if (not owns) NotOwner (gives (moves.Enter id (changes.Entity (key, deeds.Release next)) fates.Active))
+
+abbrev pub release_prog : Machine → Transaction → ℕ → Option Term → Eval Move
+release_prog s x id entity = entity_prog s entity ~> (λ key. release_to id key
+    (is_owner (facility_at s.entities key).owner x.number) (first_number (delay_at s.delays key)))
+
+-- TRANSFER: to the block with a label, which each version has, or to the next block where there is no label. With a
+-- fraction it draws, and goes to the third operand's block where the number is below the fraction, else to the second's.
+abbrev pub go_to : ℕ → Option ℕ → Eval Move
+go_to id None = ends_with (ends.Error NoNextBlock)
+go_to id (Some to) = gives (moves.Enter id (changes.Transfer to) fates.Active)
+
+abbrev pub lead_to : ℕ → Option Term → Eval Move
+lead_to id (Some (Label name)) = asks (items.Label name) (go_to id)
+lead_to id label = gives (moves.Enter id changes.Nothing fates.Active)
+
+abbrev pub by_fraction : ℕ → ℕ → Option Term → Option Term → Eval Move
+by_fraction id part near far = draw 1 ~> (λ x. lead_to id (if nat_lt (millionths x) part then far else near))
+
+abbrev pub transfer_prog : ℕ → Option Term → Option Term → Option Term → Eval Move
+transfer_prog id (Some (Fraction part)) near far = by_fraction id part near far
+transfer_prog id fraction near far = lead_to id near
 
 -- by the block's verb; no other verb is read so far
 abbrev pub block_prog : Machine → Transaction → ℕ → Block → BlockVerb → Eval Move
@@ -156,6 +201,9 @@ block_prog s x id b blocks.Advance = advance_prog s id (operand b A) (operand b 
 block_prog s x id b blocks.Terminate = terminate_prog s id (operand b A)
 block_prog s x id b blocks.Queue = queue_prog s id (operand b A) (operand b B)
 block_prog s x id b blocks.Depart = depart_prog s x id (operand b A) (operand b B)
+block_prog s x id b blocks.Seize = seize_prog s id (operand b A)
+block_prog s x id b blocks.Release = release_prog s x id (operand b A)
+block_prog s x id b blocks.Transfer = transfer_prog id (operand b A) (operand b B) (operand b C)
 block_prog s x id b verb = ends_with (ends.Error NoNextBlock)
 
 abbrev pub enter_prog : Machine → Transaction → ℕ → Option Block → Eval Move

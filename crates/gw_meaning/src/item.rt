@@ -1,14 +1,17 @@
 use crate::statement_id::StatementId;
 use gw_expr::Stop;
+use gw_names::Name;
 use gw_nums::Time;
 
 /// A question that a step may ask of the version and the seed. Blocks go by their statement ids.
-#[derive(Clone, Copy, Debug, PartialEq, Eq, Hash)]
+#[derive(Clone, Debug, Drop, PartialEq, Eq, Hash)]
 pub enum Item {
     /// Which block is this?
     Block(StatementId),
     /// Which block comes after this one?
     After(StatementId),
+    /// Which block has this label?
+    Label(Name),
     /// Which blocks are GENERATEs?
     Generates,
     /// What is the i-th command, from 1?

@@ -7,6 +7,7 @@
 #![tactic(auto)]
 
 mod destination;
+mod entity_change;
 mod item;
 mod moves;
 pub mod operands;
@@ -17,6 +18,7 @@ mod text;
 mod transaction;
 
 pub use destination::Destination;
+pub use entity_change::{Deed, EntityChange};
 pub use item::{End, Item, Outcome};
 pub use moves::{Arrival, Change, Fate, Move};
 pub use row::Row;

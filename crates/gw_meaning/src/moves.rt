@@ -1,3 +1,4 @@
+use crate::entity_change::EntityChange;
 use crate::row::Row;
 use crate::statement_id::StatementId;
 use gw_names::Key;
@@ -19,10 +20,10 @@ pub enum Change {
     Nothing,
     /// A GENERATE sets the mark time of its transaction and makes the next one, if any.
     Generate { next: Option<Arrival> },
-    /// So many units come to a queue.
-    Queue { key: Key, units: u64 },
-    /// So many units leave a queue; `at_once` says that the transaction came there while the clock stands as it does.
-    Depart { key: Key, units: u64, at_once: bool },
+    /// A TRANSFER sends its transaction to a block.
+    Transfer { to: StatementId },
+    /// What it makes of the entity that it names.
+    Entity(EntityChange),
 }
 
 /// What becomes of the transaction that entered a block.
@@ -51,6 +52,11 @@ pub enum Move {
         id: StatementId,
         change: Change,
         fate: Fate,
+    },
+    /// The active transaction is refused at a block by the facility that it names, and waits on its delay chain.
+    Refuse {
+        id: StatementId,
+        key: Key,
     },
     /// The first transaction of the current chain becomes active.
     Pick,

@@ -4,4 +4,5 @@ pub mod Twice
 pub mod Wellness
 pub mod Making
 pub mod Apart
+pub mod Known
 pub mod Answering

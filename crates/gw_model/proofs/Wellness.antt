@@ -1,14 +1,16 @@
 -- a version without a fault is what a version may be, and the other way round
-use Rattle.std.proofs.Common.{◌≡◌, ℕ, refl, false, ◌≤◌, length, Option, None, nat_lt, inl, inr}
+use Rattle.std.proofs.Common.{◌≡◌, ℕ, refl, false, ◌≤◌, List, length, Option, None, nat_lt, inl, inr, ◌∙◌}
 use Rattle.std.specs.List.{list_any}
 use Rattle.std.proofs.lemmas.Bool.{ltb-false, le-ltb, cases_Bool}
 use Rattle.gw_meaning.specs.Listing.{Listing}
+use Rattle.gw_meaning.specs.declared.statement.Numbered.{Numbered}
 use Rattle.gw_meaning.specs.declared.statement.Replication.{Replication}
-use Rattle.gw_model.specs.Faults.{fault_of, is_too_long, has_bad_replication, is_bad_horizon, has_label_twice, label_fault_of, is_bad_replication, has_number_twice, is_outside, IsFault}
+use Rattle.gw_model.specs.Faults.{fault_of, is_too_long, has_bad_replication, is_bad_horizon, has_label_twice, has_unknown_label, label_fault_of, is_bad_replication, has_number_twice, is_outside, IsFault}
 use Rattle.gw_model.specs.declared.fault.ModelFault.{ModelFault}
-use Rattle.gw_model.specs.declared.fault.ModelFault.TheVariants.{TooMany, BadSeed, BadHorizon, LabelTwice, Memory}
+use Rattle.gw_model.specs.declared.fault.ModelFault.TheVariants.{TooMany, BadSeed, BadHorizon, LabelTwice, NoSuchLabel, Memory}
 use Rattle.gw_model.specs.Well.{Well, IsSeeded}
 use Rattle.gw_model.proofs.Apart.{or_parts, or_from, none_of, none_from, numbers_apart, numbers_once, labels_apart, labels_once}
+use Rattle.gw_model.proofs.Known.{labels_there, labels_known}
 
 -- a number in range
 inside : (least greatest n : ℕ) → is_outside least greatest n ≡ false → (least ≤ n) × (n ≤ greatest)
@@ -33,8 +35,9 @@ unseeded r s =
 
 -- where no test of the scan holds, the version is well-formed
 well_from : (t : Listing) → is_too_long t.lines t.replications ≡ false → has_bad_replication t.replications ≡ false →
-    is_bad_horizon t.horizon t.limit ≡ false → has_label_twice t.lines ≡ false → Well t
-well_from t long bad limits twice =
+    is_bad_horizon t.horizon t.limit ≡ false → has_label_twice t.lines ≡ false →
+    has_unknown_label t.lines ≡ false → Well t
+well_from t long bad limits twice unknown =
     let sizes = or_parts (nat_lt 2000 (length t.lines)) (nat_lt 32 (length t.replications)) long in
     let seeds = or_parts (list_any is_bad_replication t.replications) (has_number_twice t.replications) bad in
     let bounds = or_parts (is_outside 1 1000000000000 t.horizon) (is_outside 1 1000000 t.limit) limits in
@@ -50,18 +53,38 @@ well_from t long bad limits twice =
       least_limit = limit.0;
       greatest_limit = limit.1;
       labels_apart = labels_apart t.lines twice;
+      labels_there = labels_there t.lines unknown;
     }
 
+-- labels without a fault
+sound_parts : (lines : List Numbered) → label_fault_of lines ≡ None → (has_label_twice lines ≡ false) × (has_unknown_label lines ≡ false)
+sound_parts lines sound =
+    elim (cases_Bool (has_label_twice lines)) [
+      | inl twice ↦ absurd (let f = rw twice at sound in cc)
+      | inr twice ↦ elim (cases_Bool (has_unknown_label lines)) [
+        | inl unknown ↦ absurd (let f = rw (twice, unknown) at sound in cc)
+        | inr unknown ↦ (twice, unknown)
+      ]
+    ]
+
+pub sound_from : (t : Listing) → Well t → label_fault_of t.lines ≡ None
+sound_from t w =
+    let twice : has_label_twice t.lines ≡ false = labels_once t.lines w.labels_apart in
+    let unknown : has_unknown_label t.lines ≡ false = labels_known t.lines w.labels_there in
+    rw (twice, unknown)
+
 -- a version without a fault is well-formed, where its labels are looked at last
-pub well_left : (t : Listing) → fault_of t ≡ label_fault_of t.lines → has_label_twice t.lines ≡ false → Well t
-well_left t left twice =
+pub well_left : (t : Listing) → fault_of t ≡ label_fault_of t.lines → label_fault_of t.lines ≡ None → Well t
+well_left t left sound =
+    let none : fault_of t ≡ None = left ∙ sound in
+    let labels = sound_parts t.lines sound in
     elim (cases_Bool (is_too_long t.lines t.replications)) [
-      | inl long ↦ absurd (let f = rw (long, twice) at left in cc)
+      | inl long ↦ absurd (let f = rw long at none in cc)
       | inr long ↦ elim (cases_Bool (has_bad_replication t.replications)) [
-        | inl bad ↦ absurd (let f = rw (long, bad, twice) at left in cc)
+        | inl bad ↦ absurd (let f = rw (long, bad) at none in cc)
         | inr bad ↦ elim (cases_Bool (is_bad_horizon t.horizon t.limit)) [
-          | inl limits ↦ absurd (let f = rw (long, bad, limits, twice) at left in cc)
-          | inr limits ↦ well_from t long bad limits twice
+          | inl limits ↦ absurd (let f = rw (long, bad, limits) at none in cc)
+          | inr limits ↦ well_from t long bad limits labels.0 labels.1
         ]
       ]
     ]
@@ -78,12 +101,13 @@ no_fault t w =
     let limits : is_bad_horizon t.horizon t.limit ≡ false =
     or_from (is_outside 1 1000000000000 t.horizon) (is_outside 1 1000000 t.limit) (outside 1 1000000000000 t.horizon w.least_horizon w.greatest_horizon)
     (outside 1 1000000 t.limit w.least_limit w.greatest_limit) in
-    let twice : has_label_twice t.lines ≡ false = labels_once t.lines w.labels_apart in
-    rw (long, bad, limits, twice)
+    let sound : label_fault_of t.lines ≡ None = sound_from t w in
+    rw (long, bad, limits, sound)
 
 pub memory_alone : (first : Option ModelFault) (fault : ModelFault) → first ≡ None → IsFault first fault → fault ≡ Memory
 memory_alone first TooMany e h = cc
 memory_alone first BadSeed e h = cc
 memory_alone first BadHorizon e h = cc
 memory_alone first LabelTwice e h = cc
+memory_alone first NoSuchLabel e h = cc
 memory_alone first Memory e h = refl

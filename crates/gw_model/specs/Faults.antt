@@ -1,13 +1,15 @@
 -- The first model fault of a version: the faults in their order, each by a scan of the version. (The codes M1 to M8 and
 -- the limits are the product's own.)
-use Rattle.std.specs.Prelude.{ℕ, Bool, false, ◌||◌, ◌==◌, ◌≡◌, List, [], ◌∷◌, Option, Some, None, is_some, if◌then◌else◌, length, nat_lt}
+use Rattle.std.specs.Prelude.{ℕ, Bool, false, not, ◌||◌, ◌==◌, ◌≡◌, List, [], ◌∷◌, Option, Some, None, is_some, if◌then◌else◌, length, nat_lt}
 use Rattle.std.specs.List.{list_any}
-use Rattle.gw_meaning.specs.Listing.{Listing, labelled_in}
+use Rattle.gw_expr.specs.Term.{Term, Label}
+use Rattle.gw_meaning.specs.Listing.{Listing, block_of, labelled_in}
 use Rattle.gw_model.specs.Listed.{block_label}
+use Rattle.gw_meaning.specs.declared.statement.Block.{Block}
 use Rattle.gw_meaning.specs.declared.statement.Numbered.{Numbered}
 use Rattle.gw_meaning.specs.declared.statement.Replication.{Replication}
 use Rattle.gw_model.specs.declared.fault.ModelFault.{ModelFault}
-use Rattle.gw_model.specs.declared.fault.ModelFault.TheVariants.{TooMany, BadSeed, BadHorizon, LabelTwice, Memory}
+use Rattle.gw_model.specs.declared.fault.ModelFault.TheVariants.{TooMany, BadSeed, BadHorizon, LabelTwice, NoSuchLabel, Memory}
 
 -- the fault's number, which a report prints behind an M
 abbrev pub number_of : ModelFault → ℕ
@@ -15,6 +17,7 @@ number_of TooMany = 5
 number_of BadSeed = 6
 number_of BadHorizon = 7
 number_of LabelTwice = 1
+number_of NoSuchLabel = 2
 number_of Memory = 8
 
 -- more statements or replications than a version may have
@@ -55,9 +58,30 @@ abbrev pub has_label_twice : List Numbered → Bool
 has_label_twice [] = false
 has_label_twice (line ∷ lines) = is_labelled (block_label line) lines || has_label_twice lines
 
--- the fault of the labels, if they have one
+-- whether an operand is a label that is not among those that are known
+abbrev pub is_unknown : (List ℕ → Bool) → Option Term → Bool
+is_unknown known (Some (Label name)) = not (known name)
+is_unknown known operand = false
+
+-- the operands of a block; a command has none
+abbrev pub block_operands : Option Block → List (Option Term)
+block_operands None = []
+block_operands (Some block) = block.operands
+
+-- whether an operand of a block is such a label
+abbrev pub names_unknown : (List ℕ → Bool) → Numbered → Bool
+names_unknown known line = list_any (is_unknown known) (block_operands (block_of line))
+
+-- whether an operand of a block is the label of no block
+unfoldable pub has_unknown_label : List Numbered → Bool
+has_unknown_label lines = list_any (names_unknown (λ name. is_some (labelled_in name lines))) lines
+
+-- the first fault of the labels, if they have one
 abbrev pub label_fault_of : List Numbered → Option ModelFault
-label_fault_of lines = if has_label_twice lines then Some LabelTwice else None
+label_fault_of lines =
+    if has_label_twice lines
+    then Some LabelTwice
+    else (if has_unknown_label lines then Some NoSuchLabel else None)
 
 -- the first fault of a version, if it has one
 abbrev pub fault_of : Listing → Option ModelFault
@@ -73,4 +97,5 @@ IsFault first TooMany = first ≡ Some TooMany
 IsFault first BadSeed = first ≡ Some BadSeed
 IsFault first BadHorizon = first ≡ Some BadHorizon
 IsFault first LabelTwice = first ≡ Some LabelTwice
+IsFault first NoSuchLabel = first ≡ Some NoSuchLabel
 IsFault first Memory = Unit {0}

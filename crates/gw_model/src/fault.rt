@@ -4,8 +4,8 @@ ghost use Rattle.gw_model.specs.Faults.{number_of};
 use std::alloc::{AllocError, AllocFailed};
 use thiserror::Error;
 
-/// The first fault of a model. The numbers M1 to M8 are the product's own. The order is M5, M6, M7, M1: the
-/// first of these that holds. M8 may come in place of any.
+/// The first fault of a model. The numbers M1 to M8 are the product's own. The order is M5, M6, M7, M1, M2:
+/// the first of these that holds. M8 may come in place of any.
 #[derive(Clone, Copy, Debug, PartialEq, Eq, Error)]
 pub enum ModelFault {
     /// M5: more than 2,000 statements, or more than 32 replications.
@@ -21,6 +21,9 @@ pub enum ModelFault {
     /// M1: two blocks with the same label.
     #[error("a label is given twice")]
     LabelTwice,
+    /// M2: an operand of a block is a label that no block has.
+    #[error("a label is named that no block has")]
+    NoSuchLabel,
     /// M8: memory was refused.
     #[error("out of memory")]
     Memory,
@@ -36,6 +39,7 @@ impl ModelFault {
             ModelFault::BadSeed => 6,
             ModelFault::BadHorizon => 7,
             ModelFault::LabelTwice => 1,
+            ModelFault::NoSuchLabel => 2,
             ModelFault::Memory => 8,
         }
     }

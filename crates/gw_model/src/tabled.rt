@@ -1,5 +1,5 @@
-ghost use Rattle.std.specs.Prelude.{◌≡◌, false, IfOk, OnOk, IfErr};
-ghost use Rattle.gw_model.specs.Faults.{IsFault, label_fault_of, has_label_twice};
+ghost use Rattle.std.specs.Prelude.{◌≡◌, None, IfOk, OnOk, IfErr};
+ghost use Rattle.gw_model.specs.Faults.{IsFault, label_fault_of};
 ghost use Rattle.gw_model.specs.Tables.{AreTablesOf};
 
 use crate::fault::ModelFault;
@@ -18,11 +18,11 @@ pub struct Tabled {
 }
 
 impl Tabled {
-    /// These lines with their tables. No two blocks may have one label.
+    /// These lines with their tables. Their labels may have no fault.
     pub fn new(alloc: Global, lines: Vec<Numbered>) -> Result<Tabled, ModelFault>
         ensures lines { IfOk result (λ tabled. tabled.lines ≡ lines) }
         ensures tables { IfOk result (λ tabled. AreTablesOf lines.items tabled.tables) }
-        ensures once { OnOk result (has_label_twice lines.items ≡ false) }
+        ensures sound { OnOk result (label_fault_of lines.items ≡ None) }
         ensures err { IfErr result (IsFault (label_fault_of lines.items)) }
     {
         let tables = Tables::new(alloc, lines.as_slice())?;

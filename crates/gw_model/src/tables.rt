@@ -1,5 +1,5 @@
-ghost use Rattle.std.specs.Prelude.{◌≡◌, false, IfOk, OnOk, IfErr};
-ghost use Rattle.gw_model.specs.Faults.{IsFault, label_fault_of, has_label_twice};
+ghost use Rattle.std.specs.Prelude.{◌≡◌, None, IfOk, OnOk, IfErr};
+ghost use Rattle.gw_model.specs.Faults.{IsFault, label_fault_of};
 ghost use Rattle.gw_model.specs.Tables.{AreTablesOf};
 
 use crate::fault::ModelFault;
@@ -29,10 +29,10 @@ pub struct Tables {
 }
 
 impl Tables {
-    /// The tables of these lines. No two blocks may have one label.
+    /// The tables of these lines. Their labels may have no fault.
     pub fn new(alloc: Global, lines: &[Numbered]) -> Result<Tables, ModelFault>
         ensures tables { IfOk result (λ tables. AreTablesOf lines.now tables) }
-        ensures once { OnOk result (has_label_twice lines.now ≡ false) }
+        ensures sound { OnOk result (label_fault_of lines.now ≡ None) }
         ensures err { IfErr result (IsFault (label_fault_of lines.now)) }
     {
         let labels = labels_of(alloc, lines)?;

@@ -50,7 +50,7 @@ impl Version {
     ghost use Rattle.gw_model.specs.Spliced.{with_splice};
 
     /// The version with these statements, which get the numbers 1, 2, 3 and so on, and these replications in
-    /// the order of adding; or the first fault, in the order M5, M6, M7, M1. M8 may come in place of any.
+    /// the order of adding; or the first fault, in the order M5, M6, M7, M1, M2. M8 may come in place of any.
     pub fn new(
         alloc: Global,
         statements: Vec<Statement>,

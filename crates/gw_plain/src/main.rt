@@ -4,10 +4,14 @@
 //! one that the workbench gives of that START with its usual options.
 #![tactic(auto)]
 
+ghost use Rattle.std.specs.Prelude.{IsSome};
+ghost use Rattle.gw_meaning.specs.Listing.{seed_at};
+
 mod plain;
 
 use gw_io::{Budget, FromRead, Sink, Source, ToWrite, split_model, write_all};
 use gw_meaning::{End, Outcome};
+use gw_model::Version;
 use gw_report::print;
 use gw_script::{Fault, Options, open};
 use plain::plain_run;
@@ -37,28 +41,29 @@ fn report_plainly<S: Source, K: Sink>(
     let mut budget = Budget::new();
     let model = split_model(alloc, reader, &mut budget)?;
     let desk = open(alloc, &model, Options::USUAL)?;
-    let version = desk.version();
-    let Some(seed) = version.seed(1) else {
+    let Some(text) = last_report(alloc, desk.version())? else {
         return Ok(());
+    };
+    match write_all(writer, &text) {
+        Ok(()) => Ok(()),
+        Err(_) => Err(Fault::Write),
+    }
+}
+
+// The report of the last START of replication 1, where the run completes it.
+fn last_report(alloc: Global, version: &Version) -> Result<Option<Vec<u8>>, Fault> {
+    let Some(seed) = version.seed(1) else {
+        return Ok(None);
     };
     let Ok(run) = plain_run(alloc, version, seed) else {
         return Err(Fault::Memory);
     };
     if run.end != Some(End::CommandsDone) {
-        return Ok(());
+        return Ok(None);
     }
-    match print(
-        alloc,
-        version,
-        1,
-        run.state.complete(),
-        &run.state,
-        Outcome::Complete,
-    ) {
-        Ok(text) => match write_all(writer, &text) {
-            Ok(()) => Ok(()),
-            Err(_) => Err(Fault::Write),
-        },
+    let complete = run.state.complete();
+    match print(alloc, version, 1, complete, &run.state, Outcome::Complete) {
+        Ok(text) => Ok(Some(text)),
         Err(_) => Err(Fault::Memory),
     }
 }

@@ -10,13 +10,16 @@ use Rattle.gw_meaning.specs.declared.moves.Move.{Move}
 use Rattle.gw_meaning.specs.declared.moves.Move.TheVariants as moves
 use Rattle.gw_meaning.specs.declared.transaction.Transaction.{Transaction}
 use Rattle.gw_meaning.specs.Listing.{Listing}
-use Rattle.gw_meaning.specs.Machine.{Machine, raised}
+use Rattle.gw_meaning.specs.Machine.{Machine, raised, delay_at}
 use Rattle.gw_streams.specs.declared.stream.Stream.{Stream}
+use Rattle.gw_names.specs.declared.key.Key.{Key}
+use Rattle.gw_meaning.specs.declared.entity_change.Deed.{Deed}
+use Rattle.gw_meaning.specs.declared.entity_change.Deed.TheVariants as deeds
 use Rattle.gw_meaning.specs.declared.moves.Change.{Change}
 use Rattle.gw_meaning.specs.declared.moves.Change.TheVariants as changes
 use Rattle.gw_meaning.specs.declared.moves.Fate.{Fate}
 use Rattle.gw_meaning.specs.declared.moves.Fate.TheVariants as fates
-use Rattle.gw_meaning.specs.Changes.{moved, decided, fated, changed, with_active, picked}
+use Rattle.gw_meaning.specs.Changes.{moved, decided, fated, let_in, first_let_in, admitted, changed, with_active, picked}
 use Rattle.gw_meaning.specs.Step.{step, step_items, run}
 use Rattle.gw_meaning.specs.Reads.{or_later, is_use, read_from, first_use}
 use Rattle.gw_meaning.proofs.Programs.{run_on}
@@ -163,15 +166,30 @@ complete_fated fates.Active x s = omega arith
 complete_fated (fates.Delayed until) x s = omega arith
 complete_fated (fates.Destroyed count) x s = complete_done _ s.complete
 
+complete_let_in : (x : Transaction) (destination : Option ℕ) (s : Machine) (n : ℕ) → s.complete ≤ n + 1 → (let_in x destination s).complete ≤ n + 1
+complete_let_in x None s n h = h
+complete_let_in x (Some id) s n h = h
+
+complete_first : (key : Key) (chain : List Transaction) (s : Machine) (n : ℕ) → s.complete ≤ n + 1 → (first_let_in key chain s).complete ≤ n + 1
+complete_first key [] s n h = h
+complete_first key (x ∷ xs) s n h = complete_let_in x x.destination _ n h
+
+complete_admitted : (key : Key) (deed : Deed) (s : Machine) (n : ℕ) → s.complete ≤ n + 1 → (admitted key deed s).complete ≤ n + 1
+complete_admitted key (deeds.Release next) s n h = complete_first key (delay_at s.delays key) s n h
+complete_admitted key deed s n h = h
+
 complete_changed : (change : Change) (s : Machine) (n : ℕ) → s.complete ≤ n + 1 → (changed change s).complete ≤ n + 1
 complete_changed (changes.Generate next) s n h = h
-complete_changed change s n h = h
+complete_changed (changes.Entity change) s n h = complete_admitted change.0 change.1 s n h
+complete_changed (changes.Transfer to) s n h = h
+complete_changed changes.Nothing s n h = h
 
 pub complete_moved : (s : Machine) (m : Move) → (moved s m).complete ≤ s.complete + 1
 complete_moved s (moves.Start count arrivals) = omega arith
 complete_moved s moves.Command = omega arith
 complete_moved s (moves.Enter id change fate) =
     complete_active s s.active _ (λ x. complete_changed change _ s.complete (complete_fated fate _ _))
+complete_moved s (moves.Refuse id key) = complete_active s s.active _ (λ x. omega arith)
 complete_moved s moves.Pick = complete_picked s s.current
 complete_moved s (moves.Clock time) = omega arith
 

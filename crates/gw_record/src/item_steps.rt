@@ -56,7 +56,7 @@ impl ItemSteps {
         ensures err { OnErr result (self.new ≡ self.old) }
     {
         if !self.steps.contains_key(item) {
-            self.steps.insert(*item, step)?;
+            self.steps.insert(item.clone()?, step)?;
         }
         Ok(())
     }

@@ -1,16 +1,21 @@
 -- The report of a version with its ids renamed is the report.
-use Rattle.std.proofs.Common.{◌≡◌, ℕ, suc, true, false, cond, ◌&&◌, List, [], ◌∷◌, ◌++◌, map, filter, length, Option, Some, None, is_some, option_map, option_to_list, unwrap_or, refl, ap, ap₂, ◌∙◌}
+use Rattle.std.proofs.Common.{◌≡◌, ℕ, suc, ◌-◌, true, false, cond, ◌&&◌, List, [], ◌∷◌, ◌++◌, map, filter, length, Option, Some, None, is_some, option_map, option_to_list, unwrap_or, refl, ap, ap₂, ◌∙◌}
 use Rattle.std.specs.Prelude.{decimal, nat_le}
 use Rattle.std.specs.List.{flat_map}
+use Rattle.std.proofs.lemmas.List.{length-map}
+use Rattle.gw_names.specs.declared.key.Key.{Key}
+use Rattle.gw_entities.specs.Levels.{sum_up_to}
+use Rattle.gw_entities.specs.Records.{Ownership}
 use Rattle.gw_meaning.specs.declared.statement.Block.{Block}
 use Rattle.gw_meaning.specs.declared.statement.Statement.{Statement}
 use Rattle.gw_meaning.specs.declared.statement.Numbered.{Numbered}
 use Rattle.gw_meaning.specs.declared.transaction.Transaction.{Transaction}
 use Rattle.gw_meaning.specs.declared.transaction.Event.{Event}
 use Rattle.gw_meaning.specs.Listing.{Listing, block_of, block_of_body, is_block, has_label, labelled_in, label_at, seed_in}
-use Rattle.gw_meaning.specs.Machine.{Machine, count_at}
+use Rattle.gw_meaning.specs.Machine.{Machine, count_at, delay_at}
 use Rattle.gw_frame.specs.Moved.{moved_machine, moved_transaction, moved_event, moved_count}
 use Rattle.gw_frame.specs.Renamed.{AreRenamed, IsRenamed}
+use Rattle.gw_frame.proofs.Delays.{delay_at_moved}
 use Rattle.gw_frame.proofs.MovedLists.{count_at_moved, cond_under}
 use Rattle.gw_frame.proofs.Renaming.{after_renamed, position_renamed}
 use Rattle.gw_report.specs.Layout.{section_of, table_of}
@@ -18,6 +23,7 @@ use Rattle.gw_report.specs.Cells.{signed}
 use Rattle.gw_report.specs.Chains.{position_of, next_number, line_of, put_by, by_time, current_line, future_line, current_columns, future_columns, current_text, future_text}
 use Rattle.gw_report.specs.Names.{name_columns, names_in_block, names_of, names_in, each_once, value_by, next_by, name_lines, names_text}
 use Rattle.gw_report.specs.Blocks.{label_text, block_line, block_lines_of, block_lines, block_columns, blocks_text}
+use Rattle.gw_report.specs.Facilities.{facility_columns, facility_row, facility_line, facilities_text}
 use Rattle.gw_report.specs.Queues.{queue_line, queues_text}
 use Rattle.gw_report.specs.Report.{seed_of, title_text, head_columns, head_text, text_of}
 use Rattle.gw_report.specs.Renamed.{RenamedText}
@@ -156,7 +162,7 @@ blocks_counted move (l ∷ ls) (m ∷ ms) h =
 head_renamed : (move : ℕ → ℕ) (t u : Listing) (s : Machine) → IsRenamed move t u → head_text u (moved_machine move s) ≡ head_text t s
 unfolding head_text
 head_renamed move t u s r =
-    ap (λ n. table_of head_columns ((decimal s.since ∷ decimal s.clock ∷ decimal n ∷ decimal 0 ∷ decimal 0 ∷ []) ∷ []))
+    ap (λ n. table_of head_columns ((decimal s.since ∷ decimal s.clock ∷ decimal n ∷ decimal (length s.entities.facilities) ∷ decimal 0 ∷ []) ∷ []))
     (blocks_counted move t.lines u.lines r.lines)
 
 seed_renamed : (move : ℕ → ℕ) (t u : Listing) (rep : ℕ) → IsRenamed move t u → seed_of u rep ≡ seed_of t rep
@@ -171,6 +177,21 @@ blocks_text_renamed : (move : ℕ → ℕ) (t u : Listing) (s : Machine) → IsR
 unfolding blocks_text
 blocks_text_renamed move t u s r = ap (table_of block_columns) (blocks_renamed move t u r s t.lines u.lines r.lines)
 
+-- as many wait for each facility
+facility_renamed : (move : ℕ → ℕ) (s : Machine) (f : Key × Ownership) → facility_line (moved_machine move s) f ≡ facility_line s f
+unfolding facility_line
+facility_renamed move s f =
+    ap (λ n. facility_row (sum_up_to f.1.level s.clock) (s.clock - s.since) n f.0 f.1)
+    (ap length (delay_at_moved move s.delays f.0) ∙ length-map (delay_at s.delays f.0) (moved_transaction move))
+
+facilities_renamed : (move : ℕ → ℕ) (s : Machine) (fs : List (Key × Ownership)) → map (facility_line (moved_machine move s)) fs ≡ map (facility_line s) fs
+facilities_renamed move s [] = refl
+facilities_renamed move s (f ∷ fs) = ap₂ (λ line lines. line ∷ lines) (facility_renamed move s f) (facilities_renamed move s fs)
+
+facilities_text_renamed : (move : ℕ → ℕ) (s : Machine) → facilities_text (moved_machine move s) ≡ facilities_text s
+unfolding facilities_text
+facilities_text_renamed move s = ap (section_of facility_columns) (facilities_renamed move s s.entities.facilities)
+
 queues_text_renamed : (move : ℕ → ℕ) (s : Machine) → queues_text (moved_machine move s) ≡ queues_text s
 unfolding queues_text queue_line
 queues_text_renamed move s = refl
@@ -182,8 +203,10 @@ renamed_text move t u rep k s outcome r =
     (ap₂ ◌++◌
     (ap₂ ◌++◌
     (ap₂ ◌++◌
+    (ap₂ ◌++◌
     (ap₂ ◌++◌ (ap₂ ◌++◌ (ap (λ seed. title_text rep seed k outcome) (seed_renamed move t u rep r)) (head_renamed move t u s r)) (names_text_renamed move t u r))
     (blocks_text_renamed move t u s r))
+    (facilities_text_renamed move s))
     (queues_text_renamed move s))
     (current_renamed move t u r s))
     (future_renamed move t u r s)

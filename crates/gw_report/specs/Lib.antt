@@ -5,6 +5,7 @@ pub mod Names
 pub mod NameKeys
 pub mod Blocks
 pub mod Entities
+pub mod Facilities
 pub mod Queues
 pub mod Report
 pub mod Renamed

@@ -4,7 +4,7 @@ use Rattle.std.specs.Prelude.{ℕ, ◌+◌, not, List, [], ◌∷◌, ◌++◌, 
 use Rattle.std.specs.Prelude.{codes}
 use Rattle.std.specs.List.{flat_map}
 use Rattle.std.specs.Str.{bytes_eq}
-use Rattle.gw_expr.specs.Term.{Term, Constant, Named}
+use Rattle.gw_expr.specs.Term.{Term, Constant, Named, Label, Fraction}
 use Rattle.gw_meaning.specs.Listing.{Listing, block_of, label_at}
 use Rattle.gw_meaning.specs.declared.statement.Block.{Block}
 use Rattle.gw_meaning.specs.declared.statement.Numbered.{Numbered}
@@ -20,6 +20,8 @@ name_columns = record { title = codes "NAME"; width = 10; side = Left } ∷
 abbrev pub names_in_term : Term → List (List ℕ)
 names_in_term (Constant value) = []
 names_in_term (Named name) = name ∷ []
+names_in_term (Label name) = name ∷ []
+names_in_term (Fraction part) = []
 
 abbrev pub names_in_operand : Option Term → List (List ℕ)
 names_in_operand None = []

@@ -9,6 +9,7 @@ use Rattle.gw_report.specs.declared.column.Side.TheVariants.{Right}
 use Rattle.gw_report.specs.Layout.{Column, table_of}
 use Rattle.gw_report.specs.Names.{names_text}
 use Rattle.gw_report.specs.Blocks.{blocks_text}
+use Rattle.gw_report.specs.Facilities.{facilities_text}
 use Rattle.gw_report.specs.Queues.{queues_text}
 use Rattle.gw_report.specs.Chains.{current_text, future_text}
 
@@ -42,12 +43,12 @@ head_columns =
     ∷ record { title = codes "FACILITIES"; width = 10; side = Right } ∷
     record { title = codes "STORAGES"; width = 10; side = Right } ∷ []
 
--- the head: from when to when, and how much there is; no facilities and no storages so far
+-- the head: from when to when, and how much there is; no storages so far
 unfoldable pub head_text : Listing → Machine → List ℕ
 head_text t s = table_of head_columns ((decimal s.since ∷ decimal s.clock ∷ decimal (length (filter is_block t.lines)) ∷
-    decimal 0 ∷ decimal 0 ∷ []) ∷ [])
+    decimal (length s.entities.facilities) ∷ decimal 0 ∷ []) ∷ [])
 
 -- the whole report, section behind section
 unfoldable pub text_of : Listing → ℕ → ℕ → Machine → Outcome → List ℕ
 text_of t rep k s outcome = title_text rep (seed_of t rep) k outcome ++ head_text t s ++ names_text t ++
-    blocks_text t s ++ queues_text s ++ current_text t s ++ future_text t s
+    blocks_text t s ++ facilities_text s ++ queues_text s ++ current_text t s ++ future_text t s

@@ -23,7 +23,7 @@ pub fn put_head(out: &mut Vec<u8>, version: &Version, state: &State) -> Result<(
         Cell::Number(state.since().ticks()),
         Cell::Number(state.clock().ticks()),
         Cell::Number(version.blocks()),
-        Cell::Number(0),
+        Cell::Number(state.entities().facilities().len() as u64),
         Cell::Number(0),
     ];
     let mut line = Vec::new(*out.allocator());

@@ -9,6 +9,7 @@ mod blocks;
 mod column;
 mod current;
 mod entity;
+mod facilities;
 mod future;
 mod head;
 mod laws;

@@ -80,8 +80,8 @@ fn add_operand(names: &mut IndexSet<Key>, operand: &Option<Expr>) -> Result<(), 
         return Ok(());
     };
     match expr.node() {
-        Node::Constant(_) => Ok(()),
-        Node::Named(name) => add_name(names, name),
+        Node::Constant(_) | Node::Fraction(_) => Ok(()),
+        Node::Named(name) | Node::Label(name) => add_name(names, name),
     }
 }
 

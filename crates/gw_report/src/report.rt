@@ -4,6 +4,7 @@ ghost use Rattle.gw_report.specs.Report.{seed_of, text_of};
 
 use crate::blocks::put_blocks;
 use crate::current::put_current;
+use crate::facilities::put_facilities;
 use crate::future::put_future;
 use crate::head::put_head;
 use crate::names::put_names;
@@ -32,6 +33,7 @@ pub fn print(
     put_head(&mut text, version, state)?;
     put_names(&mut text, version)?;
     put_blocks(&mut text, version, state)?;
+    put_facilities(&mut text, state)?;
     put_queues(&mut text, state)?;
     put_current(&mut text, version, state)?;
     put_future(&mut text, version, state)?;

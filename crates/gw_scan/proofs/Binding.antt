@@ -1,5 +1,6 @@
 -- A function that calls two functions that ask stands for one evaluation and then the other.
 use Rattle.std.proofs.Common.{◌≡◌, ℕ, List, [], ◌∷◌, ◌++◌, length, take, drop, Result, Ok, Err, refl, sym, ap, ◌∙◌, subst, append_assoc, append-nil}
+use Rattle.std.proofs.Math.Seq.{take-length}
 use Rattle.std.proofs.lemmas.List.{take-append-drop, take_at}
 use Rattle.gw_streams.specs.declared.stream.Stream.{Stream}
 use Rattle.gw_meaning.specs.declared.item.Item.{Item}
@@ -73,7 +74,7 @@ module _ (t : Listing) (seed : ℕ) where
   decides_comes {B} p (Err (halts.End end)) xs is =
       let F : Eval B → Type 0 = λ q. Decides t seed q (Err (halts.End end)) xs xs in
       subst F (sym is) (refl, sym (append-nil xs.items))
-  decides_comes p (Err halts.Memory) xs is = absurd is
+  decides_comes p (Err halts.Memory) xs is = take-length xs.items
 
   -- what gives b at once
   pub decides_gives : {B : Type 0} (b : B) (xs : Noted) → Decides t seed (gives b) (Ok b) xs xs

@@ -1,4 +1,5 @@
 pub mod CountLaws
+pub mod DelayLaws
 pub mod ChainLaws
 pub mod Binding
 pub mod StepLaws

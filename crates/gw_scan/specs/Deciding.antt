@@ -17,8 +17,8 @@ Decides t seed p (Err (halts.End end)) old new =
     (result_of t seed (p old.streams) ≡ Err end) × (new.items ≡ old.items ++ items_of t seed (p old.streams))
 Decides t seed p (Err halts.Memory) old new = take (length old.items) new.items ≡ old.items
 
--- the same, of an evaluation that neither asks nor draws
+-- the same, of an evaluation that neither asks nor draws; only want of memory leaves it open
 abbrev pub Comes : {A : Type 0} → Eval A → Result A Halt → Type 0
 Comes p (Ok a) = p ≡ gives a
 Comes p (Err (halts.End end)) = p ≡ ends_with end
-Comes p (Err halts.Memory) = ⊥
+Comes p (Err halts.Memory) = Unit {0}

@@ -1,10 +1,13 @@
 -- What a contract sees of the parts of a state. (Our own.)
-use Rattle.std.specs.Prelude.{ℕ, ◌<◌, Bool, List}
-use Rattle.gw_entities.specs.Records.{Line}
-use Rattle.gw_entities.specs.Tables.{Touched, HasRoom}
+use Rattle.std.specs.Prelude.{◌≡◌, ℕ, ◌-◌, ◌<◌, ◌^◌, Bool, List, [], ◌∷◌, Option, Some, None, length}
+use Rattle.gw_names.specs.declared.key.Key.{Key}
+use Rattle.gw_entities.specs.Records.{Ownership, Line}
+use Rattle.gw_entities.specs.Tables.{Touched, HasRoom, value_of, with_value}
 use Rattle.gw_entities.specs.Comings.{Arrivals}
-use Rattle.gw_meaning.specs.declared.moves.Change.{Change}
-use Rattle.gw_meaning.specs.declared.moves.Change.TheVariants as changes
+use Rattle.gw_meaning.specs.declared.entity_change.Deed.{Deed}
+use Rattle.gw_meaning.specs.declared.entity_change.Deed.TheVariants as deeds
+use Rattle.gw_meaning.specs.declared.transaction.Transaction.{Transaction}
+use Rattle.gw_meaning.specs.Machine.{delay_at, waiting}
 use Rattle.gw_meaning.specs.Entities.{Entities}
 
 -- the clocks
@@ -31,16 +34,67 @@ pub record Chain (A : Type 0) : Type 0 where
   -- how many more it takes without memory
   pub room : ℕ
 
+-- the delay chains, with what there is room for
+pub record Delays : Type 0 where
+  -- the chain of each facility, with its room
+  pub chains : List (Key × Chain Transaction)
+  -- for how many further chains there is room, each of one transaction at least
+  pub spare : ℕ
+
+abbrev pub delays_of : List (Key × Chain Transaction) → List (Key × List Transaction)
+delays_of [] = []
+delays_of (c ∷ cs) = (c.0, c.1.items) ∷ delays_of cs
+
+-- there is room for one more on a chain, which may be a further one
+abbrev pub HasRoomOn : Option (Chain Transaction) → ℕ → Type 0
+HasRoomOn None spare = 0 < spare
+HasRoomOn (Some chain) spare = 0 < chain.room
+
+-- one more may wait for a facility
+abbrev pub HasPlace : Delays → Key → Type 0
+HasPlace d key =
+    HasRoomOn (value_of d.chains key) d.spare × (length (waiting (delays_of d.chains)) < 2 ^ 64 - 1)
+
+-- the first of a chain
+abbrev pub first_of : List Transaction → Option Transaction
+first_of [] = None
+first_of (x ∷ xs) = Some x
+
+-- the delay chains without the first of that of a facility, where there is one
+abbrev pub without_first :
+    List (Key × List Transaction) → Key → List Transaction → List (Key × List Transaction)
+without_first delays key [] = delays
+without_first delays key (x ∷ xs) = with_value delays key xs
+
+-- there is room for one that is let in, where there is one: on the current chain, and to count it in its block
+abbrev pub IsWithin : Option ℕ → ℕ → Type 0
+IsWithin None limit = Unit {0}
+IsWithin (Some id) limit = id < limit
+
+abbrev pub HasRoomToLetIn : Option Transaction → ℕ → ℕ → Type 0
+HasRoomToLetIn None room limit = Unit {0}
+HasRoomToLetIn (Some x) room limit = (0 < room) × IsWithin x.destination limit
+
+-- and for whom a deed lets in
+abbrev pub HasRoomToAdmit : Key → Deed → List (Key × List Transaction) → ℕ → ℕ → Type 0
+HasRoomToAdmit key (deeds.Release next) delays room limit = HasRoomToLetIn (first_of (delay_at delays key)) room limit
+HasRoomToAdmit key deed delays room limit = Unit {0}
+
 -- the entities, with what there is room for
 pub record Stock : Type 0 where
+  pub facilities : Touched Ownership
   pub queues : Touched Line
   pub comings : Arrivals
+  -- the queue that there is room to come to
+  pub ready : Option Key
 
 abbrev pub entities_of : Stock → Entities
-entities_of e = record { queues = e.queues.entries; comings = e.comings.comings }
+entities_of e =
+    record { facilities = e.facilities.entries; queues = e.queues.entries; comings = e.comings.comings }
 
--- there is room for what a change adds
-abbrev pub HasRoomFor : Stock → Change → Type 0
-HasRoomFor e (changes.Queue key units) = HasRoom e.queues key × (0 < e.comings.room)
-HasRoomFor e (changes.Depart key units at_once) = HasRoom e.queues key
-HasRoomFor e change = Unit {0}
+-- there is room for what a deed adds
+abbrev pub HasRoomFor : Stock → Key → Deed → Type 0
+HasRoomFor e key (deeds.Queue units) = HasRoom e.queues key × (0 < e.comings.room) × (e.ready ≡ Some key)
+HasRoomFor e key (deeds.Depart units at_once) = HasRoom e.queues key
+HasRoomFor e key deeds.Seize = HasRoom e.facilities key
+HasRoomFor e key (deeds.Release next) = HasRoom e.facilities key

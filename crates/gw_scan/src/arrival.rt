@@ -1,5 +1,5 @@
 // The next transaction of a GENERATE, and the first ones of all.
-ghost use Rattle.std.specs.Prelude.{◌≡◌, [], OnOk, option_copied, true};
+ghost use Rattle.std.specs.Prelude.{◌≡◌, [], OnOk, option_copied, true, nat_le};
 ghost use Rattle.gw_meaning.specs.Machine.{live, count_at};
 ghost use Rattle.gw_meaning.specs.Step.{arrival_prog, arrival_in_time, arrival_at, first_of, first_arrival, prime_prog, arrivals_prog, with_arrival};
 ghost use Rattle.gw_scan.specs.Deciding.{Decides, Comes};
@@ -11,18 +11,19 @@ use gw_expr::{Expr, Stop};
 use gw_meaning::operands::{A, B, C, D, E};
 use gw_meaning::{Arrival, Block, End, Row, StatementId};
 use gw_nums::Val;
-use std::alloc::{AllocError, Global};
+use std::alloc::AllocError;
 
 /// How many transactions may live.
 pub const LIVE_LIMIT: usize = 100_000;
 
 impl State {
-    // How many transactions live.
-    fn live(&self) -> usize
-        ensures { result ≡ live self.now }
+    // Whether no more transactions may live.
+    fn is_full(&self) -> bool
+        ensures { result ≡ nat_le 100000 (live self.now) }
     {
         let active = if self.active.is_some() { 1 } else { 0 };
-        active + self.current.len() + self.future.len()
+        let moving = active + self.current.len() + self.future.len();
+        moving.saturating_add(self.delays.count()) >= LIVE_LIMIT
     }
 
     // The next transaction of the GENERATE at `id`: its limit, then its time, then its priority.
@@ -80,7 +81,7 @@ impl State {
         if time.is_negative() {
             return Err(Halt::End(End::Error(Stop::NegativeTime)));
         }
-        if LIVE_LIMIT <= self.live() {
+        if self.is_full() {
             return Err(Halt::End(End::Error(Stop::TooManyTransactions)));
         }
         Ok(Some(Arrival {
@@ -93,7 +94,6 @@ impl State {
     // The first transactions of the GENERATEs at these ids, in order.
     pub(crate) fn arrivals(
         &self,
-        alloc: Global,
         case: Case,
         notes: &mut Notes,
         ids: &[StatementId],
@@ -101,7 +101,7 @@ impl State {
         ensures { Decides case.entry.version.now case.entry.seed (arrivals_prog self.now ids.now [])
             result notes.old notes.new }
     {
-        let mut arrivals = Vec::new(alloc);
+        let mut arrivals = Vec::new(case.alloc);
         for id in ids {
             let arrival = self.prime(case, notes, *id)?;
             put_if(&mut arrivals, arrival)?;

@@ -1,17 +1,19 @@
 // What a step asks, of a version and a seed.
 ghost use Rattle.std.specs.Prelude.{◌≡◌, ◌++◌, ◌∷◌, [], IfOk, OnOk, OnErr, Some, None, if◌then◌else◌, option_copied, nat_le};
 ghost use Rattle.gw_meaning.specs.declared.item.Item.TheVariants as items;
-ghost use Rattle.gw_meaning.specs.Listing.{block_at, after_at, command_at, generates_in};
+ghost use Rattle.gw_meaning.specs.Listing.{block_at, after_at, label_at, command_at, generates_in};
 
 use crate::notes::Notes;
 use gw_meaning::{Block, Command, End, Item, StatementId};
 use gw_model::Version;
+use gw_names::Name;
 use gw_nums::{Clock, Time};
-use std::alloc::{AllocError, AllocFailed};
+use std::alloc::{AllocError, AllocFailed, Global};
 
-/// The version and the seed that a run is of.
+/// The version and the seed that a run is of, and where a step finds memory.
 #[derive(Clone, Copy)]
 pub struct Case<'a> {
+    pub alloc: Global,
     pub version: &'a Version,
     pub seed: u64,
 }
@@ -71,6 +73,21 @@ pub fn ask_after(
 {
     notes.note(Item::After(id))?;
     Ok(version.after(id))
+}
+
+// Which block has this label?
+pub fn ask_label(
+    version: &Version,
+    notes: &mut Notes,
+    name: &Name,
+) -> Result<Option<StatementId>, AllocError>
+    ensures answer { IfOk result (λ id. id ≡ label_at version.now name.now) }
+    ensures ok { OnOk result (notes.new ≡
+        record notes.old { items = notes.old.items ++ items.Label name.now ∷ [] }) }
+    ensures err { OnErr result (notes.new ≡ notes.old) }
+{
+    notes.note(Item::Label(name.clone()?))?;
+    Ok(version.label(name))
 }
 
 // Which blocks are GENERATEs?

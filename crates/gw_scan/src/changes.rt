@@ -1,14 +1,16 @@
 // What a move does to a state: reserve all that grows, then change.
 ghost use Rattle.std.specs.Prelude.{◌≡◌, OnOk, OnErr};
 ghost use Rattle.gw_meaning.specs.Machine.{raised};
-ghost use Rattle.gw_meaning.specs.Changes.{moved, decided, marked, placed};
+ghost use Rattle.gw_meaning.specs.Changes.{moved, decided, marked, placed, bound};
 ghost use Rattle.gw_meaning.specs.declared.moves.Move.TheVariants as moves;
 
+use crate::entity_change::{change_entity, reserve_change};
 use crate::making::{make, make_all};
 use crate::notes::Notes;
 use crate::state::State;
 use crate::tally::Tally;
 use gw_meaning::{Arrival, Change, Destination, Event, Fate, Move, Row, StatementId, Transaction};
+use gw_names::Key;
 use gw_nums::Clock;
 use std::alloc::AllocError;
 
@@ -39,7 +41,8 @@ impl State {
                 self.count_command();
                 Ok(())
             }
-            Move::Enter { id, change, fate } => self.enter_block(id, change, fate),
+            Move::Enter { id, change, fate } => self.enter_block(id, &change, fate),
+            Move::Refuse { id, key } => self.refuse(id, key),
             Move::Pick => {
                 self.pick();
                 Ok(())
@@ -68,23 +71,34 @@ impl State {
         self.progress.count_command();
     }
 
-    fn enter_block(&mut self, id: StatementId, change: Change, fate: Fate) -> Result<(), AllocError>
-        ensures ok { OnOk result (self.new ≡ moved self.old (moves.Enter id change fate)) }
+    fn enter_block(
+        &mut self,
+        id: StatementId,
+        change: &Change,
+        fate: Fate,
+    ) -> Result<(), AllocError>
+        ensures ok { OnOk result (self.new ≡ moved self.old (moves.Enter id change.now fate)) }
         ensures err { OnErr result (self.new ≡ self.old) }
     {
         self.future.reserve(2)?;
         self.counts.reserve(id)?;
-        if let Change::Generate {
-            next: Some(arrival),
-        } = &change
-        {
-            self.counts.reserve(arrival.id)?;
+        match change {
+            Change::Generate {
+                next: Some(arrival),
+            } => self.counts.reserve(arrival.id)?,
+            Change::Entity(change) => reserve_change(
+                &mut self.entities,
+                &self.delays,
+                &mut self.current,
+                &mut self.counts,
+                change,
+            )?,
+            _ => (),
         }
-        self.entities.reserve(&change)?;
         if let Some(x) = self.active.take() {
             let number = x.number;
             self.counts.cross(x.current, id, &fate);
-            let transaction = mark(&change, self.clocks.clock(), enter(x, id));
+            let transaction = mark(change, self.clocks.clock(), enter(x, id));
             match &fate {
                 Fate::Active => self.active = Some(transaction),
                 Fate::Delayed { until } => self.future.put(Event {
@@ -93,13 +107,33 @@ impl State {
                 }),
                 Fate::Destroyed { count } => self.progress.count_down(*count),
             }
-            if let Change::Generate {
-                next: Some(arrival),
-            } = &change
-            {
-                make(&mut self.next, &mut self.future, &mut self.counts, *arrival);
+            match change {
+                Change::Generate {
+                    next: Some(arrival),
+                } => make(&mut self.next, &mut self.future, &mut self.counts, *arrival),
+                Change::Entity(change) => change_entity(
+                    &mut self.entities,
+                    &mut self.delays,
+                    &mut self.current,
+                    &mut self.counts,
+                    change,
+                    self.clocks.clock(),
+                    number,
+                ),
+                Change::Generate { next: None } | Change::Transfer { .. } | Change::Nothing => (),
             }
-            self.entities.touch(change, self.clocks.clock(), number);
+        }
+        Ok(())
+    }
+
+    #[inline(never)]
+    fn refuse(&mut self, id: StatementId, key: Key) -> Result<(), AllocError>
+        ensures ok { OnOk result (self.new ≡ moved self.old (moves.Refuse id key)) }
+        ensures err { OnErr result (self.new ≡ self.old) }
+    {
+        self.delays.reserve(&key)?;
+        if let Some(x) = self.active.take() {
+            self.delays.line_up(key, bind(x, id));
         }
         Ok(())
     }
@@ -133,17 +167,28 @@ fn mark(change: &Change, clock: Clock, x: Transaction) -> Transaction
             mark: clock.time(),
             ..x
         },
+        Change::Transfer { to } => bind(x, *to),
         _ => x,
     }
 }
 
 // The transaction in the block that it enters.
-fn enter(x: Transaction, id: StatementId) -> Transaction
+pub fn enter(x: Transaction, id: StatementId) -> Transaction
     ensures { result ≡ placed x id }
 {
     Transaction {
         current: id,
         destination: Destination::none(),
+        ..x
+    }
+}
+
+// The transaction on its way to a block.
+fn bind(x: Transaction, id: StatementId) -> Transaction
+    ensures { result ≡ bound x id }
+{
+    Transaction {
+        destination: Destination::to(id),
         ..x
     }
 }

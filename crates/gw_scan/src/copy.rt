@@ -13,6 +13,7 @@ impl State {
         let active = copy_active(&self.active)?;
         let current = self.current.copy()?;
         let future = self.future.copy()?;
+        let delays = self.delays.copy()?;
         let counts = self.counts.copy()?;
         let entities = self.entities.copy()?;
         Ok(State {
@@ -23,6 +24,7 @@ impl State {
             active,
             current,
             future,
+            delays,
             counts,
             entities,
         })

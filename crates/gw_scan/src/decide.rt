@@ -7,21 +7,21 @@ ghost use Rattle.gw_scan.specs.Deciding.{Decides};
 use crate::case::{Case, Halt, ask_after, ask_block, ask_command, ask_generates, ask_within};
 use crate::notes::Notes;
 use crate::state::State;
+use crate::transfer::transfer_of;
 use gw_expr::Stop;
 use gw_meaning::operands::{A, B, D, E};
 use gw_meaning::{Arrival, Block, Change, Command, End, Fate, Move, Row, StatementId, Transaction};
 use gw_names::BlockVerb;
-use std::alloc::Global;
 
 impl State {
     // The move of the next step.
     #[inline(always)]
-    pub(crate) fn decide(&self, alloc: Global, case: Case, notes: &mut Notes) -> Result<Move, Halt>
+    pub(crate) fn decide(&self, case: Case, notes: &mut Notes) -> Result<Move, Halt>
         ensures { Decides case.entry.version.now case.entry.seed (move_prog self.now self.now.remaining)
             result notes.old notes.new }
     {
         if self.progress.remaining() == 0 {
-            return self.command(alloc, case, notes);
+            return self.command(case, notes);
         }
         match &self.active {
             Some(x) => self.attempt(case, notes, x),
@@ -31,7 +31,7 @@ impl State {
 
     // No START is under way: the next command.
     #[inline(always)]
-    fn command(&self, alloc: Global, case: Case, notes: &mut Notes) -> Result<Move, Halt>
+    fn command(&self, case: Case, notes: &mut Notes) -> Result<Move, Halt>
         ensures { Decides case.entry.version.now case.entry.seed (move_prog self.now 0)
             result notes.old notes.new }
     {
@@ -40,13 +40,12 @@ impl State {
             notes,
             self.progress.commands().saturating_add(1),
         )?;
-        self.command_of(alloc, case, notes, command)
+        self.command_of(case, notes, command)
     }
 
     #[inline(always)]
     fn command_of(
         &self,
-        alloc: Global,
         case: Case,
         notes: &mut Notes,
         command: Option<&Command>,
@@ -55,7 +54,7 @@ impl State {
             (command_prog self.now (option_copied command.entry)) result notes.old notes.new }
     {
         match command {
-            Some(Command::Start { count }) => self.start_of(alloc, case, notes, *count),
+            Some(Command::Start { count }) => self.start_of(case, notes, *count),
             Some(Command::Rmult { values }) => {
                 notes.streams.set_all(values.as_slice());
                 Ok(Move::Command)
@@ -66,39 +65,28 @@ impl State {
 
     // A START, with the first transactions of the GENERATEs where it is the one that primes them.
     #[inline(always)]
-    fn start_of(
-        &self,
-        alloc: Global,
-        case: Case,
-        notes: &mut Notes,
-        count: u64,
-    ) -> Result<Move, Halt>
+    fn start_of(&self, case: Case, notes: &mut Notes, count: u64) -> Result<Move, Halt>
         ensures { Decides case.entry.version.now case.entry.seed (start_prog self.now self.now.primed count)
             result notes.old notes.new }
     {
         if self.progress.is_primed() {
             return Ok(Move::Start {
                 count,
-                arrivals: Row::from_vec(Vec::new(alloc)),
+                arrivals: Row::from_vec(Vec::new(case.alloc)),
             });
         }
-        let arrivals = self.first_arrivals(alloc, case, notes)?;
+        let arrivals = self.first_arrivals(case, notes)?;
         Ok(Move::Start { count, arrivals })
     }
 
     #[cold]
     #[inline(never)]
-    fn first_arrivals(
-        &self,
-        alloc: Global,
-        case: Case,
-        notes: &mut Notes,
-    ) -> Result<Row<Arrival>, Halt>
+    fn first_arrivals(&self, case: Case, notes: &mut Notes) -> Result<Row<Arrival>, Halt>
         ensures { Decides case.entry.version.now case.entry.seed (first_arrivals_prog self.now)
             result notes.old notes.new }
     {
         let ids = ask_generates(case.version, notes)?;
-        self.arrivals(alloc, case, notes, ids)
+        self.arrivals(case, notes, ids)
     }
 
     // The active transaction x tries its next block.
@@ -161,6 +149,9 @@ impl State {
             BlockVerb::Terminate => self.terminate_of(case, notes, id, block),
             BlockVerb::Queue => self.queue_of(case, notes, id, block),
             BlockVerb::Depart => self.depart_of(case, notes, x, id, block),
+            BlockVerb::Seize => self.seize_of(case, notes, id, block),
+            BlockVerb::Release => self.release_of(case, notes, x, id, block),
+            BlockVerb::Transfer => transfer_of(case, notes, id, block),
             _ => Err(Halt::End(End::Error(Stop::NoNextBlock))),
         }
     }

@@ -1,14 +1,13 @@
-// The entities of a run, and what the change of a block makes of them.
-ghost use Rattle.std.specs.Prelude.{◌≡◌, ◌<◌, IfOk, OnOk};
-ghost use Rattle.gw_meaning.specs.declared.moves.Change.TheVariants as changes;
-ghost use Rattle.gw_entities.specs.Records.{departed};
-ghost use Rattle.gw_entities.specs.Tables.{HasRoom, with_value};
-ghost use Rattle.gw_meaning.specs.Entities.{no_entities, line_at, touched, later};
+// The entities of a run, and what a change makes of one.
+ghost use Rattle.std.specs.Prelude.{◌≡◌, ◌<◌, Some, IfOk, OnOk};
+ghost use Rattle.gw_meaning.specs.declared.entity_change.Deed.TheVariants as deeds;
+ghost use Rattle.gw_entities.specs.Tables.{HasRoom};
+ghost use Rattle.gw_meaning.specs.Entities.{no_entities, facility_at, line_at, done, later};
 ghost use Rattle.gw_entities.specs.Comings.{came};
 ghost use Rattle.gw_scan.specs.Parts.{entities_of, HasRoomFor};
 
-use gw_entities::{ByKey, Comings, Queue};
-use gw_meaning::Change;
+use gw_entities::{ByKey, Comings, Facility, Queue};
+use gw_meaning::{Deed, EntityChange};
 use gw_names::Key;
 use gw_nums::Clock;
 use std::alloc::{AllocError, Global};
@@ -17,8 +16,11 @@ use std::marker::Model;
 /// The entities of a run, in order of first touch.
 #[derive(Drop)]
 pub struct Entities {
+    facilities: ByKey<Facility>,
     queues: ByKey<Queue>,
     comings: Comings,
+    // A copy of the key of the queue that room was made to come to.
+    ready: Option<Key>,
 }
 
 impl Model for Entities {
@@ -26,7 +28,12 @@ impl Model for Entities {
 
     ghost Value = { Stock };
 
-    ghost view = { λ e. record { queues = e.queues; comings = e.comings } };
+    ghost view = { λ e. record {
+      facilities = e.facilities;
+      queues = e.queues;
+      comings = e.comings;
+      ready = e.ready;
+    } };
 }
 
 impl Entities {
@@ -35,9 +42,18 @@ impl Entities {
         ensures { entities_of result ≡ no_entities }
     {
         Entities {
+            facilities: ByKey::new(alloc),
             queues: ByKey::new(alloc),
             comings: Comings::new(alloc),
+            ready: None,
         }
+    }
+
+    /// The facilities that were touched.
+    pub fn facilities(&self) -> &ByKey<Facility>
+        ensures { result.now ≡ self.now.facilities }
+    {
+        &self.facilities
     }
 
     /// The queues that were touched.
@@ -45,6 +61,16 @@ impl Entities {
         ensures { result.now ≡ self.now.queues }
     {
         &self.queues
+    }
+
+    // A facility, which is free where nothing touched it yet.
+    pub(crate) fn facility(&self, key: &Key) -> Facility
+        ensures { result ≡ facility_at (entities_of self.now) key.now }
+    {
+        match self.facilities.get(key) {
+            Some(facility) => facility,
+            None => Facility::new(),
+        }
     }
 
     // A queue, which is empty where nothing touched it yet.
@@ -65,83 +91,97 @@ impl Entities {
     }
 
     // Makes room for what a change adds.
-    #[inline(always)]
-    pub(crate) fn reserve(&mut self, change: &Change) -> Result<(), AllocError>
-        ensures ok { OnOk result (HasRoomFor self.new change.now) }
+    pub(crate) fn reserve(&mut self, change: &EntityChange) -> Result<(), AllocError>
+        ensures ok { OnOk result (HasRoomFor self.new change.now.0 change.now.1) }
         ensures entities { entities_of self.new ≡ entities_of self.old }
     {
-        match change {
-            Change::Nothing | Change::Generate { .. } => Ok(()),
-            Change::Queue { key, .. } => self.reserve_coming(key),
-            Change::Depart { key, .. } => self.reserve_queue(key),
+        let key = change.key();
+        match change.deed() {
+            Deed::Queue { .. } => self.reserve_coming(key),
+            Deed::Depart { .. } => self.queues.reserve(key),
+            Deed::Seize | Deed::Release { .. } => self.facilities.reserve(key),
         }
     }
 
-    #[inline(never)]
     fn reserve_coming(&mut self, key: &Key) -> Result<(), AllocError>
-        ensures ok { OnOk result (HasRoom self.new.queues key.now × (0 < self.new.comings.room)) }
+        ensures ok { OnOk result
+            (HasRoom self.new.queues key.now × (0 < self.new.comings.room) × (self.new.ready ≡ Some key.now)) }
         ensures entities { entities_of self.new ≡ entities_of self.old }
     {
         self.queues.reserve(key)?;
-        self.comings.reserve()
-    }
-
-    #[inline(never)]
-    fn reserve_queue(&mut self, key: &Key) -> Result<(), AllocError>
-        ensures ok { OnOk result (HasRoom self.new.queues key.now) }
-        ensures entities { entities_of self.new ≡ entities_of self.old }
-    {
-        self.queues.reserve(key)
+        self.comings.reserve()?;
+        self.ready = Some(key.clone()?);
+        Ok(())
     }
 
     // What a change makes of them, where the transaction with a number enters the block.
-    #[inline(always)]
-    pub(crate) fn touch(&mut self, change: Change, clock: Clock, number: u64)
-        requires { HasRoomFor self.old change }
-        ensures { entities_of self.new ≡ touched change clock number (entities_of self.old) }
+    pub(crate) fn change(&mut self, change: &EntityChange, clock: Clock, number: u64)
+        requires { HasRoomFor self.old change.now.0 change.now.1 }
+        ensures { entities_of self.new ≡ done change.now.0 change.now.1 clock number (entities_of self.old) }
     {
-        match change {
-            Change::Nothing | Change::Generate { .. } => (),
-            Change::Queue { key, units } => self.come(key, units, clock, number),
-            Change::Depart {
-                key,
-                units,
-                at_once,
-            } => self.go(key, units, clock, at_once),
+        let key = change.key();
+        match change.deed() {
+            Deed::Queue { units } => self.come(key, units, clock, number),
+            Deed::Depart { units, at_once } => self.go(key, units, clock, at_once),
+            Deed::Seize => self.seize(key, clock, number),
+            Deed::Release { next } => self.release(key, clock, next),
         }
     }
 
     // Units of a transaction come to a queue.
-    #[inline(never)]
-    fn come(&mut self, key: Key, units: u64, clock: Clock, number: u64)
-        requires { HasRoom self.old.queues key × (0 < self.old.comings.room) }
-        ensures { entities_of self.new ≡ touched (changes.Queue key units) clock number (entities_of self.old) }
+    fn come(&mut self, key: &Key, units: u64, clock: Clock, number: u64)
+        requires { HasRoom self.old.queues key.now × (0 < self.old.comings.room) × (self.old.ready ≡ Some key.now) }
+        ensures { entities_of self.new ≡ done key.now (deeds.Queue units) clock number (entities_of self.old) }
     {
-        let mut queue = self.queue(&key);
+        let mut queue = self.queue(key);
         queue.enter(units, clock);
-        self.queues.set(&key, queue);
-        self.comings.add(key, number);
+        self.queues.set(key, queue);
+        match self.ready.take() {
+            Some(key) => self.comings.add(key, number),
+            None => unreachable!(),
+        }
     }
 
     // Units leave a queue.
-    #[inline(never)]
-    fn go(&mut self, key: Key, units: u64, clock: Clock, at_once: bool)
-        requires { HasRoom self.old.queues key }
-        ensures { entities_of self.new ≡ record (entities_of self.old) {
-          queues =
-              with_value self.old.queues.entries key
-              (departed units clock at_once (line_at (entities_of self.old) key));
-        } }
+    fn go(&mut self, key: &Key, units: u64, clock: Clock, at_once: bool)
+        requires { HasRoom self.old.queues key.now }
+        ensures { entities_of self.new ≡ done key.now (deeds.Depart units at_once) clock 0 (entities_of self.old) }
     {
-        let mut queue = self.queue(&key);
+        let mut queue = self.queue(key);
         queue.depart(units, clock, at_once);
-        self.queues.set(&key, queue);
+        self.queues.set(key, queue);
+    }
+
+    // A transaction takes a facility.
+    fn seize(&mut self, key: &Key, clock: Clock, number: u64)
+        requires { HasRoom self.old.facilities key.now }
+        ensures { entities_of self.new ≡ done key.now deeds.Seize clock number (entities_of self.old) }
+    {
+        let mut facility = self.facility(key);
+        facility.seize(number, clock);
+        self.facilities.set(key, facility);
+    }
+
+    // Its owner gives a facility back, and the next transaction takes it, where there is one.
+    fn release(&mut self, key: &Key, clock: Clock, next: Option<u64>)
+        requires { HasRoom self.old.facilities key.now }
+        ensures { entities_of self.new ≡ done key.now (deeds.Release next) clock 0 (entities_of self.old) }
+    {
+        let mut facility = self.facility(key);
+        facility.release(clock);
+        if let Some(number) = next {
+            facility.seize(number, clock);
+        }
+        self.facilities.set(key, facility);
     }
 
     // The clock goes on.
     pub(crate) fn go_on(&mut self, before: Clock, now: Clock)
         ensures { entities_of self.new ≡ later before now (entities_of self.old) }
     {
+        if self.comings.len() == 0 {
+            return;
+        }
         if before.time() != now.time() {
             self.comings.clear();
         }
@@ -151,8 +191,14 @@ impl Entities {
     pub(crate) fn copy(&self) -> Result<Entities, AllocError>
         ensures { IfOk result (λ e. entities_of e ≡ entities_of self.now) }
     {
+        let facilities = self.facilities.copy()?;
         let queues = self.queues.copy()?;
         let comings = self.comings.copy()?;
-        Ok(Entities { queues, comings })
+        Ok(Entities {
+            facilities,
+            queues,
+            comings,
+            ready: None,
+        })
     }
 }

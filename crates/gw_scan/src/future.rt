@@ -3,7 +3,7 @@ ghost use Rattle.std.specs.Slice.{IsItemAt};
 ghost use Rattle.gw_meaning.specs.Changes.{all_lined_up, due, is_due};
 ghost use Rattle.gw_meaning.specs.Step.{least_time, sooner};
 
-use crate::current::CurrentChain;
+use crate::chain::PriorityChain;
 use gw_meaning::{Event, Transaction};
 use gw_nums::Time;
 use std::alloc::{AllocError, Global};
@@ -84,7 +84,7 @@ impl FutureChain {
     }
 
     // Moves the transactions of a time to the current chain, in the order in which they came.
-    pub(crate) fn take_due(&mut self, current: &mut CurrentChain, time: Time)
+    pub(crate) fn take_due(&mut self, current: &mut PriorityChain, time: Time)
         requires { length self.old.items ≤ current.old.room }
         ensures current { current.new.items ≡ all_lined_up (due time self.old.items) current.old.items }
         ensures future { self.new.items ≡ filter (λ e. not (is_due time e)) self.old.items }

@@ -6,14 +6,17 @@
 
 mod arrival;
 mod case;
+mod chain;
 mod changes;
 mod clocks;
 mod copy;
 mod counts;
-mod current;
 mod decide;
+mod delays;
 mod draws;
 mod entities;
+mod entity_change;
+mod facilities;
 mod future;
 mod making;
 mod notes;
@@ -22,10 +25,12 @@ mod queues;
 mod state;
 mod steps;
 mod tally;
+mod transfer;
 mod value;
 
 pub use case::{Case, Halt};
-pub use current::CurrentChain;
+pub use chain::PriorityChain;
+pub use delays::DelayChains;
 pub use entities::Entities;
 pub use future::FutureChain;
 pub use notes::Notes;

@@ -12,8 +12,9 @@ use crate::state::State;
 use gw_entities::Queue;
 use gw_expr::Stop;
 use gw_meaning::operands::{A, B};
-use gw_meaning::{Block, Change, End, Fate, Move, StatementId, Transaction};
+use gw_meaning::{Block, Change, Deed, End, EntityChange, Fate, Move, StatementId, Transaction};
 use gw_names::Key;
+use std::alloc::Global;
 
 impl State {
     // Units come to a queue.
@@ -31,7 +32,7 @@ impl State {
         let key = self.entity(case, notes, block.operand(A))?;
         let units = self.units(case, notes, block.operand(B))?;
         let queue = self.entities.queue(&key);
-        queue_units(id, key, queue, units)
+        queue_units(case.alloc, id, key, queue, units)
     }
 
     // Units leave a queue.
@@ -49,20 +50,33 @@ impl State {
     {
         let key = self.entity(case, notes, block.operand(A))?;
         let units = self.units(case, notes, block.operand(B))?;
-        self.depart(x, id, key, units)
+        self.depart(case.alloc, x, id, key, units)
     }
 
-    fn depart(&self, x: &Transaction, id: StatementId, key: Key, units: u64) -> Result<Move, Halt>
+    fn depart(
+        &self,
+        alloc: Global,
+        x: &Transaction,
+        id: StatementId,
+        key: Key,
+        units: u64,
+    ) -> Result<Move, Halt>
         ensures { Comes (depart_units id key (line_at self.now.entities key)
             (came self.now.entities.comings key x.now.number) units) result }
     {
         let queue = self.entities.queue(&key);
         let at_once = self.entities.came(&key, x.number);
-        depart_units(id, key, queue, at_once, units)
+        depart_units(alloc, id, key, queue, at_once, units)
     }
 }
 
-fn queue_units(id: StatementId, key: Key, queue: Queue, units: u64) -> Result<Move, Halt>
+fn queue_units(
+    alloc: Global,
+    id: StatementId,
+    key: Key,
+    queue: Queue,
+    units: u64,
+) -> Result<Move, Halt>
     ensures { Comes (queue_units id key queue units) result }
 {
     let content = queue.level().content();
@@ -73,12 +87,13 @@ fn queue_units(id: StatementId, key: Key, queue: Queue, units: u64) -> Result<Mo
     }
     Ok(Move::Enter {
         id,
-        change: Change::Queue { key, units },
+        change: Change::Entity(EntityChange::new(alloc, key, Deed::Queue { units })?),
         fate: Fate::Active,
     })
 }
 
 fn depart_units(
+    alloc: Global,
     id: StatementId,
     key: Key,
     queue: Queue,
@@ -95,11 +110,7 @@ fn depart_units(
     }
     Ok(Move::Enter {
         id,
-        change: Change::Depart {
-            key,
-            units,
-            at_once,
-        },
+        change: Change::Entity(EntityChange::new(alloc, key, Deed::Depart { units, at_once })?),
         fate: Fate::Active,
     })
 }

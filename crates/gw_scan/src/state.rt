@@ -1,10 +1,11 @@
 ghost use Rattle.std.specs.Prelude.{◌≡◌, IfOk, option_copied};
 ghost use Rattle.gw_meaning.specs.Machine.{zero_state, count_at};
-ghost use Rattle.gw_scan.specs.Parts.{entities_of};
+ghost use Rattle.gw_scan.specs.Parts.{delays_of, entities_of};
 
+use crate::chain::PriorityChain;
 use crate::clocks::Clocks;
 use crate::counts::Counts;
-use crate::current::CurrentChain;
+use crate::delays::DelayChains;
 use crate::entities::Entities;
 use crate::future::FutureChain;
 use crate::progress::Progress;
@@ -22,15 +23,16 @@ pub struct State {
     pub(crate) streams: Streams,
     pub(crate) next: u64,
     pub(crate) active: Option<Transaction>,
-    pub(crate) current: CurrentChain,
+    pub(crate) current: PriorityChain,
     pub(crate) future: FutureChain,
+    pub(crate) delays: DelayChains,
     pub(crate) counts: Counts,
     pub(crate) entities: Entities,
 }
 
 impl Model for State {
     ghost use Rattle.gw_meaning.specs.Machine.{Machine};
-    ghost use Rattle.gw_scan.specs.Parts.{entities_of};
+    ghost use Rattle.gw_scan.specs.Parts.{delays_of, entities_of};
 
     ghost Value = { Machine };
 
@@ -46,6 +48,7 @@ impl Model for State {
       active = s.active;
       current = s.current.items;
       future = s.future.items;
+      delays = delays_of s.delays.chains;
       counts = s.counts.entries;
       entities = entities_of s.entities;
     } };
@@ -62,8 +65,9 @@ impl State {
             streams: Streams::new(),
             next: 1,
             active: None,
-            current: CurrentChain::new(alloc),
+            current: PriorityChain::new(alloc),
             future: FutureChain::new(alloc),
+            delays: DelayChains::new(alloc),
             counts: Counts::new(alloc),
             entities: Entities::new(alloc),
         }
@@ -119,7 +123,7 @@ impl State {
     }
 
     /// The current chain, in order.
-    pub fn current(&self) -> &CurrentChain
+    pub fn current(&self) -> &PriorityChain
         ensures { result.now.items ≡ self.now.current }
     {
         &self.current
@@ -132,7 +136,14 @@ impl State {
         &self.future
     }
 
-    /// The queues, and who came to which while the clock stands as it does.
+    /// The delay chains of the facilities.
+    pub fn delays(&self) -> &DelayChains
+        ensures { delays_of result.now.chains ≡ self.now.delays }
+    {
+        &self.delays
+    }
+
+    /// The facilities, the queues, and who came to which while the clock stands as it does.
     pub fn entities(&self) -> &Entities
         ensures { entities_of result.now ≡ self.now.entities }
     {

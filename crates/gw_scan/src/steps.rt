@@ -69,7 +69,12 @@ pub fn next_step(
     ensures err { OnErr result (notes.new ≡ notes.old) }
 {
     let mark = notes.items().len();
-    match state.decide(alloc, Case { version, seed }, notes) {
+    let case = Case {
+        alloc,
+        version,
+        seed,
+    };
+    match state.decide(case, notes) {
         Ok(step) => Ok(step),
         Err(halt) => {
             notes.go_back(mark, state);

@@ -20,7 +20,7 @@ impl State {
         let _ = notes;
         match operand.node() {
             Node::Constant(value) => Ok(*value),
-            Node::Named(_) => Err(Halt::End(End::Error(Stop::Range))),
+            _ => Err(Halt::End(End::Error(Stop::Range))),
         }
     }
 
@@ -62,6 +62,7 @@ impl State {
                 }
                 Ok(Key::Num(number.magnitude() as u32))
             }
+            _ => Err(Halt::End(End::Error(Stop::Range))),
         }
     }
 

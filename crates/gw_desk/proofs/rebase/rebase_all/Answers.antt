@@ -7,16 +7,15 @@ use Rattle.gw_desk.proofs.rebase.rebase_all.Goals as goal
 pub loop-recording-preserved : goal.loop-recording-preserved
 loop-recording-preserved c =
     let t = c.args.old.now in
-    let e = c.args.edit.now in
-    let u = c.args.new.now in
     let known = c.loop-recording.invariant in
     let cur = c.loop-recording.recording-items in
     let i = c.loop-recording.recording-index in
     let y = c.recording-item.result in
     let x : Recording = record { number = (get_or cur i y).number; run = c.rebase.new.run } in
-    let now : IsRebasedRecording t e u (get_or cur i y) x = record { number = refl; run = c.rebase.ensures e u c.touch_of-touch.ensures } in
     record {
       count = search rules;
-      done = one_more t e u c.args.runs.now.items cur i x known.count (search rules) known.done known.rest y now;
-      rest = rest_stays t e u c.args.runs.now.items cur i x known.count (search rules) known.done known.rest y now;
+      done = λ e u touch.
+          (let now : IsRebasedRecording t e u (get_or cur i y) x = record { number = refl; run = c.rebase.ensures e u touch } in
+          one_more t e u c.args.runs.now.items cur i x known.count (search rules) (known.done e u touch) known.rest y now);
+      rest = rest_stays c.args.runs.now.items cur i x known.rest;
     }

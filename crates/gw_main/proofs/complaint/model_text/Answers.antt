@@ -7,6 +7,10 @@ one : decimal 1 ≡ 49 ∷ []
 unfolding digits
 one = refl
 
+two : decimal 2 ≡ 50 ∷ []
+unfolding digits
+two = refl
+
 five : decimal 5 ≡ 53 ∷ []
 unfolding digits
 five = refl
@@ -34,6 +38,9 @@ returns-in-BadHorizon c = rw (c.in-BadHorizon.is, seven) refl
 
 pub returns-in-LabelTwice : goal.returns-in-LabelTwice
 returns-in-LabelTwice c = rw (c.in-LabelTwice.is, one) refl
+
+pub returns-in-NoSuchLabel : goal.returns-in-NoSuchLabel
+returns-in-NoSuchLabel c = rw (c.in-NoSuchLabel.is, two) refl
 
 pub returns-in-Memory : goal.returns-in-Memory
 returns-in-Memory c = rw (c.in-Memory.is, eight) refl

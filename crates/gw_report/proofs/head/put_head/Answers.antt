@@ -1,4 +1,4 @@
-use Rattle.std.proofs.Common.{◌≡◌, ◌++◌, ◌∷◌, [], ap, sym, ◌∙◌, refl, append-nil, decimal, filter, length}
+use Rattle.std.proofs.Common.{◌≡◌, ◌++◌, ◌∷◌, [], ap, sym, ◌∙◌, refl, append-nil, decimal, filter, length, rules}
 use Rattle.std.proofs.lemmas.Result.{on_ok_weaker}
 use Rattle.gw_meaning.specs.Listing.{is_block}
 use Rattle.gw_report.specs.Layout.{row_of, rows_of}
@@ -11,13 +11,13 @@ unfolding head_text
 returns c =
     let t = c.args.version.now in
     let s = c.args.state.now in
-    let cells : row_of head_columns (decimal c.ticks.result ∷ decimal c.ticks-2.result ∷ decimal c.blocks-2.result ∷ decimal 0 ∷ decimal 0 ∷ []) ≡
-    row_of head_columns (decimal s.since ∷ decimal s.clock ∷ decimal (length (filter is_block t.lines)) ∷ decimal 0 ∷ decimal 0 ∷ []) =
-    rw (c.ticks.ensures.value, c.ticks-2.ensures.value, c.since.ensures, c.clock.ensures, c.blocks-2.ensures) refl in
-    let line : c.as_slice.result.now ≡ rows_of head_columns
-    ((decimal s.since ∷ decimal s.clock ∷ decimal (length (filter is_block t.lines)) ∷ decimal 0 ∷ decimal 0 ∷ []) ∷ []) =
-    c.as_slice.ensures.value ∙ c.in_ok-put_row.ensures ∙
-    ap (λ l. l ++ row_of head_columns (decimal c.ticks.result ∷ decimal c.ticks-2.result ∷ decimal c.blocks-2.result ∷ decimal 0 ∷ decimal 0 ∷ []))
-    c.new-line.ensures.items ∙ cells ∙ sym (append-nil
-    (row_of head_columns (decimal s.since ∷ decimal s.clock ∷ decimal (length (filter is_block t.lines)) ∷ decimal 0 ∷ decimal 0 ∷ []))) in
+    let facilities : c.len.result ≡ length s.entities.facilities = search rules in
+    let told = decimal c.ticks.result ∷ decimal c.ticks-2.result ∷ decimal c.blocks-2.result ∷ decimal c.len.result ∷ decimal 0 ∷ [] in
+    let row =
+    decimal s.since ∷ decimal s.clock ∷ decimal (length (filter is_block t.lines)) ∷ decimal (length s.entities.facilities) ∷ decimal 0 ∷ [] in
+    let cells : row_of head_columns told ≡ row_of head_columns row =
+    rw (c.ticks.ensures.value, c.ticks-2.ensures.value, c.since.ensures, c.clock.ensures, c.blocks-2.ensures, facilities) refl in
+    let line : c.as_slice.result.now ≡ rows_of head_columns (row ∷ []) =
+    c.as_slice.ensures.value ∙ c.in_ok-put_row.ensures ∙ ap (λ l. l ++ row_of head_columns told)
+    c.new-line.ensures.items ∙ cells ∙ sym (append-nil (row_of head_columns row)) in
     on_ok_weaker c.put_table.result (λ put. put ∙ ap (λ l. c.args.out.now.items ++ under_heading head_columns l) line) c.put_table.ensures

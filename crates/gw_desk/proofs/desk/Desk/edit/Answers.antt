@@ -21,7 +21,7 @@ returns-in-Err-clause-refused c =
     rw (← c.self.view_is) (refuses b c.args.edit c.in-Err.fault room c.in-Err.ensures)
 
 -- the desk before an edit that is made, and what that leaves
-abbrev before : goal.After-len-2 → Book
+abbrev before : goal.After-array_drop-touch-inside-3 → Book
 before c =
     record {
       version = c.self.inside.version;
@@ -31,7 +31,7 @@ before c =
       made = c.self.inside.tally;
     }
 
-is_made : (c : goal.After-len-2) →
+is_made : (c : goal.After-array_drop-touch-inside-3) →
     IsMade (before c) c.args.edit c.in-Ok.new c.rebase_all.new.runs.items c.keep_those_of.new.runs.items c.push_reserved.new.self.items
 is_made c = record {
   room = search rules;
@@ -39,7 +39,7 @@ is_made c = record {
   desk = c.self.invariant;
   rebased =
       subst (λ xs. AreRebased c.self.inside.version c.args.edit c.in-Ok.new xs c.rebase_all.new.runs.items)
-      c.in_ok-reserve.ensures.items c.rebase_all.ensures.rebased;
+      c.in_ok-reserve.ensures.items (c.rebase_all.ensures.rebased c.args.edit c.in-Ok.new c.in_ok-touch.ensures);
   behind =
       c.keep_those_of.ensures ∙
       ap (λ (xs : List Recording). filter (λ (r : Recording). is_some (seed_at c.in-Ok.new r.number)) xs)

@@ -1,5 +1,5 @@
-use Rattle.std.proofs.Common.{rules, ◌≡◌, false, IfErr}
-use Rattle.gw_model.specs.Faults.{fault_of, has_label_twice, label_fault_of, IsFault}
+use Rattle.std.proofs.Common.{rules, ◌≡◌, None, IfErr}
+use Rattle.gw_model.specs.Faults.{fault_of, label_fault_of, IsFault}
 use Rattle.gw_model.specs.Listed.{listing_of}
 use Rattle.gw_model.specs.Tables.{AreTablesOf}
 use Rattle.gw_model.proofs.Making.{made, refused, kept}
@@ -10,11 +10,11 @@ invariant_of-result c =
     let lines = c.args.lines.items in
     let t = listing_of lines c.in_ok-horizon.horizon c.args.replications.items c.args.limit in
     let left : fault_of t ≡ label_fault_of lines = search rules in
-    let twice : has_label_twice lines ≡ false = search rules in
+    let sound : label_fault_of lines ≡ None = search rules in
     let answers : AreTablesOf lines c.in_ok-new.field-0.tables = search rules in
     let built : c.in_ok-tabled.tabled.value ≡ c.in_ok-new.field-0 = search rules in
     let same : c.in_ok-new.field-0.lines ≡ c.args.lines = search rules in
-    rw (built, same) (kept t c.in_ok-new.field-0.tables left twice c.requires answers)
+    rw (built, same) (kept t c.in_ok-new.field-0.tables left sound c.requires answers)
 
 pub returns : goal.returns
 returns c = made _ _ (search rules) (invariant_of-result c).well

@@ -1,0 +1,603 @@
+"""An independent reading of the language: sessions are answered by a plain interpreter that knows nothing of the program.
+
+It takes sessions whose statements have no fault in their operands, and none that meets a limit of the program. A report is a
+run from clock zero; what an edit leaves of a recorded run goes by the items that each step read."""
+import re
+
+BLOCKS = "GENERATE ADVANCE TERMINATE QUEUE DEPART SEIZE RELEASE TRANSFER".split()
+COMMANDS = "START RMULT".split()
+MODULUS = 2147483647
+
+
+class End(Exception):
+    """Why no step follows: COMMANDS, DRY, HORIZON, or the name of a stop."""
+
+
+class Statement:
+    def __init__(self, text):
+        words = re.sub(r",\s+", ",", text.split(";")[0]).split()
+        self.label = None if words[0].upper() in BLOCKS + COMMANDS else words.pop(0).upper()
+        self.verb = words[0].upper()
+        self.listed = words[1].upper() if len(words) > 1 else ""
+        self.operands = self.listed.split(",") if self.listed else []
+        self.id = None
+
+    def operand(self, place):
+        return self.operands[place] if place < len(self.operands) and self.operands[place] else None
+
+    def value(self, place, absent=0):
+        return absent if self.operand(place) is None else int(self.operand(place))
+
+    def key(self):
+        name = self.operand(0)
+        return int(name) if name.isdigit() else name
+
+    def text(self):
+        return " ".join(part for part in (self.label, self.verb, self.listed) if part)
+
+    def names(self):
+        """The names of the statement, the label first."""
+        words = [self.label] if self.label else []
+        return words + [w for w in self.operands if self.verb in BLOCKS and re.match("[A-Z]", w)]
+
+
+class Version:
+    def __init__(self, statements, horizon, seeds, limit):
+        self.statements, self.horizon, self.seeds, self.limit = statements, horizon, seeds, limit
+        self.blocks = [s for s in statements if s.verb in BLOCKS]
+        self.commands = [s for s in statements if s.verb in COMMANDS]
+
+    def block(self, id):
+        return next((b for b in self.blocks if b.id == id), None)
+
+    def after(self, id):
+        for one, other in zip(self.blocks, self.blocks[1:]):
+            if one.id == id:
+                return other.id
+        return None
+
+    def label(self, name):
+        return next((b.id for b in self.blocks if b.label == name), None)
+
+    def position(self, id):
+        return next((i + 1 for i, b in enumerate(self.blocks) if b.id == id), 0)
+
+    def fault(self):
+        if not 1 <= self.horizon <= 10**12:
+            return "M7"
+        labels = [s.label for s in self.statements if s.label]
+        if len(labels) > len(set(labels)):
+            return "M1"
+        wanted = [w for b in self.blocks if b.verb == "TRANSFER" for w in b.operands[1:] if w]
+        return "M2" if any(self.label(w) is None for w in wanted) else None
+
+
+class Level:
+    """A content over time."""
+
+    def __init__(self):
+        self.content = self.sum = self.at = 0
+
+    def change(self, content, clock):
+        self.sum, self.at, self.content = self.total(clock), clock, content
+
+    def total(self, clock):
+        return self.sum + self.content * (clock - self.at)
+
+
+class Facility(Level):
+    owner, captures = None, 0
+
+
+class Queue(Level):
+    entries = zero = most = 0
+
+
+class Transaction:
+    current = mark = 0
+    destination = None
+
+    def __init__(self, number, priority, generate):
+        self.number, self.priority, self.destination = number, priority, generate
+        self.came = {}
+
+
+class Run:
+    """A run from clock zero, step by step, with the items that each step read."""
+
+    def __init__(self, version, seed):
+        self.version, self.seed = version, seed
+        self.clock = self.remaining = self.commands = self.complete = self.steps = 0
+        self.primed, self.next, self.active = False, 1, None
+        self.streams = {j: ("set", j) for j in range(1, 8)}
+        self.current, self.future, self.waiting = [], [], {}
+        self.counts, self.facilities, self.queues = {}, {}, {}
+        self.reads, self.clocks, self.ends = [], [], []
+
+    def count(self, id):
+        return self.counts.setdefault(id, {"entries": 0, "content": 0, "made": 0})
+
+    def made(self, id):
+        return self.counts.get(id, {"made": 0})["made"]
+
+    # ---- values and draws; nothing of the run changes until all tests are passed
+    def draw(self, j=1):
+        kind, x = self.drawn[j]
+        if kind == "set":
+            self.items.append(("seed",))
+            x = 1 + (x + self.seed - 2) % 2147483646
+        x = 16807 * x % MODULUS
+        self.drawn[j] = ("at", x)
+        return x
+
+    def time(self, mean, spread):
+        if spread < 0:
+            raise End("X1")
+        if spread == 0:
+            return mean
+        time = mean - spread + (self.draw() - 1) * (2 * spread + 1) // 2147483646
+        if abs(time) > 10**9:
+            raise End("X7")
+        return time
+
+    def arrival(self, block, mean, spread):
+        if block.operand(3) is not None:
+            if block.value(3) < 0:
+                raise End("X11")
+            if self.made(block.id) >= block.value(3):
+                return None
+        time, priority = self.time(mean, spread), block.value(4)
+        if time < 0:
+            raise End("X1")
+        return self.clock + time, priority, block.id
+
+    def units(self, block):
+        if block.value(1, 1) < 1:
+            raise End("X11")
+        return block.value(1, 1)
+
+    # ---- steps
+    def step(self):
+        """Makes a step, or raises End and changes nothing."""
+        self.items, self.drawn = [], dict(self.streams)
+        change = self.decide()
+        self.streams = self.drawn
+        change()
+        self.reads.append(self.items)
+        self.steps += 1
+        if self.complete > len(self.ends):
+            self.ends.append(self.steps)
+
+    def decide(self):
+        if self.remaining == 0:
+            return self.command()
+        if self.active is not None:
+            return self.attempt(self.active)
+        if self.current:
+            return self.pick
+        return self.move_clock()
+
+    def command(self):
+        self.items.append(("command", self.commands + 1))
+        if self.commands == len(self.version.commands):
+            raise End("COMMANDS")
+        command = self.version.commands[self.commands]
+        if command.verb == "RMULT":
+            for j, value in enumerate(command.operands):
+                if value:
+                    self.drawn[j + 1] = ("set", int(value))
+            return self.count_command
+        arrivals = [] if self.primed else self.first_arrivals()
+
+        def start():
+            self.primed, self.remaining = True, int(command.operands[0])
+            self.count_command()
+            for arrival in arrivals:
+                self.make(arrival)
+
+        return start
+
+    def count_command(self):
+        self.commands += 1
+
+    def first_arrivals(self):
+        self.items.append(("generates",))
+        arrivals = []
+        for block in [b for b in self.version.blocks if b.verb == "GENERATE"]:
+            self.items.append(("block", block.id))
+            if block.operand(2) is None:
+                arrivals.append(self.arrival(block, block.value(0), block.value(1)))
+            else:
+                arrivals.append(self.arrival(block, block.value(2), 0))
+        return [a for a in arrivals if a]
+
+    def make(self, arrival):
+        time, priority, generate = arrival
+        self.future.append((time, Transaction(self.next, priority, generate)))
+        self.next += 1
+        self.count(generate)["made"] += 1
+
+    def pick(self):
+        self.active = self.current.pop(0)
+
+    def move_clock(self):
+        if not self.future:
+            raise End("DRY")
+        time = min(time for time, _ in self.future)
+        if time > self.version.horizon:
+            raise End("HORIZON")
+
+        def move():
+            self.clock = time
+            self.clocks.append((self.steps, time))
+            for _, x in [e for e in self.future if e[0] == time]:
+                line_up(self.current, x)
+            self.future = [e for e in self.future if e[0] != time]
+
+        return move
+
+    def attempt(self, x):
+        id = x.destination
+        if id is None:
+            self.items.append(("after", x.current))
+            id = self.version.after(x.current)
+        if id is None:
+            raise End("X8")
+        self.items.append(("block", id))
+        block = self.version.block(id)
+        if block is None or block.verb == "GENERATE" and x.current:
+            raise End("X8")
+        return getattr(self, block.verb.lower())(x, block)
+
+    def enter(self, x, block, stays=True):
+        if x.current:
+            self.count(x.current)["content"] -= 1
+        count = self.count(block.id)
+        count["entries"] += 1
+        count["content"] += stays
+        x.current, x.destination = block.id, None
+
+    # ---- blocks
+    def generate(self, x, block):
+        arrival = self.arrival(block, block.value(0), block.value(1))
+
+        def go():
+            self.enter(x, block)
+            x.mark = self.clock
+            if arrival:
+                self.make(arrival)
+
+        return go
+
+    def advance(self, x, block):
+        time = self.time(block.value(0), block.value(1))
+        if time < 0:
+            raise End("X1")
+
+        def go():
+            self.enter(x, block)
+            if time:
+                self.active = None
+                self.future.append((self.clock + time, x))
+
+        return go
+
+    def terminate(self, x, block):
+        count = block.value(0)
+        if count < 0:
+            raise End("X11")
+
+        def go():
+            self.enter(x, block, stays=False)
+            self.active = None
+            self.remaining = max(0, self.remaining - count)
+            self.complete += self.remaining == 0
+
+        return go
+
+    def queue(self, x, block):
+        units, key = self.units(block), block.key()
+        queue = self.queues.get(key, Queue())
+        if max(queue.entries, queue.content) + units > 10**9:
+            raise End("X12")
+
+        def go():
+            self.enter(x, block)
+            self.queues[key] = queue
+            queue.entries += units
+            queue.change(queue.content + units, self.clock)
+            queue.most = max(queue.most, queue.content)
+            x.came[key] = self.clock
+
+        return go
+
+    def depart(self, x, block):
+        units, key = self.units(block), block.key()
+        queue = self.queues.get(key, Queue())
+        at_once = x.came.get(key) == self.clock
+        if at_once and queue.zero + units > 10**9:
+            raise End("X12")
+        if queue.content < units:
+            raise End("X4")
+
+        def go():
+            self.enter(x, block)
+            self.queues[key] = queue
+            queue.change(queue.content - units, self.clock)
+            queue.zero += units * at_once
+
+        return go
+
+    def seize(self, x, block):
+        key = block.key()
+        facility = self.facilities.get(key, Facility())
+
+        def wait():
+            self.active, x.destination = None, block.id
+            line_up(self.waiting.setdefault(key, []), x)
+
+        def go():
+            self.enter(x, block)
+            self.facilities[key] = facility
+            self.take(facility, x)
+
+        return go if facility.owner is None else wait
+
+    def take(self, facility, x):
+        facility.owner = x.number
+        facility.captures += 1
+        facility.change(1, self.clock)
+
+    def release(self, x, block):
+        key = block.key()
+        facility = self.facilities.get(key, Facility())
+        if facility.owner != x.number:
+            raise End("X2")
+
+        def go():
+            self.enter(x, block)
+            facility.owner = None
+            facility.change(0, self.clock)
+            if self.waiting.get(key):
+                first = self.waiting[key].pop(0)
+                self.enter(first, self.version.block(first.destination))
+                self.take(facility, first)
+                line_up(self.current, first)
+
+        return go
+
+    def transfer(self, x, block):
+        label = block.operand(1)
+        if block.operand(0) is not None:
+            whole, decimals = block.operand(0).split(".")
+            part = int(whole or 0) * 10**6 + int(decimals.ljust(6, "0"))
+            if (self.draw() - 1) * 10**6 // 2147483646 < part:
+                label = block.operand(2)
+        if label is not None:
+            self.items.append(("label", label))
+
+        def go():
+            self.enter(x, block)
+            x.destination = None if label is None else self.version.label(label)
+
+        return go
+
+
+def line_up(chain, x):
+    """Behind its equals, in front of the first of lower priority."""
+    place = next((i for i, y in enumerate(chain) if y.priority < x.priority), len(chain))
+    chain.insert(place, x)
+
+
+# ---- the report
+
+
+def thousandths(a, b):
+    n = a * 1000 // b if b > 0 else 0
+    return f"{n // 1000}.{n % 1000:03}"
+
+
+def section(columns, rows):
+    """A heading and rows: a title with `<` in front is left-aligned."""
+    if not rows:
+        return ""
+    heads = [(title.lstrip("<"), width, title.startswith("<")) for title, width in columns]
+
+    def line(cells):
+        return " ".join(str(c).ljust(w) if left else str(c).rjust(w) for c, (_, w, left) in zip(cells, heads)) + "\n"
+
+    return "\n" + line([title for title, _, _ in heads]) + "".join(map(line, rows))
+
+
+def report(run, replication, start, outcome):
+    v, clock = run.version, run.clock
+    text = f"REPLICATION {replication} SEED {run.seed} START {start} {outcome}\n"
+    head = [("START TIME", 10), ("END TIME", 10), ("BLOCKS", 10), ("FACILITIES", 10), ("STORAGES", 10)]
+    text += section(head, [(0, clock, len(v.blocks), len(run.facilities), 0)])
+    names, values, free = [], [], 10000
+    for name in [n for s in v.statements for n in s.names()]:
+        if name not in names:
+            names.append(name)
+            values.append(v.position(v.label(name)) if v.label(name) else free)
+            free += v.label(name) is None
+    text += section([("<NAME", 10), ("VALUE", 10)], list(zip(names, values)))
+    nothing = {"entries": 0, "content": 0}
+    blocks = []
+    for i, b in enumerate(v.blocks):
+        count = run.counts.get(b.id, nothing)
+        blocks.append((b.label or "", i + 1, b.verb, count["entries"], count["content"], 0))
+    columns = "<LABEL 10,LOC 5,<BLOCK TYPE 10,ENTRY COUNT 11,CURRENT COUNT 13,RETRY 6"
+    text += section(titles(columns), blocks) or "\n" + " ".join(
+        t.lstrip("<").ljust(w) if t[0] == "<" else t.rjust(w) for t, w in titles(columns)) + "\n"
+    columns = "<FACILITY 10,ENTRIES 8,UTIL. 8,AVE. TIME 11,AVAIL. 6,OWNER 7,PEND 4,INTER 5,RETRY 5,DELAY 5"
+    text += section(titles(columns), [
+        (key, f.captures, thousandths(f.total(clock), clock), thousandths(f.total(clock), f.captures), 1, f.owner or 0, 0, 0, 0,
+         len(run.waiting.get(key, []))) for key, f in run.facilities.items()])
+    columns = "<QUEUE 10,MAX 8,CONT. 8,ENTRY 8,ENTRY(0) 8,AVE.CONT. 11,AVE.TIME 11,AVE.(-0) 11,RETRY 5"
+    text += section(titles(columns), [
+        (key, q.most, q.content, q.entries, q.zero, thousandths(q.total(clock), clock), thousandths(q.total(clock), q.entries),
+         thousandths(q.total(clock), q.entries - q.zero), 0) for key, q in run.queues.items()])
+
+    def line(time, x):
+        to = x.destination if x.destination is not None else v.after(x.current)
+        return x.number, x.priority, time, v.position(x.current), v.position(to) if to else 0
+
+    chain = ([run.active] if run.active else []) + run.current
+    columns = "CEC XN 8,PRI 11,M1 10,CURRENT 7,NEXT 7"
+    text += section(titles(columns), [line(x.mark, x) for x in chain])
+    columns = "FEC XN 8,PRI 11,BDT 10,CURRENT 7,NEXT 7"
+    return text + section(titles(columns), [line(time, x) for time, x in sorted(run.future, key=lambda e: e[0])])
+
+
+def titles(columns):
+    return [(c.rsplit(" ", 1)[0], int(c.rsplit(" ", 1)[1])) for c in columns.split(",")]
+
+
+# ---- a session
+
+
+class Session:
+    def __init__(self, lines, seed=1, horizon=10**9, every=1000, limit=10**6):
+        statements = [Statement(line) for line in lines]
+        for i, statement in enumerate(statements):
+            statement.id = i + 1
+        self.version = Version(statements, horizon, {1: seed}, limit)
+        self.every, self.accepted, self.recorded = every, 0, {1: 0}
+
+    def replay(self, r, steps):
+        run = Run(self.version, self.version.seeds[r])
+        for _ in range(steps):
+            run.step()
+        return run
+
+    def point(self, r, k):
+        """The run at the point of START k with its outcome, or what is answered in its place, and the steps made for it."""
+        if not 1 <= k <= sum(c.verb == "START" for c in self.version.commands):
+            return "nostart", None, 0
+        run = Run(self.version, self.version.seeds[r])
+        while run.complete < k:
+            if run.steps == self.version.limit:
+                try:
+                    run.step()
+                except End as end:
+                    return self.ended(run, k, end)
+                return "toolong", None, self.version.limit
+            try:
+                run.step()
+            except End as end:
+                return self.ended(run, k, end)
+        return "COMPLETE", run, run.steps
+
+    @staticmethod
+    def ended(run, k, end):
+        why = str(end)
+        if why == "COMMANDS" or run.complete + 1 != k:
+            return "nostart", None, run.steps
+        return (why if why in ("DRY", "HORIZON") else f"ERROR {why}"), run, run.steps
+
+    def answer(self, r, k, looks):
+        if r not in self.version.seeds:
+            return "noreplication\n"
+        outcome, run, steps = self.point(r, k)
+        if looks and steps > self.recorded[r]:
+            return f"unfinished {self.recorded[r]}\n"
+        self.recorded[r] = max(self.recorded[r], steps)
+        if run is None:
+            return outcome + "\n"
+        text = report(run, r, k, outcome)
+        return f"report {self.accepted} {r} {k} {len(text)}\n{text}"
+
+    def edit(self, touched, new):
+        """Accepts an edit to a new version: each run goes back to its last kept state at or before what is touched."""
+        fault = new.fault()
+        if fault:
+            return f"refused E3 {fault}\n"
+        for r in [r for r in self.version.seeds if r in new.seeds]:
+            old = self.replay(r, self.recorded[r])
+            first = min([i for i, items in enumerate(old.reads) if any(touched(r, item) for item in items)]
+                        + [i for i, time in old.clocks if touched(r, ("clock", time))] + [old.steps])
+            kept = [m for m in [0, *range(0, old.steps, self.every), *old.ends, old.steps] if m <= first]
+            self.recorded[r] = max(kept)
+        self.recorded = {r: self.recorded.get(r, 0) for r in new.seeds}
+        self.version = new
+        self.accepted += 1
+        return f"ok {self.accepted}\n"
+
+    def with_statements(self, statements):
+        v = self.version
+        return Version(statements, v.horizon, v.seeds, v.limit)
+
+    def touches(self, statements, place, *lines):
+        """What a statement touches that comes in or goes out at a place."""
+        items = set()
+        for s in lines:
+            if s.verb in BLOCKS:
+                front = [b.id for b in statements[: place - 1] if b.verb in BLOCKS]
+                items |= {("after", front[-1])} if front else set()
+                items |= {("block", s.id), ("after", s.id), ("label", s.label)}
+                items |= {("generates",)} if s.verb == "GENERATE" else set()
+            else:
+                first = sum(b.verb in COMMANDS for b in statements[: place - 1]) + 1
+                items |= {("command", j) for j in range(first, 5000)}
+        return items
+
+    def splice(self, place, goes, text):
+        statements = list(self.version.statements)
+        if not 1 <= place <= len(statements) + (not goes):
+            return "refused E1\n"
+        old = statements[place - 1] if goes else None
+        new = Statement(text) if text else None
+        if new:
+            new.id = old.id if old else max([s.id for s in statements], default=0) + 1
+        if old and new and old.verb in BLOCKS and new.verb in BLOCKS:
+            items = {("label", old.label), ("label", new.label)} if old.label != new.label else set()
+            if (old.verb, old.listed) != (new.verb, new.listed):
+                items |= {("block", old.id)}
+                items |= {("generates",)} if "GENERATE" in (old.verb, new.verb) else set()
+        else:
+            items = self.touches(statements, place, *[s for s in (old, new) if s])
+        behind = statements[: place - 1] + ([new] if new else []) + statements[place - 1 + goes :]
+        return self.edit(lambda r, item: item in items, self.with_statements(behind))
+
+    def line(self, text):
+        word, _, rest = text.partition(" ")
+        v = self.version
+        if word in ("report", "peek"):
+            return self.answer(*map(int, rest.split()), word == "peek")
+        if word == "all":
+            return f"all {len(v.seeds)}\n" + "".join(self.answer(r, int(rest), False) for r in v.seeds)
+        if word == "list":
+            return f"list {len(v.statements)}\n" + "".join(f"{i + 1} {s.text()}\n" for i, s in enumerate(v.statements))
+        if word == "delete":
+            return self.splice(int(rest), True, None)
+        if word in ("insert", "change"):
+            place, _, statement = rest.partition(" ")
+            return self.splice(int(place), word == "change", statement)
+        numbers = [int(n) for n in rest.split()]
+        if word == "horizon":
+            least = min(v.horizon, numbers[0])
+            return self.edit(lambda r, item: item[0] == "clock" and item[1] > least,
+                             Version(v.statements, numbers[0], v.seeds, v.limit))
+        r, seeds = numbers[0], dict(v.seeds)
+        if word == "seed" and r in seeds:
+            other = seeds[r] != numbers[1]
+            seeds[r] = numbers[1]
+            return self.edit(lambda q, item: other and q == r and item == ("seed",), Version(v.statements, v.horizon, seeds, v.limit))
+        if word == "replicate" and r not in seeds or word == "drop" and r in seeds:
+            seeds.pop(r, None) if word == "drop" else seeds.update({r: numbers[1]})
+            return self.edit(lambda q, item: False, Version(v.statements, v.horizon, seeds, v.limit))
+        return "refused E5\n" if word == "replicate" else "refused E4\n"
+
+
+def answers(text, words=()):
+    """What the program must write for a whole standard input."""
+    options = dict(zip([w.lstrip("-") for w in words[::2]], map(int, words[1::2])))
+    lines = text.splitlines()
+    at = lines.index("end") if "end" in lines else len(lines)
+    session = Session([line for line in lines[:at] if line.strip() and line[0] != "*"], **options)
+    out = ""
+    for line in lines[at + 1 :]:
+        if line == "quit":
+            return out + "bye\n"
+        out += session.line(line)
+    return out

@@ -1,0 +1,183 @@
+-- Each living transaction stands in one place, and in no other.
+use Rattle.std.proofs.Common.{◌≡◌, ℕ, zero, suc, ◌+◌, ◌≤◌, Bool, true, false, cond, List, [], ◌∷◌, ◌++◌, map, Some, None, unwrap_or, refl, sym, ap, subst, ◌∙◌, inl, inr, arith}
+use Rattle.std.specs.Prelude.{Contains, option_to_list}
+use Rattle.std.proofs.lemmas.Bool.{cases_Bool, eq-eqb}
+use Rattle.std.proofs.lemmas.List.Elements.{Contains-append_cases}
+use Rattle.gw_names.specs.declared.key.Key.{Key}
+use Rattle.gw_names.specs.Keys.{key_eq}
+use Rattle.gw_entities.specs.Tables.{value_of, with_value}
+use Rattle.gw_entities.proofs.ComingLaws.{key_same}
+use Rattle.gw_entities.proofs.TableLaws.{key_eq_equiv}
+use Rattle.gw_entities.proofs.Finding.{value_of-with_value}
+use Rattle.gw_meaning.specs.declared.transaction.Transaction.{Transaction}
+use Rattle.gw_meaning.specs.declared.transaction.Event.{Event}
+use Rattle.gw_meaning.specs.declared.moves.Move.{Move}
+use Rattle.gw_meaning.specs.declared.moves.Move.TheVariants as moves
+use Rattle.gw_meaning.specs.Listing.{Listing}
+use Rattle.gw_meaning.specs.Machine.{Machine, delay_at, waiting}
+use Rattle.gw_meaning.specs.Changes.{refused, moved}
+use Rattle.gw_frame.proofs.Decided.{IsDecided}
+use Rattle.gw_frame.proofs.Moves.{settled_is, leaving, with_active_has, entered_has, picked_has}
+use Rattle.gw_frame.proofs.Running.{over_run}
+use Rattle.gw_laws.specs.Places.{Place, Active, OnCurrent, OnFuture, OnDelay, who_stands, EachHasAPlace, EachHasOnePlace}
+use Rattle.gw_laws.proofs.Waiting.{let_in_is}
+use Rattle.gw_laws.proofs.Crowd.{one, many, many_append, active_many, many_active, future_many, many_future, crowd}
+use Rattle.gw_laws.proofs.NumberLaws.{has_number, all_numbered}
+
+-- ---- in no other place
+
+has_one : (k : ℕ) (xs : List Transaction) (x : Transaction) → Contains xs x → x.number ≡ k → 1 ≤ many (has_number k) xs
+has_one k [] x there is = absurd (omega (arith, there.1))
+has_one k (y ∷ ys) x (zero, within, same) is =
+    let here = eq-eqb y.number k (ap (λ (z : Transaction). z.number) same ∙ is) in
+    let first : one (has_number k y) ≡ 1 = rw here refl in
+    omega arith
+has_one k (y ∷ ys) x (suc i, within, same) is =
+    let rest = has_one k ys x (i, omega (arith, within), same) is in omega arith
+
+module _ (test : Transaction → Bool) where
+  -- how many stand in a place
+  abbrev share : Machine → Place → ℕ
+  share s Active = active_many test s.active
+  share s OnCurrent = many test s.current
+  share s OnFuture = future_many test s.future
+  share s (OnDelay key) = many test (delay_at s.delays key)
+
+  share_is : (s : Machine) (p : Place) → many test (who_stands s p) ≡ share s p
+  share_is s Active = many_active test s.active
+  share_is s OnCurrent = refl
+  share_is s OnFuture = many_future test s.future
+  share_is s (OnDelay key) = refl
+
+  -- those on one delay chain, and on two of them, are among those who wait
+  delay_share : (ds : List (Key × List Transaction)) (key : Key) → many test (delay_at ds key) ≤ many test (waiting ds)
+  delay_share [] key = omega arith
+  delay_share (d ∷ ds) key = go (key_eq key d.0) (delay_share ds key) where
+    go : (b : Bool) → many test (delay_at ds key) ≤ many test (waiting ds) →
+        many test (unwrap_or (cond b (Some d.1) (value_of ds key)) []) ≤ many test (waiting (d ∷ ds))
+    go true rest = let both = many_append test d.1 (waiting ds) in omega arith
+    go false rest = let both = many_append test d.1 (waiting ds) in omega arith
+
+  two_shares : (ds : List (Key × List Transaction)) (key other : Key) → key_eq key other ≡ false →
+      many test (delay_at ds key) + many test (delay_at ds other) ≤ many test (waiting ds)
+  two_shares [] key other apart = omega arith
+  two_shares (d ∷ ds) key other apart =
+      go (key_eq key d.0) refl (key_eq other d.0) refl (delay_share ds key) (delay_share ds other) (two_shares ds key other apart)
+    where
+      go : (a : Bool) → key_eq key d.0 ≡ a → (b : Bool) → key_eq other d.0 ≡ b → many test (delay_at ds key) ≤ many test (waiting ds) →
+          many test (delay_at ds other) ≤ many test (waiting ds) → many test (delay_at ds key) + many test (delay_at ds other) ≤ many test (waiting ds) →
+          many test (unwrap_or (cond a (Some d.1) (value_of ds key)) []) + many test (unwrap_or (cond b (Some d.1) (value_of ds other)) [])
+          ≤ many test (waiting (d ∷ ds))
+      go true f true g first second rest =
+          absurd (let same : key ≡ other = key_same key d.0 f ∙ sym (key_same other d.0 g) in
+          let is : key_eq key other ≡ true = ap (key_eq key) (sym same) ∙ key_eq_equiv.refl key in
+          let clash : false ≡ true = sym apart ∙ is in cc)
+      go true f false g first second rest = let both = many_append test d.1 (waiting ds) in omega arith
+      go false f true g first second rest = let both = many_append test d.1 (waiting ds) in omega arith
+      go false f false g first second rest = let both = many_append test d.1 (waiting ds) in omega arith
+
+  -- where at most one passes, the place of one who passes is the only one
+  one_place : (s : Machine) (p q : Place) → crowd test s ≤ 1 → 1 ≤ share s p → 1 ≤ share s q → p ≡ q
+  one_place s Active Active once here there = refl
+  one_place s Active OnCurrent once here there = absurd (omega (arith, once, here, there))
+  one_place s Active OnFuture once here there = absurd (omega (arith, once, here, there))
+  one_place s Active (OnDelay key) once here there = absurd (let some = delay_share s.delays key in omega (arith, once, here, there, some))
+  one_place s OnCurrent Active once here there = absurd (omega (arith, once, here, there))
+  one_place s OnCurrent OnCurrent once here there = refl
+  one_place s OnCurrent OnFuture once here there = absurd (omega (arith, once, here, there))
+  one_place s OnCurrent (OnDelay key) once here there = absurd (let some = delay_share s.delays key in omega (arith, once, here, there, some))
+  one_place s OnFuture Active once here there = absurd (omega (arith, once, here, there))
+  one_place s OnFuture OnCurrent once here there = absurd (omega (arith, once, here, there))
+  one_place s OnFuture OnFuture once here there = refl
+  one_place s OnFuture (OnDelay key) once here there = absurd (let some = delay_share s.delays key in omega (arith, once, here, there, some))
+  one_place s (OnDelay key) Active once here there = absurd (let some = delay_share s.delays key in omega (arith, once, here, there, some))
+  one_place s (OnDelay key) OnCurrent once here there = absurd (let some = delay_share s.delays key in omega (arith, once, here, there, some))
+  one_place s (OnDelay key) OnFuture once here there = absurd (let some = delay_share s.delays key in omega (arith, once, here, there, some))
+  one_place s (OnDelay key) (OnDelay other) once here there =
+      elim (cases_Bool (key_eq key other)) [
+        | inl is ↦ ap (λ k. OnDelay k) (key_same key other is)
+        | inr apart ↦ absurd (let some = two_shares s.delays key other apart in omega (arith, once, here, there, some))
+      ]
+
+pub each_has_one_place : EachHasOnePlace
+each_has_one_place t seed n s well within is p q x y here there same =
+    let k = x.number in
+    let once = (all_numbered t seed well n s is within).apart k in
+    let first = has_one k (who_stands s p) x here refl in
+    let second = has_one k (who_stands s q) y there (sym same) in
+    let one_share = share_is (has_number k) s p in
+    let other_share = share_is (has_number k) s q in
+    one_place (has_number k) s p q once (omega arith) (omega arith)
+
+-- ---- in some place: no key has two delay chains
+
+abbrev AreOnce : List (Key × List Transaction) → Type 0
+AreOnce [] = Unit {0}
+AreOnce (d ∷ ds) = (value_of ds d.0 ≡ None) × AreOnce ds
+
+with_once : (ds : List (Key × List Transaction)) (key : Key) (xs : List Transaction) → AreOnce ds → AreOnce (with_value ds key xs)
+with_once [] key xs all = (refl, tt)
+with_once (d ∷ ds) key xs all = go (key_eq key d.0) refl (with_once ds key xs all.1) where
+  go : (b : Bool) → key_eq key d.0 ≡ b → AreOnce (with_value ds key xs) → AreOnce (cond b ((d.0, xs) ∷ ds) (d ∷ with_value ds key xs))
+  go true is rest = all
+  go false other rest = (
+    value_of-with_value ds key xs d.0 ∙ (ap (λ b. cond b (Some xs) (value_of ds d.0)) (key_eq_equiv.symm d.0 key ∙ other) ∙ all.0),
+    rest,
+  )
+
+abbrev DelaysAreOnce : Machine → Type 0
+DelaysAreOnce s = AreOnce s.delays
+
+moved_once : (t : Listing) (s : Machine) (m : Move) → IsDecided t s m → DelaysAreOnce s → DelaysAreOnce (moved s m)
+moved_once t s (moves.Start count arrivals) decided h = h
+moved_once t s moves.Command decided h = h
+moved_once t s (moves.Enter id change fate) decided h =
+    entered_has DelaysAreOnce DelaysAreOnce t s id change fate decided.1 h (λ x is. rw (settled_is s x id change fate).delays h)
+    (λ v. record {
+      nothing = λ k. k;
+      one = λ a coming k. k;
+      waits = λ key x xs is k. rw (let_in_is x x.destination (leaving v key xs)).delays (with_once v.delays key xs k);
+    })
+moved_once t s (moves.Refuse id key) decided h =
+    with_active_has DelaysAreOnce s.active (λ x. refused s x id key) s h (λ x is. with_once s.delays key _ h)
+moved_once t s moves.Pick decided h = picked_has DelaysAreOnce s s.current h (λ x xs is. h)
+moved_once t s (moves.Clock time) decided h = h
+
+-- whoever waits stands on the delay chain of some key
+who_waits : (ds : List (Key × List Transaction)) (x : Transaction) → AreOnce ds → Contains (waiting ds) x → (key : Key) × Contains (delay_at ds key) x
+who_waits [] x all there = absurd (omega (arith, there.1))
+who_waits (d ∷ ds) x all there =
+    elim (Contains-append_cases d.1 (waiting ds) x there) [
+      | inl here ↦ (d.0, rw (key_eq_equiv.refl d.0) here)
+      | inr behind ↦ go (who_waits ds x all.1 behind)
+    ]
+  where
+    go : ((key : Key) × Contains (delay_at ds key) x) → (key : Key) × Contains (delay_at (d ∷ ds) key) x
+    go (key, stands) =
+        elim (cases_Bool (key_eq key d.0)) [
+          | inl is ↦ absurd (
+              let none : delay_at ds key ≡ [] = ap (delay_at ds) (key_same key d.0 is) ∙ ap (λ o. unwrap_or o []) all.0 in
+              let gone : Contains [] x = subst (λ ys. Contains ys x) none stands in
+              omega (arith, gone.1))
+          | inr other ↦ (key, rw other stands)
+        ]
+
+some_place : (s : Machine) (x : Transaction) → DelaysAreOnce s →
+    Contains (option_to_list s.active ++ (s.current ++ (map (λ (e : Event). e.transaction) s.future ++ waiting s.delays))) x →
+    (p : Place) × Contains (who_stands s p) x
+some_place s x once there =
+    let events = map (λ (e : Event). e.transaction) s.future in
+    elim (Contains-append_cases (option_to_list s.active) (s.current ++ (events ++ waiting s.delays)) x there) [
+      | inl here ↦ (Active, here)
+      | inr behind ↦ elim (Contains-append_cases s.current (events ++ waiting s.delays) x behind) [
+        | inl here ↦ (OnCurrent, here)
+        | inr further ↦ elim (Contains-append_cases events (waiting s.delays) x further) [
+          | inl here ↦ (OnFuture, here)
+          | inr last ↦ let chain = who_waits s.delays x once last in (OnDelay chain.0, chain.1)
+        ]
+      ]
+    ]
+
+pub each_has_a_place : EachHasAPlace
+each_has_a_place t seed n s is x there =
+    some_place s x (over_run t seed (λ n v. DelaysAreOnce v) tt (λ n v m streams at decided h. moved_once t v m decided h) n s is) there

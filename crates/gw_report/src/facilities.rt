@@ -1,0 +1,77 @@
+ghost use Rattle.std.specs.Prelude.{◌≡◌, ◌++◌, OnOk, IfOk, map};
+ghost use Rattle.gw_report.specs.Layout.{row_of, rows_of};
+ghost use Rattle.gw_report.specs.Facilities.{facility_columns, facility_line, facilities_text};
+
+use crate::column::{Cell, Column, Side, put_row};
+use crate::entity::{average_cell, key_cell};
+use crate::section::put_section;
+use gw_entities::Facility;
+use gw_names::Key;
+use gw_scan::State;
+use std::alloc::{AllocError, Global};
+
+const FACILITY_COLUMNS: [Column; 10] = [
+    Column(b"FACILITY", 10, Side::Left),
+    Column(b"ENTRIES", 8, Side::Right),
+    Column(b"UTIL.", 8, Side::Right),
+    Column(b"AVE. TIME", 11, Side::Right),
+    Column(b"AVAIL.", 6, Side::Right),
+    Column(b"OWNER", 7, Side::Right),
+    Column(b"PEND", 4, Side::Right),
+    Column(b"INTER", 5, Side::Right),
+    Column(b"RETRY", 5, Side::Right),
+    Column(b"DELAY", 5, Side::Right),
+];
+
+/// Appends the facilities, in order of first touch.
+pub fn put_facilities(out: &mut Vec<u8>, state: &State) -> Result<(), AllocError>
+    ensures { OnOk result (out.new.items ≡ out.old.items ++ facilities_text state.now) }
+{
+    let lines = facility_lines(*out.allocator(), state)?;
+    put_section(out, &FACILITY_COLUMNS, lines.as_slice())
+}
+
+// The lines of the facilities.
+fn facility_lines(alloc: Global, state: &State) -> Result<Vec<u8>, AllocError>
+    ensures { IfOk result (λ lines. lines.items ≡
+        rows_of facility_columns (map (facility_line state.now) state.now.entities.facilities)) }
+{
+    let facilities = state.entities().facilities();
+    let mut lines = Vec::new(alloc);
+    for index in 0..facilities.len() {
+        if let Some((key, facility)) = facilities.at(index) {
+            put_facility(&mut lines, state, key, facility)?;
+        }
+    }
+    Ok(lines)
+}
+
+// The line of a facility.
+#[tactic(auto, unfolding(crate::specs::Facilities::facility_line))]
+fn put_facility(
+    out: &mut Vec<u8>,
+    state: &State,
+    key: &Key,
+    facility: Facility,
+) -> Result<(), AllocError>
+    ensures { OnOk result (out.new.items ≡ out.old.items ++
+        row_of facility_columns (facility_line state.now (key.now, facility))) }
+{
+    let sum = facility.level().sum_up_to(state.clock_now());
+    let time = state.clock().ticks().saturating_sub(state.since().ticks());
+    let captures = facility.captures();
+    let delayed = state.delays().len(key) as u64;
+    let cells = [
+        key_cell(key),
+        Cell::Number(captures),
+        average_cell(sum, time),
+        average_cell(sum, captures),
+        Cell::Number(1),
+        Cell::Number(facility.owner().unwrap_or(0)),
+        Cell::Number(0),
+        Cell::Number(0),
+        Cell::Number(0),
+        Cell::Number(delayed),
+    ];
+    put_row(out, &FACILITY_COLUMNS, &cells)
+}

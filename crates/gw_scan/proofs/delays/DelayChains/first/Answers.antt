@@ -1,0 +1,12 @@
+use Rattle.std.proofs.Common.{ap, sym, ◌∙◌}
+use Rattle.gw_scan.specs.Parts.{first_of}
+use Rattle.gw_scan.proofs.DelayLaws.{delay_is, first_is}
+use Rattle.gw_scan.proofs.delays.DelayChains.first.Goals as goal
+
+pub returns-in-Some : goal.returns-in-Some
+returns-in-Some c =
+    rw (← c.self.view_is) (first_is _ _ c.get-in-Some.ensures ∙
+    ap first_of (sym (delay_is c.self.inside.chains.entries c.args.key.now _ c.in-Some.ensures.value)))
+
+pub returns-in-None : goal.returns-in-None
+returns-in-None c = rw (← c.self.view_is) (ap first_of (sym (delay_is c.self.inside.chains.entries c.args.key.now _ c.in-None.ensures.value)))

@@ -1,0 +1,141 @@
+ghost use Rattle.std.specs.Prelude.{◌≡◌, ◌+◌, ◌++◌, ◌≤◌, ◌<◌, [], length, insert, option_to_list, ◌==◌, IfNone, IfOk, OnOk, IsTrue, ◌∷◌, ◌^◌};
+ghost use Rattle.std.specs.Slice.{IsItemAt};
+ghost use Rattle.gw_meaning.specs.Changes.{lined_up};
+
+use gw_meaning::Transaction;
+use std::alloc::{AllocError, Global};
+use std::collections::VecDeque;
+use std::marker::Model;
+
+/// A chain of transactions, always in order: by priority, first in first out within.
+#[derive(Drop)]
+pub struct PriorityChain {
+    transactions: VecDeque<Transaction>,
+}
+
+impl Model for PriorityChain {
+    ghost use Rattle.std.specs.Prelude.{◌-◌};
+    ghost use Rattle.std.specs.VecDeque.{deque_len, deque_capacity};
+    ghost use Rattle.gw_meaning.specs.Machine.{AreInOrder};
+    ghost use Rattle.gw_meaning.specs.declared.transaction.Transaction.{Transaction};
+    ghost use Rattle.gw_scan.specs.Parts.{Chain};
+
+    ghost Value = { Chain Transaction };
+
+    ghost view = { λ c. record {
+      items = c.transactions.items;
+      room = deque_capacity c.transactions - deque_len c.transactions;
+    } };
+
+    ghost invariant = { λ c. AreInOrder c.transactions.items };
+}
+
+impl PriorityChain {
+    // An empty chain.
+    pub(crate) fn new(alloc: Global) -> PriorityChain
+        ensures { result.items ≡ [] }
+    {
+        PriorityChain {
+            transactions: VecDeque::new(alloc),
+        }
+    }
+
+    /// How many transactions are on it.
+    pub fn len(&self) -> usize
+        ensures len { result ≡ length self.now.items }
+        ensures bound { result < 2 ^ 63 }
+    {
+        self.transactions.len()
+    }
+
+    /// Whether none is on it.
+    pub fn is_empty(&self) -> bool
+        ensures { result ≡ (length self.now.items == 0) }
+    {
+        self.transactions.is_empty()
+    }
+
+    /// The transaction at an index, from the front.
+    pub fn get(&self, index: usize) -> Option<&Transaction>
+        ensures { IsItemAt self.now.items index result }
+    {
+        self.transactions.get(index)
+    }
+
+    // Makes room for so many more.
+    pub(crate) fn reserve(&mut self, count: usize) -> Result<(), AllocError>
+        ensures ok { OnOk result (count ≤ self.new.room) }
+        ensures items { self.new.items ≡ self.old.items }
+    {
+        self.transactions.reserve(count)
+    }
+
+    // Puts a transaction on it: behind its equals, in front of the first of lower priority.
+    pub(crate) fn line_up(&mut self, x: Transaction)
+        requires { 0 < self.old.room }
+        ensures items { self.new.items ≡ lined_up x self.old.items }
+        ensures room { self.old.room ≤ self.new.room + 1 }
+    {
+        if self.goes_last(&x) {
+            self.transactions.push_back_reserved(x);
+        } else {
+            self.insert(x);
+        }
+    }
+
+    // Whether a transaction goes to the end, as most do.
+    fn goes_last(&self, x: &Transaction) -> bool
+        ensures { IsTrue result → lined_up x.now self.now.items ≡ self.now.items ++ x.now ∷ [] }
+    {
+        match self.transactions.back() {
+            Some(last) => !last.priority.is_below(x.priority),
+            None => true,
+        }
+    }
+
+    // Puts a transaction where it goes.
+    #[cold]
+    #[inline(never)]
+    #[tactic(auto, using(crate::proofs::ChainLaws::lined_up_in_order))]
+    fn insert(&mut self, x: Transaction)
+        requires { 0 < self.old.room }
+        ensures items { self.new.items ≡ lined_up x self.old.items }
+        ensures room { self.old.room ≤ self.new.room + 1 }
+    {
+        let index = self.place_behind(&x);
+        match self.transactions.insert(index, x) {
+            Ok(()) => (),
+            Err(_) => unreachable!(),
+        }
+    }
+
+    // Where a transaction goes. Most go far back, so the search begins at the back.
+    #[tactic(auto, using(crate::proofs::ChainLaws::item_drop))]
+    fn place_behind(&self, x: &Transaction) -> usize
+        ensures within { result ≤ length self.now.items }
+        ensures index { lined_up x.now self.now.items ≡ insert self.now.items result x.now }
+    {
+        for index in (0..self.transactions.len()).rev() {
+            if !self.transactions[index].priority.is_below(x.priority) {
+                return index + 1;
+            }
+        }
+        0
+    }
+
+    // Takes the first one off.
+    pub(crate) fn take_first(&mut self) -> Option<Transaction>
+        ensures items { self.old.items ≡ option_to_list result ++ self.new.items }
+        ensures none { IfNone result (self.old.items ≡ []) }
+    {
+        self.transactions.pop_front()
+    }
+
+    // An equal chain.
+    pub(crate) fn copy(&self) -> Result<PriorityChain, AllocError>
+        ensures { IfOk result (λ c. c.items ≡ self.now.items) }
+    {
+        let transactions = self.transactions.clone()?;
+        Ok(PriorityChain { transactions })
+    }
+}
