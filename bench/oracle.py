@@ -4,7 +4,8 @@ It takes sessions whose statements have no fault in their operands, and none tha
 run from clock zero; what an edit leaves of a recorded run goes by the items that each step read."""
 import re
 
-BLOCKS = "GENERATE ADVANCE TERMINATE QUEUE DEPART SEIZE RELEASE TRANSFER".split()
+BLOCKS = "GENERATE ADVANCE TERMINATE QUEUE DEPART SEIZE RELEASE ENTER LEAVE TRANSFER".split()
+DEFINITIONS = "STORAGE EQU".split()
 COMMANDS = "START RMULT".split()
 MODULUS = 2147483647
 
@@ -16,7 +17,7 @@ class End(Exception):
 class Statement:
     def __init__(self, text):
         words = re.sub(r",\s+", ",", text.split(";")[0]).split()
-        self.label = None if words[0].upper() in BLOCKS + COMMANDS else words.pop(0).upper()
+        self.label = None if words[0].upper() in BLOCKS + DEFINITIONS + COMMANDS else words.pop(0).upper()
         self.verb = words[0].upper()
         self.listed = words[1].upper() if len(words) > 1 else ""
         self.operands = self.listed.split(",") if self.listed else []
@@ -27,10 +28,6 @@ class Statement:
 
     def value(self, place, absent=0):
         return absent if self.operand(place) is None else int(self.operand(place))
-
-    def key(self):
-        name = self.operand(0)
-        return int(name) if name.isdigit() else name
 
     def text(self):
         return " ".join(part for part in (self.label, self.verb, self.listed) if part)
@@ -46,6 +43,8 @@ class Version:
         self.statements, self.horizon, self.seeds, self.limit = statements, horizon, seeds, limit
         self.blocks = [s for s in statements if s.verb in BLOCKS]
         self.commands = [s for s in statements if s.verb in COMMANDS]
+        self.capacities = {s.label: s.value(0) for s in statements if s.verb == "STORAGE"}
+        self.numbers = {s.label: s.value(0) for s in statements if s.verb == "EQU"}
 
     def block(self, id):
         return next((b for b in self.blocks if b.id == id), None)
@@ -69,7 +68,12 @@ class Version:
         if len(labels) > len(set(labels)):
             return "M1"
         wanted = [w for b in self.blocks if b.verb == "TRANSFER" for w in b.operands[1:] if w]
-        return "M2" if any(self.label(w) is None for w in wanted) else None
+        if any(self.label(w) is None for w in wanted):
+            return "M2"
+        storages = [b.operand(0) for b in self.blocks if b.verb in ("ENTER", "LEAVE")]
+        if any(s not in self.capacities and s not in self.numbers for s in storages):
+            return "M3"
+        return "M4" if any(s in self.numbers for s in storages) else None
 
 
 class Level:
@@ -93,8 +97,17 @@ class Queue(Level):
     entries = zero = most = 0
 
 
+class Storage(Level):
+    entries = least = most = 0
+
+    def enter(self, units, clock):
+        self.entries += units
+        self.change(self.content + units, clock)
+        self.most = max(self.most, self.content)
+
+
 class Transaction:
-    current = mark = 0
+    current = mark = asked = 0
     destination = None
 
     def __init__(self, number, priority, generate):
@@ -111,7 +124,7 @@ class Run:
         self.primed, self.next, self.active = False, 1, None
         self.streams = {j: ("set", j) for j in range(1, 8)}
         self.current, self.future, self.waiting = [], [], {}
-        self.counts, self.facilities, self.queues = {}, {}, {}
+        self.counts, self.facilities, self.queues, self.storages = {}, {}, {}, {}
         self.reads, self.clocks, self.ends = [], [], []
 
     def count(self, id):
@@ -155,6 +168,20 @@ class Run:
         if block.value(1, 1) < 1:
             raise End("X11")
         return block.value(1, 1)
+
+    def key(self, block):
+        name = block.operand(0)
+        if name.isdigit():
+            return int(name)
+        self.items.append(("name", name))
+        number = self.version.numbers.get(name)
+        if number is not None and number < 1:
+            raise End("X7")
+        return name if number is None else number
+
+    def fits(self, name, units):
+        self.items.append(("fits", name, units))
+        return units <= self.version.capacities[name]
 
     # ---- steps
     def step(self):
@@ -247,6 +274,8 @@ class Run:
         block = self.version.block(id)
         if block is None or block.verb == "GENERATE" and x.current:
             raise End("X8")
+        if block.verb == "ENTER":
+            return self.enter_storage(x, block)
         return getattr(self, block.verb.lower())(x, block)
 
     def enter(self, x, block, stays=True):
@@ -296,7 +325,7 @@ class Run:
         return go
 
     def queue(self, x, block):
-        units, key = self.units(block), block.key()
+        key, units = self.key(block), self.units(block)
         queue = self.queues.get(key, Queue())
         if max(queue.entries, queue.content) + units > 10**9:
             raise End("X12")
@@ -312,7 +341,7 @@ class Run:
         return go
 
     def depart(self, x, block):
-        units, key = self.units(block), block.key()
+        key, units = self.key(block), self.units(block)
         queue = self.queues.get(key, Queue())
         at_once = x.came.get(key) == self.clock
         if at_once and queue.zero + units > 10**9:
@@ -329,7 +358,7 @@ class Run:
         return go
 
     def seize(self, x, block):
-        key = block.key()
+        key = self.key(block)
         facility = self.facilities.get(key, Facility())
 
         def wait():
@@ -349,7 +378,7 @@ class Run:
         facility.change(1, self.clock)
 
     def release(self, x, block):
-        key = block.key()
+        key = self.key(block)
         facility = self.facilities.get(key, Facility())
         if facility.owner != x.number:
             raise End("X2")
@@ -363,6 +392,52 @@ class Run:
                 self.enter(first, self.version.block(first.destination))
                 self.take(facility, first)
                 line_up(self.current, first)
+
+        return go
+
+    def enter_storage(self, x, block):
+        name, units = block.operand(0), self.units(block)
+        storage = self.storages.get(name, Storage())
+        if not self.fits(name, units):
+            raise End("X12")
+        room = self.fits(name, units + storage.content)
+        if room and storage.entries + units > 10**9:
+            raise End("X12")
+
+        def wait():
+            self.active, x.destination, x.asked = None, block.id, units
+            line_up(self.waiting.setdefault(("storage", name), []), x)
+
+        def go():
+            self.enter(x, block)
+            self.storages[name] = storage
+            storage.enter(units, self.clock)
+
+        return go if room else wait
+
+    def leave(self, x, block):
+        name, units = block.operand(0), self.units(block)
+        storage = self.storages.get(name, Storage())
+        if storage.content < units:
+            raise End("X3")
+        content, let_in = storage.content - units, []
+        for waiter in self.waiting.get(("storage", name), []):
+            if self.fits(name, waiter.asked + content):
+                content += waiter.asked
+                let_in.append(waiter)
+        if storage.entries + sum(waiter.asked for waiter in let_in) > 10**9:
+            raise End("X12")
+
+        def go():
+            self.enter(x, block)
+            self.storages[name] = storage
+            storage.change(storage.content - units, self.clock)
+            storage.least = min(storage.least, storage.content)
+            for waiter in let_in:
+                self.waiting["storage", name].remove(waiter)
+                storage.enter(waiter.asked, self.clock)
+                self.enter(waiter, self.version.block(waiter.destination))
+                line_up(self.current, waiter)
 
         return go
 
@@ -413,13 +488,14 @@ def report(run, replication, start, outcome):
     v, clock = run.version, run.clock
     text = f"REPLICATION {replication} SEED {run.seed} START {start} {outcome}\n"
     head = [("START TIME", 10), ("END TIME", 10), ("BLOCKS", 10), ("FACILITIES", 10), ("STORAGES", 10)]
-    text += section(head, [(0, clock, len(v.blocks), len(run.facilities), 0)])
+    text += section(head, [(0, clock, len(v.blocks), len(run.facilities), len(run.storages))])
     names, values, free = [], [], 10000
     for name in [n for s in v.statements for n in s.names()]:
         if name not in names:
             names.append(name)
-            values.append(v.position(v.label(name)) if v.label(name) else free)
-            free += v.label(name) is None
+            position = v.position(v.label(name)) if v.label(name) else free
+            values.append(v.numbers.get(name, position))
+            free += v.label(name) is None and name not in v.numbers
     text += section([("<NAME", 10), ("VALUE", 10)], list(zip(names, values)))
     nothing = {"entries": 0, "content": 0}
     blocks = []
@@ -437,6 +513,12 @@ def report(run, replication, start, outcome):
     text += section(titles(columns), [
         (key, q.most, q.content, q.entries, q.zero, thousandths(q.total(clock), clock), thousandths(q.total(clock), q.entries),
          thousandths(q.total(clock), q.entries - q.zero), 0) for key, q in run.queues.items()])
+
+    columns = "<STORAGE 10,CAP. 8,REM. 8,MIN. 8,MAX. 8,ENTRIES 8,AVL. 4,AVE.C. 11,UTIL. 8,RETRY 5,DELAY 5"
+    text += section(titles(columns), [
+        (name, v.capacities[name], v.capacities[name] - s.content, s.least, s.most, s.entries, 1, thousandths(s.total(clock), clock),
+         thousandths(s.total(clock), v.capacities[name] * clock), 0, len(run.waiting.get(("storage", name), [])))
+        for name, s in run.storages.items()])
 
     def line(time, x):
         to = x.destination if x.destination is not None else v.after(x.current)
@@ -536,6 +618,10 @@ class Session:
                 items |= {("after", front[-1])} if front else set()
                 items |= {("block", s.id), ("after", s.id), ("label", s.label)}
                 items |= {("generates",)} if s.verb == "GENERATE" else set()
+            elif s.verb == "EQU":
+                items |= {("name", s.label)}
+            elif s.verb == "STORAGE":
+                items |= {("asks", s.label)}
             else:
                 first = sum(b.verb in COMMANDS for b in statements[: place - 1]) + 1
                 items |= {("command", j) for j in range(first, 5000)}
@@ -554,10 +640,15 @@ class Session:
             if (old.verb, old.listed) != (new.verb, new.listed):
                 items |= {("block", old.id)}
                 items |= {("generates",)} if "GENERATE" in (old.verb, new.verb) else set()
+        elif old and new and (old.verb, old.label) == (new.verb, new.label) and old.verb in DEFINITIONS:
+            if old.verb == "STORAGE":
+                items = {("between", old.label, *sorted((old.value(0), new.value(0))))}
+            else:
+                items = {("name", old.label)} if old.listed != new.listed else set()
         else:
             items = self.touches(statements, place, *[s for s in (old, new) if s])
         behind = statements[: place - 1] + ([new] if new else []) + statements[place - 1 + goes :]
-        return self.edit(lambda r, item: item in items, self.with_statements(behind))
+        return self.edit(lambda r, item: touched_by(items, item), self.with_statements(behind))
 
     def line(self, text):
         word, _, rest = text.partition(" ")
@@ -573,6 +664,14 @@ class Session:
         if word in ("insert", "change"):
             place, _, statement = rest.partition(" ")
             return self.splice(int(place), word == "change", statement)
+        if word == "capacity":
+            name, amount = rest.split()[0].upper(), int(rest.split()[1])
+            if name not in v.capacities:
+                return "refused E6\n"
+            if not 1 <= amount <= 10**9:
+                return "refused E2 L5 1\n"
+            place = next(i for i, s in enumerate(v.statements) if s.verb == "STORAGE" and s.label == name)
+            return self.splice(place + 1, True, f"{name} STORAGE {amount}")
         numbers = [int(n) for n in rest.split()]
         if word == "horizon":
             least = min(v.horizon, numbers[0])
@@ -587,6 +686,14 @@ class Session:
             seeds.pop(r, None) if word == "drop" else seeds.update({r: numbers[1]})
             return self.edit(lambda q, item: False, Version(v.statements, v.horizon, seeds, v.limit))
         return "refused E5\n" if word == "replicate" else "refused E4\n"
+
+
+def touched_by(items, item):
+    """Whether an item is among those touched; of a storage all amounts, or those above one capacity and up to another."""
+    if item[0] == "fits":
+        _, name, units = item
+        return ("asks", name) in items or any(i[0] == "between" and i[1] == name and i[2] < units <= i[3] for i in items)
+    return item in items
 
 
 def answers(text, words=()):

@@ -1,20 +1,20 @@
 -- A version with its places renamed is answered alike, and so is the version made anew.
 use Rattle.std.proofs.Common.{◌≡◌, ℕ, zero, suc, ◌+◌, ◌||◌, nat_eq, nat_lt, Bool, true, false, cond, not, List, [], ◌∷◌, length, filter, Option, Some, None, Result, Ok, Err, refl, ap, ap₂, is_some, option_map, ◌∙◌, arith}
 use Rattle.std.specs.List.{list_any}
-use Rattle.gw_expr.specs.Term.{Term, Label}
+use Rattle.gw_expr.specs.Term.{Term, Label, Defined}
 use Rattle.gw_meaning.specs.declared.item.End.{End}
 use Rattle.gw_meaning.specs.declared.item.Outcome.{Outcome}
 use Rattle.gw_meaning.specs.declared.statement.Statement.{Statement}
 use Rattle.gw_meaning.specs.declared.statement.Numbered.{Numbered}
-use Rattle.gw_meaning.specs.Listing.{Listing, block_of, block_of_body, labelled_in, is_start, starts, seed_at, seed_in}
+use Rattle.gw_meaning.specs.Listing.{Listing, block_of, block_of_body, labelled_in, is_start, starts, seed_at, seed_in, has_label, command_of_body, definition_of_body, definition_if, or_next, defined_in, number_of}
 use Rattle.gw_meaning.specs.Machine.{Machine, zero_state}
 use Rattle.gw_meaning.specs.Step.{step}
 use Rattle.gw_meaning.specs.Point.{outcome_of}
 use Rattle.gw_model.specs.Listed.{numbered}
 use Rattle.gw_model.proofs.Numbers.{numbered_listed}
 use Rattle.gw_frame.specs.Moved.{IsMove, moved_machine, moved_result}
-use Rattle.gw_model.specs.Faults.{is_labelled, has_label_twice, is_unknown, block_operands, names_unknown, has_unknown_label}
-use Rattle.gw_model.specs.Listed.{block_label}
+use Rattle.gw_model.specs.Faults.{is_labelled, has_label_twice, is_unknown, block_operands, names_unknown, has_unknown_label, is_defined_so, names_defined, has_unknown_definition, has_equ_named}
+use Rattle.gw_model.specs.Listed.{counted_label}
 use Rattle.gw_frame.specs.Renamed.{statements_of, AreRenamed, IsSameModel, IsRenamed}
 use Rattle.gw_frame.proofs.Renaming.{commands_renamed, label_renamed}
 use Rattle.gw_frame.proofs.RenamedRuns.{renamed_step}
@@ -109,21 +109,28 @@ known_renamed : (move : ℕ → ℕ) → IsMove move → (ls ms : List Numbered)
     is_some (labelled_in name ms) ≡ is_some (labelled_in name ls)
 known_renamed move is ls ms r name = ap is_some (label_renamed move is name ls ms r) ∙ there_renamed move (labelled_in name ls)
 
-labelled_renamed : (move : ℕ → ℕ) → IsMove move → (label : Option (List ℕ)) (ls ms : List Numbered) → AreRenamed move ls ms →
-    is_labelled label ms ≡ is_labelled label ls
-labelled_renamed move is None ls ms r = refl
-labelled_renamed move is (Some name) ls ms r = known_renamed move is ls ms r name
-
+-- the label that counts of a statement
 abbrev label_of_statement : Statement → Option (List ℕ)
-label_of_statement s = cond (is_some (block_of_body s.body)) s.label None
+label_of_statement s = cond (is_some (command_of_body s.body)) None s.label
+
+labelled_by : (move : ℕ → ℕ) (name : List ℕ) (ls ms : List Numbered) → AreRenamed move ls ms → is_labelled (Some name) ms ≡ is_labelled (Some name) ls
+labelled_by move name [] [] r = refl
+labelled_by move name [] (m ∷ ms) r = absurd r
+labelled_by move name (l ∷ ls) [] r = absurd r
+labelled_by move name (l ∷ ls) (m ∷ ms) r =
+    ap₂ (λ a b. a || b) (ap (λ (s : Statement). has_label name (label_of_statement s)) r.1) (labelled_by move name ls ms r.2)
+
+labelled_renamed : (move : ℕ → ℕ) (label : Option (List ℕ)) (ls ms : List Numbered) → AreRenamed move ls ms → is_labelled label ms ≡ is_labelled label ls
+labelled_renamed move None ls ms r = refl
+labelled_renamed move (Some name) ls ms r = labelled_by move name ls ms r
 
 twice_renamed : (move : ℕ → ℕ) → IsMove move → (ls ms : List Numbered) → AreRenamed move ls ms → has_label_twice ms ≡ has_label_twice ls
 twice_renamed move is [] [] r = refl
 twice_renamed move is [] (m ∷ ms) r = absurd r
 twice_renamed move is (l ∷ ls) [] r = absurd r
 twice_renamed move is (l ∷ ls) (m ∷ ms) r =
-    let same : block_label m ≡ block_label l = ap label_of_statement r.1 in
-    ap₂ (λ a b. a || b) (ap (λ label. is_labelled label ms) same ∙ labelled_renamed move is (block_label l) ls ms r.2) (twice_renamed move is ls ms r.2)
+    let same : counted_label m ≡ counted_label l = ap label_of_statement r.1 in
+    ap₂ (λ a b. a || b) (ap (λ label. is_labelled label ms) same ∙ labelled_renamed move (counted_label l) ls ms r.2) (twice_renamed move is ls ms r.2)
 
 -- the operands of equal statements, where the same labels are known
 operand_unknown : (known known' : List ℕ → Bool) → ((name : List ℕ) → known' name ≡ known name) → (o : Option Term) → is_unknown known' o ≡ is_unknown known o
@@ -151,6 +158,46 @@ unfolding has_unknown_label
 unknown_renamed move is ls ms r =
     lines_unknown (λ name. is_some (labelled_in name ls)) (λ name. is_some (labelled_in name ms)) (known_renamed move is ls ms r) move ls ms r
 
+-- the same of definitions
+defined_renamed : (move : ℕ → ℕ) (name : List ℕ) (ls ms : List Numbered) → AreRenamed move ls ms → defined_in name ms ≡ defined_in name ls
+defined_renamed move name [] [] r = refl
+defined_renamed move name [] (m ∷ ms) r = absurd r
+defined_renamed move name (l ∷ ls) [] r = absurd r
+defined_renamed move name (l ∷ ls) (m ∷ ms) r = ap₂ or_next
+    (ap (λ (s : Statement). definition_if (has_label name s.label) (definition_of_body s.body)) r.1) (defined_renamed move name ls ms r.2)
+
+operand_defined : (test test' : List ℕ → Bool) → ((name : List ℕ) → test' name ≡ test name) → (o : Option Term) → is_defined_so test' o ≡ is_defined_so test o
+operand_defined test test' same (Some (Defined name)) = same name
+operand_defined test test' same o = refl
+
+operands_defined : (test test' : List ℕ → Bool) → ((name : List ℕ) → test' name ≡ test name) → (os : List (Option Term)) →
+    list_any (is_defined_so test') os ≡ list_any (is_defined_so test) os
+operands_defined test test' same [] = refl
+operands_defined test test' same (o ∷ os) = ap₂ (λ a b. a || b) (operand_defined test test' same o) (operands_defined test test' same os)
+
+lines_defined : (test test' : List ℕ → Bool) → ((name : List ℕ) → test' name ≡ test name) → (move : ℕ → ℕ) (ls ms : List Numbered) →
+    AreRenamed move ls ms → list_any (names_defined test') ms ≡ list_any (names_defined test) ls
+lines_defined test test' same move [] [] r = refl
+lines_defined test test' same move [] (m ∷ ms) r = absurd r
+lines_defined test test' same move (l ∷ ls) [] r = absurd r
+lines_defined test test' same move (l ∷ ls) (m ∷ ms) r =
+    let line : names_defined test' m ≡ names_defined test l =
+    ap (λ (s : Statement). list_any (is_defined_so test') (block_operands (block_of_body s.body))) r.1 ∙
+    operands_defined test test' same (block_operands (block_of l)) in
+    ap₂ (λ a b. a || b) line (lines_defined test test' same move ls ms r.2)
+
+missing_renamed : (move : ℕ → ℕ) (ls ms : List Numbered) → AreRenamed move ls ms → has_unknown_definition ms ≡ has_unknown_definition ls
+unfolding has_unknown_definition
+missing_renamed move ls ms r =
+    lines_defined (λ name. not (is_some (defined_in name ls))) (λ name. not (is_some (defined_in name ms)))
+    (λ name. ap (λ o. not (is_some o)) (defined_renamed move name ls ms r)) move ls ms r
+
+equ_renamed : (move : ℕ → ℕ) (ls ms : List Numbered) → AreRenamed move ls ms → has_equ_named ms ≡ has_equ_named ls
+unfolding has_equ_named
+equ_renamed move ls ms r =
+    lines_defined (λ name. is_some (number_of (defined_in name ls))) (λ name. is_some (number_of (defined_in name ms)))
+    (λ name. ap (λ o. is_some (number_of o)) (defined_renamed move name ls ms r)) move ls ms r
+
 length_renamed : (move : ℕ → ℕ) (ls ms : List Numbered) → AreRenamed move ls ms → length ms ≡ length ls
 length_renamed move [] [] r = refl
 length_renamed move [] (m ∷ ms) r = absurd r
@@ -167,4 +214,6 @@ faulty_anew t are =
       length_renamed found.0 t.lines (anew t).lines found.1.lines,
       twice_renamed found.0 is t.lines (anew t).lines found.1.lines,
       unknown_renamed found.0 is t.lines (anew t).lines found.1.lines,
+      missing_renamed found.0 t.lines (anew t).lines found.1.lines,
+      equ_renamed found.0 t.lines (anew t).lines found.1.lines,
     ) refl

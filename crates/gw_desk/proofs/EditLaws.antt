@@ -17,7 +17,7 @@ use Rattle.gw_lines.specs.Edits.{edit_of}
 use Rattle.gw_lines.specs.Reading.{◌>>=◌}
 use Rattle.gw_model.specs.declared.fault.ModelFault.{ModelFault}
 use Rattle.gw_model.specs.declared.fault.ModelFault.TheVariants as models
-use Rattle.gw_edit.specs.Applied.{applied, checked, unless_faulty, or_refusal, spelled_by, reseeded, without_number, has_replication}
+use Rattle.gw_edit.specs.Applied.{applied, storage_place, storage_of, capacity_at, checked, unless_faulty, or_refusal, spelled_by, reseeded, without_number, has_replication}
 use Rattle.gw_edit.specs.Touching.{touch_of}
 use Rattle.gw_desk.specs.declared.recording.Recording.{Recording}
 use Rattle.gw_desk.specs.Book.{Book, IsBook, run_in, IsRunOf, AreRuns}
@@ -89,6 +89,8 @@ model_refused models.BadSeed is = absurd cc
 model_refused models.BadHorizon is = absurd cc
 model_refused models.LabelTwice is = absurd cc
 model_refused models.NoSuchLabel is = absurd cc
+model_refused models.NoSuchDefinition is = absurd cc
+model_refused models.EquNamedDefinition is = absurd cc
 model_refused models.Memory is = absurd cc
 
 unless_refused : (o : Option ModelFault) (v : Listing) → unless_faulty o v ≡ Err faults.HistoryFull → ⊥
@@ -113,6 +115,12 @@ other_or : (b : Bool) (fault : EditFault) (r : Result Listing EditFault) → (fa
 other_or true fault r h k is = k is
 other_or false fault r h k is = h cc
 
+capacity_refused : (t : Listing) (name : List ℕ) (amount : ℕ) (place : Option ℕ) → capacity_at t name amount place ≡ Err faults.HistoryFull → ⊥
+capacity_refused t name amount None is = absurd cc
+capacity_refused t name amount (Some place) is =
+    let v = with_splice t place true (Some (storage_of name amount)) in
+    one_or (is_outside 1 1000000000 amount) (faults.BadStatement (lines.BadOperand 1)) (checked v) (λ e. absurd cc) (λ e. checked_refused v e) is
+
 pub never_full : (t : Listing) (e : Edit) → applied t e ≡ Err faults.HistoryFull → ⊥
 never_full t (edits.Insert place text) is = one_or (is_outside 1 (length t.lines + 1) place) faults.NoSuchPlace
     (spelled_by text >>= (λ s. checked (with_splice t place false (Some s)))) (λ e. absurd cc)
@@ -122,7 +130,7 @@ never_full t (edits.Delete place) is = one_or (is_outside 1 (length t.lines) pla
 never_full t (edits.Change place text) is = one_or (is_outside 1 (length t.lines) place) faults.NoSuchPlace
     (spelled_by text >>= (λ s. checked (with_splice t place true (Some s)))) (λ e. absurd cc)
     (λ e. spelled_refused (edit_of text) (λ s. with_splice t place true (Some s)) e) is
-never_full t (edits.Capacity name amount) is = absurd cc
+never_full t (edits.Capacity name amount) is = capacity_refused t name amount (storage_place name t) is
 never_full t (edits.Seed number seed) is =
     let v : Listing = record t { replications = reseeded number seed t.replications } in
     other_or (has_replication t number) faults.NoSuchReplication (checked v) (λ e. absurd cc) (λ e. checked_refused v e) is

@@ -1,7 +1,7 @@
 -- Items that are answered by lists: the statements say something to the item, each by itself, and its answer is made of what
 -- they say, in order. One that says nothing to it may come in or go out, and one may come for another that says the same.
 -- These are all items but those of a block, which go by its number, and those of a command, which go by how many are in front.
-use Rattle.std.proofs.Common.{◌≡◌, ℕ, zero, suc, Bool, true, false, cond, not, ◌&&◌, slice_get, List, [], ◌∷◌, ◌++◌, Option, Some, None, is_some, ◌||◌, refl, ap, ap₂, sym, subst, ◌∙◌, ⊎_elim}
+use Rattle.std.proofs.Common.{◌≡◌, ℕ, zero, suc, Bool, true, false, cond, not, ◌&&◌, slice_get, List, [], ◌∷◌, ◌++◌, Option, Some, None, is_some, ◌||◌, refl, ap, ap₂, sym, subst, ◌∙◌, ⊎_elim, nat_le, option_map, unwrap_or, ℤ}
 use mathlib.Core.Bool.{true≢false}
 use Rattle.std.specs.List.{filter_map, cons_option}
 use Rattle.std.specs.Str.{bytes_eq}
@@ -15,14 +15,16 @@ use Rattle.gw_meaning.specs.declared.statement.Body.{Body}
 use Rattle.gw_meaning.specs.declared.statement.Body.TheVariants as bodies
 use Rattle.gw_meaning.specs.declared.statement.Statement.{Statement}
 use Rattle.gw_meaning.specs.declared.statement.Numbered.{Numbered}
-use Rattle.gw_meaning.specs.Listing.{Listing, block_of_body, is_block, is_generate, is_generate_body, has_label, labelled_in, generates_in}
+use Rattle.gw_meaning.specs.Listing.{Listing, block_of_body, is_block, is_generate, is_generate_body, has_label, labelled_in, generates_in, capacity_in, command_of, command_of_body, defines, definition_if, definition_of, definition_of_body, first_said, is_command, number_of, or_next, units_of}
 use Rattle.gw_meaning.specs.Questions.{Answer, ask}
 use Rattle.gw_meaning.specs.Reads.{is_use}
 use Rattle.gw_edit.specs.Same.{same_statement, same_label}
 use Rattle.gw_edit.specs.declared.touch.Probe.{Probe}
 use Rattle.gw_edit.specs.declared.touch.Probe.TheVariants.{CommandsFrom}
-use Rattle.gw_edit.specs.Touching.{block_before, command_from, given, one_if, label_if, block_places, block_probes, line_probes, change_places, label_places, block_change, is_probed, is_touched}
+use Rattle.gw_edit.specs.Touching.{block_before, command_from, given, one_if, label_if, block_places, block_probes, line_probes, change_places, label_places, block_change, is_probed, is_touched, definition_place, definition_probes, rest_probes}
 use Rattle.gw_edit.proofs.SameBlocks.{statement_same, label_same}
+use Rattle.gw_meaning.specs.declared.statement.Definition.{Definition}
+use Rattle.gw_meaning.specs.declared.statement.Definition.TheVariants as definitions
 
 -- what is not touched by probes is not touched by any part of them
 pub untouched_both : (ps qs : List Probe) (i : Item) → is_touched (ps ++ qs) i ≡ false → (is_touched ps i ≡ false) × (is_touched qs i ≡ false)
@@ -66,10 +68,10 @@ pub record IsByLines (i : Item) : Type 1 where
       is_touched (block_change line (changed_line line s)) i ≡ false → says (changed_line line s) ≡ says line
 
 -- the list of GENERATEs
-abbrev generate_of : Numbered → Option ℕ
+abbrev pub generate_of : Numbered → Option ℕ
 generate_of line = cond (is_generate line) (Some line.number) None
 
-generates_listed : (lines : List Numbered) → generates_in lines ≡ filter_map generate_of lines
+pub generates_listed : (lines : List Numbered) → generates_in lines ≡ filter_map generate_of lines
 generates_listed [] = refl
 generates_listed (line ∷ lines) =
     elim (is_generate line) as (λ b. cond b (line.number ∷ generates_in lines) (generates_in lines) ≡
@@ -78,15 +80,16 @@ generates_listed (line ∷ lines) =
 
 no_generate_of : (body : Body) → is_some (block_of_body body) ≡ false → is_generate_body body ≡ false
 no_generate_of (bodies.Block block) h = absurd cc
+no_generate_of (bodies.Definition definition) h = refl
 no_generate_of (bodies.Command command) h = refl
 
-no_generate : (t : Listing) (place : ℕ) (line : Numbered) (block : Bool) → is_block line ≡ block →
-    is_touched (cond block (block_probes t place line) (CommandsFrom (command_from t place) ∷ [])) items.Generates ≡ false → is_generate line ≡ false
+pub no_generate : (t : Listing) (place : ℕ) (line : Numbered) (block : Bool) → is_block line ≡ block →
+    is_touched (cond block (block_probes t place line) (rest_probes t place line)) items.Generates ≡ false → is_generate line ≡ false
 no_generate t place line true is h =
     not_wanted (is_generate line) items.Generates refl (untouched_at (block_places (block_before t place) line) 3 _ items.Generates refl h)
 no_generate t place line false is h = no_generate_of line.statement.body is
 
-generate_none : (line : Numbered) → is_generate line ≡ false → generate_of line ≡ None
+pub generate_none : (line : Numbered) → is_generate line ≡ false → generate_of line ≡ None
 generate_none line none = ap (λ b. cond b (Some line.number) None) none
 
 -- a block that comes for a block touches what its change touches, and labels
@@ -95,7 +98,7 @@ pub change_parts : (line : Numbered) (s : Statement) (i : Item) → is_touched (
     (is_touched (given (label_places (not (same_label line.statement.label s.label)) line (changed_line line s))) i ≡ false)
 change_parts line s i h = untouched_both _ _ i h
 
-same_generate : (line : Numbered) (s : Statement) → is_touched (block_change line (changed_line line s)) items.Generates ≡ false →
+pub same_generate : (line : Numbered) (s : Statement) → is_touched (block_change line (changed_line line s)) items.Generates ≡ false →
     is_generate (changed_line line s) ≡ is_generate line
 same_generate line s h =
     ⊎_elim
@@ -109,8 +112,13 @@ same_generate line s h =
     parts.1 ∙ sym parts.0)
     (cases_Bool (same_statement line.statement s))
 
+-- a test that holds together with one that holds, does not hold
+and_true_parts : (b : Bool) → (b && true) ≡ false → b ≡ false
+and_true_parts true h = h
+and_true_parts false h = refl
+
 -- two names are other ones in either order
-bytes_other : (a b : List ℕ) → bytes_eq a b ≡ false → bytes_eq b a ≡ false
+pub bytes_other : (a b : List ℕ) → bytes_eq a b ≡ false → bytes_eq b a ≡ false
 bytes_other a b h = ⊎_elim
     (λ (same : bytes_eq b a ≡ true). absurd (let is : b ≡ a = (bytes_eq-Decides b a).0 same in
     let itself : bytes_eq a a ≡ false = subst (λ x. bytes_eq a x ≡ false) is h in true≢false (sym ((bytes_eq-Decides a a).1 refl) ∙ itself)))
@@ -118,14 +126,14 @@ bytes_other a b h = ⊎_elim
 
 -- the block with a label
 module _ (name : List ℕ) where
-  abbrev label_of : Numbered → Option ℕ
+  abbrev pub label_of : Numbered → Option ℕ
   label_of line = cond (is_block line && has_label name line.statement.label) (Some line.number) None
 
   abbrev first : List ℕ → Option ℕ
   first [] = None
   first (n ∷ ns) = Some n
 
-  label_listed : (lines : List Numbered) → labelled_in name lines ≡ first (filter_map label_of lines)
+  pub label_listed : (lines : List Numbered) → labelled_in name lines ≡ first (filter_map label_of lines)
   label_listed [] = refl
   label_listed (line ∷ lines) =
       elim (is_block line && has_label name line.statement.label) as (λ b. cond b (Some line.number) (labelled_in name lines) ≡
@@ -137,8 +145,8 @@ module _ (name : List ℕ) where
   other_label None h = refl
   other_label (Some label) h = bytes_other name label h
 
-  no_label : (t : Listing) (place : ℕ) (line : Numbered) (block : Bool) → is_block line ≡ block →
-      is_touched (cond block (block_probes t place line) (CommandsFrom (command_from t place) ∷ [])) (items.Label name) ≡ false → label_of line ≡ None
+  pub no_label : (t : Listing) (place : ℕ) (line : Numbered) (block : Bool) → is_block line ≡ block →
+      is_touched (cond block (block_probes t place line) (rest_probes t place line)) (items.Label name) ≡ false → label_of line ≡ None
   no_label t place line true is h =
       let other = other_label line.statement.label (untouched_at (block_places (block_before t place) line) 4 _ (items.Label name) refl h) in
       ap (λ c. cond c (Some line.number) None) (ap₂ (λ a b. a && b) is other)
@@ -153,11 +161,124 @@ module _ (name : List ℕ) where
       other_label s.label (untouched_at places 1 _ (items.Label name) refl h) ∙
       sym (other_label line.statement.label (untouched_at places 0 _ (items.Label name) refl h))
 
-  label_changed : (line : Numbered) (s : Statement) → is_block line ≡ true → is_block (changed_line line s) ≡ true →
+  pub label_changed : (line : Numbered) (s : Statement) → is_block line ≡ true → is_block (changed_line line s) ≡ true →
       is_touched (block_change line (changed_line line s)) (items.Label name) ≡ false → label_of (changed_line line s) ≡ label_of line
   label_changed line s was is h =
       let labels = label_there line s (same_label line.statement.label s.label) refl (change_parts line s (items.Label name) h).1 in
       ap (λ c. cond c (Some line.number) None) (ap₂ (λ a b. a && b) (is ∙ sym was) labels)
+
+-- what definitions say of a name
+or_none : {X Y : Type 0} (f : X → Y) (a b : Option X) → option_map f (or_next a b) ≡ or_next (option_map f a) (option_map f b)
+or_none f None b = refl
+or_none f (Some x) b = refl
+
+abbrev leading : {X : Type 0} → List X → Option X
+leading [] = None
+leading (x ∷ xs) = Some x
+
+leading_of : {X : Type 0} (o : Option X) (xs : List X) → leading (cons_option o xs) ≡ or_next o (leading xs)
+leading_of None xs = refl
+leading_of (Some x) xs = refl
+
+pub said_listed : {X : Type 0} (says : Numbered → Option X) (lines : List Numbered) → first_said says lines ≡ leading (filter_map says lines)
+said_listed says [] = refl
+said_listed says (line ∷ lines) = ap (or_next (says line)) (said_listed says lines) ∙ sym (leading_of (says line) (filter_map says lines))
+
+no_definition_of : (body : Body) → is_some (block_of_body body) ≡ true → definition_of_body body ≡ None
+no_definition_of (bodies.Block block) h = refl
+no_definition_of (bodies.Definition definition) h = absurd cc
+no_definition_of (bodies.Command command) h = absurd cc
+
+no_command_definition : (body : Body) → is_some (command_of_body body) ≡ true → definition_of_body body ≡ None
+no_command_definition (bodies.Block block) h = absurd cc
+no_command_definition (bodies.Definition definition) h = absurd cc
+no_command_definition (bodies.Command command) h = refl
+
+module _ (name : List ℕ) where
+  -- the definition that a label with a definition gives the name
+  abbrev said_by : Option (List ℕ) → Option Definition → Option Definition
+  said_by label definition = definition_if (has_label name label) definition
+
+  nothing_defined : (label : Option (List ℕ)) → said_by label None ≡ None
+  nothing_defined label = elim (has_label name label) as (λ b. definition_if b None ≡ None) [ true ↦ refl | false ↦ refl ]
+
+  block_defines : (line : Numbered) → is_block line ≡ true → defines name line ≡ None
+  block_defines line is =
+      ap (said_by line.statement.label) (no_definition_of line.statement.body is) ∙ nothing_defined line.statement.label
+
+  command_defines : (line : Numbered) → is_command line ≡ true → defines name line ≡ None
+  command_defines line is =
+      ap (said_by line.statement.label) (no_command_definition line.statement.body is) ∙ nothing_defined line.statement.label
+
+  -- what a definition says of a name, f of what it is
+  module _ {X : Type 0} (f : Option Definition → Option X) (none : f None ≡ None) where
+    -- a definition that is left untouched says nothing
+    abbrev IsSilent : Item → Type 0
+    IsSilent i = (label : Option (List ℕ)) (definition : Option Definition) → probed_at (definition_place label definition) i ≡ false →
+        f (said_by label definition) ≡ None
+
+    pub silent_line : (i : Item) → IsSilent i → (t : Listing) (place : ℕ) (line : Numbered) → is_touched (line_probes t place line) i ≡ false →
+        f (defines name line) ≡ None
+    silent_line i silent t place line h = by_block (is_block line) refl h where
+      by_command : (command : Bool) → is_command line ≡ command →
+          is_touched (cond command (CommandsFrom (command_from t place) ∷ []) (definition_probes line)) i ≡ false → f (defines name line) ≡ None
+      by_command true is k = ap f (command_defines line is) ∙ none
+      by_command false is k = silent line.statement.label (definition_of line)
+          (untouched_at (definition_place line.statement.label (definition_of line) ∷ []) 0 _ i refl k)
+
+      by_block : (block : Bool) → is_block line ≡ block → is_touched (cond block (block_probes t place line) (rest_probes t place line)) i ≡ false →
+          f (defines name line) ≡ None
+      by_block true is k = ap f (block_defines line is) ∙ none
+      by_block false is k = by_command (is_command line) refl k
+
+    pub silent_blocks : (line other : Numbered) → is_block line ≡ true → is_block other ≡ true → f (defines name other) ≡ f (defines name line)
+    silent_blocks line other was is = ap f (block_defines other is ∙ sym (block_defines line was))
+
+  -- the number that it stands for
+  other_name : (label : List ℕ) → is_use (items.Name label) (items.Name name) ≡ false → has_label name (Some label) ≡ false
+  other_name label h = bytes_other name label h
+
+  pub no_number : IsSilent number_of refl (items.Name name)
+  no_number None None h = refl
+  no_number None (Some definition) h = refl
+  no_number (Some label) None h = ap number_of (nothing_defined (Some label))
+  no_number (Some label) (Some (definitions.Storage capacity)) h =
+      elim (has_label name (Some label)) as (λ b. number_of (definition_if b (Some (definitions.Storage capacity))) ≡ None) [ true ↦ refl | false ↦ refl ]
+  no_number (Some label) (Some (definitions.Equ value)) h =
+      ap (λ b. number_of (definition_if b (Some (definitions.Equ value)))) (other_name label h)
+
+  -- whether so many units fit
+  abbrev pub fitting : ℕ → Option Definition → Option Bool
+  fitting units definition = option_map (λ c. nat_le units c) (units_of definition)
+
+  pub no_units : (units : ℕ) → IsSilent (fitting units) refl (items.Fits name units)
+  no_units units None None h = refl
+  no_units units None (Some definition) h = refl
+  no_units units (Some label) None h = ap (fitting units) (nothing_defined (Some label))
+  no_units units (Some label) (Some (definitions.Storage capacity)) h =
+      ap (λ b. fitting units (definition_if b (Some (definitions.Storage capacity)))) ((and_true_parts (bytes_eq label name) h))
+  no_units units (Some label) (Some (definitions.Equ value)) h =
+      elim (has_label name (Some label)) as (λ b. fitting units (definition_if b (Some (definitions.Equ value))) ≡ None) [ true ↦ refl | false ↦ refl ]
+
+-- of the storage of a name the first that is defined tells whether so many units fit
+fits_said : (units : ℕ) (o : Option ℕ) → nat_le units (unwrap_or o 0) ≡ unwrap_or (option_map (λ c. nat_le units c) o) (nat_le units 0)
+fits_said units None = refl
+fits_said units (Some c) = refl
+
+fits_first : (name : List ℕ) (units : ℕ) (lines : List Numbered) →
+    option_map (λ c. nat_le units c) (first_said (λ line. units_of (defines name line)) lines) ≡
+    first_said (λ line. fitting name units (defines name line)) lines
+fits_first name units [] = refl
+fits_first name units (line ∷ lines) =
+    or_none (λ c. nat_le units c) (units_of (defines name line)) (first_said (λ line. units_of (defines name line)) lines) ∙
+    ap (or_next (fitting name units (defines name line))) (fits_first name units lines)
+
+pub fits_listed : (name : List ℕ) (units : ℕ) (lines : List Numbered) →
+    nat_le units (unwrap_or (capacity_in name lines) 0) ≡
+    unwrap_or (leading (filter_map (λ line. fitting name units (defines name line)) lines)) (nat_le units 0)
+fits_listed name units lines =
+    fits_said units (capacity_in name lines) ∙
+    ap (λ o. unwrap_or o (nat_le units 0)) (fits_first name units lines ∙ said_listed (λ line. fitting name units (defines name line)) lines)
 
 -- the items of a block and those of a command are the others
 abbrev pub IsListed : Item → Type 0
@@ -167,7 +288,7 @@ IsListed (items.Cmd j) = ⊥
 IsListed item = Unit {0}
 
 -- each listed item: what says something to it, and how the probes tell. To one that has no line here no statement does.
-pub by_lines : (i : Item) → IsListed i → IsByLines i
+unfoldable pub by_lines : (i : Item) → IsListed i → IsByLines i
 by_lines (items.Block k) listed = absurd listed
 by_lines (items.After k) listed = absurd listed
 by_lines (items.Cmd j) listed = absurd listed
@@ -186,6 +307,22 @@ by_lines (items.Label name) listed = record {
   is = λ t seed. label_listed name t.lines;
   line = λ t place line h. no_label name t place line (is_block line) refl h;
   change = λ line s was is h. label_changed name line s was is h;
+}
+by_lines (items.Name name) listed = record {
+  X = ℤ;
+  says = λ line. number_of (defines name line);
+  made = λ horizon seed zs. leading zs;
+  is = λ t seed. said_listed (λ line. number_of (defines name line)) t.lines;
+  line = silent_line name number_of refl (items.Name name) (no_number name);
+  change = λ line s was is h. silent_blocks name number_of refl line (changed_line line s) was is;
+}
+by_lines (items.Fits name units) listed = record {
+  X = Bool;
+  says = λ line. fitting name units (defines name line);
+  made = λ horizon seed bs. unwrap_or (leading bs) (nat_le units 0);
+  is = λ t seed. fits_listed name units t.lines;
+  line = silent_line name (fitting name units) refl (items.Fits name units) (no_units name units);
+  change = λ line s was is h. silent_blocks name (fitting name units) refl line (changed_line line s) was is;
 }
 by_lines item listed = record {
   X = Unit {0};

@@ -1,20 +1,29 @@
 -- Two versions of which one has another statement for a statement: what is not touched, they answer alike.
-use Rattle.std.proofs.Common.{◌≡◌, ℕ, Bool, true, false, cond, not, List, ◌∷◌, ◌++◌, Some, None, option_and_then, ◌==◌, ◌&&◌, refl, ap, sym, subst, ◌∙◌, ⊎_elim}
+use Rattle.std.proofs.Common.{◌≡◌, ℕ, Bool, true, false, cond, not, List, ◌∷◌, ◌++◌, Some, None, option_and_then, ◌==◌, ◌&&◌, refl, ap, sym, subst, ◌∙◌, ⊎_elim, Option, [], is_some, nat_le, option_map, ℤ}
 use Rattle.std.specs.List.{filter_map, cons_option}
-use Rattle.std.proofs.lemmas.Bool.{cases_Bool}
+use Rattle.std.proofs.lemmas.Bool.{cases_Bool, and_parts, or_parts}
 use Rattle.gw_meaning.specs.declared.item.Item.{Item}
 use Rattle.gw_meaning.specs.declared.item.Item.TheVariants as items
 use Rattle.gw_meaning.specs.declared.statement.Statement.{Statement}
 use Rattle.gw_meaning.specs.declared.statement.Numbered.{Numbered}
-use Rattle.gw_meaning.specs.Listing.{Listing, line_in, block_of, block_of_body, is_block, command_of, first_block, after_in, nth}
+use Rattle.gw_meaning.specs.Listing.{Listing, line_in, block_of, block_of_body, is_block, command_of, first_block, after_in, nth, command_of_body, defines, definition_if, definition_of, definition_of_body, has_label, is_generate_body, number_of, units_of}
 use Rattle.gw_meaning.specs.Questions.{ask}
 use Rattle.gw_model.proofs.Numbers.{other_way}
 use Rattle.gw_edit.specs.Same.{same_statement}
-use Rattle.gw_edit.specs.Touching.{lines_before, one_if, line_probes, change_places, block_change, splice_probes, is_touched}
+use Rattle.gw_edit.specs.Touching.{lines_before, one_if, line_probes, change_places, block_change, splice_probes, is_touched, one_name, other_change, same_number}
 use Rattle.gw_edit.proofs.Fronts.{block_in, block_behind, after_behind, commands_behind}
 use Rattle.gw_edit.proofs.SameBlocks.{statement_same}
-use Rattle.gw_edit.proofs.ByLines.{untouched_both, probed_at, untouched_at, changed_line, change_parts, by_lines, changed_alike}
+use Rattle.gw_edit.proofs.ByLines.{untouched_both, probed_at, untouched_at, changed_line, change_parts, by_lines, changed_alike, IsListed, bytes_other, fitting, generate_none, generate_of, label_of}
+use Rattle.std.proofs.lemmas.Bool.Decides.{Decides-int_eq}
 use Rattle.gw_edit.proofs.LineLaws.{command_none, line_alike}
+use Rattle.std.specs.Str.{bytes_eq}
+use Rattle.std.proofs.lemmas.Slice.Eq.{bytes_eq-Decides}
+use Rattle.gw_record.specs.Asks.{differs, is_ask}
+use Rattle.gw_meaning.specs.declared.statement.Body.{Body}
+use Rattle.gw_meaning.specs.declared.statement.Definition.{Definition}
+use Rattle.std.specs.Ordering.{int_eq}
+use Rattle.gw_meaning.specs.declared.statement.Definition.TheVariants as definitions
+use Rattle.gw_meaning.specs.declared.statement.Body.TheVariants as bodies
 
 module _ (back : List Numbered) (line : Numbered) (s : Statement) where
   block_other : (k : ℕ) → (line.number == k) ≡ false → block_in (changed_line line s ∷ back) k ≡ block_in (line ∷ back) k
@@ -36,6 +45,120 @@ module _ (back : List Numbered) (line : Numbered) (s : Statement) where
 
   commands_here : command_of (changed_line line s) ≡ command_of line → filter_map command_of (changed_line line s ∷ back) ≡ filter_map command_of (line ∷ back)
   commands_here same = ap (λ o. cons_option o (filter_map command_of back)) same
+
+-- ---- definitions
+
+-- what is a definition is neither a block nor a command
+defined_body : (body : Body) (d : Definition) → definition_of_body body ≡ Some d → (block_of_body body ≡ None) × (command_of_body body ≡ None)
+defined_body (bodies.Block block) d h = absurd cc
+defined_body (bodies.Definition definition) d h = (refl, refl)
+defined_body (bodies.Command command) d h = absurd cc
+
+defined_parts : (line : Numbered) (d : Definition) → definition_of line ≡ Some d → (block_of line ≡ None) × (command_of line ≡ None)
+defined_parts line d h = defined_body line.statement.body d h
+
+-- two labels that are one
+labels_are : (a b : Option (List ℕ)) (name : List ℕ) → one_name a b ≡ Some name → (a ≡ Some name) × (b ≡ Some name)
+labels_are None b name h = absurd cc
+labels_are (Some x) None name h = absurd cc
+labels_are (Some x) (Some y) name h = go (bytes_eq x y) refl h where
+  go : (same : Bool) → bytes_eq x y ≡ same → cond same (Some x) None ≡ Some name → (Some x ≡ Some name) × (Some y ≡ Some name)
+  go true is k = (k, ap (λ z. Some z) (sym ((bytes_eq-Decides x y).0 is)) ∙ k)
+  go false is k = absurd cc
+
+-- what one of a name defines of a name
+defines_it : (line : Numbered) (label : List ℕ) (d : Definition) (name : List ℕ) → line.statement.label ≡ Some label → definition_of line ≡ Some d →
+    defines name line ≡ definition_if (bytes_eq label name) (Some d)
+defines_it line label d name labelled is =
+    ap (λ l. definition_if (has_label name l) (definition_of line)) labelled ∙ ap (definition_if (bytes_eq label name)) is
+
+no_generate_there : (body : Body) → block_of_body body ≡ None → is_generate_body body ≡ false
+no_generate_there (bodies.Block block) h = absurd cc
+no_generate_there (bodies.Definition definition) h = refl
+no_generate_there (bodies.Command command) h = refl
+
+-- two that are no blocks say the same to what only blocks say something to
+generates_said : (line other : Numbered) → block_of line ≡ None → block_of other ≡ None → generate_of other ≡ generate_of line
+generates_said line other was is =
+    generate_none other (no_generate_there other.statement.body is) ∙ sym (generate_none line (no_generate_there line.statement.body was))
+
+label_said : (name : List ℕ) (line other : Numbered) → block_of line ≡ None → block_of other ≡ None → label_of name other ≡ label_of name line
+label_said name line other was is =
+    ap (λ o. cond (is_some o && has_label name other.statement.label) (Some other.number) None) is ∙
+    sym (ap (λ o. cond (is_some o && has_label name line.statement.label) (Some line.number) None) was)
+
+-- two capacities of one storage say the same to what they answer alike
+units_alike : (b : Bool) (from to amount : ℕ) → (b && differs (Some from) (Some to) amount) ≡ false →
+    option_map (λ c. nat_le amount c) (units_of (definition_if b (Some (definitions.Storage to)))) ≡
+    option_map (λ c. nat_le amount c) (units_of (definition_if b (Some (definitions.Storage from))))
+units_alike false from to amount h = refl
+units_alike true from to amount h = go (nat_le amount from) (nat_le amount to) h where
+  go : (x y : Bool) → cond x (not y) y ≡ false → Some y ≡ Some x
+  go true true k = refl
+  go true false k = absurd cc
+  go false true k = absurd cc
+  go false false k = refl
+
+numberless : (b : Bool) (c : ℕ) → number_of (definition_if b (Some (definitions.Storage c))) ≡ None
+numberless true c = refl
+numberless false c = refl
+
+unitless : (b : Bool) (z : ℤ) → units_of (definition_if b (Some (definitions.Equ z))) ≡ None
+unitless true z = refl
+unitless false z = refl
+
+units_said : (i : Item) (label : List ℕ) (from to : ℕ) (line other : Numbered) → line.statement.label ≡ Some label → other.statement.label ≡ Some label →
+    definition_of line ≡ Some (definitions.Storage from) → definition_of other ≡ Some (definitions.Storage to) → block_of line ≡ None →
+    block_of other ≡ None → is_ask label (Some from) (Some to) i ≡ false →
+    (listed : IsListed i) → (by_lines i listed).says other ≡ (by_lines i listed).says line
+unfolding by_lines
+units_said (items.Block k) label from to line other l m was is no_block none h listed = absurd listed
+units_said (items.After k) label from to line other l m was is no_block none h listed = absurd listed
+units_said (items.Cmd j) label from to line other l m was is no_block none h listed = absurd listed
+units_said items.Generates label from to line other l m was is no_block none h listed = generates_said line other no_block none
+units_said (items.Label name) label from to line other l m was is no_block none h listed = label_said name line other no_block none
+units_said (items.Name name) label from to line other l m was is no_block none h listed =
+    let b = bytes_eq label name in
+    ap number_of (defines_it other label _ name m is) ∙ (numberless b to ∙ sym (ap number_of (defines_it line label _ name l was) ∙ numberless b from))
+units_said (items.Fits name amount) label from to line other l m was is no_block none h listed =
+    ap (fitting name amount) (defines_it other label _ name m is) ∙
+    (units_alike (bytes_eq label name) from to amount h ∙ sym (ap (fitting name amount) (defines_it line label _ name l was)))
+units_said items.Seed label from to line other l m was is no_block none h listed = refl
+units_said (items.Within time) label from to line other l m was is no_block none h listed = refl
+
+-- two numbers of one name, which are touched where they are not the same
+numbers_alike : (same : Bool) (old new : Statement) (x y : ℤ) → same_number old new x y ≡ same → same ≡ true → x ≡ y
+numbers_alike same old new x y is yes' =
+    (Decides-int_eq x y).0 ((and_parts (bytes_eq old.operands new.operands) (int_eq x y) (is ∙ yes')).1)
+
+number_said : (i : Item) (label : List ℕ) (x y : ℤ) (same : Bool) (line other : Numbered) → same_number line.statement other.statement x y ≡ same →
+    line.statement.label ≡ Some label → other.statement.label ≡ Some label →
+    definition_of line ≡ Some (definitions.Equ x) → definition_of other ≡ Some (definitions.Equ y) → block_of line ≡ None →
+    block_of other ≡ None → probed_at (one_if (not same) (items.Name label)) i ≡ false →
+    (listed : IsListed i) → (by_lines i listed).says other ≡ (by_lines i listed).says line
+unfolding by_lines
+number_said (items.Block k) label x y same line other e l m was is no_block none h listed = absurd listed
+number_said (items.After k) label x y same line other e l m was is no_block none h listed = absurd listed
+number_said (items.Cmd j) label x y same line other e l m was is no_block none h listed = absurd listed
+number_said items.Generates label x y same line other e l m was is no_block none h listed = generates_said line other no_block none
+number_said (items.Label name) label x y same line other e l m was is no_block none h listed = label_said name line other no_block none
+number_said (items.Name name) label x y same line other e l m was is no_block none h listed =
+    ap number_of (defines_it other label _ name m is) ∙ (go same e h ∙ sym (ap number_of (defines_it line label _ name l was)))
+  where
+    go : (b : Bool) → same_number line.statement other.statement x y ≡ b → probed_at (one_if (not b) (items.Name label)) (items.Name name) ≡ false →
+        number_of (definition_if (bytes_eq label name) (Some (definitions.Equ y))) ≡ number_of (definition_if (bytes_eq label name) (Some (definitions.Equ x)))
+    go true k untouched =
+        ap (λ z. number_of (definition_if (bytes_eq label name) (Some (definitions.Equ z)))) (sym (numbers_alike true line.statement other.statement x y k refl))
+    go false k untouched =
+        let apart : bytes_eq label name ≡ false = bytes_other name label untouched in
+        ap (λ b. number_of (definition_if b (Some (definitions.Equ y)))) apart ∙ sym (ap (λ b. number_of (definition_if b (Some (definitions.Equ x)))) apart)
+number_said (items.Fits name amount) label x y same line other e l m was is no_block none h listed =
+    let b = bytes_eq label name in
+    let nothing : Option ℕ → Option Bool = option_map (λ c. nat_le amount c) in
+    ap (fitting name amount) (defines_it other label _ name m is) ∙
+    (ap nothing (unitless b y) ∙ sym (ap (fitting name amount) (defines_it line label _ name l was) ∙ ap nothing (unitless b x)))
+number_said items.Seed label x y same line other e l m was is no_block none h listed = refl
+number_said (items.Within time) label x y same line other e l m was is no_block none h listed = refl
 
 -- a version and the version with the other statement
 pub record IsChanged (t u : Listing) (place : ℕ) (line : Numbered) (s : Statement) (back : List Numbered) : Type 0 where
@@ -94,14 +217,49 @@ module _ (t u : Listing) (place : ℕ) (line : Numbered) (s : Statement) (back :
         line_alike t place (changed_line line s) back u w (record { has = e.new; lacks = refl; horizon = e.horizon; absent = absent }) a b seeds i parts.1 in
         comes ∙ sym goes
 
+    -- a definition for one of the same name: neither is a block, nor a command
+    defined_alike : block_of line ≡ None → block_of (changed_line line s) ≡ None → command_of line ≡ None → command_of (changed_line line s) ≡ None →
+        (i : Item) → ((listed : IsListed i) → (by_lines i listed).says (changed_line line s) ≡ (by_lines i listed).says line) → ask u b i ≡ ask t a i
+    defined_alike was is no_command no_more (items.Block k) says = block_alike k (block_here back line s k (is ∙ sym was))
+    defined_alike was is no_command no_more (items.After k) says = after_alike k (ap is_some (is ∙ sym was))
+    defined_alike was is no_command no_more (items.Cmd j) says = commands_alike j (no_more ∙ sym no_command)
+    defined_alike was is no_command no_more i says =
+        changed_alike i tt (lines_before t place) back t u a b e.horizon seeds line (changed_line line s) e.new e.old (says tt)
+
+    other_alike : line_in (lines_before t place ++ back) line.number ≡ None → (name : Option (List ℕ)) → one_name line.statement.label s.label ≡ name →
+        (before behind : Option Definition) → definition_of line ≡ before → definition_of (changed_line line s) ≡ behind → (i : Item) →
+        is_touched (other_change name before behind t place line (changed_line line s)) i ≡ false → ask u b i ≡ ask t a i
+    other_alike absent (Some name) named (Some (definitions.Storage from)) (Some (definitions.Storage to)) was is i h =
+        let none = defined_parts line (definitions.Storage from) was in
+        let no_more = defined_parts (changed_line line s) (definitions.Storage to) is in
+        let labels = labels_are line.statement.label s.label name named in
+        defined_alike none.0 no_more.0 none.1 no_more.1 i
+        (units_said i name from to line (changed_line line s) labels.0 labels.1 was is none.0 no_more.0
+        ((or_parts (is_ask name (Some from) (Some to) i) false h).0))
+    other_alike absent (Some name) named (Some (definitions.Equ x)) (Some (definitions.Equ y)) was is i h =
+        let none = defined_parts line (definitions.Equ x) was in
+        let no_more = defined_parts (changed_line line s) (definitions.Equ y) is in
+        let labels = labels_are line.statement.label s.label name named in
+        defined_alike none.0 no_more.0 none.1 no_more.1 i
+        (number_said i name x y (same_number line.statement s x y) line (changed_line line s) refl labels.0 labels.1 was is none.0 no_more.0
+        (untouched_at (one_if (not (same_number line.statement s x y)) (items.Name name) ∷ []) 0 _ i refl h))
+    other_alike absent (Some name) named (Some (definitions.Storage from)) (Some (definitions.Equ y)) was is i h = kind_alike absent i h
+    other_alike absent (Some name) named (Some (definitions.Equ x)) (Some (definitions.Storage to)) was is i h = kind_alike absent i h
+    other_alike absent (Some name) named (Some (definitions.Storage from)) None was is i h = kind_alike absent i h
+    other_alike absent (Some name) named (Some (definitions.Equ x)) None was is i h = kind_alike absent i h
+    other_alike absent (Some name) named None behind was is i h = kind_alike absent i h
+    other_alike absent None named before behind was is i h = kind_alike absent i h
+
     by_kinds : line_in (lines_before t place ++ back) line.number ≡ None → (was is : Bool) → is_block line ≡ was → is_block (changed_line line s) ≡ is →
         (i : Item) →
-        is_touched (cond (was && is) (block_change line (changed_line line s)) (line_probes t place line ++ line_probes t place (changed_line line s))) i ≡
-        false → ask u b i ≡ ask t a i
+        is_touched (cond (was && is) (block_change line (changed_line line s))
+        (other_change (one_name line.statement.label s.label) (definition_of line) (definition_of (changed_line line s)) t place line (changed_line line s))) i
+        ≡ false → ask u b i ≡ ask t a i
     by_kinds absent true true was is i h = block_by_block was is i h
-    by_kinds absent true false was is i h = kind_alike absent i h
-    by_kinds absent false true was is i h = kind_alike absent i h
-    by_kinds absent false false was is i h = kind_alike absent i h
+    by_kinds absent true false was is i h =
+        other_alike absent (one_name line.statement.label s.label) refl (definition_of line) (definition_of (changed_line line s)) refl refl i h
+    by_kinds absent false is' was is i h =
+        other_alike absent (one_name line.statement.label s.label) refl (definition_of line) (definition_of (changed_line line s)) refl refl i h
 
     -- another statement
     pub change_alike : line_in (lines_before t place ++ back) line.number ≡ None → (i : Item) →

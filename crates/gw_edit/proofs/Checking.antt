@@ -2,7 +2,7 @@
 use Rattle.std.proofs.Common.{ap, Option}
 use Rattle.gw_meaning.specs.Listing.{Listing}
 use Rattle.gw_model.specs.declared.fault.ModelFault.{ModelFault}
-use Rattle.gw_model.specs.declared.fault.ModelFault.TheVariants.{TooMany, BadSeed, BadHorizon, LabelTwice, NoSuchLabel, Memory}
+use Rattle.gw_model.specs.declared.fault.ModelFault.TheVariants.{TooMany, BadSeed, BadHorizon, LabelTwice, NoSuchLabel, NoSuchDefinition, EquNamedDefinition, Memory}
 use Rattle.gw_model.specs.Faults.{IsFault}
 use Rattle.gw_edit.specs.Applied.{unless_faulty}
 use Rattle.gw_edit.specs.Faults.{Refuses, of_model}
@@ -13,4 +13,6 @@ refused_by first t BadSeed h = ap (λ o. unless_faulty o t) h
 refused_by first t BadHorizon h = ap (λ o. unless_faulty o t) h
 refused_by first t LabelTwice h = ap (λ o. unless_faulty o t) h
 refused_by first t NoSuchLabel h = ap (λ o. unless_faulty o t) h
+refused_by first t NoSuchDefinition h = ap (λ o. unless_faulty o t) h
+refused_by first t EquNamedDefinition h = ap (λ o. unless_faulty o t) h
 refused_by first t Memory h = tt

@@ -8,7 +8,7 @@ use Rattle.gw_meaning.specs.declared.statement.Body.TheVariants as bodies
 use Rattle.gw_meaning.specs.declared.statement.Block.{Block}
 use Rattle.gw_meaning.specs.declared.statement.Command.{Command}
 use Rattle.gw_meaning.specs.declared.statement.Numbered.{Numbered}
-use Rattle.gw_meaning.specs.Listing.{line_in, block_of, block_of_body, is_block, command_of, command_of_body, first_block, after_in, nth}
+use Rattle.gw_meaning.specs.Listing.{line_in, block_of, block_of_body, is_block, command_of, command_of_body, first_block, after_in, nth, is_command}
 use Rattle.gw_edit.specs.Touching.{last_block}
 
 -- whether a number is this one
@@ -106,24 +106,25 @@ nth_front : {X : Type 0} (cs xs ys : List X) (j : ℕ) → j < length cs + 1 →
 nth_front cs xs ys zero less = refl
 nth_front cs xs ys (suc j) less = get_front cs xs ys j (omega arith)
 
--- what is no block is a command
+-- as many as there are statements that are commands
 length_step : (body : Body) (line : Numbered) (cs : List Command) (lines : List Numbered) → length cs ≡ length lines →
-    length (cons_option (command_of_body body) cs) ≡ length (cond (not (is_some (block_of_body body))) (line ∷ lines) lines)
+    length (cons_option (command_of_body body) cs) ≡ length (cond (is_some (command_of_body body)) (line ∷ lines) lines)
 length_step (bodies.Block block) line cs lines h = h
+length_step (bodies.Definition definition) line cs lines h = h
 length_step (bodies.Command command) line cs lines h = ap suc h
 
-length_commands : (lines : List Numbered) → length (filter_map command_of lines) ≡ length (filter (λ (line : Numbered). not (is_block line)) lines)
+length_commands : (lines : List Numbered) → length (filter_map command_of lines) ≡ length (filter is_command lines)
 length_commands [] = refl
 length_commands (line ∷ lines) =
-    length_step line.statement.body line (filter_map command_of lines) (filter (λ (line : Numbered). not (is_block line)) lines) (length_commands lines)
+    length_step line.statement.body line (filter_map command_of lines) (filter is_command lines) (length_commands lines)
 
 -- the commands in front
-pub commands_front : (front xs ys : List Numbered) (j : ℕ) → nat_le (length (filter (λ (line : Numbered). not (is_block line)) front) + 1) j ≡ false →
+pub commands_front : (front xs ys : List Numbered) (j : ℕ) → nat_le (length (filter is_command front) + 1) j ≡ false →
     nth (filter_map command_of (front ++ xs)) j ≡ nth (filter_map command_of (front ++ ys)) j
 commands_front front xs ys j h =
     let cs = filter_map command_of front in
-    let count : length cs ≡ length (filter (λ (line : Numbered). not (is_block line)) front) = length_commands front in
-    let below : j < length (filter (λ (line : Numbered). not (is_block line)) front) + 1 = leb-false _ j h in
+    let count : length cs ≡ length (filter is_command front) = length_commands front in
+    let below : j < length (filter is_command front) + 1 = leb-false _ j h in
     let less : j < length cs + 1 = omega arith in
     rw (filter_map-append command_of front xs, filter_map-append command_of front ys)
     (nth_front cs (filter_map command_of xs) (filter_map command_of ys) j less)

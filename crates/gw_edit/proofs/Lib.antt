@@ -9,6 +9,7 @@ pub mod Splits
 pub mod Seeds
 pub mod Made
 pub mod Untouching
+pub mod CapacityLaws
 pub mod TouchLaws
 pub mod RebaseLaws
 pub mod PositionLaws

@@ -7,17 +7,18 @@ use Rattle.gw_meaning.specs.declared.item.Item.TheVariants as items
 use Rattle.gw_meaning.specs.declared.statement.Body.{Body}
 use Rattle.gw_meaning.specs.declared.statement.Body.TheVariants as bodies
 use Rattle.gw_meaning.specs.declared.statement.Numbered.{Numbered}
-use Rattle.gw_meaning.specs.Listing.{Listing, line_in, block_of, block_of_body, is_block, command_of, command_of_body, first_block, after_in, nth}
+use Rattle.gw_meaning.specs.Listing.{Listing, line_in, block_of, block_of_body, is_block, command_of, command_of_body, first_block, after_in, nth, is_command}
 use Rattle.gw_meaning.specs.Questions.{ask}
 use Rattle.gw_model.proofs.Numbers.{absent_first, other_way}
 use Rattle.gw_edit.specs.declared.touch.Probe.TheVariants.{CommandsFrom}
-use Rattle.gw_edit.specs.Touching.{last_block, lines_before, block_before, command_from, behind, block_places, block_probes, line_probes, is_touched}
+use Rattle.gw_edit.specs.Touching.{last_block, lines_before, block_before, command_from, behind, block_places, block_probes, line_probes, is_touched, definition_probes, rest_probes}
 use Rattle.gw_edit.proofs.Fronts.{is_at, block_in, block_behind, after_behind, after_in_front, commands_behind, commands_front, after_none}
 use Rattle.gw_edit.proofs.ByLines.{probed_at, untouched_at, by_lines, silent_alike}
 
 -- a block is no command, and a command is no block
 no_command : (body : Body) → is_some (block_of_body body) ≡ true → command_of_body body ≡ None
 no_command (bodies.Block block) h = refl
+no_command (bodies.Definition definition) h = absurd cc
 no_command (bodies.Command command) h = absurd cc
 
 pub command_none : (line : Numbered) → is_block line ≡ true → command_of line ≡ None
@@ -25,6 +26,7 @@ command_none line h = no_command line.statement.body h
 
 no_block_of : (body : Body) → is_some (block_of_body body) ≡ false → block_of_body body ≡ None
 no_block_of (bodies.Block block) h = absurd cc
+no_block_of (bodies.Definition definition) h = refl
 no_block_of (bodies.Command command) h = refl
 
 no_block : (line : Numbered) → is_block line ≡ false → block_of line ≡ None
@@ -51,11 +53,11 @@ module _ (front back : List Numbered) (line : Numbered) where
       after_in_front front (line ∷ back) back k last
       (subst (λ (b : Bool). cond b (cond (is_block line) (first_block back) None) (after_in back k) ≡ after_in back k) (sym other) refl)
 
-  commands_same : (j : ℕ) → is_block line ≡ true → nth (filter_map command_of (front ++ line ∷ back)) j ≡ nth (filter_map command_of (front ++ back)) j
-  commands_same j block =
-      ap (λ cs. nth cs j) (commands_behind front (line ∷ back) back (ap (λ o. cons_option o (filter_map command_of back)) (command_none line block)))
+  commands_same : (j : ℕ) → command_of line ≡ None → nth (filter_map command_of (front ++ line ∷ back)) j ≡ nth (filter_map command_of (front ++ back)) j
+  commands_same j none =
+      ap (λ cs. nth cs j) (commands_behind front (line ∷ back) back (ap (λ o. cons_option o (filter_map command_of back)) none))
 
-  -- a command, whose number no block has
+  -- what is no block, whose number no block has
   module _ (command : is_block line ≡ false) (absent : line_in (front ++ back) line.number ≡ None) where
     block_hidden : (k : ℕ) → block_in (line ∷ back) k ≡ block_in back k
     block_hidden k =
@@ -87,6 +89,10 @@ module _ (front back : List Numbered) (line : Numbered) where
     after_same : (k : ℕ) → after_in (front ++ line ∷ back) k ≡ after_in (front ++ back) k
     after_same k = after_behind front (line ∷ back) back k (ap (λ b. cond b (Some line.number) (first_block back)) command) (after_hidden k)
 
+is_none : {X : Type 0} (o : Option X) → is_some o ≡ false → o ≡ None
+is_none None h = refl
+is_none (Some x) h = absurd cc
+
 -- a version whose lines are those with the line, and one whose lines are those without it
 pub record IsWith (t : Listing) (place : ℕ) (line : Numbered) (back : List Numbered) (with without : Listing) : Type 0 where
   pub has : with.lines ≡ lines_before t place ++ line ∷ back
@@ -102,7 +108,7 @@ module _ (t : Listing) (place : ℕ) (line : Numbered) (back : List Numbered) (w
 
   -- the items of a block, by whether the line is one
   block_alike : (block : Bool) → is_block line ≡ block → (k : ℕ) →
-      is_touched (cond block (block_probes t place line) (CommandsFrom (command_from t place) ∷ [])) (items.Block k) ≡ false →
+      is_touched (cond block (block_probes t place line) (rest_probes t place line)) (items.Block k) ≡ false →
       block_in with.lines k ≡ block_in without.lines k
   block_alike true is k h =
       let other = untouched_at (block_places (block_before t place) line) 1 _ (items.Block k) refl h in
@@ -110,7 +116,7 @@ module _ (t : Listing) (place : ℕ) (line : Numbered) (back : List Numbered) (w
   block_alike false is k h = between (λ ls. block_in ls k) (block_same (lines_before t place) back line is e.absent k)
 
   after_alike : (block : Bool) → is_block line ≡ block → (k : ℕ) →
-      is_touched (cond block (block_probes t place line) (CommandsFrom (command_from t place) ∷ [])) (items.After k) ≡ false →
+      is_touched (cond block (block_probes t place line) (rest_probes t place line)) (items.After k) ≡ false →
       after_in with.lines k ≡ after_in without.lines k
   after_alike true is k h =
       let places = block_places (block_before t place) line in
@@ -122,11 +128,17 @@ module _ (t : Listing) (place : ℕ) (line : Numbered) (back : List Numbered) (w
 
   -- those of a command
   command_alike : (block : Bool) → is_block line ≡ block → (j : ℕ) →
-      is_touched (cond block (block_probes t place line) (CommandsFrom (command_from t place) ∷ [])) (items.Cmd j) ≡ false →
+      is_touched (cond block (block_probes t place line) (rest_probes t place line)) (items.Cmd j) ≡ false →
       nth (filter_map command_of with.lines) j ≡ nth (filter_map command_of without.lines) j
-  command_alike true is j h = between (λ ls. nth (filter_map command_of ls) j) (commands_same (lines_before t place) back line j is)
-  command_alike false is j h =
-      between (λ ls. nth (filter_map command_of ls) j) (commands_front (lines_before t place) (line ∷ back) back j ((or_parts _ _ h).0))
+  command_alike true is j h = between (λ ls. nth (filter_map command_of ls) j) (commands_same (lines_before t place) back line j (command_none line is))
+  command_alike false is j h = by_command (is_command line) refl h where
+    by_command : (command : Bool) → is_command line ≡ command →
+        is_touched (cond command (CommandsFrom (command_from t place) ∷ []) (definition_probes line)) (items.Cmd j) ≡ false →
+        nth (filter_map command_of with.lines) j ≡ nth (filter_map command_of without.lines) j
+    by_command true there k =
+        between (λ ls. nth (filter_map command_of ls) j) (commands_front (lines_before t place) (line ∷ back) back j ((or_parts _ _ k).0))
+    by_command false there k =
+        between (λ ls. nth (filter_map command_of ls) j) (commands_same (lines_before t place) back line j (is_none (command_of line) there))
 
   -- and all others, to which the line says nothing
   pub line_alike : (i : Item) → is_touched (line_probes t place line) i ≡ false → ask with b i ≡ ask without a i

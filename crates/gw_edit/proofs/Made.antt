@@ -1,11 +1,11 @@
 -- An edit is a splice of the version's statements, or leaves them.
-use Rattle.std.proofs.Common.{◌≡◌, ◌⊎◌, ℕ, ◌+◌, ◌≤◌, ◌==◌, Bool, true, false, cond, List, [], ◌∷◌, ◌++◌, Option, Some, None, Result, Ok, Err, option_to_list, length, min, nat_lt, nat_le, inl, inr, refl, ap, sym, ◌∙◌, arith}
+use Rattle.std.proofs.Common.{◌≡◌, ◌⊎◌, ℕ, ◌+◌, ◌≤◌, ◌==◌, Bool, true, false, cond, List, [], ◌∷◌, ◌++◌, Option, Some, None, Result, Ok, Err, option_to_list, length, min, nat_lt, nat_le, inl, inr, refl, ap, sym, ◌∙◌, arith, suc, ◌<◌}
 use Rattle.std.proofs.lemmas.Bool.{ltb-false, le-leb, eqb-true, or_parts}
 use Rattle.gw_meaning.specs.declared.item.Item.TheVariants as items
 use Rattle.gw_meaning.specs.declared.statement.Replication.{Replication}
 use Rattle.gw_meaning.specs.declared.statement.Statement.{Statement}
 use Rattle.gw_meaning.specs.declared.statement.Numbered.{Numbered}
-use Rattle.gw_meaning.specs.Listing.{Listing, seed_at, seed_in, nth}
+use Rattle.gw_meaning.specs.Listing.{Listing, seed_at, seed_in, nth, defines}
 use Rattle.gw_lines.specs.Reading.{◌>>=◌}
 use Rattle.gw_model.specs.declared.fault.ModelFault.{ModelFault}
 use Rattle.gw_model.specs.Faults.{fault_of, is_outside}
@@ -13,9 +13,9 @@ use Rattle.gw_model.specs.Spliced.{with_splice}
 use Rattle.gw_edit.specs.declared.edit.Edit.{Edit}
 use Rattle.gw_edit.specs.declared.edit.Edit.TheVariants as edits
 use Rattle.gw_edit.specs.declared.fault.EditFault.{EditFault}
-use Rattle.gw_edit.specs.Applied.{applied, checked, unless_faulty, spelled_by, reseeded, without_number, has_replication}
-use Rattle.gw_edit.specs.Touching.{touch_of, touched_in, everywhere, seed_touching, is_touched, lines_before, splice_probes, same_seed}
-use Rattle.gw_edit.specs.InPositions.{front_of, goes_of, comes_of}
+use Rattle.gw_edit.specs.Applied.{applied, checked, unless_faulty, spelled_by, reseeded, without_number, has_replication, capacity_at, is_capacity, storage_in, storage_of, storage_place}
+use Rattle.gw_edit.specs.Touching.{touch_of, touched_in, everywhere, seed_touching, is_touched, lines_before, splice_probes, same_seed, capacity_probes}
+use Rattle.gw_edit.specs.InPositions.{front_of, goes_of, comes_of, front_at, line_there}
 use Rattle.gw_edit.proofs.Seeds.{seed_in_front, seed_reseeded, seed_without}
 use Rattle.gw_edit.proofs.Splits.{place_in}
 
@@ -94,7 +94,7 @@ pub record IsSpliced (t : Listing) (e : Edit) (u : Listing) : Type 0 where
   pub made : with_splice t place goes comes ≡ u
   pub front : front_of t e ≡ lines_before t place
   pub goes_out : goes_of t e ≡ option_to_list (gone t.lines place goes)
-  pub comes_in : comes_of e u ≡ option_to_list (come_in u.lines place comes)
+  pub comes_in : comes_of t e u ≡ option_to_list (come_in u.lines place comes)
   pub touch : (r : ℕ) → touch_of t e u r ≡ splice_probes t place (gone t.lines place goes) (come_in u.lines place comes)
 
 -- an edit that leaves the statements: where the seed is not touched it is the same one, and so are the clock steps
@@ -103,13 +103,13 @@ pub record IsLeft (t : Listing) (e : Edit) (u : Listing) : Type 0 where
   pub limit : u.limit ≡ t.limit
   pub front : front_of t e ≡ t.lines
   pub goes_out : goes_of t e ≡ []
-  pub comes_in : comes_of e u ≡ []
+  pub comes_in : comes_of t e u ≡ []
   pub seeds : (r a b : ℕ) → seed_at t r ≡ Some a → seed_at u r ≡ Some b → is_touched (touch_of t e u r) items.Seed ≡ false → b ≡ a
   pub clock : (r time : ℕ) → is_touched (touch_of t e u r) (items.Within time) ≡ false → nat_le time u.horizon ≡ nat_le time t.horizon
 
 -- other replications
 others : (t : Listing) (e : Edit) (u v : Listing) → v ≡ u → v.lines ≡ t.lines → v.limit ≡ t.limit → v.horizon ≡ t.horizon → front_of t e ≡ t.lines →
-    goes_of t e ≡ [] → comes_of e u ≡ [] →
+    goes_of t e ≡ [] → comes_of t e u ≡ [] →
     ((r a b : ℕ) → seed_at t r ≡ Some a → seed_at u r ≡ Some b → is_touched (touch_of t e u r) items.Seed ≡ false → b ≡ a) → IsLeft t e u
 others t e u v same lines limit horizon front goes_out comes_in seeds = record {
   lines = ap (λ (x : Listing). x.lines) (sym same) ∙ lines;
@@ -120,6 +120,38 @@ others t e u v same lines limit horizon front goes_out comes_in seeds = record {
   seeds = seeds;
   clock = λ r time h. ap (λ n. nat_le time n) (ap (λ (x : Listing). x.horizon) (sym same) ∙ horizon);
 }
+
+-- the storage of a name stands among the statements
+pub storage_found : (name : List ℕ) (n : ℕ) (lines : List Numbered) (place : ℕ) → storage_in name n lines ≡ Some place → (n ≤ place) × (place < n + length lines)
+storage_found name n [] place h = absurd cc
+storage_found name n (line ∷ lines) place h = go (is_capacity (defines name line)) h (storage_found name (n + 1) lines place) where
+  go : (b : Bool) → cond b (Some n) (storage_in name (n + 1) lines) ≡ Some place →
+      (storage_in name (n + 1) lines ≡ Some place → (n + 1 ≤ place) × (place < n + 1 + length lines)) → (n ≤ place) × (place < n + suc (length lines))
+  go true k rest = let same : n ≡ place = cc in (omega (arith, same), omega (arith, same))
+  go false k rest = let within = rest k in let low = within.0 in let high = within.1 in (omega (arith, low), omega (arith, high))
+
+-- another capacity
+capacity_by : (t : Listing) (name : List ℕ) (amount : ℕ) (u : Listing) (place : Option ℕ) → storage_place name t ≡ place →
+    capacity_at t name amount place ≡ Ok u → IsSpliced t (edits.Capacity name amount) u
+capacity_by t name amount u None is made = absurd cc
+capacity_by t name amount u (Some place) is made =
+    let side = other_side (is_outside 1 1000000000 amount) _ _ u made in
+    let within = storage_found name 1 t.lines place is in
+    let low = within.0 in
+    let high = within.1 in
+    record {
+      place = place;
+      goes = true;
+      comes = Some (storage_of name amount);
+      least = low;
+      last = omega (arith, high);
+      there = λ h. omega (arith, high);
+      made = checked_gives (with_splice t place true (Some (storage_of name amount))) u side.1;
+      front = ap (front_at t) is;
+      goes_out = ap (line_there t) is;
+      comes_in = ap (line_there u) is;
+      touch = λ r. ap (λ o. capacity_probes t o u) is;
+    }
 
 pub made_by : (t : Listing) (e : Edit) (u : Listing) → applied t e ≡ Ok u → IsSpliced t e u ⊎ IsLeft t e u
 made_by t (edits.Insert place text) u made =
@@ -172,7 +204,7 @@ made_by t (edits.Change place text) u made =
       comes_in = refl;
       touch = λ r. refl;
     })
-made_by t (edits.Capacity name amount) u made = absurd cc
+made_by t (edits.Capacity name amount) u made = inl (capacity_by t name amount u (storage_place name t) refl made)
 made_by t (edits.Seed number seed) u made =
     let v : Listing = record t { replications = reseeded number seed t.replications } in
     let same : v ≡ u = checked_gives v u (one_side (has_replication t number) _ (checked v) u made) in

@@ -54,7 +54,7 @@ new_parts lines place goes (Some s) least last =
     let there : nth (spliced lines place goes (Some s)) place ≡ Some line = ap (λ ls. nth ls place) parts ∙ nth_between lines back place line least last in
     parts ∙ ap (λ o. take i lines ++ (option_to_list o ++ back)) (sym there)
 
-spliced_edited : (t : Listing) (e : Edit) (u : Listing) → AreNumbered t.lines → IsSpliced t e u → IsEdited t u (front_of t e) (goes_of t e) (comes_of e u)
+spliced_edited : (t : Listing) (e : Edit) (u : Listing) → AreNumbered t.lines → IsSpliced t e u → IsEdited t u (front_of t e) (goes_of t e) (comes_of t e u)
 spliced_edited t e u numbered s =
     rw (s.front, s.goes_out, s.comes_in)
     (subst (λ (v : Listing). IsEdited t v (lines_before t s.place) (option_to_list (gone t.lines s.place s.goes))
@@ -70,7 +70,7 @@ spliced_edited t e u numbered s =
       numbered = numbered_spliced t.lines s.place s.goes s.comes s.least s.there numbered;
     }))
 
-left_edited : (t : Listing) (e : Edit) (u : Listing) → AreNumbered t.lines → IsLeft t e u → IsEdited t u (front_of t e) (goes_of t e) (comes_of e u)
+left_edited : (t : Listing) (e : Edit) (u : Listing) → AreNumbered t.lines → IsLeft t e u → IsEdited t u (front_of t e) (goes_of t e) (comes_of t e u)
 left_edited t e u numbered l =
     rw (l.front, l.goes_out, l.comes_in)
     (record {
@@ -84,7 +84,7 @@ left_edited t e u numbered l =
       numbered = subst (λ (ls : List Numbered). AreNumbered ls) (sym l.lines) numbered;
     })
 
-is_edited : (t : Listing) (e : Edit) (u : Listing) → AreNumbered t.lines → applied t e ≡ Ok u → IsEdited t u (front_of t e) (goes_of t e) (comes_of e u)
+is_edited : (t : Listing) (e : Edit) (u : Listing) → AreNumbered t.lines → applied t e ≡ Ok u → IsEdited t u (front_of t e) (goes_of t e) (comes_of t e u)
 is_edited t e u numbered made = ⊎_elim (spliced_edited t e u numbered) (left_edited t e u numbered) (made_by t e u made)
 
 -- no step reads what is touched
@@ -96,5 +96,5 @@ edit_in_positions t e u r a b n s numbered made was is there none =
     let edited = is_edited t e u numbered made in
     let touched = is_touched (touch_of t e u r) in
     let alike = none_touched touched (SameAnswer t a u b) (untouched_alike t e u r a b numbered made was is) in
-    frame_in_positions t a u b n s (front_of t e) (goes_of t e) (comes_of e u) edited.back edited.splice numbered edited.numbered there
+    frame_in_positions t a u b n s (front_of t e) (goes_of t e) (comes_of t e u) edited.back edited.splice numbered edited.numbered there
     (λ j less. All-from_recursion (SameAnswer t a u b) (reads t a j) (alike (reads t a j) (none_read touched t a n none j less)))

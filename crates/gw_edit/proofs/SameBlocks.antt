@@ -8,7 +8,7 @@ use Rattle.std.proofs.lemmas.Bool.Decides.{Decides-int_eq}
 use Rattle.std.proofs.lemmas.Slice.Eq.{bytes_eq-Decides}
 use Rattle.gw_names.specs.contracts.verb.BlockVerb.{the_type}
 use Rattle.gw_names.specs.declared.verb.BlockVerb.{BlockVerb}
-use Rattle.gw_expr.specs.Term.{Term, Constant, Named, Label, Fraction}
+use Rattle.gw_expr.specs.Term.{Term, Constant, Named, Label, Fraction, Defined}
 use Rattle.gw_meaning.specs.declared.statement.Statement.{Statement}
 use Rattle.gw_meaning.specs.declared.statement.Block.{Block}
 use Rattle.gw_meaning.specs.declared.statement.Body.{Body}
@@ -20,14 +20,16 @@ abbrev told : ℕ → ℤ → List ℕ → Term
 told zero z bytes = Constant z
 told (suc zero) z bytes = Named bytes
 told (suc (suc zero)) z bytes = Label bytes
-told (suc (suc (suc n))) (pos part) bytes = Fraction part
-told (suc (suc (suc n))) (negsuc part) bytes = Fraction part
+told (suc (suc (suc zero))) (pos part) bytes = Fraction part
+told (suc (suc (suc zero))) (negsuc part) bytes = Fraction part
+told (suc (suc (suc (suc n)))) z bytes = Defined bytes
 
 told_back : (a : Term) → told (kind_of a) (number_of a) (bytes_of a) ≡ a
 told_back (Constant z) = refl
 told_back (Named name) = refl
 told_back (Label name) = refl
 told_back (Fraction part) = refl
+told_back (Defined name) = refl
 
 term_same : (a b : Term) → same_term a b ≡ true → a ≡ b
 term_same a b h =
@@ -70,9 +72,10 @@ block_same a b h =
 
 body_same : (a b : Body) → same_body a b ≡ true → a ≡ b
 body_same (bodies.Block a) (bodies.Block b) h = ap (λ x. bodies.Block x) (block_same a b h)
+body_same (bodies.Block a) (bodies.Definition d) h = absurd cc
 body_same (bodies.Block a) (bodies.Command d) h = absurd cc
-body_same (bodies.Command c) (bodies.Block b) h = absurd cc
-body_same (bodies.Command c) (bodies.Command d) h = absurd cc
+body_same (bodies.Definition c) b h = absurd cc
+body_same (bodies.Command c) b h = absurd cc
 
 pub statement_same : (s s' : Statement) → same_statement s s' ≡ true → s.body ≡ s'.body
 statement_same s s' h = body_same s.body s'.body ((and_parts (bytes_eq s.operands s'.operands) (same_body s.body s'.body) h).1)

@@ -1,9 +1,14 @@
 -- The version that an edit makes of a version, or its refusal. (Our own.)
-use Rattle.std.specs.Prelude.{ℕ, ◌+◌, Bool, true, false, ◌==◌, List, [], ◌∷◌, ◌++◌, Option, Some, None, Result, Ok, Err, is_some, not, if◌then◌else◌, length, filter, map}
+use Rattle.std.specs.Prelude.{ℕ, ◌+◌, decimal, Bool, true, false, ◌==◌, List, [], ◌∷◌, ◌++◌, Option, Some, None, Result, Ok, Err, is_some, not, if◌then◌else◌, length, filter, map}
+use Rattle.gw_meaning.specs.declared.statement.Definition.{Definition}
+use Rattle.gw_meaning.specs.declared.statement.Definition.TheVariants as definitions
+use Rattle.gw_meaning.specs.declared.statement.Body.TheVariants as bodies
+use Rattle.gw_meaning.specs.declared.statement.Numbered.{Numbered}
 use Rattle.gw_meaning.specs.declared.statement.Statement.{Statement}
 use Rattle.gw_meaning.specs.declared.statement.Replication.{Replication}
-use Rattle.gw_meaning.specs.Listing.{Listing, seed_at}
+use Rattle.gw_meaning.specs.Listing.{Listing, defines, seed_at}
 use Rattle.gw_lines.specs.declared.fault.LineFault.{LineFault}
+use Rattle.gw_lines.specs.declared.fault.LineFault.TheVariants as faults
 use Rattle.gw_lines.specs.Reading.{◌>>=◌}
 use Rattle.gw_lines.specs.Edits.{edit_of}
 use Rattle.gw_model.specs.declared.fault.ModelFault.{ModelFault}
@@ -12,7 +17,7 @@ use Rattle.gw_model.specs.Spliced.{with_splice}
 use Rattle.gw_edit.specs.declared.edit.Edit.{Edit}
 use Rattle.gw_edit.specs.declared.edit.Edit.TheVariants as edits
 use Rattle.gw_edit.specs.declared.fault.EditFault.{EditFault}
-use Rattle.gw_edit.specs.declared.fault.EditFault.TheVariants.{NoSuchPlace, NoSuchReplication, ReplicationTwice, NoSuchStorage}
+use Rattle.gw_edit.specs.declared.fault.EditFault.TheVariants.{NoSuchPlace, BadStatement, NoSuchReplication, ReplicationTwice, NoSuchStorage}
 use Rattle.gw_edit.specs.Faults.{of_line, of_model}
 
 -- the statement that an edit's text spells
@@ -78,12 +83,41 @@ drop_made t number =
 abbrev pub horizon_made : Listing → ℕ → Result Listing EditFault
 horizon_made t time = checked (record t { horizon = time })
 
--- the version that an edit makes, or its refusal; there are no storages yet
+-- the place of the statement that defines the storage of a name, where the first of these has the place n
+abbrev pub is_capacity : Option Definition → Bool
+is_capacity (Some (definitions.Storage capacity)) = true
+is_capacity definition = false
+
+abbrev pub storage_in : List ℕ → ℕ → List Numbered → Option ℕ
+storage_in name n [] = None
+storage_in name n (line ∷ lines) = if is_capacity (defines name line) then Some n else storage_in name (n + 1) lines
+
+abbrev pub storage_place : List ℕ → Listing → Option ℕ
+storage_place name t = storage_in name 1 t.lines
+
+-- the storage of a name with so many units, in digits
+abbrev pub storage_of : List ℕ → ℕ → Statement
+storage_of name amount = record {
+  label = Some name;
+  body = bodies.Definition (definitions.Storage amount);
+  operands = decimal amount;
+}
+
+abbrev pub capacity_at : Listing → List ℕ → ℕ → Option ℕ → Result Listing EditFault
+capacity_at t name amount None = Err NoSuchStorage
+capacity_at t name amount (Some place) =
+    if is_outside 1 1000000000 amount then Err (BadStatement (faults.BadOperand 1))
+    else checked (with_splice t place true (Some (storage_of name amount)))
+
+abbrev pub capacity_made : Listing → List ℕ → ℕ → Result Listing EditFault
+capacity_made t name amount = capacity_at t name amount (storage_place name t)
+
+-- the version that an edit makes, or its refusal
 abbrev pub applied : Listing → Edit → Result Listing EditFault
 applied t (edits.Insert place text) = insert_made t place text
 applied t (edits.Delete place) = delete_made t place
 applied t (edits.Change place text) = change_made t place text
-applied t (edits.Capacity name amount) = Err NoSuchStorage
+applied t (edits.Capacity name amount) = capacity_made t name amount
 applied t (edits.Seed replication seed) = seed_made t replication seed
 applied t (edits.Replicate replication seed) = replicate_made t replication seed
 applied t (edits.Drop replication) = drop_made t replication

@@ -1,6 +1,6 @@
 -- The frame law in positions, of an edit: behind one that touches no step of a run, the run is the old one with its
 -- positions moved. (Our own.)
-use Rattle.std.specs.Prelude.{ℕ, ◌≡◌, ◌<◌, List, [], Some, None, Ok, map, option_to_list}
+use Rattle.std.specs.Prelude.{ℕ, ◌≡◌, ◌<◌, List, [], Option, Some, None, Ok, map, option_to_list}
 use Rattle.gw_meaning.specs.declared.statement.Numbered.{Numbered}
 use Rattle.gw_meaning.specs.Listing.{Listing, nth, seed_at}
 use Rattle.gw_meaning.specs.Numbers.{AreNumbered}
@@ -11,30 +11,42 @@ use Rattle.gw_frame.specs.Moved.{moved_item, moved_machine}
 use Rattle.gw_frame.specs.Positions.{position_of, shifted}
 use Rattle.gw_edit.specs.declared.edit.Edit.{Edit}
 use Rattle.gw_edit.specs.declared.edit.Edit.TheVariants as edits
-use Rattle.gw_edit.specs.Applied.{applied}
+use Rattle.gw_edit.specs.Applied.{applied, storage_place}
 use Rattle.gw_edit.specs.Touching.{touch_of, is_touched, lines_before}
+
+-- the statements in front of a place that may be none, and the one at it
+abbrev pub front_at : Listing → Option ℕ → List Numbered
+front_at t None = t.lines
+front_at t (Some place) = lines_before t place
+
+abbrev pub line_there : Listing → Option ℕ → List Numbered
+line_there t None = []
+line_there t (Some place) = option_to_list (nth t.lines place)
 
 -- the statements in front of the place that an edit is of; an edit of no place leaves them all in front
 abbrev pub front_of : Listing → Edit → List Numbered
 front_of t (edits.Insert place text) = lines_before t place
 front_of t (edits.Delete place) = lines_before t place
 front_of t (edits.Change place text) = lines_before t place
+front_of t (edits.Capacity name amount) = front_at t (storage_place name t)
 front_of t e = t.lines
 
 -- what goes out there, of the version before, and what comes in, of the edited one
 abbrev pub goes_of : Listing → Edit → List Numbered
 goes_of t (edits.Delete place) = option_to_list (nth t.lines place)
 goes_of t (edits.Change place text) = option_to_list (nth t.lines place)
+goes_of t (edits.Capacity name amount) = line_there t (storage_place name t)
 goes_of t e = []
 
-abbrev pub comes_of : Edit → Listing → List Numbered
-comes_of (edits.Insert place text) u = option_to_list (nth u.lines place)
-comes_of (edits.Change place text) u = option_to_list (nth u.lines place)
-comes_of e u = []
+abbrev pub comes_of : Listing → Edit → Listing → List Numbered
+comes_of t (edits.Insert place text) u = option_to_list (nth u.lines place)
+comes_of t (edits.Change place text) u = option_to_list (nth u.lines place)
+comes_of t (edits.Capacity name amount) u = line_there u (storage_place name t)
+comes_of t e u = []
 
 -- how positions move: behind the front they go back by a block that goes, and on by one that comes in
 abbrev pub position_move : Listing → Edit → Listing → ℕ → ℕ
-position_move t e u = shifted (front_of t e) (goes_of t e) (comes_of e u)
+position_move t e u = shifted (front_of t e) (goes_of t e) (comes_of t e u)
 
 -- an edit of t to u that touches no step below n leaves the run of n steps: it is the same state; told in positions it
 -- is the old one with its positions moved, and its steps read the old items moved

@@ -5,6 +5,7 @@ pub mod Touching
 pub mod Touched
 pub mod Rebasing
 pub mod Untouched
+pub mod Capacities
 pub mod InPositions
 pub use Rattle.gw_meaning.specs.Listing
 pub use Rattle.gw_frame.specs.Alike

@@ -8,9 +8,3 @@ use Rattle.gw_edit.specs.Touching.{is_touched}
 
 abbrev pub touched_step : List Probe → Listing → ℕ → Tape → Option ℕ
 touched_step probes t seed r = first_reading (is_touched probes) t seed r.moment
-
--- the earlier of two steps, of which either may be none
-abbrev pub earlier : Option ℕ → Option ℕ → Option ℕ
-earlier None other = other
-earlier (Some m) None = Some m
-earlier (Some m) (Some n) = Some (min m n)

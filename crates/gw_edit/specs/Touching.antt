@@ -1,24 +1,33 @@
 -- What an edit touches: a list of probes, each of items that the edited version may answer in another way than the
 -- version before. (Our own.)
-use Rattle.std.specs.Prelude.{ℕ, ◌+◌, ◌-◌, Bool, ◌==◌, true, false, ◌&&◌, ◌||◌, List, [], ◌∷◌, ◌++◌, Option, Some, None, not, if◌then◌else◌, length, filter, take, min}
+use Rattle.std.specs.Prelude.{ℕ, ℤ, ◌+◌, ◌-◌, Bool, ◌==◌, true, false, ◌&&◌, ◌||◌, List, [], ◌∷◌, ◌++◌, Option, Some, None, not, if◌then◌else◌, length, filter, take, min}
 use Rattle.std.specs.List.{list_any, filter_map}
 use Rattle.gw_meaning.specs.declared.item.Item.{Item}
 use Rattle.gw_meaning.specs.declared.item.Item.TheVariants.{After, Generates, Seed, Within}
 use Rattle.gw_meaning.specs.declared.item.Item.TheVariants as items
+use Rattle.std.specs.Ordering.{int_eq}
+use Rattle.std.specs.Str.{bytes_eq}
+use Rattle.gw_meaning.specs.declared.statement.Definition.{Definition}
+use Rattle.gw_meaning.specs.declared.statement.Definition.TheVariants as definitions
+use Rattle.gw_meaning.specs.declared.statement.Statement.{Statement}
 use Rattle.gw_meaning.specs.declared.statement.Numbered.{Numbered}
-use Rattle.gw_meaning.specs.Listing.{Listing, is_block, is_generate, seed_at, nth}
+use Rattle.gw_meaning.specs.Listing.{Listing, is_block, is_command, is_generate, definition_of, seed_at, nth}
 use Rattle.gw_meaning.specs.Reads.{is_use, is_command_use}
 use Rattle.gw_edit.specs.declared.edit.Edit.{Edit}
 use Rattle.gw_edit.specs.declared.edit.Edit.TheVariants as edits
 use Rattle.gw_edit.specs.declared.touch.Probe.{Probe}
-use Rattle.gw_edit.specs.declared.touch.Probe.TheVariants.{One, CommandsFrom, Beyond}
+use Rattle.gw_edit.specs.declared.touch.Probe.TheVariants.{One, CommandsFrom, Beyond, Amounts}
+use Rattle.gw_record.specs.Asks.{is_ask}
+use Rattle.gw_edit.specs.Applied.{storage_place}
 use Rattle.gw_edit.specs.Same.{same_statement, same_label}
 
--- whether a probe is of an item: of that one, of a command from the first one on, of a later time than the last one
+-- whether a probe is of an item: of that one, of a command from the first one on, of a later time than the last one, of
+-- an amount that two capacities answer in two ways
 abbrev pub is_probed : Probe → Item → Bool
 is_probed (One item) i = is_use item i
 is_probed (CommandsFrom first) i = is_command_use first i
 is_probed (Beyond last) i = is_use (Within last) i
+is_probed (Amounts name from to) i = is_ask name from to i
 
 -- whether an item is touched: one of the probes is of it
 abbrev pub is_touched : List Probe → Item → Bool
@@ -37,7 +46,7 @@ block_before t place = last_block None (lines_before t place)
 
 -- which command the first one from a place on is
 abbrev pub command_from : Listing → ℕ → ℕ
-command_from t place = length (filter (λ line. not (is_block line)) (lines_before t place)) + 1
+command_from t place = length (filter is_command (lines_before t place)) + 1
 
 -- the probes of a list of places that may be free
 abbrev pub given : List (Option Probe) → List Probe
@@ -68,10 +77,24 @@ block_places front line =
 abbrev pub block_probes : Listing → ℕ → Numbered → List Probe
 block_probes t place line = given (block_places (block_before t place) line)
 
--- a statement that comes in or goes out; a command touches all commands from it on
+-- a definition that comes in or goes out: what its name is asked, a storage how many units fit, and a name with a number
+-- which number that is
+abbrev pub definition_place : Option (List ℕ) → Option Definition → Option Probe
+definition_place (Some name) (Some (definitions.Storage capacity)) = Some (Amounts name None None)
+definition_place (Some name) (Some (definitions.Equ value)) = Some (One (items.Name name))
+definition_place label definition = None
+
+abbrev pub definition_probes : Numbered → List Probe
+definition_probes line = given (definition_place line.statement.label (definition_of line) ∷ [])
+
+-- a command that comes in or goes out: all commands from it on
+abbrev pub rest_probes : Listing → ℕ → Numbered → List Probe
+rest_probes t place line = if is_command line then CommandsFrom (command_from t place) ∷ [] else definition_probes line
+
+-- a statement that comes in or goes out
 abbrev pub line_probes : Listing → ℕ → Numbered → List Probe
 line_probes t place line =
-    if is_block line then block_probes t place line else CommandsFrom (command_from t place) ∷ []
+    if is_block line then block_probes t place line else rest_probes t place line
 
 -- a block that is another block: itself where the verb or the operands differ, and then the list of GENERATEs where one
 -- of the two is one
@@ -88,16 +111,36 @@ block_change old new =
     given (change_places (not (same_statement old.statement new.statement)) old new)
     ++ given (label_places (not (same_label old.statement.label new.statement.label)) old new)
 
+-- the name that two statements define, where it is one
+abbrev pub one_name : Option (List ℕ) → Option (List ℕ) → Option (List ℕ)
+one_name (Some a) (Some b) = if bytes_eq a b then Some a else None
+one_name a b = None
+
+-- whether two names stand for one number, as it is written and as it is read
+abbrev pub same_number : Statement → Statement → ℤ → ℤ → Bool
+same_number old new a b = bytes_eq old.operands new.operands && int_eq a b
+
+-- a statement that is another one, of which not both are blocks: of a storage of one name the amounts that the two
+-- capacities answer in two ways, of an EQU of one name the number where it is another one; else what the one touches that
+-- goes, and what the one that comes in
+abbrev pub other_change :
+    Option (List ℕ) → Option Definition → Option Definition → Listing → ℕ → Numbered → Numbered → List Probe
+other_change (Some name) (Some (definitions.Storage from)) (Some (definitions.Storage to)) t place old new =
+    given (Some (Amounts name (Some from) (Some to)) ∷ [])
+other_change (Some name) (Some (definitions.Equ a)) (Some (definitions.Equ b)) t place old new =
+    given (one_if (not (same_number old.statement new.statement a b)) (items.Name name) ∷ [])
+other_change name before behind t place old new = line_probes t place old ++ line_probes t place new
+
 -- of a statement, where there is one
 abbrev pub probes_of : Listing → ℕ → Option Numbered → List Probe
 probes_of t place None = []
 probes_of t place (Some line) = line_probes t place line
 
--- a splice at a place, by the statement that goes, if any, and the one that comes in, if any: of a block for a block as
--- above; else what the one touches that goes, and what the one that comes in
+-- a splice at a place, by the statement that goes, if any, and the one that comes in, if any
 abbrev pub splice_probes : Listing → ℕ → Option Numbered → Option Numbered → List Probe
 splice_probes t place (Some old) (Some new) =
-    if is_block old && is_block new then block_change old new else line_probes t place old ++ line_probes t place new
+    if is_block old && is_block new then block_change old new
+    else other_change (one_name old.statement.label new.statement.label) (definition_of old) (definition_of new) t place old new
 splice_probes t place goes comes = probes_of t place goes ++ probes_of t place comes
 
 -- two seeds, of which either may be none
@@ -120,13 +163,18 @@ abbrev pub seed_touching : ℕ → Option ℕ → Option ℕ → Touching
 seed_touching number old new =
     if same_seed old new then everywhere [] else record { probes = []; reseeded = Some number }
 
+-- a capacity: as the change of the statement that defines the storage
+abbrev pub capacity_probes : Listing → Option ℕ → Listing → List Probe
+capacity_probes t None u = []
+capacity_probes t (Some place) u = splice_probes t place (nth t.lines place) (nth u.lines place)
+
 -- an edit of a version to another: the seed of its replication, and the clock steps beyond the lesser horizon. A
--- capacity touches nothing yet, nor does a replication that comes in or goes out touch another one
+-- replication that comes in or goes out does not touch another one
 abbrev pub touching_of : Listing → Edit → Listing → Touching
 touching_of t (edits.Insert place text) u = everywhere (splice_probes t place None (nth u.lines place))
 touching_of t (edits.Delete place) u = everywhere (splice_probes t place (nth t.lines place) None)
 touching_of t (edits.Change place text) u = everywhere (splice_probes t place (nth t.lines place) (nth u.lines place))
-touching_of t (edits.Capacity name amount) u = everywhere []
+touching_of t (edits.Capacity name amount) u = everywhere (capacity_probes t (storage_place name t) u)
 touching_of t (edits.Seed number seed) u = seed_touching number (seed_at t number) (seed_at u number)
 touching_of t (edits.Replicate number seed) u = everywhere []
 touching_of t (edits.Drop number) u = everywhere []

@@ -16,7 +16,8 @@ pub enum Edit {
     /// The statement that `text` spells takes the place of another, and its id. The refusals are those of
     /// an insert.
     Change { place: u64, text: Row<u8> },
-    /// The storage `name` holds `amount`. There are no storages yet, so it is E6.
+    /// The storage `name` has `amount` units, 1 to 1,000,000,000; else it is E2, as a bad first operand. A name that no
+    /// storage has is E6.
     Capacity { name: Name, amount: u64 },
     /// The replication has another seed, 1 to 2,147,483,646. One that is not there is E4.
     Seed { replication: u64, seed: u64 },

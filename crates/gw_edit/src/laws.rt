@@ -1,4 +1,5 @@
 // The laws above the definitions of what an edit makes and touches.
+ghost use Rattle.gw_edit.specs.Capacities.{CapacityTouchesWhatDiffers};
 ghost use Rattle.gw_edit.specs.InPositions.{EditInPositions};
 ghost use Rattle.gw_edit.specs.Untouched.{UntouchedAlike};
 
@@ -6,6 +7,11 @@ ghost use Rattle.gw_edit.specs.Untouched.{UntouchedAlike};
 /// have.
 pub fn untouched()
     ensures { UntouchedAlike }
+{}
+
+/// An edit of a capacity touches only what it would change: whatever it touches, the two versions answer in two ways.
+pub fn capacity_touches_what_differs()
+    ensures { CapacityTouchesWhatDiffers }
 {}
 
 /// The frame law in positions: behind an edit that touches no step below n, the run of n steps is the same; told in

@@ -1,8 +1,10 @@
-ghost use Rattle.std.specs.Prelude.{◌≡◌, ◌-◌, length, filter, not, take, None, option_copied};
-ghost use Rattle.gw_meaning.specs.Listing.{is_block, nth};
+ghost use Rattle.std.specs.Prelude.{◌≡◌, ◌≤◌, ◌-◌, length, filter, take, IfSome, None, option_copied};
+ghost use Rattle.gw_meaning.specs.Listing.{defines, is_command, nth};
+ghost use Rattle.gw_edit.specs.Applied.{storage_in, is_capacity};
 ghost use Rattle.gw_edit.specs.Touching.{last_block};
 
-use gw_meaning::{Numbered, StatementId};
+use gw_meaning::{Definition, Numbered, StatementId};
+use gw_names::Name;
 
 /// The line at a place, from 1.
 pub fn line_at(lines: &[Numbered], place: u64) -> Option<&Numbered>
@@ -37,13 +39,37 @@ pub fn last_block(lines: &[Numbered]) -> Option<StatementId>
 
 /// The number of commands.
 pub fn count_commands(lines: &[Numbered]) -> u64
-    ensures { result ≡ length (filter (λ line. not (is_block line)) lines.now) }
+    ensures { result ≡ length (filter is_command lines.now) }
 {
     let mut count = 0;
     for line in lines {
-        if !line.is_block() {
+        if line.is_command() {
             count += 1;
         }
     }
     count
+}
+
+/// The place of the statement that defines the storage of this name, from 1.
+pub fn storage_place(lines: &[Numbered], name: &Name) -> Option<u64>
+    ensures place { result ≡ storage_in name.now 1 lines.now }
+    ensures there { IfSome result (λ place. (1 ≤ place) × (place ≤ length lines.now)) }
+{
+    let mut place = 0;
+    for line in lines {
+        place += 1;
+        if defines_storage(line, name) {
+            return Some(place);
+        }
+    }
+    None
+}
+
+fn defines_storage(line: &Numbered, name: &Name) -> bool
+    ensures { result ≡ is_capacity (defines name.now line.now) }
+{
+    match (&line.statement.label, line.definition()) {
+        (Some(label), Some(Definition::Storage { .. })) => label == name,
+        _ => false,
+    }
 }

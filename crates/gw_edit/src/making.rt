@@ -1,15 +1,19 @@
-ghost use Rattle.std.specs.Prelude.{◌≡◌, ◌≤◌, ◌+◌, length, IsTrue};
+ghost use Rattle.std.specs.Prelude.{◌≡◌, ◌≤◌, ◌+◌, length, IfOk, IsTrue};
 ghost use Rattle.gw_model.specs.Spliced.{with_splice};
-ghost use Rattle.gw_edit.specs.Applied.{applied, checked, insert_made, delete_made, change_made, seed_made, replicate_made, drop_made, horizon_made};
+ghost use Rattle.gw_edit.specs.Applied.{applied, checked, insert_made, delete_made, change_made, capacity_made, storage_of, seed_made, replicate_made, drop_made, horizon_made};
 ghost use Rattle.gw_edit.specs.Faults.{Gives};
 
 use crate::edit::Edit;
 use crate::fault::{EditFault, of_model};
+use crate::lines::storage_place;
 use crate::replications::{reseeded, with_replication, without_number};
 use crate::text::spelled_by;
-use gw_meaning::{Replication, Statement};
+use gw_lines::LineFault;
+use gw_meaning::{Body, Definition, Replication, Row, Statement};
 use gw_model::Version;
-use std::alloc::Global;
+use gw_names::Name;
+use gw_nums::put_decimal;
+use std::alloc::{AllocError, Global};
 
 /// The edited version, or the first refusal, in the order E1, E4, E5, E6, E2, E3. E7 may come in place of any.
 /// The version itself stays as it is.
@@ -21,7 +25,7 @@ pub fn apply(alloc: Global, version: &Version, edit: &Edit) -> Result<Version, E
         Edit::Insert { place, text } => insert(alloc, version, *place, text.as_slice()),
         Edit::Delete { place } => delete(alloc, version, *place),
         Edit::Change { place, text } => change(alloc, version, *place, text.as_slice()),
-        Edit::Capacity { .. } => Err(EditFault::NoSuchStorage),
+        Edit::Capacity { name, amount } => capacity(alloc, version, name, *amount),
         Edit::Seed { replication, seed } => reseed(alloc, version, *replication, *seed),
         Edit::Replicate { replication, seed } => replicate(alloc, version, *replication, *seed),
         Edit::Drop { replication } => drop_replication(alloc, version, *replication),
@@ -56,6 +60,37 @@ fn change(alloc: Global, version: &Version, place: u64, text: &[u8]) -> Result<V
     }
     let statement = spelled_by(alloc, text)?;
     splice(alloc, version, place, true, Some(statement))
+}
+
+fn capacity(
+    alloc: Global,
+    version: &Version,
+    name: &Name,
+    amount: u64,
+) -> Result<Version, EditFault>
+    ensures { Gives result (capacity_made version.now name.now amount) }
+{
+    let Some(place) = storage_place(version.lines(), name) else {
+        return Err(EditFault::NoSuchStorage);
+    };
+    if amount < 1 || 1_000_000_000 < amount {
+        return Err(EditFault::BadStatement(LineFault::BadOperand(1)));
+    }
+    let storage = storage_of(alloc, name, amount)?;
+    splice(alloc, version, place, true, Some(storage))
+}
+
+// The storage of a name with so many units.
+fn storage_of(alloc: Global, name: &Name, amount: u64) -> Result<Statement, AllocError>
+    ensures { IfOk result (λ s. s ≡ storage_of name.now amount) }
+{
+    let mut digits = Vec::new(alloc);
+    put_decimal(&mut digits, amount)?;
+    Ok(Statement {
+        label: Some(name.clone()?),
+        body: Body::Definition(Definition::Storage { capacity: amount }),
+        operands: Row::from_vec(digits),
+    })
 }
 
 fn reseed(alloc: Global, version: &Version, number: u64, seed: u64) -> Result<Version, EditFault>

@@ -73,6 +73,7 @@ fn kind(node: &Node) -> u8
         Node::Named(_) => 1,
         Node::Label(_) => 2,
         Node::Fraction(_) => 3,
+        Node::Defined(_) => 4,
     }
 }
 
@@ -82,7 +83,7 @@ fn number(node: &Node) -> i64
     match node {
         Node::Constant(value) => value.get(),
         Node::Fraction(part) => i64::from(*part),
-        Node::Named(_) | Node::Label(_) => 0,
+        Node::Named(_) | Node::Label(_) | Node::Defined(_) => 0,
     }
 }
 
@@ -90,7 +91,7 @@ fn bytes(node: &Node) -> &[u8]
     ensures { result.now ≡ bytes_of (term_of node.now) }
 {
     match node {
-        Node::Named(name) | Node::Label(name) => name.as_bytes(),
+        Node::Named(name) | Node::Label(name) | Node::Defined(name) => name.as_bytes(),
         Node::Constant(_) | Node::Fraction(_) => b"",
     }
 }

@@ -1,13 +1,14 @@
 ghost use Rattle.std.specs.Prelude.{◌≡◌, IfOk, ◌++◌, [], ◌∷◌, Some, None, option_copied};
-ghost use Rattle.gw_edit.specs.Touching.{touching_of, seed_touching, seed_probes, everywhere, given, one_if, label_if, block_places, block_before, command_from, line_probes, probes_of, splice_probes, block_change, same_seed};
+ghost use Rattle.gw_meaning.specs.Listing.{definition_of};
+ghost use Rattle.gw_edit.specs.Touching.{touching_of, capacity_probes, definition_place, other_change, one_name, same_number, rest_probes, seed_touching, seed_probes, everywhere, given, one_if, label_if, block_places, block_before, command_from, line_probes, probes_of, splice_probes, block_change, same_seed};
 
 use crate::edit::Edit;
-use crate::lines::{count_commands, last_block, line_at, lines_before};
+use crate::lines::{count_commands, last_block, line_at, lines_before, storage_place};
 use crate::same::{same_label, same_statement};
-use gw_meaning::{Item, Numbered, StatementId};
+use gw_meaning::{Body, Definition, Item, Numbered, Statement, StatementId};
 use gw_model::Version;
 use gw_names::Name;
-use gw_nums::Time;
+use gw_nums::{Time, Val};
 use std::alloc::AllocError;
 use std::marker::Model;
 
@@ -20,6 +21,13 @@ pub enum Probe {
     CommandsFrom(u64),
     /// The clock steps beyond this time.
     Beyond(Time),
+    /// The amounts asked of the storage of this name that fit one of two capacities and not the other: all, where there is
+    /// no storage before or behind.
+    Amounts {
+        name: Name,
+        from: Option<u64>,
+        to: Option<u64>,
+    },
 }
 
 /// What an edit touches: at most ten probes in every replication, and the seed in one of them, if any.
@@ -64,7 +72,8 @@ pub fn touch_of(old: &Version, edit: &Edit, new: &Version) -> Result<Touch, Allo
             new.seed(*replication),
         )),
         Edit::Horizon { .. } => Ok(alone(Some(Probe::Beyond(old.horizon().min(new.horizon()))))),
-        Edit::Capacity { .. } | Edit::Replicate { .. } | Edit::Drop { .. } => Ok(alone(None)),
+        Edit::Capacity { name, .. } => capacity_touch(old, storage_place(old.lines(), name), new),
+        Edit::Replicate { .. } | Edit::Drop { .. } => Ok(alone(None)),
     }
 }
 
@@ -158,8 +167,37 @@ fn line_probes(version: &Version, place: u64, line: &Numbered) -> Result<Probes,
     if line.is_block() {
         block_probes(block_before(version, place), line)
     } else {
+        rest_probes(version, place, line)
+    }
+}
+
+// A command or a definition that comes in or goes out.
+fn rest_probes(version: &Version, place: u64, line: &Numbered) -> Result<Probes, AllocError>
+    ensures { IfOk result (λ probes. given probes ≡ rest_probes version.now place line.now) }
+{
+    if line.is_command() {
         let commands = Probe::CommandsFrom(command_from(version, place));
         Ok(two(Some(commands), None))
+    } else {
+        Ok(two(definition_place(line)?, None))
+    }
+}
+
+// What a definition is asked of its name.
+fn definition_place(line: &Numbered) -> Result<Option<Probe>, AllocError>
+    ensures { IfOk result (λ probe. probe ≡
+        definition_place line.now.statement.label (definition_of line.now)) }
+{
+    match (&line.statement.label, line.definition()) {
+        (Some(name), Some(Definition::Storage { .. })) => Ok(Some(Probe::Amounts {
+            name: name.clone()?,
+            from: None,
+            to: None,
+        })),
+        (Some(name), Some(Definition::Equ { .. })) => {
+            Ok(Some(Probe::One(Item::Name(name.clone()?))))
+        }
+        _ => Ok(None),
     }
 }
 
@@ -206,10 +244,103 @@ fn change_touch(
     if old.is_block() && new.is_block() {
         block_change(old, new)
     } else {
-        Ok(both(
-            line_probes(version, place, old)?,
-            line_probes(version, place, new)?,
-        ))
+        other_change(version, place, old, new)
+    }
+}
+
+// A statement for another one, of which not both are blocks.
+fn other_change(
+    version: &Version,
+    place: u64,
+    old: &Numbered,
+    new: &Numbered,
+) -> Result<Touch, AllocError>
+    ensures { IfOk result (λ touch. touch ≡ everywhere
+        (other_change (one_name old.now.statement.label new.now.statement.label)
+        (definition_of old.now) (definition_of new.now) version.now place old.now new.now)) }
+{
+    let name = one_name(&old.statement.label, &new.statement.label);
+    match (name, &old.statement.body, &new.statement.body) {
+        (Some(name), Body::Definition(before), Body::Definition(behind)) => {
+            definition_change(version, place, old, new, name, before, behind)
+        }
+        _ => both_touch(version, place, old, new),
+    }
+}
+
+// A definition for another one of the same name.
+fn definition_change(
+    version: &Version,
+    place: u64,
+    old: &Numbered,
+    new: &Numbered,
+    name: &Name,
+    before: &Definition,
+    behind: &Definition,
+) -> Result<Touch, AllocError>
+    ensures { IfOk result (λ touch. touch ≡ everywhere (other_change (Some name.now) (Some before.now)
+        (Some behind.now) version.now place old.now new.now)) }
+{
+    match (before, behind) {
+        (Definition::Storage { capacity: from }, Definition::Storage { capacity: to }) => {
+            Ok(alone(Some(Probe::Amounts {
+                name: name.clone()?,
+                from: Some(*from),
+                to: Some(*to),
+            })))
+        }
+        (Definition::Equ { value: a }, Definition::Equ { value: b }) => {
+            let same = same_number(&old.statement, &new.statement, *a, *b);
+            Ok(alone(one_if(!same, Item::Name(name.clone()?))))
+        }
+        _ => both_touch(version, place, old, new),
+    }
+}
+
+// What the one touches that goes, and what the one that comes in.
+fn both_touch(
+    version: &Version,
+    place: u64,
+    old: &Numbered,
+    new: &Numbered,
+) -> Result<Touch, AllocError>
+    ensures { IfOk result (λ touch. touch ≡ everywhere
+        (line_probes version.now place old.now ++ line_probes version.now place new.now)) }
+{
+    Ok(both(
+        line_probes(version, place, old)?,
+        line_probes(version, place, new)?,
+    ))
+}
+
+// The name that two statements define, where it is one.
+fn one_name<'a>(old: &'a Option<Name>, new: &Option<Name>) -> Option<&'a Name>
+    ensures { option_copied result ≡ one_name old.now new.now }
+{
+    match (old, new) {
+        (Some(a), Some(b)) if a == b => Some(a),
+        _ => None,
+    }
+}
+
+fn same_number(old: &Statement, new: &Statement, before: Val, behind: Val) -> bool
+    ensures { result ≡ same_number old.now new.now before behind }
+{
+    old.operands.as_slice() == new.operands.as_slice() && before == behind
+}
+
+// The storage at a place, if any, with another capacity.
+fn capacity_touch(old: &Version, place: Option<u64>, new: &Version) -> Result<Touch, AllocError>
+    ensures { IfOk result (λ touch. touch ≡ everywhere (capacity_probes old.now place new.now)) }
+{
+    match place {
+        Some(place) => splice_touch(
+            old,
+            place,
+            line_at(old.lines(), place),
+            line_at(new.lines(), place),
+        ),
+        None => Ok(alone(None)),
     }
 }
 

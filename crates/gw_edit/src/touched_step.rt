@@ -2,12 +2,13 @@
 ghost use Rattle.std.specs.Prelude.{◌≡◌, ◌∷◌, [], ℕ};
 ghost use Rattle.gw_meaning.specs.Listing.{Listing};
 ghost use Rattle.gw_meaning.specs.Reads.{first_reading};
+ghost use Rattle.gw_record.specs.Asks.{earlier};
 ghost use Rattle.gw_record.specs.Tape.{Records};
 ghost use Rattle.gw_edit.specs.Touching.{touched_in, given, is_probed};
-ghost use Rattle.gw_edit.specs.Touched.{earlier, touched_step};
+ghost use Rattle.gw_edit.specs.Touched.{touched_step};
 
 use crate::touch::{Probe, Touch, seed_probe};
-use gw_record::Recorded;
+use gw_record::{Recorded, earlier};
 
 /// The first recorded step, from 0, that read something that is touched in the replication with this number, if any
 /// did. It takes no memory.
@@ -61,15 +62,6 @@ fn first_probed(run: &Recorded, probe: &Probe) -> Option<u64>
         Probe::One(item) => run.first_use(item),
         Probe::CommandsFrom(first) => run.first_command(*first),
         Probe::Beyond(last) => run.first_clock(*last),
-    }
-}
-
-fn earlier(a: Option<u64>, b: Option<u64>) -> Option<u64>
-    ensures { result ≡ earlier a b }
-{
-    match (a, b) {
-        (Some(a), Some(b)) => Some(a.min(b)),
-        (Some(a), None) => Some(a),
-        (None, b) => b,
+        Probe::Amounts { name, from, to } => run.first_ask(name, *from, *to),
     }
 }

@@ -7,7 +7,7 @@ use Rattle.std.proofs.lemmas.Slice.Eq.{bytes_eq-Decides}
 use Rattle.std.proofs.lemmas.Map.Keys.{IsDistinct-head, IsDistinct-tail}
 use Rattle.indexmap.specs.IndexSet.{insert_key}
 use Rattle.gw_names.specs.declared.key.Key.{Key}
-use Rattle.gw_names.specs.declared.key.Key.TheVariants.{Num, Named}
+use Rattle.gw_names.specs.declared.key.Key.TheVariants.{Num, Named, Defined}
 use Rattle.gw_names.specs.Keys.{key_eq, told_by}
 use Rattle.gw_entities.specs.Comings.{came, with_coming, AreOnce}
 use Rattle.gw_entities.specs.Places.{before_rest, named}
@@ -29,6 +29,11 @@ told_same (Num a) (Num b) e = cc
 told_same (Num a) (Named b) e = absurd cc
 told_same (Named a) (Num b) e = absurd cc
 told_same (Named a) (Named b) e = cc
+told_same (Num a) (Defined b) e = absurd cc
+told_same (Named a) (Defined b) e = absurd cc
+told_same (Defined a) (Num b) e = absurd cc
+told_same (Defined a) (Named b) e = absurd cc
+told_same (Defined a) (Defined b) e = cc
 
 -- equal keys are one
 pub key_same : (a b : Key) → key_eq a b ≡ true → a ≡ b

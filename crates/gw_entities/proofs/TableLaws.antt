@@ -5,6 +5,7 @@ use Rattle.std.specs.Cmp.{IsEquivalence}
 use Rattle.std.proofs.lemmas.Cmp.{on_equiv, nat_list_eq_equiv}
 use Rattle.std.proofs.lemmas.Map.Keys.{IsDistinct-head, IsDistinct-tail}
 use Rattle.std.specs.Map.{keys_of, set_value}
+use Rattle.indexmap.specs.IndexMap.{set_value_at}
 use Rattle.indexmap.specs.IndexMap.{insert_entry}
 use Rattle.gw_names.specs.declared.key.Key.{Key}
 use Rattle.gw_names.specs.Keys.{key_eq, told_by}
@@ -72,6 +73,21 @@ module _ {V : Type 0} where
       let rest = one_more es i key value (IsDistinct-tail key_eq e.0 (keys_of es) d) at in
       ap (λ b. cond b ((e.0, value) ∷ take i es) (e ∷ insert_entry key_eq (take i es) key value)) other
       ∙ ap (λ (l : List (Key × V)). e ∷ l) rest
+
+  -- a value that is written at the index of its key
+  pub set_at_is :
+      (es : List (Key × V)) (i : ℕ) (key : Key) (value was : V) → IsDistinct key_eq (keys_of es) →
+      slice_get es i ≡ Some (key, was) → set_value_at es i value ≡ with_value es key value
+  set_at_is [] i key value was d at = absurd cc
+  set_at_is (e ∷ es) zero key value was d at =
+      let same : key_eq key e.0 ≡ true =
+      ap (λ (p : Key × V). key_eq key p.0) (pair_same e key was at) ∙ key_eq_equiv.refl key in
+      sym (ap (λ b. cond b ((e.0, value) ∷ es) (e ∷ with_value es key value)) same)
+  set_at_is (e ∷ es) (suc i) key value was d at =
+      let other : key_eq key e.0 ≡ false =
+      key_eq_equiv.symm key e.0 ∙ differs e.0 es i key was (IsDistinct-head key_eq e.0 (keys_of es) d) at in
+      ap (λ (l : List (Key × V)). e ∷ l) (set_at_is es i key value was (IsDistinct-tail key_eq e.0 (keys_of es) d) at)
+      ∙ sym (ap (λ b. cond b ((e.0, value) ∷ es) (e ∷ with_value es key value)) other)
 
   -- the entries up to an index, and the one there inserted behind them
   pub copied_is :

@@ -1,4 +1,4 @@
-ghost use Rattle.std.specs.Prelude.{◌≡◌, [], length, None, slice_get, IfOk, OnOk, OnErr};
+ghost use Rattle.std.specs.Prelude.{◌≡◌, [], length, None, slice_get, IfOk, OnOk, OnErr, ◌<◌, IfSome, IsSome, Some};
 ghost use Rattle.std.specs.Option.{option_map};
 ghost use Rattle.gw_entities.specs.Tables.{value_of, with_value, HasRoom, AreApart};
 
@@ -13,6 +13,8 @@ pub struct ByKey<V: Copy> {
     map: IndexMap<Key, V>,
     // A copy of the key that room was made for, if it has no value yet.
     ready: Option<Key>,
+    // Where room was made last: an entity is looked for there first.
+    near: usize,
 }
 
 impl<V: Copy> Model for ByKey<V> {
@@ -35,6 +37,7 @@ impl<V: Copy> ByKey<V> {
         ByKey {
             map: IndexMap::new(alloc),
             ready: None,
+            near: 0,
         }
     }
 
@@ -50,7 +53,10 @@ impl<V: Copy> ByKey<V> {
     pub fn get(&self, key: &Key) -> Option<V>
         ensures { result ≡ value_of self.now.entries key.now }
     {
-        self.map.get(key).copied()
+        match self.map.get_index(self.near) {
+            Some((kept, value)) if kept == key => Some(*value),
+            _ => self.map.get(key).copied(),
+        }
     }
 
     /// Makes room for an entity: it needs no memory where the entity has a value, and never fails there. It changes no
@@ -61,12 +67,30 @@ impl<V: Copy> ByKey<V> {
         ensures unchanged { OnErr result (self.new ≡ self.old) }
         ensures entries { self.new.entries ≡ self.old.entries }
     {
-        if !self.map.contains_key(key) {
-            let copy = key.clone()?;
-            self.map.reserve(1)?;
-            self.ready = Some(copy);
+        if self.near(key).is_some() {
+            return Ok(());
+        }
+        match self.map.get_index_of(key) {
+            Some(index) => self.near = index,
+            None => {
+                let copy = key.clone()?;
+                self.map.reserve(1)?;
+                self.ready = Some(copy);
+                self.near = self.map.len();
+            }
         }
         Ok(())
+    }
+
+    // Where an entity lies, if room was made for it last and it has a value.
+    fn near(&self, key: &Key) -> Option<usize>
+        ensures there { IfSome result (λ i. (value : V) × (slice_get self.now.entries i ≡ Some (key.now, value))) }
+        ensures value { IsSome result → IsSome (value_of self.now.entries key.now) }
+    {
+        match self.map.get_index(self.near) {
+            Some((kept, _)) if kept == key => Some(self.near),
+            _ => None,
+        }
     }
 
     /// Sets the value of an entity: in place where it has one, else behind the others.
@@ -74,6 +98,10 @@ impl<V: Copy> ByKey<V> {
         requires { HasRoom self.old key.now }
         ensures { self.new.entries ≡ with_value self.old.entries key.now value }
     {
+        if let Some(index) = self.near(key) {
+            self.write(index, value);
+            return;
+        }
         match self.map.get_mut(key) {
             Some(kept) => *kept = value,
             None => match self.ready.take() {
@@ -83,6 +111,18 @@ impl<V: Copy> ByKey<V> {
                 },
                 None => unreachable!(),
             },
+        }
+    }
+
+    // Sets the value at an index, which is an entity's.
+    fn write(&mut self, index: usize, value: V)
+        requires { index < length self.old.entries }
+        ensures { (key : Key) (was : V) → slice_get self.old.entries index ≡ Some (key, was) →
+            self.new.entries ≡ with_value self.old.entries key value }
+    {
+        match self.map.get_index_mut(index) {
+            Some(kept) => *kept = value,
+            None => unreachable!(),
         }
     }
 
@@ -109,6 +149,10 @@ impl<V: Copy> ByKey<V> {
                 None => unreachable!(),
             }
         }
-        Ok(ByKey { map, ready: None })
+        Ok(ByKey {
+            map,
+            ready: None,
+            near: 0,
+        })
     }
 }

@@ -1,15 +1,17 @@
--- What an operand says, without where it lies in memory. (Manual; so far the constants, the names, the labels and the
--- fractions of the profile.)
+-- What an operand says, without where it lies in memory. (Manual; so far the constants, the names, the labels, the
+-- fractions and the names of definitions of the profile.)
 use Rattle.std.specs.Prelude.{ℕ, ℤ, List}
 use Rattle.gw_expr.specs.declared.expr.Node.{Node}
 use Rattle.gw_expr.specs.declared.expr.Node.TheVariants as node
 
--- an operand: a constant, a name in upper case, a block's label in upper case, or a fraction in millionths
+-- an operand: a constant, a name, a block's label, a fraction in millionths, or the name of a storage's definition; names
+-- and labels are in upper case
 pub data Term : Type 0 where
   Constant : ℤ → Term
   Named : List ℕ → Term
   Label : List ℕ → Term
   Fraction : ℕ → Term
+  Defined : List ℕ → Term
 
 -- what a node says
 abbrev pub term_of : Node → Term
@@ -17,3 +19,4 @@ term_of (node.Constant value) = Constant value
 term_of (node.Named name) = Named name
 term_of (node.Label name) = Label name
 term_of (node.Fraction millionths) = Fraction millionths
+term_of (node.Defined name) = Defined name

@@ -1,12 +1,12 @@
 ghost use Rattle.std.specs.Prelude.{◌≡◌, IfOk};
-ghost use Rattle.gw_expr.specs.Term.{Constant, Fraction, Label, Named, term_of};
+ghost use Rattle.gw_expr.specs.Term.{Constant, Defined, Fraction, Label, Named, term_of};
 
 use gw_names::Name;
 use gw_nums::Val;
 use std::alloc::{AllocError, Global};
 use std::marker::Model;
 
-/// An operand: one that stands for a value, a name, a block's label or a fraction.
+/// An operand: one that stands for a value, a name, a block's label, a fraction or the name of a definition.
 #[derive(Debug, Drop)]
 pub struct Expr {
     node: Node,
@@ -23,6 +23,8 @@ pub enum Node {
     Label(Name),
     /// A fraction, in millionths.
     Fraction(u32),
+    /// The name of a storage's definition.
+    Defined(Name),
 }
 
 impl Model for Expr {
@@ -70,6 +72,15 @@ impl Expr {
         }
     }
 
+    /// The operand that is the name of a storage's definition.
+    pub fn defined(name: Name) -> Expr
+        ensures { result ≡ Defined name }
+    {
+        Expr {
+            node: Node::Defined(name),
+        }
+    }
+
     /// What the operand consists of.
     pub fn node(&self) -> &Node
         ensures { term_of result.now ≡ self.now }
@@ -86,6 +97,7 @@ impl Expr {
             Node::Named(name) => Ok(Expr::named(name.clone()?)),
             Node::Label(name) => Ok(Expr::label(name.clone()?)),
             Node::Fraction(millionths) => Ok(Expr::fraction(*millionths)),
+            Node::Defined(name) => Ok(Expr::defined(name.clone()?)),
         }
     }
 }

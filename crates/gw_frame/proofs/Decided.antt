@@ -1,12 +1,12 @@
--- What is known of a move in the state in which it is decided, and of the items that are read for it: one line for each choice,
--- and no law asks further.
-use Rattle.std.proofs.Common.{◌≡◌, ℕ, zero, suc, ◌+◌, ◌<◌, ◌≤◌, nat_eq, nat_le, nat_lt, Bool, true, false, cond, not, ◌&&◌, ◌||◌, List, [], ◌∷◌, length, Option, Some, None, is_some, inr, ℤ, pos, refl, ap, sym, subst, ◌∙◌, append-nil, arith}
+-- Each evaluation decides a move of which what is said in Known holds, and reads items that name no ids but those of
+-- blocks: one line for each choice, and no law asks further.
+use Rattle.std.proofs.Common.{◌≡◌, ℕ, zero, suc, ◌+◌, ◌<◌, ◌≤◌, nat_eq, nat_le, nat_lt, Bool, true, false, cond, not, ◌&&◌, ◌||◌, List, [], ◌∷◌, length, Option, Some, None, is_some, inr, ℤ, ◌-◌, ◌++◌, append_assoc, pos, refl, ap, sym, subst, ◌∙◌, append-nil, arith}
 use Rattle.std.specs.List.{AllByRecursion}
 use Rattle.std.proofs.lemmas.Bool.{cond_both, or_parts}
 use Rattle.std.proofs.lemmas.Bool.Decides.{nat_tests}
 use Rattle.std.proofs.lemmas.List.{length-append}
 use Rattle.gw_nums.specs.Range.{is_value, is_negative, is_below, magnitude}
-use Rattle.gw_expr.specs.Term.{Term, Constant, Named, Label, Fraction}
+use Rattle.gw_expr.specs.Term.{Term, Constant, Named, Label, Fraction, Defined}
 use Rattle.gw_streams.specs.declared.stream.Stream.{Stream}
 use Rattle.gw_streams.specs.declared.stream.Stream.TheVariants as streams
 use Rattle.gw_streams.specs.Draws.{is_set, stream_at}
@@ -21,96 +21,27 @@ use Rattle.gw_meaning.specs.declared.statement.Command.TheVariants as commands
 use Rattle.gw_meaning.specs.declared.statement.Numbered.{Numbered}
 use Rattle.gw_meaning.specs.declared.transaction.Transaction.{Transaction}
 use Rattle.gw_meaning.specs.declared.moves.Arrival.{Arrival}
-use Rattle.gw_meaning.specs.declared.entity_change.Deed.{Deed}
-use Rattle.gw_meaning.specs.declared.entity_change.Deed.TheVariants as deeds
-use Rattle.gw_meaning.specs.declared.moves.Change.{Change}
-use Rattle.gw_meaning.specs.declared.moves.Change.TheVariants as changes
-use Rattle.gw_meaning.specs.declared.moves.Fate.{Fate}
-use Rattle.gw_meaning.specs.declared.moves.Fate.TheVariants as fates
 use Rattle.gw_meaning.specs.declared.moves.Move.{Move}
-use Rattle.gw_meaning.specs.declared.moves.Move.TheVariants as moves
 use Rattle.gw_meaning.specs.Listing.{Listing, block_at, label_at, generates_in, is_generate}
 use Rattle.gw_meaning.specs.Numbers.{AreNumbered}
 use Rattle.gw_names.specs.declared.key.Key.{Key}
-use Rattle.gw_entities.specs.Records.{Line}
 use Rattle.gw_entities.specs.Comings.{came}
 use Rattle.gw_meaning.specs.Entities.{facility_at, line_at}
 use Rattle.gw_meaning.specs.Machine.{Machine, raised, live, delay_at}
 use Rattle.gw_meaning.specs.Questions.{ask, result_of}
 use Rattle.gw_meaning.specs.Evaluation.{Eval, asks, number_of_draw, draw, value_prog, value_or_zero, entity_prog, units_prog, spread, millionths, sample_within, time_prog}
-use Rattle.gw_meaning.specs.Changes.{decided}
-use Rattle.gw_meaning.specs.Step.{arrival_at, arrival_in_time, arrival_prog, first_of_generate, first_of, first_arrival, with_arrival, prime_prog, arrivals_prog, first_arrivals_prog, start_prog, command_prog, generate_prog, delay_of, advance_prog, terminate_prog, is_too_many, queue_units, queue_prog, depart_units, depart_prog, seize_or_wait, seize_prog, first_number, is_owner, release_to, release_prog, go_to, lead_to, transfer_prog, block_prog, enter_prog, try_prog, attempt_prog, least_time, within_prog, clock_prog, pick_prog, scan_prog, move_prog, step_prog}
-use Rattle.gw_frame.specs.BlockIds.{IsBlockId, ActiveNames, TransactionNames, ItemNames}
+use Rattle.gw_meaning.specs.Step.{arrival_at, arrival_in_time, arrival_prog, first_of_generate, first_of, first_arrival, with_arrival, prime_prog, arrivals_prog, first_arrivals_prog, start_prog, command_prog, generate_prog, delay_of, advance_prog, terminate_prog, is_too_many, queue_units, queue_prog, depart_units, depart_prog, seize_or_wait, seize_prog, first_number, is_owner, release_to, release_prog, go_to, lead_to, transfer_prog, block_prog, meet_prog, try_prog, attempt_prog, least_time, within_prog, clock_prog, pick_prog, scan_prog, move_prog, step_prog}
+use Rattle.gw_frame.specs.BlockIds.{IsBlockId, ActiveNames, TransactionNames}
 use Rattle.gw_frame.proofs.Generates.{IsBlockIn, generates_there}
 use Rattle.gw_frame.proofs.Labels.{label_there}
 use Rattle.gw_frame.proofs.Seeds.{uses_seed, ReadsSeed, one_drew, set_first}
 use Rattle.gw_frame.proofs.Keeps.{ProgKeeps, Keeps, all_with, prog_gives, prog_ends, prog_bind, keeps_gives, keeps_ends, keeps_asks, keeps_cond, keeps_stops, keeps_unless, keeps_bind}
-
--- what comes, comes to a block of the version and not before the clock
-pub record IsComing (t : Listing) (s : Machine) (a : Arrival) : Type 0 where
-  pub ahead : s.clock ≤ a.time
-  pub id : IsBlockId t a.id
-
-abbrev pub IsComingIfAny : Listing → Machine → Option Arrival → Type 0
-IsComingIfAny t s None = Unit {0}
-IsComingIfAny t s (Some a) = IsComing t s a
-
--- the first transactions of the GENERATEs
-pub record AreFirst (t : Listing) (s : Machine) (arrivals : List Arrival) : Type 0 where
-  pub coming : AllByRecursion (IsComing t s) arrivals
-  pub few : length arrivals ≤ length t.lines
-
--- what comes to a queue and what leaves it at once stays within the limit of counts
-pub record Fits (line : Line) (units : ℕ) : Type 0 where
-  pub entries : line.entries + units ≤ 1000000000
-  pub content : line.level.content + units ≤ 1000000000
-
-abbrev pub Leaves : Line → ℕ → Bool → Type 0
-Leaves line units at_once = at_once ≡ true → line.zero_entries + units ≤ 1000000000
-
-within_limit : (n : ℕ) → is_too_many n ≡ false → n ≤ 1000000000
-within_limit n h = grind (arith, nat_tests)
-
-leaves : (line : Line) (units : ℕ) (at_once : Bool) → (at_once && is_too_many (line.zero_entries + units)) ≡ false → Leaves line units at_once
-leaves line units true h = λ is. within_limit (line.zero_entries + units) h
-leaves line units false h = λ is. absurd cc
-
--- what is known of a deed, a change, a fate and a move
-abbrev pub IsDecidedDeed : Machine → Key → Deed → Type 0
-IsDecidedDeed s key (deeds.Queue units) = Fits (line_at s.entities key) units
-IsDecidedDeed s key (deeds.Depart units at_once) = Leaves (line_at s.entities key) units at_once
-IsDecidedDeed s key deeds.Seize = is_some (facility_at s.entities key).owner ≡ false
-IsDecidedDeed s key (deeds.Release next) = next ≡ first_number (delay_at s.delays key)
-
-abbrev pub IsDecidedChange : Listing → Machine → Change → Type 0
-IsDecidedChange t s (changes.Generate next) = IsComingIfAny t s next
-IsDecidedChange t s (changes.Transfer to) = AreNumbered t.lines → IsBlockId t to
-IsDecidedChange t s (changes.Entity change) = IsDecidedDeed s change.0 change.1
-IsDecidedChange t s change = Unit {0}
-
-abbrev pub IsDecidedFate : Machine → Fate → Type 0
-IsDecidedFate s fates.Active = Unit {0}
-IsDecidedFate s (fates.Delayed until) = s.clock ≤ until
-IsDecidedFate s (fates.Destroyed count) = Unit {0}
-
-abbrev pub IsDecided : Listing → Machine → Move → Type 0
-IsDecided t s (moves.Start count arrivals) = AreFirst t s arrivals
-IsDecided t s moves.Command = Unit {0}
-IsDecided t s (moves.Enter id change fate) = IsBlockId t id × IsDecidedChange t s change × IsDecidedFate s fate
-IsDecided t s (moves.Refuse id key) = IsBlockId t id × (is_some (facility_at s.entities key).owner ≡ true)
-IsDecided t s moves.Pick = s.active ≡ None
-IsDecided t s (moves.Clock time) = (least_time s.future ≡ Some time) × (nat_le time t.horizon ≡ true)
-
--- what is known of an item that is read: where the statements have numbers of their own, it names no id but those of blocks
-abbrev pub IsRead : Listing → Machine → Item → Type 0
-IsRead t s i = AreNumbered t.lines → ActiveNames t s.active → ItemNames t i
-
--- what is known of the state after a step
-pub record IsAfter (t : Listing) (s v : Machine) : Type 0 where
-  pub move : Move
-  pub streams : List Stream
-  pub is_decided : IsDecided t s move
-  pub is : v ≡ decided s move streams
+use Rattle.gw_names.specs.declared.key.Key.TheVariants as keys
+use Rattle.gw_meaning.specs.Listing.{number_at}
+use Rattle.gw_meaning.specs.Entities.{store_at}
+use Rattle.gw_meaning.specs.Evaluation.{numbered, named}
+use Rattle.gw_meaning.specs.Step.{beside, in_use, share_of, all_shares, enter_or_wait, enter_storage, enter_prog, shares_prog, leave_for, leave_units, leave_prog}
+use Rattle.gw_frame.proofs.Known.{IsComing, IsComingIfAny, AreFirst, within_limit, leaves, does_fit, shares_of, is_storage, IsDecidedFate, IsRefused, IsDecided, IsRead, IsAfter}
 
 -- there are no more GENERATEs than statements
 few_generates : (lines : List Numbered) → length (generates_in lines) ≤ length lines
@@ -119,6 +50,9 @@ few_generates (line ∷ lines) =
     let rest = few_generates lines in
     cond_both (is_generate line) (line.number ∷ generates_in lines) (generates_in lines) (λ ns. length ns ≤ suc (length lines)) (λ _. omega arith)
     (λ _. omega arith)
+
+not_over : (content units : ℕ) → nat_lt content units ≡ false → units ≤ content
+not_over content units h = grind (arith, nat_tests)
 
 -- of a value nothing is wanted
 abbrev Whatever : {A : Type 0} → A → Type 0
@@ -146,17 +80,30 @@ module _ (t : Listing) (seed : ℕ) (s : Machine) where
   value_decides (Named name) = keeps_ends
   value_decides (Label name) = keeps_ends
   value_decides (Fraction part) = keeps_ends
+  value_decides (Defined name) = keeps_ends
 
   value_or_zero_decides : (term : Option Term) → Decides Whatever (value_or_zero s term)
   value_or_zero_decides None = keeps_gives tt
   value_or_zero_decides (Some term) = value_decides term
 
-  entity_decides : (term : Option Term) → Decides Whatever (entity_prog s term)
+  -- an entity, which is no storage
+  abbrev IsNoStorage : Key → Type 0
+  IsNoStorage key = is_storage key ≡ false
+
+  numbered_decides : (n : ℤ) → Decides IsNoStorage (numbered n)
+  numbered_decides n = keeps_stops (is_below n (pos 1)) _ (keeps_gives refl)
+
+  named_decides : (name : List ℕ) (number : Option ℤ) → Decides IsNoStorage (named name number)
+  named_decides name None = keeps_gives refl
+  named_decides name (Some n) = numbered_decides n
+
+  entity_decides : (term : Option Term) → Decides IsNoStorage (entity_prog s term)
   entity_decides None = keeps_ends
-  entity_decides (Some (Constant n)) = keeps_stops (is_below n (pos 1)) _ (keeps_gives tt)
-  entity_decides (Some (Named name)) = keeps_gives tt
+  entity_decides (Some (Constant n)) = numbered_decides n
+  entity_decides (Some (Named name)) = keeps_asks (items.Name name) refl (λ numbered named. tt) (named_decides name (number_at t name))
   entity_decides (Some (Label name)) = keeps_ends
   entity_decides (Some (Fraction part)) = keeps_ends
+  entity_decides (Some (Defined name)) = keeps_ends
 
   units_decides : (term : Option Term) → Decides Whatever (units_prog s term)
   units_decides None = keeps_gives tt
@@ -292,22 +239,86 @@ module _ (t : Listing) (seed : ℕ) (s : Machine) where
   depart_decides x id entity units named = keeps_bind (entity_decides entity) (λ key h. keeps_bind (units_decides units)
       (λ n k. depart_units_decides id key (came s.entities.comings key x.number) n named))
 
-  seize_or_wait_decides : (id : ℕ) (key : Key) (owned : Bool) → is_some (facility_at s.entities key).owner ≡ owned → IsBlockId t id →
+  refused_by_owner : (key : Key) → IsNoStorage key → is_some (facility_at s.entities key).owner ≡ true → IsRefused t s key 1
+  refused_by_owner (keys.Num number) none owned = owned
+  refused_by_owner (keys.Named name) none owned = owned
+  refused_by_owner (keys.Defined name) none owned = absurd cc
+
+  seize_or_wait_decides : (id : ℕ) (key : Key) (owned : Bool) → IsNoStorage key → is_some (facility_at s.entities key).owner ≡ owned → IsBlockId t id →
       Decides (IsDecided t s) (seize_or_wait id key owned)
-  seize_or_wait_decides id key true is named = keeps_gives (named, is)
-  seize_or_wait_decides id key false is named = keeps_gives (named, is, tt)
+  seize_or_wait_decides id key true none is named = keeps_gives (named, refused_by_owner key none is)
+  seize_or_wait_decides id key false none is named = keeps_gives (named, (none, is), tt)
 
   seize_decides : (id : ℕ) (entity : Option Term) → IsBlockId t id → Decides (IsDecided t s) (seize_prog s id entity)
   seize_decides id entity named = keeps_bind (entity_decides entity)
-      (λ key h. seize_or_wait_decides id key (is_some (facility_at s.entities key).owner) refl named)
+      (λ key h. seize_or_wait_decides id key (is_some (facility_at s.entities key).owner) h refl named)
 
-  release_to_decides : (id : ℕ) (key : Key) (owns : Bool) → IsBlockId t id →
+  release_to_decides : (id : ℕ) (key : Key) (owns : Bool) → IsNoStorage key → IsBlockId t id →
       Decides (IsDecided t s) (release_to id key owns (first_number (delay_at s.delays key)))
-  release_to_decides id key owns named = keeps_stops (not owns) _ (keeps_gives (named, refl, tt))
+  release_to_decides id key owns none named = keeps_stops (not owns) _ (keeps_gives (named, (none, refl), tt))
 
   release_decides : (x : Transaction) (id : ℕ) (entity : Option Term) → IsBlockId t id → Decides (IsDecided t s) (release_prog s x id entity)
   release_decides x id entity named = keeps_bind (entity_decides entity)
-      (λ key h. release_to_decides id key (is_owner (facility_at s.entities key).owner x.number) named)
+      (λ key h. release_to_decides id key (is_owner (facility_at s.entities key).owner x.number) h named)
+
+  -- ENTER and LEAVE
+  enter_or_wait_decides : (id : ℕ) (name : List ℕ) (units : ℕ) (fits : Bool) →
+      does_fit t name (beside units (store_at s.entities (keys.Defined name)).level.content) ≡ fits → IsBlockId t id →
+      Decides (IsDecided t s) (enter_or_wait id (keys.Defined name) (store_at s.entities (keys.Defined name)) units fits)
+  enter_or_wait_decides id name units true is named =
+      keeps_unless (is_too_many ((store_at s.entities (keys.Defined name)).entries + units)) _
+      (λ h. keeps_gives (named, record { name = name; named = refl; fits = is; entries = within_limit _ h }, tt))
+  enter_or_wait_decides id name units false is named = keeps_gives (named, is)
+
+  enter_storage_decides : (id : ℕ) (name : List ℕ) (units : ℕ) (large : Bool) → IsBlockId t id →
+      Decides (IsDecided t s) (enter_storage id name (store_at s.entities (keys.Defined name)) units large)
+  enter_storage_decides id name units large named =
+      keeps_stops (not large) _
+      (keeps_asks (items.Fits name (beside units (store_at s.entities (keys.Defined name)).level.content)) refl (λ numbered there. tt)
+      (enter_or_wait_decides id name units _ refl named))
+
+  enter_decides : (id : ℕ) (storage units : Option Term) → IsBlockId t id → Decides (IsDecided t s) (enter_prog s id storage units)
+  enter_decides id (Some (Defined name)) units named = keeps_bind (units_decides units)
+      (λ n h. keeps_asks (items.Fits name n) refl (λ numbered there. tt) (enter_storage_decides id name n _ named))
+  enter_decides id (Some (Constant n)) units named = keeps_ends
+  enter_decides id (Some (Named name)) units named = keeps_ends
+  enter_decides id (Some (Label name)) units named = keeps_ends
+  enter_decides id (Some (Fraction part)) units named = keeps_ends
+  enter_decides id None units named = keeps_ends
+
+  shares_decide : (name : List ℕ) (content : ℕ) (before : List (Option ℕ)) (chain : List Transaction) →
+      Decides (λ shares. shares ≡ before ++ shares_of t name content chain) (shares_prog name content before chain)
+  shares_decide name content before [] = keeps_gives (sym (append-nil before))
+  shares_decide name content before (x ∷ xs) =
+      let fits = does_fit t name (beside x.asked content) in
+      let rest = shares_of t name (in_use content x.asked fits) xs in
+      keeps_asks (items.Fits name (beside x.asked content)) refl (λ numbered there. tt)
+      (subst (λ ys. Decides (λ shares. shares ≡ ys) (shares_prog name (in_use content x.asked fits) (before ++ share_of x.asked fits ∷ []) xs))
+      (append_assoc before (share_of x.asked fits ∷ []) rest)
+      (shares_decide name (in_use content x.asked fits) (before ++ share_of x.asked fits ∷ []) xs))
+
+  leave_for_decides : (id : ℕ) (name : List ℕ) (units : ℕ) (shares : List (Option ℕ)) → units ≤ (store_at s.entities (keys.Defined name)).level.content →
+      shares ≡ shares_of t name ((store_at s.entities (keys.Defined name)).level.content - units) (delay_at s.delays (keys.Defined name)) → IsBlockId t id →
+      Decides (IsDecided t s) (leave_for id (keys.Defined name) (store_at s.entities (keys.Defined name)) units shares)
+  leave_for_decides id name units shares some shared named =
+      keeps_unless (is_too_many ((store_at s.entities (keys.Defined name)).entries + all_shares shares)) _
+      (λ h. keeps_gives (named, record { name = name; named = refl; in_use = some; shared = shared; entries = within_limit _ h }, tt))
+
+  leave_units_decides : (id : ℕ) (name : List ℕ) (units : ℕ) → IsBlockId t id →
+      Decides (IsDecided t s) (leave_units s id name (store_at s.entities (keys.Defined name)) units)
+  leave_units_decides id name units named =
+      let content = (store_at s.entities (keys.Defined name)).level.content in
+      keeps_unless (nat_lt content units) _
+      (λ h. keeps_bind (shares_decide name (content - units) [] (delay_at s.delays (keys.Defined name)))
+      (λ shares is. leave_for_decides id name units shares (not_over content units h) is named))
+
+  leave_decides : (id : ℕ) (storage units : Option Term) → IsBlockId t id → Decides (IsDecided t s) (leave_prog s id storage units)
+  leave_decides id (Some (Defined name)) units named = keeps_bind (units_decides units) (λ n h. leave_units_decides id name n named)
+  leave_decides id (Some (Constant n)) units named = keeps_ends
+  leave_decides id (Some (Named name)) units named = keeps_ends
+  leave_decides id (Some (Label name)) units named = keeps_ends
+  leave_decides id (Some (Fraction part)) units named = keeps_ends
+  leave_decides id None units named = keeps_ends
 
   go_to_decides : (id : ℕ) (name : List ℕ) (to : Option ℕ) → label_at t name ≡ to → IsBlockId t id → Decides (IsDecided t s) (go_to id to)
   go_to_decides id name None is named = keeps_ends
@@ -319,6 +330,7 @@ module _ (t : Listing) (seed : ℕ) (s : Machine) where
   lead_to_decides id (Some (Constant n)) named = keeps_gives (named, tt, tt)
   lead_to_decides id (Some (Named name)) named = keeps_gives (named, tt, tt)
   lead_to_decides id (Some (Fraction part)) named = keeps_gives (named, tt, tt)
+  lead_to_decides id (Some (Defined name)) named = keeps_gives (named, tt, tt)
   lead_to_decides id None named = keeps_gives (named, tt, tt)
 
   transfer_decides : (id : ℕ) (fraction near far : Option Term) → IsBlockId t id → Decides (IsDecided t s) (transfer_prog id fraction near far)
@@ -327,6 +339,7 @@ module _ (t : Listing) (seed : ℕ) (s : Machine) where
   transfer_decides id (Some (Constant n)) near far named = lead_to_decides id near named
   transfer_decides id (Some (Named name)) near far named = lead_to_decides id near named
   transfer_decides id (Some (Label name)) near far named = lead_to_decides id near named
+  transfer_decides id (Some (Defined name)) near far named = lead_to_decides id near named
   transfer_decides id None near far named = lead_to_decides id near named
 
   block_decides : (x : Transaction) (id : ℕ) (b : Block) (verb : BlockVerb) → IsBlockId t id → Decides (IsDecided t s) (block_prog s x id b verb)
@@ -337,18 +350,20 @@ module _ (t : Listing) (seed : ℕ) (s : Machine) where
   block_decides x id b blocks.Depart named = depart_decides x id (operand b A) (operand b B) named
   block_decides x id b blocks.Seize named = seize_decides id (operand b A) named
   block_decides x id b blocks.Release named = release_decides x id (operand b A) named
+  block_decides x id b blocks.Enter named = enter_decides id (operand b A) (operand b B) named
+  block_decides x id b blocks.Leave named = leave_decides id (operand b A) (operand b B) named
   block_decides x id b blocks.Transfer named = transfer_decides id (operand b A) (operand b B) (operand b C) named
   block_decides x id b verb named = keeps_ends
 
   -- attempts: an id that is no block ends the run
   try_block : (x : Transaction) (id : ℕ) (block : Option Block) → block_at t id ≡ block →
-      Decides (IsDecided t s) (asks (items.Block id) (enter_prog s x id))
+      Decides (IsDecided t s) (asks (items.Block id) (meet_prog s x id))
   try_block x id None is =
-      record { from = λ streams. record { runs = λ d there. absurd (let ends = ap (λ o. result_of t seed (enter_prog s x id o streams)) is in cc) } }
+      record { from = λ streams. record { runs = λ d there. absurd (let ends = ap (λ o. result_of t seed (meet_prog s x id o streams)) is in cc) } }
   try_block x id (Some block) is =
       let there : IsBlockId t id = inr (block, is) in
       keeps_asks (items.Block id) refl (λ numbered named. there)
-      (subst (λ o. Decides (IsDecided t s) (enter_prog s x id o)) (sym is) (block_decides x id block block.verb there))
+      (subst (λ o. Decides (IsDecided t s) (meet_prog s x id o)) (sym is) (block_decides x id block block.verb there))
 
   try_decides : (x : Transaction) (id : Option ℕ) → Decides (IsDecided t s) (try_prog s x id)
   try_decides x None = keeps_ends

@@ -1,10 +1,11 @@
 -- The delay chains of a state: under a move, and where each of them has a property.
-use Rattle.std.proofs.Common.{◌≡◌, ℕ, Bool, true, false, cond, List, [], ◌∷◌, ◌++◌, map, Option, Some, None, option_map, unwrap_or, refl, ap, ap₂, sym, ◌∙◌}
+use Rattle.std.proofs.Common.{◌≡◌, ℕ, Bool, true, false, cond, List, [], ◌∷◌, ◌++◌, map, Option, Some, None, option_map, unwrap_or, refl, ap, sym, ◌∙◌}
 use Rattle.std.proofs.lemmas.List.{map-append}
 use Rattle.std.specs.List.{AllByRecursion}
 use Rattle.gw_names.specs.declared.key.Key.{Key}
 use Rattle.gw_names.specs.Keys.{key_eq}
 use Rattle.gw_entities.specs.Tables.{value_of, with_value}
+use Rattle.gw_entities.proofs.TableLaws.{key_eq_equiv}
 use Rattle.gw_meaning.specs.declared.transaction.Transaction.{Transaction}
 use Rattle.gw_meaning.specs.Machine.{delay_at, waiting}
 use Rattle.gw_frame.specs.Moved.{moved_transaction, moved_delay}
@@ -34,6 +35,14 @@ module _ (move : ℕ → ℕ) where
   pub waiting_moved : (ds : List (Key × List Transaction)) → waiting (map (moved_delay move) ds) ≡ map (moved_transaction move) (waiting ds)
   waiting_moved [] = refl
   waiting_moved (d ∷ ds) = ap (λ xs. map (moved_transaction move) d.1 ++ xs) (waiting_moved ds) ∙ sym (map-append (moved_transaction move) d.1 (waiting ds))
+
+-- the chain that was set
+pub delay_set : (ds : List (Key × List Transaction)) (key : Key) (xs : List Transaction) → delay_at (with_value ds key xs) key ≡ xs
+delay_set [] key xs = rw (key_eq_equiv.refl key) refl
+delay_set (d ∷ ds) key xs = go (key_eq key d.0) refl (delay_set ds key xs) where
+  go : (b : Bool) → key_eq key d.0 ≡ b → delay_at (with_value ds key xs) key ≡ xs → delay_at (cond b ((d.0, xs) ∷ ds) (d ∷ with_value ds key xs)) key ≡ xs
+  go true is rest = rw is refl
+  go false is rest = rw is rest
 
 -- where each chain has a property, so has the one of a key, and so have all with another one in its place
 module _ (P : List Transaction → Type 0) where

@@ -29,6 +29,7 @@ all_behind line lines (n ∷ ns) apart h = ((h.0.0, found_behind line lines n h.
 generate_there : (line : Numbered) (lines : List Numbered) (body : Body) → line.statement.body ≡ body → is_generate_body body ≡ true →
     IsBlockIn (line ∷ lines) line.number
 generate_there line lines (bodies.Block block) is there = (block, rw (eq-eqb line.number line.number refl) (ap block_of_body is))
+generate_there line lines (bodies.Definition definition) is there = absurd cc
 generate_there line lines (bodies.Command command) is there = absurd cc
 
 pub generates_there : (lines : List Numbered) → AreNumbered lines → AllByRecursion (IsBlockIn lines) (generates_in lines)

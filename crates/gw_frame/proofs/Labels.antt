@@ -11,6 +11,7 @@ use Rattle.gw_frame.proofs.Generates.{IsBlockIn, found_behind}
 block_there : (line : Numbered) (lines : List Numbered) (body : Body) → line.statement.body ≡ body → is_some (block_of_body body) ≡ true →
     IsBlockIn (line ∷ lines) line.number
 block_there line lines (bodies.Block block) is there = (block, rw (eq-eqb line.number line.number refl) (ap block_of_body is))
+block_there line lines (bodies.Definition definition) is there = absurd cc
 block_there line lines (bodies.Command command) is there = absurd cc
 
 pub label_there : (lines : List Numbered) (name : List ℕ) (id : ℕ) → AreNumbered lines → labelled_in name lines ≡ Some id → IsBlockIn lines id

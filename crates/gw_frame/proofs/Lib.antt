@@ -12,6 +12,7 @@ pub mod Seeds
 pub mod Keeps
 pub mod Generates
 pub mod Labels
+pub mod Known
 pub mod Decided
 pub mod Moves
 pub mod Running

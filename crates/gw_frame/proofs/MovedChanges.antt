@@ -16,8 +16,8 @@ use Rattle.gw_meaning.specs.declared.moves.Move.{Move}
 use Rattle.gw_meaning.specs.declared.moves.Move.TheVariants as moves
 use Rattle.gw_meaning.specs.Entities.{Entities, touched}
 use Rattle.gw_meaning.specs.Machine.{Machine, raised, delay_at}
-use Rattle.gw_meaning.specs.Changes.{crossed, due, Making, making, made, maybe_made, all_made, making_of, with_making, newcomer, placed, started, arrived, lined_up, marked, fated, let_in, first_let_in, admitted, changed, entering, bound, refused, picked, advanced, with_active, moved, decided}
-use Rattle.gw_frame.specs.Moved.{IsMove, moved_transaction, moved_event, moved_delay, moved_count, moved_machine}
+use Rattle.gw_meaning.specs.Changes.{crossed, due, Making, making, made, maybe_made, all_made, making_of, with_making, newcomer, placed, started, arrived, lined_up, marked, fated, let_in, one_let_in, some_let_in, admitted, changed, entering, bound, refused, picked, advanced, with_active, moved, decided}
+use Rattle.gw_frame.specs.Moved.{IsMove, moved_transaction, moved_event, moved_count, moved_machine}
 use Rattle.gw_frame.proofs.MovedLists.{made_one_moved, crossed_moved, lined_up_moved, all_lined_up_moved, due_moved, later_moved}
 use Rattle.gw_frame.proofs.Delays.{delay_at_moved, with_delay_moved}
 
@@ -35,7 +35,7 @@ module _ (move : ℕ → ℕ) where
   moved_move (moves.Start count arrivals) = moves.Start count (map moved_arrival arrivals)
   moved_move moves.Command = moves.Command
   moved_move (moves.Enter id change fate) = moves.Enter (move id) (moved_change change) fate
-  moved_move (moves.Refuse id key) = moves.Refuse (move id) key
+  moved_move (moves.Refuse id key units) = moves.Refuse (move id) key units
   moved_move moves.Pick = moves.Pick
   moved_move (moves.Clock time) = moves.Clock time
 
@@ -88,14 +88,31 @@ module _ (move : ℕ → ℕ) (is : IsMove move) where
   let_in_moved x None s = rw (lined_up_moved move x s.current) refl
   let_in_moved x (Some id) s = rw (lined_up_moved move (placed x id) s.current, crossed_moved move is fates.Active s.counts x.current id) refl
 
-  first_let_in_moved : (key : Key) (chain : List Transaction) (s : Machine) →
-      first_let_in key (map (moved_transaction move) chain) (moved_machine move s) ≡ moved_machine move (first_let_in key chain s)
-  first_let_in_moved key [] s = refl
-  first_let_in_moved key (x ∷ xs) s =
-      rw (with_delay_moved move s.delays key xs) (let_in_moved x x.destination (record s { delays = with_value s.delays key xs }))
+  one_let_in_moved : (key : Key) (x : Transaction) (others : List Transaction) (s : Machine) →
+      one_let_in key (moved_transaction move x) (map (moved_transaction move) others) (moved_machine move s) ≡ moved_machine move (one_let_in key x others s)
+  one_let_in_moved key x others s =
+      rw (with_delay_moved move s.delays key others) (let_in_moved x x.destination (record s { delays = with_value s.delays key others }))
+
+  some_let_in_moved : (key : Key) (shares : List (Option ℕ)) (passed chain : List Transaction) (s : Machine) →
+      some_let_in key shares (map (moved_transaction move) passed) (map (moved_transaction move) chain) (moved_machine move s) ≡
+      moved_machine move (some_let_in key shares passed chain s)
+  some_let_in_moved key [] passed chain s = refl
+  some_let_in_moved key (share ∷ shares) passed [] s = refl
+  some_let_in_moved key (None ∷ shares) passed (x ∷ xs) s =
+      ap (λ ys. some_let_in key shares ys (map (moved_transaction move) xs) (moved_machine move s)) (sym (map-append (moved_transaction move) passed (x ∷ []))) ∙
+      some_let_in_moved key shares (passed ++ x ∷ []) xs s
+  some_let_in_moved key (Some units ∷ shares) passed (x ∷ xs) s =
+      let others = map-append (moved_transaction move) passed xs in
+      let next = one_let_in_moved key x (passed ++ xs) s in
+      ap (some_let_in key shares (map (moved_transaction move) passed) (map (moved_transaction move) xs))
+      (ap (λ ys. one_let_in key (moved_transaction move x) ys (moved_machine move s)) (sym others) ∙ next) ∙
+      some_let_in_moved key shares passed xs (one_let_in key x (passed ++ xs) s)
 
   admitted_moved : (key : Key) (deed : Deed) (s : Machine) → admitted key deed (moved_machine move s) ≡ moved_machine move (admitted key deed s)
-  admitted_moved key (deeds.Release next) s = rw (delay_at_moved move s.delays key) (first_let_in_moved key (delay_at s.delays key) s)
+  admitted_moved key (deeds.Release next) s =
+      rw (delay_at_moved move s.delays key) (some_let_in_moved key (Some 1 ∷ []) [] (delay_at s.delays key) s)
+  admitted_moved key (deeds.Leave units shares) s =
+      rw (delay_at_moved move s.delays key) (some_let_in_moved key shares [] (delay_at s.delays key) s)
   admitted_moved key deed s = refl
 
   changed_moved : (change : Change) (s : Machine) → changed (moved_change move change) (moved_machine move s) ≡ moved_machine move (changed change s)
@@ -123,13 +140,13 @@ module _ (move : ℕ → ℕ) (is : IsMove move) where
       )
       (changed_moved change (fated fate y there))
 
-  refused_moved : (s : Machine) (x : Transaction) (id : ℕ) (key : Key) →
-      refused (moved_machine move s) (moved_transaction move x) (move id) key ≡ moved_machine move (refused s x id key)
-  refused_moved s x id key =
+  refused_moved : (s : Machine) (x : Transaction) (id : ℕ) (key : Key) (units : ℕ) →
+      refused (moved_machine move s) (moved_transaction move x) (move id) key units ≡ moved_machine move (refused s x id key units)
+  refused_moved s x id key units =
       rw (
         delay_at_moved move s.delays key,
-        lined_up_moved move (bound x id) (delay_at s.delays key),
-        with_delay_moved move s.delays key (lined_up (bound x id) (delay_at s.delays key)),
+        lined_up_moved move (bound x id units) (delay_at s.delays key),
+        with_delay_moved move s.delays key (lined_up (bound x id units) (delay_at s.delays key)),
       )
       refl
 
@@ -150,7 +167,7 @@ module _ (move : ℕ → ℕ) (is : IsMove move) where
   moved_moved s (moves.Start count arrivals) = started_moved s count arrivals
   moved_moved s moves.Command = refl
   moved_moved s (moves.Enter id change fate) = with_active_moved s s.active _ _ (λ x. entering_moved s x id change fate)
-  moved_moved s (moves.Refuse id key) = with_active_moved s s.active _ _ (λ x. refused_moved s x id key)
+  moved_moved s (moves.Refuse id key units) = with_active_moved s s.active _ _ (λ x. refused_moved s x id key units)
   moved_moved s moves.Pick = picked_moved s s.current
   moved_moved s (moves.Clock time) = advanced_moved s time
 

@@ -1,8 +1,8 @@
 -- The step from a moved state follows the step from the state: one line for each choice.
-use Rattle.std.proofs.Common.{◌≡◌, ℕ, zero, suc, nat_eq, nat_le, nat_lt, ◌+◌, Bool, true, false, cond, not, ◌&&◌, ◌||◌, List, [], ◌∷◌, map, Option, Some, None, is_some, option_map, ℤ, pos, refl, ap, sym, ◌∙◌}
+use Rattle.std.proofs.Common.{◌≡◌, ℕ, zero, suc, nat_eq, nat_le, nat_lt, ◌+◌, Bool, true, false, cond, not, ◌&&◌, ◌||◌, List, [], ◌∷◌, ◌++◌, ◌-◌, map, Option, Some, None, is_some, option_map, ℤ, pos, refl, ap, sym, ◌∙◌}
 use Rattle.std.proofs.lemmas.List.{map-append, length-map}
 use Rattle.gw_nums.specs.Range.{is_value, is_negative, is_below, magnitude}
-use Rattle.gw_expr.specs.Term.{Term, Constant, Named, Label, Fraction}
+use Rattle.gw_expr.specs.Term.{Term, Constant, Named, Label, Fraction, Defined}
 use Rattle.gw_streams.specs.declared.stream.Stream.{Stream}
 use Rattle.gw_streams.specs.declared.stream.Stream.TheVariants as streams
 use Rattle.gw_streams.specs.Draws.{stream_at}
@@ -17,12 +17,13 @@ use Rattle.gw_meaning.specs.declared.transaction.Transaction.{Transaction}
 use Rattle.gw_meaning.specs.declared.transaction.Event.{Event}
 use Rattle.gw_meaning.specs.declared.moves.Arrival.{Arrival}
 use Rattle.gw_names.specs.declared.key.Key.{Key}
-use Rattle.gw_entities.specs.Records.{Line}
+use Rattle.gw_names.specs.declared.key.Key.TheVariants as keys
+use Rattle.gw_entities.specs.Records.{Line, Store}
 use Rattle.gw_entities.specs.Comings.{came}
-use Rattle.gw_meaning.specs.Entities.{facility_at, line_at}
+use Rattle.gw_meaning.specs.Entities.{facility_at, line_at, store_at}
 use Rattle.gw_meaning.specs.Machine.{Machine, raised, live, number_of_active, count_at, delay_at, waiting}
-use Rattle.gw_meaning.specs.Evaluation.{number_of_draw, draw, value_prog, value_or_zero, entity_prog, units_prog, in_range, spread, millionths, sample_within, time_prog}
-use Rattle.gw_meaning.specs.Step.{arrival_at, arrival_in_time, arrival_within, arrival_prog, first_of_generate, first_of, first_arrival, with_arrival, arrivals_prog, first_arrivals_prog, start_prog, command_prog, generate_prog, advance_prog, terminate_prog, is_too_many, queue_units, queue_prog, depart_units, depart_prog, seize_or_wait, seize_prog, first_number, is_owner, release_to, release_prog, go_to, lead_to, transfer_prog, block_prog, enter_prog, try_prog, attempt_prog, sooner, least_time, within_prog, clock_prog, pick_prog, scan_prog, move_prog, step_prog, run_prog}
+use Rattle.gw_meaning.specs.Evaluation.{number_of_draw, draw, value_prog, value_or_zero, numbered, named, entity_prog, units_prog, in_range, spread, millionths, sample_within, time_prog}
+use Rattle.gw_meaning.specs.Step.{arrival_at, arrival_in_time, arrival_within, arrival_prog, first_of_generate, first_of, first_arrival, with_arrival, arrivals_prog, first_arrivals_prog, start_prog, command_prog, generate_prog, advance_prog, terminate_prog, is_too_many, queue_units, queue_prog, depart_units, depart_prog, seize_or_wait, seize_prog, first_number, is_owner, release_to, release_prog, beside, in_use, share_of, all_shares, enter_or_wait, enter_storage, enter_prog, shares_prog, leave_for, leave_units, leave_prog, go_to, lead_to, transfer_prog, block_prog, meet_prog, try_prog, attempt_prog, sooner, least_time, within_prog, clock_prog, pick_prog, scan_prog, move_prog, step_prog, run_prog}
 use Rattle.gw_frame.specs.Moved.{IsMove, moved_transaction, moved_event, moved_machine}
 use Rattle.gw_frame.proofs.Follows.{ProgFollows, prog_gives, prog_asks, prog_bind, Follows, follows_gives, follows_ends, follows_asks, follows_cond, follows_stops, follows_bind}
 use Rattle.gw_frame.proofs.MovedLists.{count_at_moved, none_moved}
@@ -49,15 +50,24 @@ module _ (move : ℕ → ℕ) (is : IsMove move) where
   value_follows s (Named name) = follows_ends
   value_follows s (Label name) = follows_ends
   value_follows s (Fraction part) = follows_ends
+  value_follows s (Defined name) = follows_ends
 
   value_or_zero_follows : (s : Machine) (term : Option Term) → Follows move same (value_or_zero s term) (value_or_zero (moved_machine move s) term)
   value_or_zero_follows s None = follows_gives refl
   value_or_zero_follows s (Some term) = value_follows s term
 
+  numbered_follows : (n : ℤ) → Follows move same (numbered n) (numbered n)
+  numbered_follows n = follows_stops (is_below n (pos 1)) _ (follows_gives refl)
+
+  named_follows : (name : List ℕ) (number : Option ℤ) → Follows move same (named name number) (named name number)
+  named_follows name None = follows_gives refl
+  named_follows name (Some n) = numbered_follows n
+
   entity_follows : (s : Machine) (term : Option Term) → Follows move same (entity_prog s term) (entity_prog (moved_machine move s) term)
   entity_follows s None = follows_ends
-  entity_follows s (Some (Constant n)) = follows_stops (is_below n (pos 1)) _ (follows_gives refl)
-  entity_follows s (Some (Named name)) = follows_gives refl
+  entity_follows s (Some (Constant n)) = numbered_follows n
+  entity_follows s (Some (Named name)) = follows_asks (items.Name name) (named_follows name)
+  entity_follows s (Some (Defined name)) = follows_ends
   entity_follows s (Some (Label name)) = follows_ends
   entity_follows s (Some (Fraction part)) = follows_ends
 
@@ -227,6 +237,56 @@ module _ (move : ℕ → ℕ) (is : IsMove move) where
       (λ key. rw (next_moved s key)
       (release_to_follows id key (is_owner (facility_at s.entities key).owner x.number) (first_number (delay_at s.delays key))))
 
+  -- ENTER and LEAVE
+  enter_or_wait_follows : (id : ℕ) (key : Key) (store : Store) (units : ℕ) (fits : Bool) →
+      Follows move (moved_move move) (enter_or_wait id key store units fits) (enter_or_wait (move id) key store units fits)
+  enter_or_wait_follows id key store units true = follows_stops (is_too_many (store.entries + units)) _ (follows_gives refl)
+  enter_or_wait_follows id key store units false = follows_gives refl
+
+  enter_storage_follows : (id : ℕ) (name : List ℕ) (store : Store) (units : ℕ) (large : Bool) →
+      Follows move (moved_move move) (enter_storage id name store units large) (enter_storage (move id) name store units large)
+  enter_storage_follows id name store units large = follows_stops (not large) _
+      (follows_asks (items.Fits name (beside units store.level.content)) (enter_or_wait_follows id (keys.Defined name) store units))
+
+  enter_follows : (s : Machine) (id : ℕ) (storage units : Option Term) →
+      Follows move (moved_move move) (enter_prog s id storage units) (enter_prog (moved_machine move s) (move id) storage units)
+  enter_follows s id (Some (Defined name)) units = follows_bind _ (units_follows s units)
+      (λ n. follows_asks (items.Fits name n) (enter_storage_follows id name (store_at s.entities (keys.Defined name)) n))
+  enter_follows s id (Some (Constant n)) units = follows_ends
+  enter_follows s id (Some (Named name)) units = follows_ends
+  enter_follows s id (Some (Label name)) units = follows_ends
+  enter_follows s id (Some (Fraction part)) units = follows_ends
+  enter_follows s id None units = follows_ends
+
+  shares_follow : (name : List ℕ) (content : ℕ) (shares : List (Option ℕ)) (chain : List Transaction) →
+      Follows move same (shares_prog name content shares chain) (shares_prog name content shares (map (moved_transaction move) chain))
+  shares_follow name content shares [] = follows_gives refl
+  shares_follow name content shares (x ∷ xs) = follows_asks (items.Fits name (beside x.asked content))
+      (λ fits. shares_follow name (in_use content x.asked fits) (shares ++ share_of x.asked fits ∷ []) xs)
+
+  leave_for_follows : (id : ℕ) (key : Key) (store : Store) (units : ℕ) (shares : List (Option ℕ)) →
+      Follows move (moved_move move) (leave_for id key store units shares) (leave_for (move id) key store units shares)
+  leave_for_follows id key store units shares = follows_stops (is_too_many (store.entries + all_shares shares)) _ (follows_gives refl)
+
+  leave_units_follows : (s : Machine) (id : ℕ) (name : List ℕ) (store : Store) (units : ℕ) →
+      Follows move (moved_move move) (leave_units s id name store units) (leave_units (moved_machine move s) (move id) name store units)
+  leave_units_follows s id name store units =
+      rw (delay_at_moved move s.delays (keys.Defined name))
+      (follows_stops (nat_lt store.level.content units) _
+      (follows_bind _ (shares_follow name (store.level.content - units) [] (delay_at s.delays (keys.Defined name)))
+      (λ shares. leave_for_follows id (keys.Defined name) store units shares)))
+
+  leave_follows : (s : Machine) (id : ℕ) (storage units : Option Term) →
+      Follows move (moved_move move) (leave_prog s id storage units) (leave_prog (moved_machine move s) (move id) storage units)
+  leave_follows s id (Some (Defined name)) units = follows_bind _ (units_follows s units)
+      (λ n. leave_units_follows s id name (store_at s.entities (keys.Defined name)) n)
+  leave_follows s id (Some (Constant n)) units = follows_ends
+  leave_follows s id (Some (Named name)) units = follows_ends
+  leave_follows s id (Some (Label name)) units = follows_ends
+  leave_follows s id (Some (Fraction part)) units = follows_ends
+  leave_follows s id None units = follows_ends
+
+  -- TRANSFER
   go_to_follows : (id : ℕ) (to : Option ℕ) → Follows move (moved_move move) (go_to id to) (go_to (move id) (option_map move to))
   go_to_follows id None = follows_ends
   go_to_follows id (Some to) = follows_gives refl
@@ -236,6 +296,7 @@ module _ (move : ℕ → ℕ) (is : IsMove move) where
   lead_to_follows id (Some (Constant n)) = follows_gives refl
   lead_to_follows id (Some (Named name)) = follows_gives refl
   lead_to_follows id (Some (Fraction part)) = follows_gives refl
+  lead_to_follows id (Some (Defined name)) = follows_gives refl
   lead_to_follows id None = follows_gives refl
 
   transfer_follows : (id : ℕ) (fraction near far : Option Term) →
@@ -245,6 +306,7 @@ module _ (move : ℕ → ℕ) (is : IsMove move) where
   transfer_follows id (Some (Constant n)) near far = lead_to_follows id near
   transfer_follows id (Some (Named name)) near far = lead_to_follows id near
   transfer_follows id (Some (Label name)) near far = lead_to_follows id near
+  transfer_follows id (Some (Defined name)) near far = lead_to_follows id near
   transfer_follows id None near far = lead_to_follows id near
 
   block_follows : (s : Machine) (x : Transaction) (id : ℕ) (b : Block) (verb : BlockVerb) →
@@ -256,19 +318,21 @@ module _ (move : ℕ → ℕ) (is : IsMove move) where
   block_follows s x id b blocks.Depart = depart_follows s x id (operand b A) (operand b B)
   block_follows s x id b blocks.Seize = seize_follows s id (operand b A)
   block_follows s x id b blocks.Release = release_follows s x id (operand b A)
+  block_follows s x id b blocks.Enter = enter_follows s id (operand b A) (operand b B)
+  block_follows s x id b blocks.Leave = leave_follows s id (operand b A) (operand b B)
   block_follows s x id b blocks.Transfer = transfer_follows id (operand b A) (operand b B) (operand b C)
   block_follows s x id b verb = follows_ends
 
-  enter_follows : (s : Machine) (x : Transaction) (id : ℕ) (block : Option Block) →
-      Follows move (moved_move move) (enter_prog s x id block) (enter_prog (moved_machine move s) (moved_transaction move x) (move id) block)
-  enter_follows s x id None = follows_ends
-  enter_follows s x id (Some b) = block_follows s x id b b.verb
+  meet_follows : (s : Machine) (x : Transaction) (id : ℕ) (block : Option Block) →
+      Follows move (moved_move move) (meet_prog s x id block) (meet_prog (moved_machine move s) (moved_transaction move x) (move id) block)
+  meet_follows s x id None = follows_ends
+  meet_follows s x id (Some b) = block_follows s x id b b.verb
 
   -- attempts
   try_follows : (s : Machine) (x : Transaction) (id : Option ℕ) →
       Follows move (moved_move move) (try_prog s x id) (try_prog (moved_machine move s) (moved_transaction move x) (option_map move id))
   try_follows s x None = follows_ends
-  try_follows s x (Some id) = follows_asks (items.Block id) (enter_follows s x id)
+  try_follows s x (Some id) = follows_asks (items.Block id) (meet_follows s x id)
 
   attempt_follows : (s : Machine) (x : Transaction) (destination : Option ℕ) →
       Follows move (moved_move move) (attempt_prog s x destination)

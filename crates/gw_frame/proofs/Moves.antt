@@ -1,6 +1,6 @@
--- What a law needs of a move: the block that is entered, with the change and the fate each by cases of their own, the
--- transaction that is let in with it, and the one that is picked.
-use Rattle.std.proofs.Common.{◌≡◌, ℕ, List, [], ◌∷◌, Option, Some, None, refl}
+-- What a law needs of a move: the block that is entered, with the change and the fate each by cases of their own, those
+-- who are let in with it, and the one that is picked.
+use Rattle.std.proofs.Common.{◌≡◌, ℕ, List, [], ◌∷◌, ◌++◌, append_assoc, Option, Some, None, refl, ap, sym, ◌∙◌}
 use Rattle.gw_meaning.specs.declared.transaction.Transaction.{Transaction}
 use Rattle.gw_names.specs.declared.key.Key.{Key}
 use Rattle.gw_entities.specs.Tables.{with_value}
@@ -15,8 +15,9 @@ use Rattle.gw_meaning.specs.declared.moves.Move.TheVariants as moves
 use Rattle.gw_meaning.specs.Listing.{Listing}
 use Rattle.gw_meaning.specs.Entities.{touched}
 use Rattle.gw_meaning.specs.Machine.{Machine, delay_at}
-use Rattle.gw_meaning.specs.Changes.{crossed, made, making_of, with_making, placed, marked, fated, let_in, first_let_in, admitted, changed, entering, with_active, picked, moved}
-use Rattle.gw_frame.proofs.Decided.{IsComing, IsDecidedChange}
+use Rattle.gw_meaning.specs.Changes.{crossed, made, making_of, with_making, placed, marked, fated, let_in, one_let_in, some_let_in, admitted, changed, entering, with_active, picked, moved}
+use Rattle.gw_frame.proofs.Known.{IsComing, IsDecidedChange}
+use Rattle.gw_frame.proofs.Delays.{delay_set}
 
 -- the transaction x in its block, before the block changes anything else
 abbrev pub settled : Machine → Transaction → ℕ → Change → Fate → Machine
@@ -47,27 +48,41 @@ settled_is s x id change fates.Active = record { clock = refl; next = refl; curr
 settled_is s x id change (fates.Delayed until) = record { clock = refl; next = refl; current = refl; delays = refl; counts = refl; entities = refl }
 settled_is s x id change (fates.Destroyed count) = record { clock = refl; next = refl; current = refl; delays = refl; counts = refl; entities = refl }
 
--- the first of a delay chain is let in
-abbrev pub leaving : Machine → Key → List Transaction → Machine
-leaving v key xs = record v { delays = with_value v.delays key xs }
+-- what else stays where one is let in: all but the delay chain that it leaves, the current chain and the counts of blocks
+pub let_in_delays : (x : Transaction) (to : Option ℕ) (s : Machine) → (let_in x to s).delays ≡ s.delays
+let_in_delays x None s = refl
+let_in_delays x (Some id) s = refl
 
-first_has : (P Q : Machine → Type 0) (v : Machine) (key : Key) (chain : List Transaction) → delay_at v.delays key ≡ chain → P v → (P v → Q v) →
-    ((x : Transaction) (xs : List Transaction) → delay_at v.delays key ≡ x ∷ xs → P v → Q (let_in x x.destination (leaving v key xs))) →
-    Q (first_let_in key chain v)
-first_has P Q v key [] is h none waits = none h
-first_has P Q v key (x ∷ xs) is h none waits = waits x xs is h
+pub chain_behind : (key : Key) (x : Transaction) (others : List Transaction) (s : Machine) → delay_at (one_let_in key x others s).delays key ≡ others
+chain_behind key x others s =
+    ap (λ ds. delay_at ds key) (let_in_delays x x.destination (record s { delays = with_value s.delays key others })) ∙ delay_set s.delays key others
 
--- where P holds of the settled state, Q holds behind the block, if it holds with nothing more, with one more transaction
--- made, and with the first of a delay chain let in
+-- one of a delay chain is let in, and Q still holds
+abbrev pub LetsIn : (Machine → Type 0) → Type 0
+LetsIn Q = (w : Machine) (key : Key) (x : Transaction) (passed xs : List Transaction) → delay_at w.delays key ≡ passed ++ x ∷ xs → Q w →
+    Q (one_let_in key x (passed ++ xs) w)
+
+pub some_have : (Q : Machine → Type 0) (key : Key) (shares : List (Option ℕ)) (passed chain : List Transaction) (w : Machine) →
+    delay_at w.delays key ≡ passed ++ chain → LetsIn Q → Q w → Q (some_let_in key shares passed chain w)
+some_have Q key [] passed chain w is lets h = h
+some_have Q key (share ∷ shares) passed [] w is lets h = h
+some_have Q key (None ∷ shares) passed (x ∷ xs) w is lets h =
+    some_have Q key shares (passed ++ x ∷ []) xs w (is ∙ sym (append_assoc passed (x ∷ []) xs)) lets h
+some_have Q key (Some units ∷ shares) passed (x ∷ xs) w is lets h =
+    some_have Q key shares passed xs (one_let_in key x (passed ++ xs) w) (chain_behind key x (passed ++ xs) w) lets (lets w key x passed xs is h)
+
+-- where P holds of the settled state, Q holds behind the block, if it holds with nothing more and with one more transaction
+-- made, and if it still holds where one of a delay chain is let in
 pub record Brings (P Q : Machine → Type 0) (t : Listing) (s v : Machine) : Type 0 where
   pub nothing : P v → Q v
   pub one : (a : Arrival) → IsComing t s a → P v → Q (with_making (made a (making_of v)) v)
-  pub waits : (key : Key) (x : Transaction) (xs : List Transaction) → delay_at v.delays key ≡ x ∷ xs → P v →
-      Q (let_in x x.destination (leaving v key xs))
+  pub lets : LetsIn Q
 
 admitted_has : (P Q : Machine → Type 0) (t : Listing) (s v : Machine) (key : Key) (deed : Deed) → P v → Brings P Q t s v → Q (admitted key deed v)
 admitted_has P Q t s v key (deeds.Release next) h brings =
-    first_has P Q v key (delay_at v.delays key) refl h brings.nothing (λ x xs is. brings.waits key x xs is)
+    some_have Q key (Some 1 ∷ []) [] (delay_at v.delays key) v refl brings.lets (brings.nothing h)
+admitted_has P Q t s v key (deeds.Leave units shares) h brings =
+    some_have Q key shares [] (delay_at v.delays key) v refl brings.lets (brings.nothing h)
 admitted_has P Q t s v key deed h brings = brings.nothing h
 
 changed_has : (P Q : Machine → Type 0) (t : Listing) (s : Machine) (change : Change) (v : Machine) → IsDecidedChange t s change → P v →

@@ -1,6 +1,6 @@
 -- What a move makes of a state names only blocks of the version, where the state does; and so does every state of a run, and
 -- every item that it reads.
-use Rattle.std.proofs.Common.{◌≡◌, ℕ, nat_eq, Bool, true, false, cond, not, List, [], ◌∷◌, filter, Option, Some, None, inl, refl, sym, subst, ◌∙◌}
+use Rattle.std.proofs.Common.{◌≡◌, ℕ, nat_eq, Bool, true, false, cond, not, List, [], ◌∷◌, ◌++◌, filter, Option, Some, None, inl, refl, sym, subst, ◌∙◌}
 use Rattle.std.specs.List.{AllByRecursion}
 use Rattle.gw_nums.specs.Range.{is_below}
 use Rattle.gw_meaning.specs.declared.item.Item.{Item}
@@ -22,8 +22,9 @@ use Rattle.gw_meaning.specs.Machine.{Machine, count_in, with_count, delay_at}
 use Rattle.gw_meaning.specs.Changes.{lined_up, all_lined_up, left_at, left, crossed, is_due, due, Making, made, all_made, making_of, with_making, started, placed, marked, fated, let_in, bound, refused, moved}
 use Rattle.gw_frame.specs.BlockIds.{IsBlockId, IsIdIfAny, TransactionNames, ActiveNames, EventNames, DelayNames, CountNames, StateNames, ItemNames, StatesNameBlocks, StepsReadBlocks}
 use Rattle.gw_frame.proofs.Keeps.{all_with}
-use Rattle.gw_frame.proofs.Decided.{IsComing, IsDecidedChange, IsDecided, IsRead, step_decides}
-use Rattle.gw_frame.proofs.Moves.{leaving, Brings, settled, with_active_has, entered_has, picked_has}
+use Rattle.gw_frame.proofs.Known.{IsComing, IsDecidedChange, IsDecided, IsRead}
+use Rattle.gw_frame.proofs.Decided.{step_decides}
+use Rattle.gw_frame.proofs.Moves.{LetsIn, settled, with_active_has, entered_has, picked_has}
 use Rattle.gw_frame.proofs.Delays.{delay_has, with_delay_has}
 use Rattle.gw_frame.proofs.Running.{over_run}
 use Rattle.gw_frame.proofs.ReadLaws.{step_reads, reads_there}
@@ -126,21 +127,25 @@ module _ (t : Listing) where
       AllByRecursion (DelayNames t) (with_value s.delays key xs)
   with_delay_names s key xs all h = with_delay_has (λ chain. AllByRecursion (TransactionNames t) chain) s.delays key xs all h.delays
 
-  waits_names : (v : Machine) (key : Key) (x : Transaction) (xs : List Transaction) → delay_at v.delays key ≡ x ∷ xs → StateNames t v →
-      StateNames t (let_in x x.destination (leaving v key xs))
-  waits_names v key x xs is h =
-      let all : AllByRecursion (TransactionNames t) (x ∷ xs) = subst (λ chain. AllByRecursion (TransactionNames t) chain) is (delay_names v key h) in
-      let_in_names x x.destination (leaving v key xs) all.0 all.0.destination
-      (record { active = h.active; current = h.current; future = h.future; delays = with_delay_names v key xs all.1 h; counts = h.counts })
+  part_names : (passed : List Transaction) (x : Transaction) (xs : List Transaction) → AllByRecursion (TransactionNames t) (passed ++ x ∷ xs) →
+      TransactionNames t x × AllByRecursion (TransactionNames t) (passed ++ xs)
+  part_names [] x xs all = (all.0, all.1)
+  part_names (y ∷ ys) x xs all = let rest = part_names ys x xs all.1 in (rest.0, (all.0, rest.1))
 
-  refused_names : (s : Machine) (x : Transaction) (id : ℕ) (key : Key) → StateNames t s → TransactionNames t x → IsBlockId t id →
-      StateNames t (refused s x id key)
-  refused_names s x id key h named there = record {
+  lets_names : LetsIn (StateNames t)
+  lets_names w key x passed xs is h =
+      let all = part_names passed x xs (subst (λ chain. AllByRecursion (TransactionNames t) chain) is (delay_names w key h)) in
+      let_in_names x x.destination (record w { delays = with_value w.delays key (passed ++ xs) }) all.0 all.0.destination
+      (record { active = h.active; current = h.current; future = h.future; delays = with_delay_names w key (passed ++ xs) all.1 h; counts = h.counts })
+
+  refused_names : (s : Machine) (x : Transaction) (id : ℕ) (key : Key) (units : ℕ) → StateNames t s → TransactionNames t x → IsBlockId t id →
+      StateNames t (refused s x id key units)
+  refused_names s x id key units h named there = record {
     active = tt;
     current = h.current;
     future = h.future;
     delays = with_delay_names s key _
-        (lined_up_names (bound x id) (delay_at s.delays key) (record { current = named.current; destination = there }) (delay_names s key h)) h;
+        (lined_up_names (bound x id units) (delay_at s.delays key) (record { current = named.current; destination = there }) (delay_names s key h)) h;
     counts = h.counts;
   }
 
@@ -155,9 +160,9 @@ module _ (t : Listing) where
   moved_names s (moves.Enter id change fate) numbered decided h =
       entered_has (StateNames t) (StateNames t) t s id change fate decided.1 h
       (λ x is. settled_names s x id change fate h (active_names s x is h) decided.0 (marked_names s x id change numbered decided.1 decided.0))
-      (λ v. record { nothing = λ k. k; one = λ a coming k. made_names s a (making_of v) v coming k; waits = waits_names v })
-  moved_names s (moves.Refuse id key) numbered decided h =
-      with_active_has (StateNames t) s.active (λ x. refused s x id key) s h (λ x is. refused_names s x id key h (active_names s x is h) decided.0)
+      (λ v. record { nothing = λ k. k; one = λ a coming k. made_names s a (making_of v) v coming k; lets = lets_names })
+  moved_names s (moves.Refuse id key units) numbered decided h =
+      with_active_has (StateNames t) s.active (λ x. refused s x id key units) s h (λ x is. refused_names s x id key units h (active_names s x is h) decided.0)
   moved_names s moves.Pick numbered decided h = picked_has (StateNames t) s s.current h
       (λ x xs is. (let all : AllByRecursion (TransactionNames t) (x ∷ xs) = subst (λ chain. AllByRecursion (TransactionNames t) chain) is h.current in
       record { active = all.0; current = all.1; future = h.future; delays = h.delays; counts = h.counts }))

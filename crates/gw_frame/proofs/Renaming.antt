@@ -1,10 +1,11 @@
 -- A version with its ids renamed answers renamed, and two versions with the same statements are one renamed.
-use Rattle.std.proofs.Common.{◌≡◌, ℕ, ◌+◌, nat_eq, Bool, true, false, cond, ◌&&◌, List, [], ◌∷◌, map, Option, Some, None, is_some, option_map, option_and_then, filter_map, refl, ap, ap₂, ◌∙◌}
+use Rattle.std.proofs.Common.{◌≡◌, ℕ, ◌+◌, nat_eq, nat_le, Bool, true, false, cond, ◌&&◌, List, [], ◌∷◌, map, Option, Some, None, is_some, unwrap_or, option_map, option_and_then, filter_map, refl, ap, ap₂, ◌∙◌}
 use Rattle.std.specs.List.{cons_option}
 use Rattle.gw_meaning.specs.declared.item.Item.TheVariants as items
+use Rattle.gw_meaning.specs.declared.statement.Definition.{Definition}
 use Rattle.gw_meaning.specs.declared.statement.Statement.{Statement}
 use Rattle.gw_meaning.specs.declared.statement.Numbered.{Numbered}
-use Rattle.gw_meaning.specs.Listing.{block_of, block_of_body, command_of, command_of_body, is_block, is_generate, is_generate_body, has_label, line_in, first_block, after_in, position_in, labelled_in, generates_in, nth}
+use Rattle.gw_meaning.specs.Listing.{block_of, block_of_body, command_of, command_of_body, is_block, is_generate, is_generate_body, has_label, line_in, first_block, after_in, position_in, labelled_in, definition_of_body, definition_if, or_next, defines, first_said, units_of, number_of, generates_in, nth}
 use Rattle.gw_meaning.specs.Questions.{ask}
 use Rattle.gw_frame.specs.Moved.{IsMove}
 use Rattle.gw_frame.specs.Renamed.{AreRenamed, RenamedAnswers}
@@ -71,6 +72,15 @@ module _ (move : ℕ → ℕ) (is : IsMove move) where
       option_map move (cond b (Some l.number) (labelled_in name ls)))
       [ true ↦ ap (λ n. Some n) r.0 | false ↦ label_renamed name ls ms r.2 ])
 
+  -- what statements say of definitions, whatever their numbers
+  pub said_renamed : {X : Type 0} (f : Option Definition → Option X) (name : List ℕ) (ls ms : List Numbered) → AreRenamed move ls ms →
+      first_said (λ line. f (defines name line)) ms ≡ first_said (λ line. f (defines name line)) ls
+  said_renamed f name [] [] r = refl
+  said_renamed f name [] (m ∷ ms) r = absurd r
+  said_renamed f name (l ∷ ls) [] r = absurd r
+  said_renamed f name (l ∷ ls) (m ∷ ms) r = ap₂ or_next
+      (ap (λ (s : Statement). f (definition_if (has_label name s.label) (definition_of_body s.body))) r.1) (said_renamed f name ls ms r.2)
+
   pub generates_renamed : (ls ms : List Numbered) → AreRenamed move ls ms → generates_in ms ≡ map move (generates_in ls)
   generates_renamed [] [] r = refl
   generates_renamed [] (m ∷ ms) r = absurd r
@@ -91,6 +101,9 @@ pub renamed_answers : RenamedAnswers
 renamed_answers move t u seed r (items.Block id) = block_renamed move r.is_move t.lines u.lines r.lines id
 renamed_answers move t u seed r (items.After id) = after_renamed move r.is_move t.lines u.lines r.lines id
 renamed_answers move t u seed r (items.Label name) = label_renamed move r.is_move name t.lines u.lines r.lines
+renamed_answers move t u seed r (items.Name name) = said_renamed move r.is_move number_of name t.lines u.lines r.lines
+renamed_answers move t u seed r (items.Fits name units) =
+    ap (λ o. nat_le units (unwrap_or o 0)) (said_renamed move r.is_move units_of name t.lines u.lines r.lines)
 renamed_answers move t u seed r items.Generates = generates_renamed move r.is_move t.lines u.lines r.lines
 renamed_answers move t u seed r (items.Cmd i) = ap (λ cs. nth cs i) (commands_renamed move t.lines u.lines r.lines)
 renamed_answers move t u seed r item = ap (λ n. ask (record t { horizon = n }) seed item) r.horizon

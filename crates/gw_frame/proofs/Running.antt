@@ -13,7 +13,8 @@ use Rattle.gw_meaning.proofs.Programs.{run_on}
 use Rattle.gw_frame.proofs.ReadLaws.{run_before, step_reads, reads_there}
 use Rattle.gw_frame.specs.Seeds.{SeedIsReadAtFirstDraws}
 use Rattle.gw_frame.proofs.Seeds.{uses_seed}
-use Rattle.gw_frame.proofs.Decided.{IsDecided, IsAfter, step_decides}
+use Rattle.gw_frame.proofs.Known.{IsDecided, IsAfter}
+use Rattle.gw_frame.proofs.Decided.{step_decides}
 
 -- a run of one step more came to a state before, from which the step goes to this one
 pub record IsLast (t : Listing) (seed n : ℕ) (v : Machine) : Type 0 where

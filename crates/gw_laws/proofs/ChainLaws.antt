@@ -1,31 +1,35 @@
 -- The current chain, move by move and over a run: in order of priority, and first in first out within. The delay chains, too,
 -- are in order.
-use Rattle.std.proofs.Common.{◌≡◌, ℕ, ◌+◌, ◌≤◌, ℤ, nat_eq, Bool, true, false, List, [], ◌∷◌, ◌++◌, Option, Some, None, Ok, refl, sym, ap, ap₂, subst, ◌∙◌, append-nil, append_assoc, arith, inl, inr}
+use Rattle.std.proofs.Common.{◌≡◌, ℕ, ◌+◌, ◌≤◌, ℤ, nat_eq, Bool, true, false, List, [], ◌∷◌, ◌++◌, Ok, refl, sym, ap, ap₂, subst, ◌∙◌, append-nil, append_assoc, arith, inl, inr}
 use Rattle.std.specs.List.{AllByRecursion}
 use Rattle.std.specs.Ordering.{int_eq}
-use Rattle.std.proofs.lemmas.Bool.{cases_Bool, eq-eqb, false≢true}
+use Rattle.std.proofs.lemmas.Bool.{cases_Bool, eq-eqb, false≢true, or_parts}
 use Rattle.std.proofs.lemmas.Bool.Decides.{Decides-int_eq}
 use Rattle.std.proofs.lemmas.List.Elements.{All-from_recursion}
+use Rattle.std.proofs.lemmas.List.Folds.{list_any-append}
 use Rattle.gw_nums.specs.Range.{is_below}
 use Rattle.gw_names.specs.declared.key.Key.{Key}
+use Rattle.gw_entities.specs.Tables.{with_value}
 use Rattle.gw_meaning.specs.declared.transaction.Transaction.{Transaction}
 use Rattle.gw_meaning.specs.declared.moves.Change.{Change}
 use Rattle.gw_meaning.specs.declared.moves.Fate.{Fate}
 use Rattle.gw_meaning.specs.declared.moves.Move.{Move}
 use Rattle.gw_meaning.specs.declared.moves.Move.TheVariants as moves
 use Rattle.gw_meaning.specs.Listing.{Listing}
-use Rattle.gw_meaning.specs.Machine.{Machine, delay_at}
-use Rattle.gw_meaning.specs.Changes.{lined_up, all_lined_up, made, making_of, with_making, placed, let_in, bound, refused, due, moved}
+use Rattle.gw_meaning.specs.Machine.{Machine, delay_at, waiting}
+use Rattle.gw_meaning.specs.Changes.{lined_up, all_lined_up, one_let_in, bound, refused, due, moved}
 use Rattle.gw_meaning.specs.Step.{run}
 use Rattle.gw_meaning.proofs.Programs.{run_on}
 use Rattle.gw_meaning.proofs.Chains.{IsOrdered, AreNotAbove, in_order, ordered_lined, ordered_all_lined, below_one_way}
 use Rattle.gw_laws.specs.Chain.{ChainIsInOrder, ChainIsFirstInFirstOut, IsFirstInFirstOut, numbers_of, is_in}
-use Rattle.gw_frame.proofs.Decided.{IsDecided, step_decides}
-use Rattle.gw_frame.proofs.Moves.{settled, settled_is, leaving, with_active_has, entered_has, picked_has}
+use Rattle.gw_frame.proofs.Decided.{step_decides}
+use Rattle.gw_frame.proofs.Known.{IsDecided}
+use Rattle.gw_frame.proofs.Keeps.{all_with}
+use Rattle.gw_frame.proofs.Moves.{settled, settled_is, with_active_has, entered_has, picked_has}
 use Rattle.gw_frame.proofs.Running.{over_run}
 use Rattle.gw_laws.proofs.Entries.{Each, at_has, with_has}
-use Rattle.gw_laws.proofs.Waiting.{let_in_as, let_in_number, let_in_is}
-use Rattle.gw_laws.proofs.Crowd.{one, many, waiting_with, future_parts}
+use Rattle.gw_laws.proofs.Waiting.{let_in_as, let_in_number, let_in_is, all_without}
+use Rattle.gw_laws.proofs.Crowd.{one, many, many_lined, many_without, waiting_with, future_parts}
 use Rattle.gw_laws.proofs.NumberLaws.{has_number, IsNumbered, all_numbered}
 
 -- the current chain and each delay chain are in order of priority
@@ -42,21 +46,25 @@ settled_ordered s x id change fate h =
     let same = settled_is s x id change fate in
     record { current = subst IsOrdered (sym same.current) h.current; delays = subst (Each IsOrdered) (sym same.delays) h.delays }
 
-let_in_ordered : (x : Transaction) (to : Option ℕ) (s : Machine) → AreChained s → AreChained (let_in x to s)
-let_in_ordered x None s h = record { current = ordered_lined x s.current h.current; delays = h.delays }
-let_in_ordered x (Some id) s h = record { current = ordered_lined (placed x id) s.current h.current; delays = h.delays }
+ordered_without : (passed : List Transaction) (x : Transaction) (xs : List Transaction) → IsOrdered (passed ++ x ∷ xs) → IsOrdered (passed ++ xs)
+ordered_without [] x xs h = h.1
+ordered_without (y ∷ ys) x xs h =
+    (all_without (λ (z : Transaction). is_below y.priority z.priority ≡ false) ys x xs h.0, ordered_without ys x xs h.1)
 
-waits_ordered : (v : Machine) (key : Key) (x : Transaction) (xs : List Transaction) → delay_at v.delays key ≡ x ∷ xs → AreChained v →
-    AreChained (let_in x x.destination (leaving v key xs))
-waits_ordered v key x xs is h =
-    let chain : IsOrdered (x ∷ xs) = subst IsOrdered is (delay_ordered v key h) in
-    let_in_ordered x x.destination (leaving v key xs)
-    (record { current = h.current; delays = with_has IsOrdered v.delays key xs chain.1 h.delays })
+lets_ordered : (w : Machine) (key : Key) (x : Transaction) (passed xs : List Transaction) → delay_at w.delays key ≡ passed ++ x ∷ xs → AreChained w →
+    AreChained (one_let_in key x (passed ++ xs) w)
+lets_ordered w key x passed xs is h =
+    let same = let_in_is key x (passed ++ xs) w in
+    let chain = ordered_without passed x xs (subst IsOrdered is (delay_ordered w key h)) in
+    record {
+      current = subst IsOrdered (sym same.current) (ordered_lined (let_in_as x x.destination) w.current h.current);
+      delays = subst (Each IsOrdered) (sym same.delays) (with_has IsOrdered w.delays key (passed ++ xs) chain h.delays);
+    }
 
-refused_ordered : (s : Machine) (x : Transaction) (id : ℕ) (key : Key) → AreChained s → AreChained (refused s x id key)
-refused_ordered s x id key h = record {
+refused_ordered : (s : Machine) (x : Transaction) (id : ℕ) (key : Key) (units : ℕ) → AreChained s → AreChained (refused s x id key units)
+refused_ordered s x id key units h = record {
   current = h.current;
-  delays = with_has IsOrdered s.delays key _ (ordered_lined (bound x id) (delay_at s.delays key) (delay_ordered s key h)) h.delays;
+  delays = with_has IsOrdered s.delays key _ (ordered_lined (bound x id units) (delay_at s.delays key) (delay_ordered s key h)) h.delays;
 }
 
 moved_ordered : (t : Listing) (s : Machine) (m : Move) → IsDecided t s m → AreChained s → AreChained (moved s m)
@@ -64,9 +72,9 @@ moved_ordered t s (moves.Start count arrivals) decided h = record { current = h.
 moved_ordered t s moves.Command decided h = record { current = h.current; delays = h.delays }
 moved_ordered t s (moves.Enter id change fate) decided h =
     entered_has AreChained AreChained t s id change fate decided.1 h (λ x is. settled_ordered s x id change fate h)
-    (λ v. record { nothing = λ k. k; one = λ a coming k. record { current = k.current; delays = k.delays }; waits = waits_ordered v })
-moved_ordered t s (moves.Refuse id key) decided h =
-    with_active_has AreChained s.active (λ x. refused s x id key) s h (λ x is. refused_ordered s x id key h)
+    (λ v. record { nothing = λ k. k; one = λ a coming k. record { current = k.current; delays = k.delays }; lets = lets_ordered })
+moved_ordered t s (moves.Refuse id key units) decided h =
+    with_active_has AreChained s.active (λ x. refused s x id key units) s h (λ x is. refused_ordered s x id key units h)
 moved_ordered t s moves.Pick decided h =
     picked_has AreChained s s.current h (λ x xs is. record { current = (subst IsOrdered is h.current).1; delays = h.delays })
 moved_ordered t s (moves.Clock time) decided h =
@@ -193,35 +201,83 @@ module _ (priority : ℤ) where
       rw (lined_numbers x ys order)
       (joined (numbers_of priority ys) (numbers_of priority (x ∷ [])) (come_new ys (x ∷ []) (λ k. let all = once k in omega arith)))
 
-  waits_turn : (s v : Machine) (key : Key) (x : Transaction) (xs : List Transaction) → delay_at v.delays key ≡ x ∷ xs → v.current ≡ s.current →
-      v.delays ≡ s.delays → IsNumbered s → IsOrdered s.current → TakesTurns s (let_in x x.destination (leaving v key xs))
-  waits_turn s v key x xs is same chains h order =
+  -- others stand behind those who stood there, and of each number at most one stands on the current chain or waits
+  record StandBehind (s w : Machine) : Type 0 where
+    order : IsOrdered w.current
+    come : List ℕ
+    numbers : numbers_of priority w.current ≡ numbers_of priority s.current ++ come
+    new : AllByRecursion (λ k. is_in (numbers_of priority s.current) k ≡ false) come
+    apart : (k : ℕ) → many (has_number k) w.current + many (has_number k) (waiting w.delays) ≤ 1
+
+  behind_turn : (s w : Machine) → StandBehind s w → TakesTurns s w
+  behind_turn s w h =
+      let P : List ℕ → Type 0 = λ ks. IsFirstInFirstOut (numbers_of priority s.current) ks in
+      subst P (sym h.numbers) (joined (numbers_of priority s.current) h.come h.new)
+
+  not_in_front : (ks js more : List ℕ) → AllByRecursion (λ k. is_in (ks ++ js) k ≡ false) more → AllByRecursion (λ k. is_in ks k ≡ false) more
+  not_in_front ks js [] all = tt
+  not_in_front ks js (k ∷ more) all =
+      let parts = or_parts (is_in ks k) (is_in js k) (sym (list_any-append (λ other. nat_eq other k) ks js) ∙ all.0) in
+      (parts.0, not_in_front ks js more all.1)
+
+  stood : (s v : Machine) → IsNumbered s → IsOrdered s.current → v.current ≡ s.current → v.delays ≡ s.delays → StandBehind s v
+  stood s v h order same chains = record {
+    order = subst IsOrdered (sym same) order;
+    come = [];
+    numbers = ap (numbers_of priority) same ∙ sym (append-nil (numbers_of priority s.current));
+    new = tt;
+    apart = λ k. let once = h.apart k in rw (same, chains) (omega arith);
+  }
+
+  lets_behind : (s w : Machine) (key : Key) (x : Transaction) (passed xs : List Transaction) → delay_at w.delays key ≡ passed ++ x ∷ xs →
+      StandBehind s w → StandBehind s (one_let_in key x (passed ++ xs) w)
+  lets_behind s w key x passed xs is h =
       let y = let_in_as x x.destination in
-      let comes : (let_in x x.destination (leaving v key xs)).current ≡ lined_up y s.current =
-      (let_in_is x x.destination (leaving v key xs)).current ∙ ap (λ ys. lined_up y ys) same in
-      let there : delay_at s.delays key ≡ x ∷ xs = ap (λ ds. delay_at ds key) (sym chains) ∙ is in
-      let P : List Transaction → Type 0 = λ chain. IsFirstInFirstOut (numbers_of priority s.current) (numbers_of priority chain) in
-      subst P (sym comes)
-      (lined_turn y s.current order (λ k.
-      let parts = waiting_with (has_number k) s.delays key xs in
-      let first = ap (many (has_number k)) there in
-      let number = ap (λ n. one (nat_eq n k)) (let_in_number x x.destination) in
-      let once = h.apart k in
-      omega arith))
+      let same = let_in_is key x (passed ++ xs) w in
+      let number : (k : ℕ) → one (has_number k y) ≡ one (has_number k x) = λ k. ap (λ n. one (nat_eq n k)) (let_in_number x x.destination) in
+      let chain : (k : ℕ) → many (has_number k) (delay_at w.delays key) ≡ one (has_number k x) + many (has_number k) (passed ++ xs) =
+      λ k. ap (many (has_number k)) is ∙ many_without (has_number k) passed x xs in
+      let parts : (k : ℕ) → many (has_number k) (waiting (with_value w.delays key (passed ++ xs))) + many (has_number k) (delay_at w.delays key)
+      ≡ many (has_number k) (waiting w.delays) + many (has_number k) (passed ++ xs) =
+      λ k. waiting_with (has_number k) w.delays key (passed ++ xs) in
+      let new : AllByRecursion (λ k. is_in (numbers_of priority w.current) k ≡ false) (numbers_of priority (y ∷ [])) =
+      come_new w.current (y ∷ [])
+      (λ k. let once = h.apart k in let n = number k in let c = chain k in let p = parts k in omega arith) in
+      let Q : List ℕ → Type 0 = λ ks. AllByRecursion (λ k. is_in ks k ≡ false) (numbers_of priority (y ∷ [])) in
+      record {
+        order = subst IsOrdered (sym same.current) (ordered_lined y w.current h.order);
+        come = h.come ++ numbers_of priority (y ∷ []);
+        numbers =
+            ap (numbers_of priority) same.current
+            ∙ (lined_numbers y w.current h.order
+            ∙ (ap (λ ks. ks ++ numbers_of priority (y ∷ [])) h.numbers
+            ∙ append_assoc (numbers_of priority s.current) h.come (numbers_of priority (y ∷ []))));
+        new =
+            all_with (λ k. is_in (numbers_of priority s.current) k ≡ false) h.come (numbers_of priority (y ∷ [])) h.new
+            (not_in_front (numbers_of priority s.current) h.come (numbers_of priority (y ∷ [])) (subst Q h.numbers new));
+        apart = λ k.
+            let once = h.apart k in
+            let n = number k in
+            let c = chain k in
+            let p = parts k in
+            let lined = many_lined (has_number k) y w.current in
+            rw (same.current, same.delays) (omega arith);
+      }
 
   moved_turn : (t : Listing) (s : Machine) (m : Move) → IsDecided t s m → IsNumbered s → IsOrdered s.current → TakesTurns s (moved s m)
   moved_turn t s (moves.Start count arrivals) decided h order = same_turn s
   moved_turn t s moves.Command decided h order = same_turn s
   moved_turn t s (moves.Enter id change fate) decided h order =
-      entered_has (λ v. (v.current ≡ s.current) × (v.delays ≡ s.delays)) (TakesTurns s) t s id change fate decided.1 (same_turn s)
-      (λ x is. (let same = settled_is s x id change fate in (same.current, same.delays)))
+      behind_turn s (moved s (moves.Enter id change fate))
+      (entered_has (StandBehind s) (StandBehind s) t s id change fate decided.1 (stood s s h order refl refl)
+      (λ x is. (let same = settled_is s x id change fate in stood s (settled s x id change fate) h order same.current same.delays))
       (λ v. record {
-        nothing = λ k. chain_turn s v k.0;
-        one = λ a coming k. chain_turn s (with_making (made a (making_of v)) v) k.0;
-        waits = λ key x xs is k. waits_turn s v key x xs is k.0 k.1 h order;
-      })
-  moved_turn t s (moves.Refuse id key) decided h order =
-      with_active_has (TakesTurns s) s.active (λ x. refused s x id key) s (same_turn s) (λ x is. same_turn s)
+        nothing = λ k. k;
+        one = λ a coming k. record { order = k.order; come = k.come; numbers = k.numbers; new = k.new; apart = k.apart };
+        lets = lets_behind s;
+      }))
+  moved_turn t s (moves.Refuse id key units) decided h order =
+      with_active_has (TakesTurns s) s.active (λ x. refused s x id key units) s (same_turn s) (λ x is. same_turn s)
   moved_turn t s moves.Pick decided h order =
       picked_has (TakesTurns s) s s.current (same_turn s)
       (λ x xs is. rw is (picked_turn x xs))

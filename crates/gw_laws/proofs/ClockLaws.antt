@@ -1,5 +1,5 @@
 -- The clock and the future chain, move by move and over a run.
-use Rattle.std.proofs.Common.{◌≡◌, ℕ, ◌≤◌, nat_le, true, min, not, List, [], ◌∷◌, filter, Option, Some, None, Ok, refl, arith}
+use Rattle.std.proofs.Common.{◌≡◌, ℕ, ◌≤◌, nat_le, true, min, not, List, [], ◌∷◌, ◌++◌, filter, Option, Some, None, Ok, refl, arith}
 use Rattle.std.specs.List.{AllByRecursion}
 use Rattle.std.proofs.lemmas.Bool.{cond_both}
 use Rattle.std.proofs.lemmas.Bool.Decides.{nat_tests}
@@ -16,8 +16,8 @@ use Rattle.gw_meaning.specs.Machine.{Machine}
 use Rattle.gw_meaning.specs.Changes.{Making, made, all_made, making_of, fated, refused, is_due, moved}
 use Rattle.gw_meaning.specs.Step.{run, sooner, least_time}
 use Rattle.gw_frame.proofs.Keeps.{all_with}
-use Rattle.gw_frame.proofs.Decided.{IsComing, IsDecidedFate, IsDecided}
-use Rattle.gw_frame.proofs.Moves.{settled_is, leaving, with_active_has, entered_has, picked_has}
+use Rattle.gw_frame.proofs.Known.{IsComing, IsDecidedFate, IsDecided}
+use Rattle.gw_frame.proofs.Moves.{settled_is, with_active_has, entered_has, picked_has}
 use Rattle.gw_frame.proofs.Running.{over_run, over_rest}
 use Rattle.gw_laws.specs.Clock.{ClockNeverGoesBack, ClockStaysWithin, NothingIsOverdue}
 use Rattle.gw_laws.proofs.Waiting.{let_in_is}
@@ -97,11 +97,11 @@ moved_goes_on t s (moves.Enter id change fate) decided h =
     (λ v. record {
       nothing = λ k. k;
       one = λ a coming k. (k.0, all_with (λ (e : Event). s.clock ≤ e.time) v.future _ k.1 (coming.ahead, tt));
-      waits = λ key x xs is k. (let same = let_in_is x x.destination (leaving v key xs) in rw (same.clock, same.future) k);
+      lets = λ w key x passed xs is k. (let same = let_in_is key x (passed ++ xs) w in rw (same.clock, same.future) k);
     }) in
     rw whole.0 (omega arith, (h.0, whole.1))
-moved_goes_on t s (moves.Refuse id key) decided h =
-    with_active_has (GoesOn t s.clock) s.active (λ x. refused s x id key) s (omega arith, h) (λ x is. (omega arith, h))
+moved_goes_on t s (moves.Refuse id key units) decided h =
+    with_active_has (GoesOn t s.clock) s.active (λ x. refused s x id key units) s (omega arith, h) (λ x is. (omega arith, h))
 moved_goes_on t s moves.Pick decided h = picked_has (GoesOn t s.clock) s s.current (omega arith, h) (λ x xs is. (omega arith, h))
 moved_goes_on t s (moves.Clock time) decided h = (
   least_is_ahead s.clock s.future time decided.0 h.1,

@@ -1,5 +1,5 @@
 -- Each block's content is the number of the transactions that stand in it, move by move and over a run.
-use Rattle.std.proofs.Common.{◌≡◌, ℕ, ◌+◌, ◌-◌, ◌<◌, ◌≤◌, ◌^◌, nat_eq, Bool, true, false, List, [], ◌∷◌, Option, Some, None, Ok, refl, ap, sym, ◌∙◌, arith}
+use Rattle.std.proofs.Common.{◌≡◌, ℕ, ◌+◌, ◌-◌, ◌<◌, ◌≤◌, ◌^◌, nat_eq, Bool, true, false, List, [], ◌∷◌, ◌++◌, Option, Some, None, Ok, refl, ap, sym, ◌∙◌, arith}
 use Rattle.std.proofs.lemmas.Bool.{ne_eqb}
 use Rattle.gw_names.specs.declared.key.Key.{Key}
 use Rattle.gw_meaning.specs.declared.transaction.Transaction.{Transaction}
@@ -16,11 +16,12 @@ use Rattle.gw_meaning.specs.Step.{run}
 use Rattle.gw_model.specs.Well.{Well}
 use Rattle.gw_laws.specs.Living.{living}
 use Rattle.gw_laws.specs.Contents.{ContentsAreCounts}
-use Rattle.gw_frame.proofs.Decided.{IsDecided}
-use Rattle.gw_frame.proofs.Moves.{settled, settled_is, marked_same, leaving, with_active_has, entered_has, picked_has}
+use Rattle.gw_frame.proofs.Known.{IsDecided}
+use Rattle.gw_frame.proofs.Moves.{settled, settled_is, marked_same, with_active_has, entered_has, picked_has}
 use Rattle.gw_frame.proofs.Running.{over_run}
+use Rattle.gw_laws.proofs.Waiting.{leaving}
 use Rattle.gw_laws.proofs.Counts.{content, content_crossed, content_made}
-use Rattle.gw_laws.proofs.Crowd.{one, remains, many, others, crowd, many_living, many_is, active_crowd, future_push, settled_crowd, settled_fewer, refused_crowd, leaving_crowd, let_in_crowd, picked_crowd, advanced_crowd}
+use Rattle.gw_laws.proofs.Crowd.{one, remains, many, others, crowd, many_living, many_is, active_crowd, future_push, settled_crowd, settled_fewer, refused_crowd, leaving_crowd, let_in_crowd, lets_crowd, picked_crowd, advanced_crowd}
 use Rattle.gw_laws.proofs.Room.{anyone, all_within}
 
 abbrev pub stands_in : ℕ → Transaction → Bool
@@ -70,36 +71,46 @@ settled_counted s x id change fate room is h p some =
     ap (λ cs. content cs p) (settled_is s x id change fate).counts ∙ omega arith
 
 -- who waited and is let in goes into the block that it waited for
-waits_counted : (v : Machine) (key : Key) (x : Transaction) (xs : List Transaction) (to : Option ℕ) → delay_at v.delays key ≡ x ∷ xs →
-    crowd anyone v < 2 ^ 64 - 1 → IsCounted v → IsCounted (let_in x to (leaving v key xs))
-waits_counted v key x xs None is room h p some =
-    let before = leaving_crowd (stands_in p) v key x xs is in
-    let after = let_in_crowd (stands_in p) x None (leaving v key xs) in
+lets_counted : (w : Machine) (key : Key) (x : Transaction) (passed xs : List Transaction) (to : Option ℕ) → delay_at w.delays key ≡ passed ++ x ∷ xs →
+    crowd anyone w < 2 ^ 64 - 1 → IsCounted w → IsCounted (let_in x to (leaving w key (passed ++ xs)))
+lets_counted w key x passed xs None is room h p some =
+    let before = leaving_crowd (stands_in p) w key x passed xs is in
+    let after = let_in_crowd (stands_in p) x None (leaving w key (passed ++ xs)) in
     let was = h p some in
     omega arith
-waits_counted v key x xs (Some id) is room h p some =
-    let before = leaving_crowd (stands_in p) v key x xs is in
-    let after = let_in_crowd (stands_in p) x (Some id) (leaving v key xs) in
-    let fewer = crowd_fewer (stands_in p) v in
+lets_counted w key x passed xs (Some id) is room h p some =
+    let before = leaving_crowd (stands_in p) w key x passed xs is in
+    let after = let_in_crowd (stands_in p) x (Some id) (leaving w key (passed ++ xs)) in
+    let fewer = crowd_fewer (stands_in p) w in
     let was = h p some in
-    let whole = content_crossed fates.Active v.counts x.current id p (crowd (stands_in p) (leaving v key xs)) (omega arith) (omega arith) in
+    let whole = content_crossed fates.Active w.counts x.current id p (crowd (stands_in p) (leaving w key (passed ++ xs))) (omega arith) (omega arith) in
     omega arith
 
 -- each move
-moved_counted : (t : Listing) (s : Machine) (m : Move) → crowd anyone s < 2 ^ 64 - 1 → IsDecided t s m → IsCounted s → IsCounted (moved s m)
+moved_counted : (t : Listing) (s : Machine) (m : Move) → crowd anyone s + 1 < 2 ^ 64 - 1 → IsDecided t s m → IsCounted s → IsCounted (moved s m)
 moved_counted t s (moves.Start count arrivals) room decided h = all_made_counted arrivals (making_of s) (started count s) h
 moved_counted t s moves.Command room decided h = h
 moved_counted t s (moves.Enter id change fate) room decided h =
-    entered_has (λ v. (crowd anyone v < 2 ^ 64 - 1) × IsCounted v) IsCounted t s id change fate decided.1 h
-    (λ x is. (let fewer = settled_fewer anyone s x id change fate is refl in (omega arith, settled_counted s x id change fate room is h)))
+    let P : Machine → Type 0 = λ v. (crowd anyone v ≤ crowd anyone s) × IsCounted v in
+    let Q : Machine → Type 0 = λ v. (crowd anyone v ≤ crowd anyone s + 1) × IsCounted v in
+    let whole =
+    entered_has P Q t s id change fate decided.1 (omega arith, h)
+    (λ x is. (settled_fewer anyone s x id change fate is refl, settled_counted s x id change fate (omega arith) is h))
     (λ v. record {
-      nothing = λ k. k.1;
-      one = λ a coming k. made_counted a (making_of v) v k.1;
-      waits = λ key x xs is k. waits_counted v key x xs x.destination is k.0 k.1;
-    })
-moved_counted t s (moves.Refuse id key) room decided h =
-    with_active_has IsCounted s.active (λ x. refused s x id key) s h
-    (λ x is p some. h p some ∙ sym (refused_crowd (stands_in p) s x id key is refl))
+      nothing = λ k. (omega (arith, k.0), k.1);
+      one = λ a coming k. (
+        let push = future_push anyone v.future (newcomer v.next a) in omega (arith, push, k.0),
+        made_counted a (making_of v) v k.1,
+      );
+      lets = λ w key x passed xs is k. (
+        let same = lets_crowd anyone w key x passed xs is refl in omega (arith, same, k.0),
+        lets_counted w key x passed xs x.destination is (omega (arith, room, k.0)) k.1,
+      );
+    }) in
+    whole.1
+moved_counted t s (moves.Refuse id key units) room decided h =
+    with_active_has IsCounted s.active (λ x. refused s x id key units) s h
+    (λ x is p some. h p some ∙ sym (refused_crowd (stands_in p) s x id key units is refl))
 moved_counted t s moves.Pick room decided h =
     picked_has IsCounted s s.current h (λ x xs is p some. h p some ∙ sym (picked_crowd (stands_in p) s x xs decided is))
 moved_counted t s (moves.Clock time) room decided h = λ p some. h p some ∙ sym (advanced_crowd (stands_in p) s time)

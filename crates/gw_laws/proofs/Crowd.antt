@@ -13,10 +13,10 @@ use Rattle.gw_meaning.specs.declared.moves.Change.{Change}
 use Rattle.gw_meaning.specs.declared.moves.Fate.{Fate}
 use Rattle.gw_meaning.specs.declared.moves.Fate.TheVariants as fates
 use Rattle.gw_meaning.specs.Machine.{Machine, delay_at, waiting}
-use Rattle.gw_meaning.specs.Changes.{lined_up, all_lined_up, is_due, due, placed, marked, fated, let_in, bound, refused, picked, advanced}
-use Rattle.gw_frame.proofs.Moves.{settled, leaving}
+use Rattle.gw_meaning.specs.Changes.{lined_up, all_lined_up, is_due, due, placed, marked, fated, let_in, one_let_in, bound, refused, picked, advanced}
+use Rattle.gw_frame.proofs.Moves.{settled}
 use Rattle.gw_laws.specs.Living.{living}
-use Rattle.gw_laws.proofs.Waiting.{let_in_as}
+use Rattle.gw_laws.proofs.Waiting.{leaving, let_in_as}
 
 -- 1 where a test is passed
 abbrev pub one : Bool → ℕ
@@ -141,32 +141,39 @@ module _ (test : Transaction → Bool) where
         omega arith
 
   -- so does refusing the active one, who waits from then on
-  pub refused_crowd : (s : Machine) (x : Transaction) (id : ℕ) (key : Key) → s.active ≡ Some x → test (bound x id) ≡ test x →
-      crowd (refused s x id key) ≡ crowd s
-  refused_crowd s x id key is same =
+  pub refused_crowd : (s : Machine) (x : Transaction) (id : ℕ) (key : Key) (units : ℕ) → s.active ≡ Some x → test (bound x id units) ≡ test x →
+      crowd (refused s x id key units) ≡ crowd s
+  refused_crowd s x id key units is same =
       let was = active_crowd s x is in
       let one' = ap one same in
-      let more = many_lined (bound x id) (delay_at s.delays key) in
-      let chains = waiting_with s.delays key (lined_up (bound x id) (delay_at s.delays key)) in
+      let more = many_lined (bound x id units) (delay_at s.delays key) in
+      let chains = waiting_with s.delays key (lined_up (bound x id units) (delay_at s.delays key)) in
       omega arith
 
-  -- so does letting in the first of a delay chain, who leaves it and comes onto the current chain
-  pub leaving_crowd : (s : Machine) (key : Key) (x : Transaction) (xs : List Transaction) → delay_at s.delays key ≡ x ∷ xs →
-      crowd s ≡ one (test x) + crowd (leaving s key xs)
-  leaving_crowd s key x xs is =
-      let chains = waiting_with s.delays key xs in
-      let first = ap many is in
+  -- so does letting in one of a delay chain, who leaves it and comes onto the current chain
+  pub many_without : (passed : List Transaction) (x : Transaction) (xs : List Transaction) → many (passed ++ x ∷ xs) ≡ one (test x) + many (passed ++ xs)
+  many_without passed x xs =
+      let whole = many_append passed (x ∷ xs) in
+      let rest = many_append passed xs in
+      omega arith
+
+  pub leaving_crowd : (s : Machine) (key : Key) (x : Transaction) (passed xs : List Transaction) → delay_at s.delays key ≡ passed ++ x ∷ xs →
+      crowd s ≡ one (test x) + crowd (leaving s key (passed ++ xs))
+  leaving_crowd s key x passed xs is =
+      let chains = waiting_with s.delays key (passed ++ xs) in
+      let chain = ap many is in
+      let less = many_without passed x xs in
       omega arith
 
   pub let_in_crowd : (x : Transaction) (to : Option ℕ) (s : Machine) → crowd (let_in x to s) ≡ one (test (let_in_as x to)) + crowd s
   let_in_crowd x None s = let more = many_lined x s.current in omega arith
   let_in_crowd x (Some id) s = let more = many_lined (placed x id) s.current in omega arith
 
-  pub waits_crowd : (s : Machine) (key : Key) (x : Transaction) (xs : List Transaction) → delay_at s.delays key ≡ x ∷ xs →
-      test (let_in_as x x.destination) ≡ test x → crowd (let_in x x.destination (leaving s key xs)) ≡ crowd s
-  waits_crowd s key x xs is same =
-      let before = leaving_crowd s key x xs is in
-      let after = let_in_crowd x x.destination (leaving s key xs) in
+  pub lets_crowd : (s : Machine) (key : Key) (x : Transaction) (passed xs : List Transaction) → delay_at s.delays key ≡ passed ++ x ∷ xs →
+      test (let_in_as x x.destination) ≡ test x → crowd (one_let_in key x (passed ++ xs) s) ≡ crowd s
+  lets_crowd s key x passed xs is same =
+      let before = leaving_crowd s key x passed xs is in
+      let after = let_in_crowd x x.destination (leaving s key (passed ++ xs)) in
       let one' = ap one same in
       omega arith
 

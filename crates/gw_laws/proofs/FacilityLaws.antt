@@ -1,5 +1,5 @@
 -- The facilities, move by move and over a run.
-use Rattle.std.proofs.Common.{◌≡◌, ℕ, suc, ◌+◌, ◌-◌, ◌*◌, ◌≤◌, List, [], ◌∷◌, Option, Some, None, refl, arith}
+use Rattle.std.proofs.Common.{◌≡◌, ℕ, suc, ◌+◌, ◌-◌, ◌*◌, ◌≤◌, List, [], ◌∷◌, ◌++◌, Option, Some, None, refl, arith}
 use Rattle.std.proofs.lemmas.List.Elements.{All-from_recursion}
 use Rattle.gw_names.specs.declared.key.Key.{Key}
 use Rattle.gw_entities.specs.Levels.{Course, changed}
@@ -14,8 +14,8 @@ use Rattle.gw_meaning.specs.Listing.{Listing}
 use Rattle.gw_meaning.specs.Entities.{Entities, facility_at, given_back, done, touched}
 use Rattle.gw_meaning.specs.Machine.{Machine}
 use Rattle.gw_meaning.specs.Changes.{refused, moved}
-use Rattle.gw_frame.proofs.Decided.{IsDecided}
-use Rattle.gw_frame.proofs.Moves.{settled_is, leaving, with_active_has, entered_has, picked_has}
+use Rattle.gw_frame.proofs.Known.{IsDecided}
+use Rattle.gw_frame.proofs.Moves.{settled_is, with_active_has, entered_has, picked_has}
 use Rattle.gw_frame.proofs.Running.{over_run}
 use Rattle.gw_laws.specs.Facilities.{owners, IsUsed, FacilitiesAreUsed}
 use Rattle.gw_laws.proofs.Entries.{Each, at_has, with_has}
@@ -94,6 +94,8 @@ module _ (steps : ℕ) where
       with_has (IsUsed s.clock (steps + 1)) s.entities.facilities key _
       (given_back_used s.clock steps next (facility_at s.entities key) (facility_used s.clock steps s.entities key all))
       (again s.clock s.entities.facilities all)
+  done_used s key (deeds.Enter units) number all = again s.clock s.entities.facilities all
+  done_used s key (deeds.Leave units shares) number all = again s.clock s.entities.facilities all
 
   touched_used : (s : Machine) (change : Change) (number : ℕ) → Used s → AreUsed s.clock (steps + 1) (touched change s.clock number s.entities).facilities
   touched_used s (changes.Entity change) number all = done_used s change.0 change.1 number all
@@ -111,10 +113,10 @@ module _ (steps : ℕ) where
       (λ v. record {
         nothing = λ k. k;
         one = λ a coming k. k;
-        waits = λ key x xs is k. (let same = let_in_is x x.destination (leaving v key xs) in rw (same.clock, same.entities) k);
+        lets = λ w key x passed xs is k. (let same = let_in_is key x (passed ++ xs) w in rw (same.clock, same.entities) k);
       })
-  moved_used t s (moves.Refuse id key) decided on all =
-      with_active_has UsedAgain s.active (λ x. refused s x id key) s (again s.clock s.entities.facilities all)
+  moved_used t s (moves.Refuse id key units) decided on all =
+      with_active_has UsedAgain s.active (λ x. refused s x id key units) s (again s.clock s.entities.facilities all)
       (λ x is. again s.clock s.entities.facilities all)
   moved_used t s moves.Pick decided on all =
       picked_has UsedAgain s s.current (again s.clock s.entities.facilities all) (λ x xs is. again s.clock s.entities.facilities all)

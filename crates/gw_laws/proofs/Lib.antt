@@ -1,6 +1,7 @@
 pub mod ClockLaws
 pub mod Entries
 pub mod Waiting
+pub mod LettingIn
 pub mod Crowd
 pub mod Counts
 pub mod Room
@@ -8,10 +9,13 @@ pub mod ContentLaws
 pub mod NumberLaws
 pub mod ChainLaws
 pub mod DelayLaws
+pub mod StayLaws
 pub mod OwnerLaws
 pub mod TurnLaws
 pub mod LossLaws
 pub mod PlaceLaws
 pub mod FacilityLaws
 pub mod QueueLaws
+pub mod StorageLaws
+pub mod ShareLaws
 pub mod VerbLaws

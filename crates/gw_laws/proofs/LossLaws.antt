@@ -11,10 +11,11 @@ use Rattle.gw_meaning.specs.Changes.{Making, made, all_made, making_of, with_mak
 use Rattle.gw_meaning.proofs.Programs.{run_on}
 use Rattle.gw_laws.specs.Living.{living}
 use Rattle.gw_laws.specs.Numbering.{OnlyTheActiveGoes, lives}
-use Rattle.gw_frame.proofs.Decided.{IsDecided, step_decides}
+use Rattle.gw_frame.proofs.Decided.{step_decides}
+use Rattle.gw_frame.proofs.Known.{IsDecided}
 use Rattle.gw_frame.proofs.Moves.{with_active_has, entered_has, picked_has}
 use Rattle.gw_laws.proofs.Crowd.{one, crowd, active_crowd, many_living, future_push, settled_crowd, refused_crowd, picked_crowd, advanced_crowd}
-use Rattle.gw_laws.proofs.NumberLaws.{has_number, waits_same, not_alive, alive}
+use Rattle.gw_laws.proofs.NumberLaws.{has_number, lets_same, not_alive, alive}
 
 module _ (k : ℕ) where
   -- a transaction with this number lives, or was the active one before
@@ -51,12 +52,12 @@ module _ (k : ℕ) where
       (λ v. record {
         nothing = λ g. g;
         one = λ a coming g. elim g [ inl here ↦ inl (made_lives a (making_of v) v here) | inr was ↦ inr was ];
-        waits = λ key x xs is g.
-            (let same = waits_same k v key x xs is in elim g [ inl here ↦ inl (omega (arith, same, here)) | inr was ↦ inr was ]);
+        lets = λ w key x passed xs is g.
+            (let same = lets_same k w key x passed xs is in elim g [ inl here ↦ inl (omega (arith, same, here)) | inr was ↦ inr was ]);
       })
-  moved_lives t s (moves.Refuse id key) decided h =
-      with_active_has (LivesOn s) s.active (λ x. refused s x id key) s (inl h)
-      (λ x is. let same = refused_crowd (has_number k) s x id key is refl in inl (omega (arith, h, same)))
+  moved_lives t s (moves.Refuse id key units) decided h =
+      with_active_has (LivesOn s) s.active (λ x. refused s x id key units) s (inl h)
+      (λ x is. let same = refused_crowd (has_number k) s x id key units is refl in inl (omega (arith, h, same)))
   moved_lives t s moves.Pick decided h =
       picked_has (LivesOn s) s s.current (inl h) (λ x xs is. let same = picked_crowd (has_number k) s x xs decided is in inl (omega (arith, h, same)))
   moved_lives t s (moves.Clock time) decided h = let same = advanced_crowd (has_number k) s time in inl (omega (arith, h, same))

@@ -1,5 +1,5 @@
 -- The numbers of transactions, move by move and over a run: none lives twice, and none lives that was not given yet.
-use Rattle.std.proofs.Common.{◌≡◌, ◌≢◌, ℕ, ◌+◌, ◌-◌, ◌<◌, ◌≤◌, ◌^◌, nat_eq, Bool, true, false, List, [], ◌∷◌, length, Ok, refl, ap, sym, ◌∙◌, arith, inl, inr}
+use Rattle.std.proofs.Common.{◌≡◌, ◌≢◌, ℕ, ◌+◌, ◌-◌, ◌<◌, ◌≤◌, ◌^◌, nat_eq, Bool, true, false, List, [], ◌∷◌, ◌++◌, length, Ok, refl, ap, sym, ◌∙◌, arith, inl, inr}
 use Rattle.std.specs.Prelude.{AllPairs}
 use Rattle.std.specs.List.{AllByRecursion, list_any}
 use Rattle.std.proofs.lemmas.Bool.{cases_Bool, false≢true, eq-eqb, ne_eqb, cases_eq, cases_lt}
@@ -12,16 +12,16 @@ use Rattle.gw_meaning.specs.declared.moves.Move.{Move}
 use Rattle.gw_meaning.specs.declared.moves.Move.TheVariants as moves
 use Rattle.gw_meaning.specs.Listing.{Listing}
 use Rattle.gw_meaning.specs.Machine.{Machine, delay_at}
-use Rattle.gw_meaning.specs.Changes.{Making, made, all_made, making_of, with_making, newcomer, placed, started, let_in, refused, moved}
+use Rattle.gw_meaning.specs.Changes.{Making, made, all_made, making_of, with_making, newcomer, placed, started, one_let_in, refused, moved}
 use Rattle.gw_meaning.specs.Step.{run}
 use Rattle.gw_model.specs.Well.{Well}
 use Rattle.gw_laws.specs.Living.{living}
 use Rattle.gw_laws.specs.Numbering.{NumbersAreApart, NumbersAreGiven, NumbersAreGivenOnce}
-use Rattle.gw_frame.proofs.Decided.{IsDecided}
-use Rattle.gw_frame.proofs.Moves.{settled, settled_is, marked_same, leaving, with_active_has, entered_has, picked_has}
+use Rattle.gw_frame.proofs.Known.{IsDecided}
+use Rattle.gw_frame.proofs.Moves.{settled, settled_is, marked_same, with_active_has, entered_has, picked_has}
 use Rattle.gw_frame.proofs.Running.{over_run, over_rest}
 use Rattle.gw_laws.proofs.Waiting.{let_in_number, let_in_is}
-use Rattle.gw_laws.proofs.Crowd.{one, many, crowd, many_living, future_push, settled_fewer, refused_crowd, waits_crowd, picked_crowd, advanced_crowd}
+use Rattle.gw_laws.proofs.Crowd.{one, many, crowd, many_living, future_push, settled_fewer, refused_crowd, lets_crowd, picked_crowd, advanced_crowd}
 use Rattle.gw_laws.proofs.Room.{all_within}
 
 abbrev pub has_number : ℕ → Transaction → Bool
@@ -64,9 +64,9 @@ all_made_numbered [] w s room h = h
 all_made_numbered (a ∷ rest) w s room h = all_made_numbered rest (made a w) s (omega arith) (made_numbered a w s (omega arith) h)
 
 -- who waited and is let in keeps the number
-pub waits_same : (k : ℕ) (v : Machine) (key : Key) (x : Transaction) (xs : List Transaction) → delay_at v.delays key ≡ x ∷ xs →
-    crowd (has_number k) (let_in x x.destination (leaving v key xs)) ≡ crowd (has_number k) v
-waits_same k v key x xs is = waits_crowd (has_number k) v key x xs is (ap (λ n. nat_eq n k) (let_in_number x x.destination))
+pub lets_same : (k : ℕ) (w : Machine) (key : Key) (x : Transaction) (passed xs : List Transaction) → delay_at w.delays key ≡ passed ++ x ∷ xs →
+    crowd (has_number k) (one_let_in key x (passed ++ xs) w) ≡ crowd (has_number k) w
+lets_same k w key x passed xs is = lets_crowd (has_number k) w key x passed xs is (ap (λ n. nat_eq n k) (let_in_number x x.destination))
 
 -- each move
 moved_numbered : (t : Listing) (s : Machine) (m : Move) → s.next + length t.lines < 2 ^ 64 - 1 → IsDecided t s m → IsNumbered s → IsNumbered (moved s m)
@@ -85,13 +85,13 @@ moved_numbered t s (moves.Enter id change fate) room decided h =
     (λ v. record {
       nothing = λ k. k.1;
       one = λ a coming k. made_numbered a (making_of v) v (omega (arith, k.0)) k.1;
-      waits = λ key x xs is k.
-          same_numbered v (let_in x x.destination (leaving v key xs)) (let_in_is x x.destination (leaving v key xs)).next
-          (λ i. let same = waits_same i v key x xs is in omega arith) k.1;
+      lets = λ w key x passed xs is k.
+          same_numbered w (one_let_in key x (passed ++ xs) w) (let_in_is key x (passed ++ xs) w).next
+          (λ i. let same = lets_same i w key x passed xs is in omega arith) k;
     })
-moved_numbered t s (moves.Refuse id key) room decided h =
-    with_active_has IsNumbered s.active (λ x. refused s x id key) s h
-    (λ x is. same_numbered s (refused s x id key) refl (λ k. let same = refused_crowd (has_number k) s x id key is refl in omega arith) h)
+moved_numbered t s (moves.Refuse id key units) room decided h =
+    with_active_has IsNumbered s.active (λ x. refused s x id key units) s h
+    (λ x is. same_numbered s (refused s x id key units) refl (λ k. let same = refused_crowd (has_number k) s x id key units is refl in omega arith) h)
 moved_numbered t s moves.Pick room decided h =
     picked_has IsNumbered s s.current h
     (λ x xs is. record {
@@ -180,14 +180,14 @@ module _ (k : ℕ) where
       (λ v. record {
         nothing = λ g. g.1;
         one = λ a coming g. made_gone a (making_of v) v (omega (arith, room, g.0)) g.1;
-        waits = λ key x xs is g.
-            (let same = waits_same k v key x xs is in
-            let next = (let_in_is x x.destination (leaving v key xs)).next in
-            (omega (arith, next, g.1.0), omega (arith, same, g.1.1)));
+        lets = λ w key x passed xs is g.
+            (let same = lets_same k w key x passed xs is in
+            let next = (let_in_is key x (passed ++ xs) w).next in
+            (omega (arith, next, g.0), omega (arith, same, g.1)));
       })
-  moved_gone t s (moves.Refuse id key) room decided h =
-      with_active_has (IsGone k) s.active (λ x. refused s x id key) s h
-      (λ x is. let same = refused_crowd (has_number k) s x id key is refl in (h.0, omega (arith, same, h.1)))
+  moved_gone t s (moves.Refuse id key units) room decided h =
+      with_active_has (IsGone k) s.active (λ x. refused s x id key units) s h
+      (λ x is. let same = refused_crowd (has_number k) s x id key units is refl in (h.0, omega (arith, same, h.1)))
   moved_gone t s moves.Pick room decided h =
       picked_has (IsGone k) s s.current h (λ x xs is. let same = picked_crowd (has_number k) s x xs decided is in (h.0, omega (arith, same, h.1)))
   moved_gone t s (moves.Clock time) room decided h = let same = advanced_crowd (has_number k) s time in (h.0, omega (arith, same, h.1))

@@ -1,10 +1,11 @@
 -- The owners of facilities and those who wait for them, move by move and over a run: the first of a delay chain takes the
 -- facility over, and nobody waits at a free one.
-use Rattle.std.proofs.Common.{◌≡◌, ℕ, suc, ◌<◌, ◌≤◌, true, false, cond, List, [], ◌∷◌, length, Option, Some, None, is_some, refl, sym, ap, subst, ◌∙◌, inl, inr, arith}
+use Rattle.std.proofs.Common.{◌≡◌, ℕ, suc, ◌<◌, ◌≤◌, true, false, cond, List, [], ◌∷◌, ◌++◌, length, Option, Some, None, is_some, refl, sym, ap, subst, ◌∙◌, inl, inr, arith}
 use Rattle.std.specs.Prelude.{Contains}
 use Rattle.std.proofs.lemmas.Bool.{cond_both, cases_Bool}
 use Rattle.gw_nums.specs.Range.{is_below}
 use Rattle.gw_names.specs.declared.key.Key.{Key}
+use Rattle.gw_names.specs.declared.key.Key.TheVariants as keys
 use Rattle.gw_names.specs.Keys.{key_eq}
 use Rattle.gw_entities.specs.Records.{Ownership, never_owned, seized}
 use Rattle.gw_entities.specs.Tables.{with_value}
@@ -22,16 +23,18 @@ use Rattle.gw_meaning.specs.declared.moves.Move.TheVariants as moves
 use Rattle.gw_meaning.specs.Listing.{Listing}
 use Rattle.gw_meaning.specs.Entities.{Entities, facility_at, given_back, done, touched}
 use Rattle.gw_meaning.specs.Machine.{Machine, delay_at}
-use Rattle.gw_meaning.specs.Changes.{lined_up, let_in, first_let_in, admitted, entering, placed, bound, refused, picked, moved}
+use Rattle.gw_meaning.specs.Changes.{lined_up, let_in, one_let_in, some_let_in, admitted, entering, placed, bound, refused, picked, moved}
 use Rattle.gw_meaning.specs.Step.{first_number}
 use Rattle.gw_meaning.proofs.Programs.{run_on}
-use Rattle.gw_frame.proofs.Decided.{IsDecidedDeed, IsDecidedChange, IsDecided, step_decides}
-use Rattle.gw_frame.proofs.Moves.{settled, settled_is, leaving, with_active_has, entered_has, picked_has}
+use Rattle.gw_frame.proofs.Decided.{step_decides}
+use Rattle.gw_frame.proofs.Known.{IsDecidedDeed, IsDecidedChange, IsRefused, IsDecided}
+use Rattle.gw_frame.proofs.Moves.{settled, settled_is, with_active_has, entered_has, picked_has}
 use Rattle.gw_frame.proofs.Running.{over_run}
-use Rattle.gw_laws.specs.Delays.{TakesOver, FirstTakesOver, NobodyWaitsAtAFreeFacility}
+use Rattle.gw_laws.specs.Delays.{is_storage, TakesOver, FirstTakesOver, NobodyWaitsAtAFreeFacility}
 use Rattle.gw_laws.proofs.Entries.{at_with}
-use Rattle.gw_laws.proofs.Waiting.{let_in_is}
-use Rattle.gw_laws.proofs.DelayLaws.{set_here, set_there, set_has, AreBound, AllAreBound, delay_bound, all_bound}
+use Rattle.gw_laws.proofs.Waiting.{leaving, let_in_is, lined_has}
+use Rattle.gw_laws.proofs.LettingIn.{set_here, set_there, set_has, no_storage, others_stay, entering_has}
+use Rattle.gw_laws.proofs.DelayLaws.{AreBound, AllAreBound, delay_bound, all_bound}
 
 -- the owner of a facility that is set, and of the others
 owner_here : (e : Entities) (key q : Key) (f : Ownership) → key_eq q key ≡ true →
@@ -52,15 +55,8 @@ longer x (y ∷ ys) =
     let rest = longer x ys in
     cond_both (is_below y.priority x.priority) (x ∷ y ∷ ys) (y ∷ lined_up x ys) (λ zs. length zs ≡ suc (suc (length ys))) (λ _. refl) (λ _. omega arith)
 
-stands_there : (y : Transaction) (ys : List Transaction) → Contains (lined_up y ys) y
-stands_there y [] = (0, omega arith, refl)
-stands_there y (z ∷ zs) =
-    let rest = stands_there y zs in
-    cond_both (is_below z.priority y.priority) (y ∷ z ∷ zs) (z ∷ lined_up y zs) (λ xs. Contains xs y) (λ _. (0, omega arith, refl))
-    (λ _. (suc rest.0, omega (arith, rest.1), rest.2))
-
 stands_in_block : (x : Transaction) (id : ℕ) (v : Machine) → x.destination ≡ Some id → Contains (let_in x x.destination v).current (placed x id)
-stands_in_block x id v is = rw is (stands_there (placed x id) v.current)
+stands_in_block x id v is = rw is (lined_has (placed x id) v.current)
 
 module _ (q : Key) where
   abbrev LetsIn : Machine → Machine → Type 0
@@ -81,11 +77,11 @@ module _ (q : Key) where
 
   released_lets : (s v : Machine) (key : Key) (number : ℕ) (next : Option ℕ) (chain : List Transaction) → delay_at v.delays key ≡ chain →
       v.delays ≡ s.delays → v.entities ≡ done key (deeds.Release next) s.clock number s.entities → next ≡ first_number (delay_at s.delays key) →
-      AllAreBound s → LetsIn s (first_let_in key chain v)
+      AllAreBound s → LetsIn s (some_let_in key (Some 1 ∷ []) [] chain v)
   released_lets s v key number next [] is chains entities first all = same_chains s v chains
   released_lets s v key number next (x ∷ xs) is chains entities first all =
-      let w = let_in x x.destination (leaving v key xs) in
-      let same = let_in_is x x.destination (leaving v key xs) in
+      let w = one_let_in key x xs v in
+      let same = let_in_is key x xs v in
       let after : w.delays ≡ with_value s.delays key xs = same.delays ∙ ap (λ ds. with_value ds key xs) chains in
       let there : delay_at s.delays key ≡ x ∷ xs = ap (λ ds. delay_at ds key) (sym chains) ∙ is in
       let bounds : AreBound (x ∷ xs) = subst AreBound there (delay_bound s key all) in
@@ -107,60 +103,54 @@ module _ (q : Key) where
             nobody s w (omega arith)
       ]
 
-  deed_lets : (s v : Machine) (key : Key) (deed : Deed) (number : ℕ) → v.delays ≡ s.delays → v.entities ≡ done key deed s.clock number s.entities →
-      IsDecidedDeed s key deed → AllAreBound s → LetsIn s (admitted key deed v)
-  deed_lets s v key (deeds.Release next) number chains entities decided all =
-      released_lets s v key number next (delay_at v.delays key) refl chains entities decided all
-  deed_lets s v key (deeds.Queue units) number chains entities decided all = same_chains s v chains
-  deed_lets s v key (deeds.Depart units at_once) number chains entities decided all = same_chains s v chains
-  deed_lets s v key deeds.Seize number chains entities decided all = same_chains s v chains
+  deed_lets : (t : Listing) (s v : Machine) (key : Key) (deed : Deed) (number : ℕ) → is_storage q ≡ false → v.delays ≡ s.delays →
+      v.entities ≡ done key deed s.clock number s.entities → IsDecidedDeed t s key deed → AllAreBound s → LetsIn s (admitted key deed v)
+  deed_lets t s v key (deeds.Release next) number facility chains entities decided all =
+      released_lets s v key number next (delay_at v.delays key) refl chains entities decided.1 all
+  deed_lets t s v key (deeds.Leave units shares) number facility chains entities decided all =
+      let other : key_eq q key ≡ false = ap (key_eq q) decided.named ∙ no_storage q decided.name facility in
+      let rest = ap length (others_stay q key shares [] (delay_at v.delays key) v other) in
+      let long = ap (λ ds. length (delay_at ds q)) chains in
+      nobody s (admitted key (deeds.Leave units shares) v) (omega arith)
+  deed_lets t s v key (deeds.Enter units) number facility chains entities decided all = same_chains s v chains
+  deed_lets t s v key (deeds.Queue units) number facility chains entities decided all = same_chains s v chains
+  deed_lets t s v key (deeds.Depart units at_once) number facility chains entities decided all = same_chains s v chains
+  deed_lets t s v key deeds.Seize number facility chains entities decided all = same_chains s v chains
 
-  entered_lets : (t : Listing) (s : Machine) (x : Transaction) (id : ℕ) (change : Change) (fate : Fate) → IsDecidedChange t s change →
-      AllAreBound s → LetsIn s (entering s x id change fate)
-  entered_lets t s x id (changes.Entity change) fate decided all =
-      let v = settled s x id (changes.Entity change) fate in
-      let same = settled_is s x id (changes.Entity change) fate in
-      deed_lets s v change.0 change.1 x.number same.delays same.entities decided all
-  entered_lets t s x id (changes.Generate next) fate decided all =
-      same_chains s (entering s x id (changes.Generate next) fate) (settled_is s x id (changes.Generate next) fate).delays
-  entered_lets t s x id (changes.Transfer to) fate decided all =
-      same_chains s (entering s x id (changes.Transfer to) fate) (settled_is s x id (changes.Transfer to) fate).delays
-  entered_lets t s x id changes.Nothing fate decided all =
-      same_chains s (entering s x id changes.Nothing fate) (settled_is s x id changes.Nothing fate).delays
-
-  refused_lets : (s : Machine) (x : Transaction) (id : ℕ) (key : Key) → LetsIn s (refused s x id key)
-  refused_lets s x id key =
+  refused_lets : (s : Machine) (x : Transaction) (id : ℕ) (key : Key) (units : ℕ) → LetsIn s (refused s x id key units)
+  refused_lets s x id key units =
       let R : List Transaction → List Transaction → Type 0 = λ xs ys. length xs ≤ length ys in
-      let more = longer (bound x id) (delay_at s.delays key) in
-      nobody s (refused s x id key)
-      (set_has R (λ xs. omega arith) s.delays q key (lined_up (bound x id) (delay_at s.delays key)) (omega arith))
+      let more = longer (bound x id units) (delay_at s.delays key) in
+      nobody s (refused s x id key units)
+      (set_has R (λ xs. omega arith) s.delays q key (lined_up (bound x id units) (delay_at s.delays key)) (omega arith))
 
-  moved_lets : (t : Listing) (s : Machine) (m : Move) → IsDecided t s m → AllAreBound s → LetsIn s (moved s m)
-  moved_lets t s (moves.Start count arrivals) decided all = same_chains s (moved s (moves.Start count arrivals)) refl
-  moved_lets t s moves.Command decided all = same_chains s (moved s moves.Command) refl
-  moved_lets t s (moves.Enter id change fate) decided all =
+  moved_lets : (t : Listing) (s : Machine) (m : Move) → is_storage q ≡ false → IsDecided t s m → AllAreBound s → LetsIn s (moved s m)
+  moved_lets t s (moves.Start count arrivals) facility decided all = same_chains s (moved s (moves.Start count arrivals)) refl
+  moved_lets t s moves.Command facility decided all = same_chains s (moved s moves.Command) refl
+  moved_lets t s (moves.Enter id change fate) facility decided all =
       with_active_has (LetsIn s) s.active (λ x. entering s x id change fate) s (same_chains s s refl)
-      (λ x is. entered_lets t s x id change fate decided.1 all)
-  moved_lets t s (moves.Refuse id key) decided all =
-      with_active_has (LetsIn s) s.active (λ x. refused s x id key) s (same_chains s s refl) (λ x is. refused_lets s x id key)
-  moved_lets t s moves.Pick decided all =
+      (λ x is. entering_has (LetsIn s) t s x id change fate decided.1 (λ v chains entities. same_chains s v chains)
+      (λ v key deed chains entities does. deed_lets t s v key deed x.number facility chains entities does all))
+  moved_lets t s (moves.Refuse id key units) facility decided all =
+      with_active_has (LetsIn s) s.active (λ x. refused s x id key units) s (same_chains s s refl) (λ x is. refused_lets s x id key units)
+  moved_lets t s moves.Pick facility decided all =
       picked_has (LetsIn s) s s.current (same_chains s s refl) (λ x xs is. same_chains s (picked s (x ∷ xs)) refl)
-  moved_lets t s (moves.Clock time) decided all = same_chains s (moved s (moves.Clock time)) refl
+  moved_lets t s (moves.Clock time) facility decided all = same_chains s (moved s (moves.Clock time)) refl
 
   whatever_streams : (s v : Machine) (streams : List Stream) → LetsIn s v → LetsIn s (record v { streams = streams })
   whatever_streams s v streams h less =
       let k = h less in record { first = k.first; block = k.block; left = k.left; bound = k.bound; stands = k.stands; owns = k.owns }
 
 pub first_takes_over : FirstTakesOver
-first_takes_over t seed n s v there is key =
+first_takes_over t seed n s v there is key facility =
     let after = ((step_decides t seed s).runs v (sym (run_on t seed n s there) ∙ is)).0 in
     subst (LetsIn key s) (sym after.is)
-    (whatever_streams key s (moved s after.move) after.streams (moved_lets key t s after.move after.is_decided (all_bound t seed n s there)))
+    (whatever_streams key s (moved s after.move) after.streams (moved_lets key t s after.move facility after.is_decided (all_bound t seed n s there)))
 
 -- ---- nobody waits at a free facility
 
 abbrev NobodyWaits : Machine → Type 0
-NobodyWaits s = (q : Key) → (facility_at s.entities q).owner ≡ None → delay_at s.delays q ≡ []
+NobodyWaits s = (q : Key) → is_storage q ≡ false → (facility_at s.entities q).owner ≡ None → delay_at s.delays q ≡ []
 
 none_next : (next : Option ℕ) (chain : List Transaction) (clock : ℕ) (f : Ownership) → next ≡ first_number chain →
     (given_back next clock f).owner ≡ None → chain ≡ []
@@ -168,57 +158,75 @@ none_next next [] clock f first none = refl
 none_next None (x ∷ xs) clock f first none = absurd cc
 none_next (Some number) (x ∷ xs) clock f first none = absurd cc
 
-done_free : (s : Machine) (key : Key) (deed : Deed) (number : ℕ) → IsDecidedDeed s key deed → NobodyWaits s → (q : Key) →
-    (facility_at (done key deed s.clock number s.entities) q).owner ≡ None → delay_at s.delays q ≡ []
-done_free s key (deeds.Queue units) number decided h q free = h q free
-done_free s key (deeds.Depart units at_once) number decided h q free = h q free
-done_free s key deeds.Seize number decided h q free =
+done_free : (t : Listing) (s : Machine) (key : Key) (deed : Deed) (number : ℕ) → IsDecidedDeed t s key deed → NobodyWaits s → (q : Key) →
+    is_storage q ≡ false → (facility_at (done key deed s.clock number s.entities) q).owner ≡ None → delay_at s.delays q ≡ []
+done_free t s key (deeds.Queue units) number decided h q facility free = h q facility free
+done_free t s key (deeds.Depart units at_once) number decided h q facility free = h q facility free
+done_free t s key (deeds.Enter units) number decided h q facility free = h q facility free
+done_free t s key (deeds.Leave units shares) number decided h q facility free = h q facility free
+done_free t s key deeds.Seize number decided h q facility free =
     let f = seized number s.clock (facility_at s.entities key) in
     elim (cases_Bool (key_eq q key)) [
       | inl here ↦ absurd (let owner : Some number ≡ None = sym (owner_here s.entities key q f here) ∙ free in cc)
-      | inr other ↦ h q (sym (owner_there s.entities key q f other) ∙ free)
+      | inr other ↦ h q facility (sym (owner_there s.entities key q f other) ∙ free)
     ]
-done_free s key (deeds.Release next) number decided h q free =
+done_free t s key (deeds.Release next) number decided h q facility free =
     let f = given_back next s.clock (facility_at s.entities key) in
     elim (cases_Bool (key_eq q key)) [
       | inl here ↦
-          let none = none_next next (delay_at s.delays key) s.clock (facility_at s.entities key) decided (sym (owner_here s.entities key q f here) ∙ free) in
+          let none = none_next next (delay_at s.delays key) s.clock (facility_at s.entities key) decided.1 (sym (owner_here s.entities key q f here) ∙ free) in
           ap (delay_at s.delays) (key_same q key here) ∙ none
-      | inr other ↦ h q (sym (owner_there s.entities key q f other) ∙ free)
+      | inr other ↦ h q facility (sym (owner_there s.entities key q f other) ∙ free)
     ]
 
 settled_free : (t : Listing) (s : Machine) (x : Transaction) (id : ℕ) (change : Change) (fate : Fate) → IsDecidedChange t s change → NobodyWaits s →
     NobodyWaits (settled s x id change fate)
 settled_free t s x id change fate decided h =
     let same = settled_is s x id change fate in
-    λ q free. ap (λ ds. delay_at ds q) same.delays ∙ go change decided q (sym (ap (λ (e : Entities). (facility_at e q).owner) same.entities) ∙ free)
+    λ q facility free.
+    ap (λ ds. delay_at ds q) same.delays
+    ∙ go change decided q facility (sym (ap (λ (e : Entities). (facility_at e q).owner) same.entities) ∙ free)
   where
-    go : (c : Change) → IsDecidedChange t s c → (q : Key) → (facility_at (touched c s.clock x.number s.entities) q).owner ≡ None → delay_at s.delays q ≡ []
-    go (changes.Entity change) decided q free = done_free s change.0 change.1 x.number decided h q free
-    go (changes.Generate next) decided q free = h q free
-    go (changes.Transfer to) decided q free = h q free
-    go changes.Nothing decided q free = h q free
+    go : (c : Change) → IsDecidedChange t s c → (q : Key) → is_storage q ≡ false →
+        (facility_at (touched c s.clock x.number s.entities) q).owner ≡ None → delay_at s.delays q ≡ []
+    go (changes.Entity change) decided q facility free = done_free t s change.0 change.1 x.number decided h q facility free
+    go (changes.Generate next) decided q facility free = h q facility free
+    go (changes.Transfer to) decided q facility free = h q facility free
+    go changes.Nothing decided q facility free = h q facility free
 
-waits_free : (v : Machine) (key : Key) (x : Transaction) (xs : List Transaction) → delay_at v.delays key ≡ x ∷ xs → NobodyWaits v →
-    NobodyWaits (let_in x x.destination (leaving v key xs))
-waits_free v key x xs is h q free =
-    let same = let_in_is x x.destination (leaving v key xs) in
-    let none : delay_at v.delays q ≡ [] = h q (sym (ap (λ (e : Entities). (facility_at e q).owner) same.entities) ∙ free) in
+nobody_there : (passed : List Transaction) (x : Transaction) (xs : List Transaction) → [] ≡ passed ++ x ∷ xs → ⊥
+nobody_there [] x xs is = cc
+nobody_there (y ∷ ys) x xs is = cc
+
+lets_free : (w : Machine) (key : Key) (x : Transaction) (passed xs : List Transaction) → delay_at w.delays key ≡ passed ++ x ∷ xs → NobodyWaits w →
+    NobodyWaits (one_let_in key x (passed ++ xs) w)
+lets_free w key x passed xs is h q facility free =
+    let same = let_in_is key x (passed ++ xs) w in
+    let none : delay_at w.delays q ≡ [] = h q facility (sym (ap (λ (e : Entities). (facility_at e q).owner) same.entities) ∙ free) in
     ap (λ ds. delay_at ds q) same.delays
     ∙ elim (cases_Bool (key_eq q key)) [
-      | inl here ↦ absurd (let some : [] ≡ x ∷ xs = sym none ∙ (ap (delay_at v.delays) (key_same q key here) ∙ is) in cc)
-      | inr other ↦ set_there v.delays q key xs other ∙ none
+      | inl here ↦ absurd (nobody_there passed x xs (sym none ∙ (ap (delay_at w.delays) (key_same q key here) ∙ is)))
+      | inr other ↦ set_there w.delays q key (passed ++ xs) other ∙ none
     ]
 
-refused_free : (s : Machine) (x : Transaction) (id : ℕ) (key : Key) → is_some (facility_at s.entities key).owner ≡ true → NobodyWaits s →
-    NobodyWaits (refused s x id key)
-refused_free s x id key owned h q free =
+-- a facility refuses while it is owned
+owned_there : (t : Listing) (s : Machine) (key : Key) (units : ℕ) → is_storage key ≡ false → IsRefused t s key units →
+    is_some (facility_at s.entities key).owner ≡ true
+owned_there t s (keys.Num number) units facility refuses = refuses
+owned_there t s (keys.Named name) units facility refuses = refuses
+owned_there t s (keys.Defined name) units facility refuses = absurd cc
+
+refused_free : (t : Listing) (s : Machine) (x : Transaction) (id : ℕ) (key : Key) (units : ℕ) → IsRefused t s key units → NobodyWaits s →
+    NobodyWaits (refused s x id key units)
+refused_free t s x id key units refuses h q facility free =
     elim (cases_Bool (key_eq q key)) [
       | inl here ↦ absurd (
-          let one' = ap (λ k. (facility_at s.entities k).owner) (sym (key_same q key here)) in
+          let same = key_same q key here in
+          let owned = owned_there t s key units (ap is_storage (sym same) ∙ facility) refuses in
+          let one' = ap (λ k. (facility_at s.entities k).owner) (sym same) in
           let clash : true ≡ false = sym owned ∙ ap is_some (one' ∙ free) in
           cc)
-      | inr other ↦ set_there s.delays q key _ other ∙ h q free
+      | inr other ↦ set_there s.delays q key _ other ∙ h q facility free
     ]
 
 moved_free : (t : Listing) (s : Machine) (m : Move) → IsDecided t s m → NobodyWaits s → NobodyWaits (moved s m)
@@ -226,12 +234,12 @@ moved_free t s (moves.Start count arrivals) decided h = h
 moved_free t s moves.Command decided h = h
 moved_free t s (moves.Enter id change fate) decided h =
     entered_has NobodyWaits NobodyWaits t s id change fate decided.1 h (λ x is. settled_free t s x id change fate decided.1 h)
-    (λ v. record { nothing = λ k. k; one = λ a coming k. k; waits = waits_free v })
-moved_free t s (moves.Refuse id key) decided h =
-    with_active_has NobodyWaits s.active (λ x. refused s x id key) s h (λ x is. refused_free s x id key decided.1 h)
+    (λ v. record { nothing = λ k. k; one = λ a coming k. k; lets = lets_free })
+moved_free t s (moves.Refuse id key units) decided h =
+    with_active_has NobodyWaits s.active (λ x. refused s x id key units) s h (λ x is. refused_free t s x id key units decided.1 h)
 moved_free t s moves.Pick decided h = picked_has NobodyWaits s s.current h (λ x xs is. h)
 moved_free t s (moves.Clock time) decided h = h
 
 pub nobody_waits_at_a_free_facility : NobodyWaitsAtAFreeFacility
 nobody_waits_at_a_free_facility t seed =
-    over_run t seed (λ n s. NobodyWaits s) (λ q free. refl) (λ n s m streams there decided h. moved_free t s m decided h)
+    over_run t seed (λ n s. NobodyWaits s) (λ q facility free. refl) (λ n s m streams there decided h. moved_free t s m decided h)

@@ -16,8 +16,8 @@ use Rattle.gw_meaning.specs.declared.moves.Move.TheVariants as moves
 use Rattle.gw_meaning.specs.Listing.{Listing}
 use Rattle.gw_meaning.specs.Machine.{Machine, delay_at, waiting}
 use Rattle.gw_meaning.specs.Changes.{refused, moved}
-use Rattle.gw_frame.proofs.Decided.{IsDecided}
-use Rattle.gw_frame.proofs.Moves.{settled_is, leaving, with_active_has, entered_has, picked_has}
+use Rattle.gw_frame.proofs.Known.{IsDecided}
+use Rattle.gw_frame.proofs.Moves.{settled_is, with_active_has, entered_has, picked_has}
 use Rattle.gw_frame.proofs.Running.{over_run}
 use Rattle.gw_laws.specs.Places.{Place, Active, OnCurrent, OnFuture, OnDelay, who_stands, EachHasAPlace, EachHasOnePlace}
 use Rattle.gw_laws.proofs.Waiting.{let_in_is}
@@ -136,10 +136,10 @@ moved_once t s (moves.Enter id change fate) decided h =
     (λ v. record {
       nothing = λ k. k;
       one = λ a coming k. k;
-      waits = λ key x xs is k. rw (let_in_is x x.destination (leaving v key xs)).delays (with_once v.delays key xs k);
+      lets = λ w key x passed xs is k. rw (let_in_is key x (passed ++ xs) w).delays (with_once w.delays key (passed ++ xs) k);
     })
-moved_once t s (moves.Refuse id key) decided h =
-    with_active_has DelaysAreOnce s.active (λ x. refused s x id key) s h (λ x is. with_once s.delays key _ h)
+moved_once t s (moves.Refuse id key units) decided h =
+    with_active_has DelaysAreOnce s.active (λ x. refused s x id key units) s h (λ x is. with_once s.delays key _ h)
 moved_once t s moves.Pick decided h = picked_has DelaysAreOnce s s.current h (λ x xs is. h)
 moved_once t s (moves.Clock time) decided h = h
 

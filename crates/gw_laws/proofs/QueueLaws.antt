@@ -1,5 +1,5 @@
 -- The queues, move by move and over a run.
-use Rattle.std.proofs.Common.{ℕ, ◌≤◌, Bool, true, false, List, [], ◌∷◌, refl, arith}
+use Rattle.std.proofs.Common.{ℕ, ◌≤◌, Bool, true, false, List, [], ◌∷◌, ◌++◌, refl, arith}
 use Rattle.std.proofs.lemmas.List.Elements.{All-from_recursion}
 use Rattle.gw_names.specs.declared.key.Key.{Key}
 use Rattle.gw_entities.specs.Records.{Line, no_line, queued, departed}
@@ -13,8 +13,8 @@ use Rattle.gw_meaning.specs.Listing.{Listing}
 use Rattle.gw_meaning.specs.Entities.{Entities, line_at, done, touched}
 use Rattle.gw_meaning.specs.Machine.{Machine}
 use Rattle.gw_meaning.specs.Changes.{refused, moved}
-use Rattle.gw_frame.proofs.Decided.{IsDecidedDeed, IsDecidedChange, IsDecided, Fits, Leaves}
-use Rattle.gw_frame.proofs.Moves.{settled_is, leaving, with_active_has, entered_has, picked_has}
+use Rattle.gw_frame.proofs.Known.{IsDecidedDeed, IsDecidedChange, IsDecided, Fits, Leaves}
+use Rattle.gw_frame.proofs.Moves.{settled_is, with_active_has, entered_has, picked_has}
 use Rattle.gw_frame.proofs.Running.{over_run}
 use Rattle.gw_laws.specs.Queues.{IsWithin, QueuesAreWithin}
 use Rattle.gw_laws.proofs.Entries.{Each, at_has, with_has}
@@ -60,18 +60,20 @@ departed_within clock units false q leaves h =
       at = omega (arith, h.at);
     }
 
-done_within : (s : Machine) (key : Key) (deed : Deed) (number : ℕ) → IsDecidedDeed s key deed → AreWithin s.clock s.entities.queues →
+done_within : (t : Listing) (s : Machine) (key : Key) (deed : Deed) (number : ℕ) → IsDecidedDeed t s key deed → AreWithin s.clock s.entities.queues →
     AreWithin s.clock (done key deed s.clock number s.entities).queues
-done_within s key (deeds.Queue units) number fits all =
+done_within t s key (deeds.Queue units) number fits all =
     with_has (IsWithin s.clock) s.entities.queues key _ (queued_within s.clock units _ fits (line_within s.clock s.entities key all)) all
-done_within s key (deeds.Depart units at_once) number leaves all =
+done_within t s key (deeds.Depart units at_once) number leaves all =
     with_has (IsWithin s.clock) s.entities.queues key _ (departed_within s.clock units at_once _ leaves (line_within s.clock s.entities key all)) all
-done_within s key deeds.Seize number decided all = all
-done_within s key (deeds.Release next) number decided all = all
+done_within t s key deeds.Seize number decided all = all
+done_within t s key (deeds.Release next) number decided all = all
+done_within t s key (deeds.Enter units) number decided all = all
+done_within t s key (deeds.Leave units shares) number decided all = all
 
 touched_within : (t : Listing) (s : Machine) (change : Change) (number : ℕ) → IsDecidedChange t s change → AreWithin s.clock s.entities.queues →
     AreWithin s.clock (touched change s.clock number s.entities).queues
-touched_within t s (changes.Entity change) number decided all = done_within s change.0 change.1 number decided all
+touched_within t s (changes.Entity change) number decided all = done_within t s change.0 change.1 number decided all
 touched_within t s change number decided all = all
 
 -- a later clock
@@ -100,10 +102,10 @@ moved_within t s (moves.Enter id change fate) decided on all =
     (λ v. record {
       nothing = λ k. k;
       one = λ a coming k. k;
-      waits = λ key x xs is k. (let same = let_in_is x x.destination (leaving v key xs) in rw (same.clock, same.entities) k);
+      lets = λ w key x passed xs is k. (let same = let_in_is key x (passed ++ xs) w in rw (same.clock, same.entities) k);
     })
-moved_within t s (moves.Refuse id key) decided on all =
-    with_active_has (λ v. AreWithin v.clock v.entities.queues) s.active (λ x. refused s x id key) s all (λ x is. all)
+moved_within t s (moves.Refuse id key units) decided on all =
+    with_active_has (λ v. AreWithin v.clock v.entities.queues) s.active (λ x. refused s x id key units) s all (λ x is. all)
 moved_within t s moves.Pick decided on all =
     picked_has (λ v. AreWithin v.clock v.entities.queues) s s.current all (λ x xs is. all)
 moved_within t s (moves.Clock time) decided on all = later_within s.clock time s.entities.queues on all

@@ -1,19 +1,19 @@
 -- How far a run comes in so many steps: how many transactions live, and what the next number is.
-use Rattle.std.proofs.Common.{◌≡◌, ℕ, suc, ◌+◌, ◌*◌, ◌≤◌, Bool, true, List, [], ◌∷◌, length, Ok, refl, arith}
+use Rattle.std.proofs.Common.{◌≡◌, ℕ, suc, ◌+◌, ◌*◌, ◌≤◌, Bool, true, List, [], ◌∷◌, ◌++◌, length, Ok, refl, arith}
 use Rattle.gw_meaning.specs.declared.transaction.Transaction.{Transaction}
 use Rattle.gw_meaning.specs.declared.moves.Arrival.{Arrival}
 use Rattle.gw_meaning.specs.declared.moves.Move.{Move}
 use Rattle.gw_meaning.specs.declared.moves.Move.TheVariants as moves
 use Rattle.gw_meaning.specs.Listing.{Listing}
 use Rattle.gw_meaning.specs.Machine.{Machine}
-use Rattle.gw_meaning.specs.Changes.{Making, made, all_made, making_of, with_making, newcomer, started, let_in, refused, moved}
+use Rattle.gw_meaning.specs.Changes.{Making, made, all_made, making_of, with_making, newcomer, started, one_let_in, refused, moved}
 use Rattle.gw_meaning.specs.Step.{run}
 use Rattle.gw_model.specs.Well.{Well}
-use Rattle.gw_frame.proofs.Decided.{IsDecided}
-use Rattle.gw_frame.proofs.Moves.{settled, settled_is, leaving, with_active_has, entered_has, picked_has}
+use Rattle.gw_frame.proofs.Known.{IsDecided}
+use Rattle.gw_frame.proofs.Moves.{settled, settled_is, with_active_has, entered_has, picked_has}
 use Rattle.gw_frame.proofs.Running.{over_run}
 use Rattle.gw_laws.proofs.Waiting.{let_in_is}
-use Rattle.gw_laws.proofs.Crowd.{crowd, future_push, settled_fewer, refused_crowd, waits_crowd, picked_crowd, advanced_crowd}
+use Rattle.gw_laws.proofs.Crowd.{crowd, future_push, settled_fewer, refused_crowd, lets_crowd, picked_crowd, advanced_crowd}
 
 abbrev pub anyone : Transaction → Bool
 anyone x = true
@@ -57,16 +57,14 @@ moved_within t s (moves.Enter id change fate) most few decided h =
     (λ v. record {
       nothing = λ k. within_more most (most + 2000) v (omega arith) k;
       one = λ a coming k. within_more (most + 1) (most + 2000) (with_making (made a (making_of v)) v) (omega arith) (made_within most a (making_of v) v k);
-      waits = λ key x xs is k.
-          (let w = let_in x x.destination (leaving v key xs) in
-          let same = waits_crowd anyone v key x xs is refl in
-          within_more most (most + 2000) w (omega arith)
-          (same_within most v w (let_in_is x x.destination (leaving v key xs)).next (omega arith) k));
+      lets = λ w key x passed xs is k.
+          (let same = lets_crowd anyone w key x passed xs is refl in
+          same_within (most + 2000) w (one_let_in key x (passed ++ xs) w) (let_in_is key x (passed ++ xs) w).next (omega arith) k);
     })
-moved_within t s (moves.Refuse id key) most few decided h =
-    with_active_has (IsWithin (most + 2000)) s.active (λ x. refused s x id key) s (within_more most (most + 2000) s (omega arith) h)
+moved_within t s (moves.Refuse id key units) most few decided h =
+    with_active_has (IsWithin (most + 2000)) s.active (λ x. refused s x id key units) s (within_more most (most + 2000) s (omega arith) h)
     (λ x is.
-    let same = refused_crowd anyone s x id key is refl in
+    let same = refused_crowd anyone s x id key units is refl in
     record { next = omega (arith, h.next); crowd = omega (arith, h.crowd) })
 moved_within t s moves.Pick most few decided h =
     picked_has (IsWithin (most + 2000)) s s.current (within_more most (most + 2000) s (omega arith) h)

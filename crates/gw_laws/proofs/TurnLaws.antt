@@ -10,12 +10,13 @@ use Rattle.gw_meaning.specs.declared.moves.Move.{Move}
 use Rattle.gw_meaning.specs.declared.moves.Move.TheVariants as moves
 use Rattle.gw_meaning.specs.Listing.{Listing}
 use Rattle.gw_meaning.specs.Machine.{Machine}
-use Rattle.gw_meaning.specs.Changes.{is_due, due, made, making_of, with_making, let_in, refused, picked, moved}
+use Rattle.gw_meaning.specs.Changes.{is_due, due, refused, picked, moved}
 use Rattle.gw_meaning.proofs.Programs.{run_on}
 use Rattle.gw_meaning.proofs.Chains.{IsOrdered}
 use Rattle.gw_laws.specs.Chain.{FirstBecomesActive, AllOfATimeCome, numbers_of, coming_at}
-use Rattle.gw_frame.proofs.Decided.{IsDecided, step_decides}
-use Rattle.gw_frame.proofs.Moves.{settled_is, leaving, with_active_has, entered_has, picked_has}
+use Rattle.gw_frame.proofs.Decided.{step_decides}
+use Rattle.gw_frame.proofs.Known.{IsDecided}
+use Rattle.gw_frame.proofs.Moves.{settled_is, with_active_has, entered_has, picked_has}
 use Rattle.gw_laws.proofs.Waiting.{let_in_is}
 use Rattle.gw_laws.proofs.ChainLaws.{all_ordered, all_lined_numbers}
 use Rattle.gw_laws.proofs.ClockLaws.{AreAhead, least_is_least}
@@ -33,11 +34,16 @@ moved_first : (t : Listing) (s : Machine) (m : Move) (x : Transaction) → IsDec
 moved_first t s (moves.Start count arrivals) x decided none = none_is x s (moved s (moves.Start count arrivals)) none
 moved_first t s moves.Command x decided none = none_is x s (moved s moves.Command) none
 moved_first t s (moves.Enter id change fate) x decided none =
-    entered_has (λ v. ⊥) (WasFirst x s) t s id change fate decided.1 (none_is x s s none)
-    (λ y there. absurd (let no : None ≡ Some y = sym none ∙ there in cc))
-    (λ v. record { nothing = λ no. absurd no; one = λ a coming no. absurd no; waits = λ key y ys is no. absurd no })
-moved_first t s (moves.Refuse id key) x decided none =
-    with_active_has (WasFirst x s) s.active (λ y. refused s y id key) s (none_is x s s none) (λ y is. none_is x s (refused s y id key) refl)
+    let nobody =
+    entered_has (λ v. ⊥) (λ v. v.active ≡ None) t s id change fate decided.1 none (λ y there. absurd (let no : None ≡ Some y = sym none ∙ there in cc))
+    (λ v. record {
+      nothing = λ no. absurd no;
+      one = λ a coming no. absurd no;
+      lets = λ w key y passed ys is still. (let_in_is key y (passed ++ ys) w).active ∙ still;
+    }) in
+    none_is x s (moved s (moves.Enter id change fate)) nobody
+moved_first t s (moves.Refuse id key units) x decided none =
+    with_active_has (WasFirst x s) s.active (λ y. refused s y id key units) s (none_is x s s none) (λ y is. none_is x s (refused s y id key units) refl)
 moved_first t s moves.Pick x decided none = picked_has (WasFirst x s) s s.current (none_is x s s none) (λ y ys is now. cc)
 moved_first t s (moves.Clock time) x decided none = none_is x s (moved s (moves.Clock time)) none
 
@@ -81,15 +87,17 @@ moved_come : (t : Listing) (s : Machine) (m : Move) → IsDecided t s m → IsOr
 moved_come t s (moves.Start count arrivals) decided order = stands s (moved s (moves.Start count arrivals)) refl
 moved_come t s moves.Command decided order = stands s (moved s moves.Command) refl
 moved_come t s (moves.Enter id change fate) decided order =
-    entered_has (λ v. v.clock ≡ s.clock) (Come s) t s id change fate decided.1 (stands s s refl)
-    (λ x is. (settled_is s x id change fate).clock)
+    let P : Machine → Type 0 = λ v. v.clock ≡ s.clock in
+    let still =
+    entered_has P P t s id change fate decided.1 refl (λ x is. (settled_is s x id change fate).clock)
     (λ v. record {
-      nothing = λ same. stands s v same;
-      one = λ a coming same. stands s (with_making (made a (making_of v)) v) same;
-      waits = λ key x xs is same. stands s (let_in x x.destination (leaving v key xs)) ((let_in_is x x.destination (leaving v key xs)).clock ∙ same);
-    })
-moved_come t s (moves.Refuse id key) decided order =
-    with_active_has (Come s) s.active (λ x. refused s x id key) s (stands s s refl) (λ x is. stands s (refused s x id key) refl)
+      nothing = λ same. same;
+      one = λ a coming same. same;
+      lets = λ w key x passed xs is same. (let_in_is key x (passed ++ xs) w).clock ∙ same;
+    }) in
+    stands s (moved s (moves.Enter id change fate)) still
+moved_come t s (moves.Refuse id key units) decided order =
+    with_active_has (Come s) s.active (λ x. refused s x id key units) s (stands s s refl) (λ x is. stands s (refused s x id key units) refl)
 moved_come t s moves.Pick decided order = picked_has (Come s) s s.current (stands s s refl) (λ x xs is. stands s (picked s (x ∷ xs)) refl)
 moved_come t s (moves.Clock time) decided order = λ less. (
   All-from_recursion (λ (e : Event). time < e.time) _ (rest_beyond time s.future (least_is_least s.future time decided.0)),

@@ -2,38 +2,61 @@
 use Rattle.std.proofs.Common.{[], ◌∷◌, Option, Some, None, pos, false, refl}
 use Rattle.gw_names.specs.declared.verb.BlockVerb.TheVariants as blocks
 use Rattle.gw_names.specs.declared.key.Key.TheVariants as keys
-use Rattle.gw_expr.specs.Term.{Term, Named}
-use Rattle.gw_entities.specs.Records.{never_owned, seized, queued, no_line}
+use Rattle.gw_expr.specs.Term.{Term, Named, Defined}
+use Rattle.gw_entities.specs.Records.{never_owned, seized, queued, no_line, never_used, entered}
+use Rattle.gw_meaning.specs.declared.statement.Definition.TheVariants as definitions
+use Rattle.gw_meaning.specs.declared.statement.Body.TheVariants as bodies
 use Rattle.gw_meaning.specs.declared.transaction.Transaction.{Transaction}
 use Rattle.gw_meaning.specs.declared.entity_change.Deed.TheVariants as deeds
 use Rattle.gw_meaning.specs.declared.moves.Change.TheVariants as changes
 use Rattle.gw_meaning.specs.declared.moves.Fate.TheVariants as fates
+use Rattle.gw_meaning.specs.Listing.{Listing}
 use Rattle.gw_meaning.specs.Machine.{Machine, zero_state}
 use Rattle.gw_laws.specs.Verbs.{EachVerbIsEvaluated}
 
 -- a transaction on its way to its GENERATE
 abbrev first : Transaction
-first = record { number = 1; priority = pos 0; mark = 0; current = 0; destination = Some 1 }
+first = record { number = 1; priority = pos 0; mark = 0; current = 0; destination = Some 1; asked = 0 }
 
 abbrev line : Option Term
 line = Some (Named [])
+
+-- the name of a storage, and a version in which it has one unit
+abbrev pool : Option Term
+pool = Some (Defined [])
+
+abbrev version : Listing
+version = record {
+  lines = record { number = 1; statement = record { label = Some []; body = bodies.Definition (definitions.Storage 1); operands = [] } } ∷ [];
+  horizon = 1;
+  replications = [];
+  limit = 1;
+}
 
 -- a state in which it owns that facility
 abbrev owned : Machine
 owned = record zero_state {
   entities =
-      record { facilities = (keys.Named [], seized 1 0 never_owned) ∷ []; queues = []; comings = [] };
+      record { facilities = (keys.Named [], seized 1 0 never_owned) ∷ []; queues = []; storages = []; comings = [] };
 }
 
 -- a state with a unit in that queue
 abbrev one_there : Machine
 one_there = record zero_state {
   entities =
-      record { facilities = []; queues = (keys.Named [], queued 1 0 no_line) ∷ []; comings = [] };
+      record { facilities = []; queues = (keys.Named [], queued 1 0 no_line) ∷ []; storages = []; comings = [] };
+}
+
+-- a state in which the unit of that storage is in use
+abbrev in_use : Machine
+in_use = record zero_state {
+  entities =
+      record { facilities = []; queues = []; storages = (keys.Defined [], entered 1 0 never_used) ∷ []; comings = [] };
 }
 
 pub each_verb_is_evaluated : EachVerbIsEvaluated
 each_verb_is_evaluated blocks.Generate given forms is = record {
+  version = version;
   block = record { verb = blocks.Generate; operands = [] };
   state = zero_state;
   transaction = first;
@@ -43,6 +66,7 @@ each_verb_is_evaluated blocks.Generate given forms is = record {
   enters = refl;
 }
 each_verb_is_evaluated blocks.Advance given forms is = record {
+  version = version;
   block = record { verb = blocks.Advance; operands = [] };
   state = zero_state;
   transaction = first;
@@ -52,6 +76,7 @@ each_verb_is_evaluated blocks.Advance given forms is = record {
   enters = refl;
 }
 each_verb_is_evaluated blocks.Terminate given forms is = record {
+  version = version;
   block = record { verb = blocks.Terminate; operands = [] };
   state = zero_state;
   transaction = first;
@@ -61,6 +86,7 @@ each_verb_is_evaluated blocks.Terminate given forms is = record {
   enters = refl;
 }
 each_verb_is_evaluated blocks.Queue given forms is = record {
+  version = version;
   block = record { verb = blocks.Queue; operands = line ∷ [] };
   state = zero_state;
   transaction = first;
@@ -70,6 +96,7 @@ each_verb_is_evaluated blocks.Queue given forms is = record {
   enters = refl;
 }
 each_verb_is_evaluated blocks.Depart given forms is = record {
+  version = version;
   block = record { verb = blocks.Depart; operands = line ∷ [] };
   state = one_there;
   transaction = first;
@@ -79,6 +106,7 @@ each_verb_is_evaluated blocks.Depart given forms is = record {
   enters = refl;
 }
 each_verb_is_evaluated blocks.Seize given forms is = record {
+  version = version;
   block = record { verb = blocks.Seize; operands = line ∷ [] };
   state = zero_state;
   transaction = first;
@@ -88,6 +116,7 @@ each_verb_is_evaluated blocks.Seize given forms is = record {
   enters = refl;
 }
 each_verb_is_evaluated blocks.Release given forms is = record {
+  version = version;
   block = record { verb = blocks.Release; operands = line ∷ [] };
   state = owned;
   transaction = first;
@@ -96,7 +125,28 @@ each_verb_is_evaluated blocks.Release given forms is = record {
   of_verb = refl;
   enters = refl;
 }
+each_verb_is_evaluated blocks.Enter given forms is = record {
+  version = version;
+  block = record { verb = blocks.Enter; operands = pool ∷ [] };
+  state = zero_state;
+  transaction = first;
+  change = (changes.Entity (keys.Defined [], deeds.Enter 1));
+  fate = fates.Active;
+  of_verb = refl;
+  enters = refl;
+}
+each_verb_is_evaluated blocks.Leave given forms is = record {
+  version = version;
+  block = record { verb = blocks.Leave; operands = pool ∷ [] };
+  state = in_use;
+  transaction = first;
+  change = (changes.Entity (keys.Defined [], deeds.Leave 1 []));
+  fate = fates.Active;
+  of_verb = refl;
+  enters = refl;
+}
 each_verb_is_evaluated blocks.Transfer given forms is = record {
+  version = version;
   block = record { verb = blocks.Transfer; operands = [] };
   state = zero_state;
   transaction = first;

@@ -7,6 +7,7 @@ pub mod Contents
 pub mod Clock
 pub mod Facilities
 pub mod Queues
+pub mod Storages
 pub mod Verbs
 pub use Rattle.gw_meaning.specs.Step
 pub use Rattle.gw_model.specs.Well

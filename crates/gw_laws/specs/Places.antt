@@ -10,7 +10,7 @@ use Rattle.gw_meaning.specs.Step.{run}
 use Rattle.gw_model.specs.Well.{Well}
 use Rattle.gw_laws.specs.Living.{living}
 
--- active, on the current chain, on the future chain, or on the delay chain of a facility
+-- active, on the current chain, on the future chain, or on the delay chain of a facility or a storage
 pub data Place : Type 0 where
   Active : Place
   OnCurrent : Place

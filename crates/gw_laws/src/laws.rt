@@ -2,12 +2,13 @@
 ghost use Rattle.gw_laws.specs.Chain.{ChainIsInOrder, ChainIsFirstInFirstOut, FirstBecomesActive, AllOfATimeCome};
 ghost use Rattle.gw_laws.specs.Clock.{ClockNeverGoesBack, ClockStaysWithin, NothingIsOverdue};
 ghost use Rattle.gw_laws.specs.Contents.{ContentsAreCounts};
-ghost use Rattle.gw_laws.specs.Delays.{DelaysAreInOrder, DelaysAreFirstInFirstOut};
-ghost use Rattle.gw_laws.specs.Delays.{WhoWaitsIsBound, FirstTakesOver, NobodyWaitsAtAFreeFacility};
+ghost use Rattle.gw_laws.specs.Delays.{DelaysAreInOrder, DelaysAreFirstInFirstOut, WhoWaitsKeepsHisPlace};
+ghost use Rattle.gw_laws.specs.Delays.{WhoWaitsIsBound, WhoLeavesIsLetIn, FirstTakesOver, NobodyWaitsAtAFreeFacility};
 ghost use Rattle.gw_laws.specs.Facilities.{FacilitiesAreUsed};
 ghost use Rattle.gw_laws.specs.Numbering.{NumbersAreApart, NumbersAreGiven, NumbersAreGivenOnce, OnlyTheActiveGoes};
 ghost use Rattle.gw_laws.specs.Places.{EachHasAPlace, EachHasOnePlace};
 ghost use Rattle.gw_laws.specs.Queues.{QueuesAreWithin};
+ghost use Rattle.gw_laws.specs.Storages.{StoragesAreWithin, NobodyWaitsAtRoom};
 ghost use Rattle.gw_laws.specs.Verbs.{EachVerbIsEvaluated};
 
 /// The current chain is in order of priority. Of one priority, the first transactions leave it in a step, those that
@@ -20,14 +21,16 @@ pub fn chain_in_order()
     ensures come { AllOfATimeCome }
 {}
 
-/// Each delay chain is in order of priority. Of one priority, the first transactions leave it in a step, those that
-/// stay keep their order, and those that come stand behind them. Whoever waits has a block to go to. Where a chain gets
-/// shorter, its first transaction has left it: it stands on the current chain, in that block, and owns the facility.
-/// Nobody waits at a free facility.
+/// Each delay chain is in order of priority. Of one priority, those that go on waiting keep their places in a step, and
+/// those that come stand behind them. Whoever waits has a block to go to. Whoever waits no longer stands on the current
+/// chain, in that block. At a facility, the first leaves first: where its chain gets shorter, its first transaction has
+/// left it, and owns the facility. Nobody waits at a free facility.
 pub fn delays_in_order()
     ensures order { DelaysAreInOrder }
     ensures turn { DelaysAreFirstInFirstOut }
+    ensures places { WhoWaitsKeepsHisPlace }
     ensures bound { WhoWaitsIsBound }
+    ensures leaves { WhoLeavesIsLetIn }
     ensures first { FirstTakesOver }
     ensures free { NobodyWaitsAtAFreeFacility }
 {}
@@ -42,7 +45,7 @@ pub fn numbers_apart()
 {}
 
 /// Each transaction stands in exactly one place: it is active, on the current chain, on the future chain, or on the
-/// delay chain of one facility.
+/// delay chain of one facility or storage.
 pub fn each_has_one_place()
     ensures some { EachHasAPlace }
     ensures one { EachHasOnePlace }
@@ -69,6 +72,15 @@ pub fn facilities_are_used()
 /// No count of a queue is above 1,000,000,000, and no queue changed later than now.
 pub fn queues_are_within()
     ensures { QueuesAreWithin }
+{}
+
+/// A storage is called by a name. No more units are in use, or ever were, than the version gives the storage of this
+/// name. What is in use lies between its least and its greatest. No count of its entries is above 1,000,000,000, and it
+/// did not change later than now. Nobody waits at a storage that has room for what he asks,
+/// the units with which he was refused.
+pub fn storages_are_within()
+    ensures within { StoragesAreWithin }
+    ensures room { NobodyWaitsAtRoom }
 {}
 
 /// No verb of a block that is read is left out of the evaluation: some block of it is entered in some state.

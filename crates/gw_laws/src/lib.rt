@@ -1,9 +1,11 @@
 //! What holds of every run from zero, whatever its version: laws above the definition of a step.
 //!
-//! The current chain and each delay chain are in order of priority, and first in first out within. Nobody waits at a
-//! free facility. No two transactions have one number, none is given twice, and each stands in exactly one place.
-//! A block's content is the number of the transactions that stand in it. The clock never goes back, and stays within
-//! the horizon. No facility has more captures than steps were made, and no count of a queue passes its limit.
+//! The current chain and each delay chain are in order of priority. The current chain and those of facilities are first
+//! in first out within. At a storage, whoever goes on waiting keeps his place. Nobody waits at a free facility, nor at
+//! a storage that has room for what he asks. No two transactions have one number, none is given twice, and each stands
+//! in exactly one place. A block's content is the number of the transactions that stand in it. The clock never goes
+//! back, and stays within the horizon. No facility has more captures than steps were made. No count of a queue passes
+//! its limit. No storage has more units in use than its capacity.
 #![tactic(auto)]
 
 mod laws;
@@ -11,4 +13,5 @@ mod laws;
 pub use laws::{
     chain_in_order, clock_goes_on, contents_are_counts, delays_in_order, each_has_one_place,
     each_verb_is_evaluated, facilities_are_used, numbers_apart, queues_are_within,
+    storages_are_within,
 };

@@ -16,13 +16,13 @@ use Rattle.gw_lines.specs.declared.fault.LineFault.TheVariants as faults
 use Rattle.gw_lines.specs.Reading.{◌>>=◌}
 use Rattle.gw_lines.specs.Classes.{is_in, is_blank, front_of, rest_of, is_nothing, are_plain}
 use Rattle.gw_lines.specs.Bodies.{body_of}
-use Rattle.gw_lines.specs.Lines.{word_of, behind_word, verb_in, is_command, or_bad_label, label_of, plain_of, by_first, by_second, coded_of, fault_without_verb, code_of, line_in, line_of, statement_of}
+use Rattle.gw_lines.specs.Lines.{word_of, behind_word, verb_in, is_command, needs_label, or_bad_label, label_of, no_label_of, plain_of, by_first, by_second, coded_of, fault_without_verb, code_of, line_in, line_of, statement_of}
 use Rattle.gw_lines.specs.Spelling.{AreIn, Stops, Head, Label, no_label, named, ArePlain}
-use Rattle.gw_lines.specs.Faulty.{Verbless, one_word, two_words, WordsFault, byte_with_verb, byte_without_verb, no_verb, bad_first_word, bad_label, verb_to_come, operand_fault, FirstFault, too_long, no_statement, in_words}
+use Rattle.gw_lines.specs.Faulty.{Verbless, one_word, two_words, WordsFault, byte_with_verb, byte_without_verb, no_verb, bad_first_word, bad_label, lacks_label, verb_to_come, operand_fault, FirstFault, too_long, no_statement, in_words}
 use Rattle.gw_lines.proofs.Fronts.{front_again, rest_again, parts, front_all, rest_stops}
 use Rattle.gw_lines.proofs.Results.{failed, err_is}
 use Rattle.gw_lines.proofs.Bodies.{body_fault, body_fault_again, body_to_come}
-use Rattle.gw_lines.proofs.Heads.{are_plain_upper, none_is, not_none, some_is_not, both_stop, no_word, blanks_before, two_are, two_again, head_first, head_second, at_head, head_is, label_again, labelled_head, or_true, plain_again}
+use Rattle.gw_lines.proofs.Heads.{are_plain_upper, none_is, not_none, some_is_not, both_stop, no_word, blanks_before, two_are, two_again, head_first, head_second, at_head, head_is, label_again, free_again, labelled_head, or_true, plain_again}
 use Rattle.gw_lines.proofs.Lines.{short_again, cut_is, words_are, line_is, is_long, no_words, has_words}
 
 step_ok : {X Y : Type 0} (r : Result X LineFault) (next : X → Result Y LineFault) (x : X) (f : LineFault) → r ≡ Ok x → (r >>= next) ≡ Err f → next x ≡ Err f
@@ -76,6 +76,10 @@ unlabelled verb word (inr n) =
       | inr c ↦ rw (c, n) refl
     ]
 
+needed : (verb : Verb) → needs_label verb ≡ true → no_label_of verb ≡ Err faults.BadLabel
+unfolding no_label_of
+needed verb n = rw n refl
+
 label_cases : (verb : Verb) (word : List ℕ) → ((name : List ℕ) × (is_command verb ≡ false) × (name_of word ≡ Some name))
     ⊎ ((is_command verb ≡ true) ⊎ (name_of word ≡ None))
 label_cases verb word =
@@ -94,12 +98,15 @@ head_fault : {words : List ℕ} (word : Option (List ℕ)) {verb : Verb} {kept :
     → at_head word verb kept ≡ Err f → WordsFault words f
 head_fault {words} None {verb} {kept} f h e =
     elim (plain_cases (upper_of kept)) [
-      | inl p ↦ body_part f h (record {
-        first = tt;
-        list =
-            kept_plain kept p.0;
-      }) (no_label verb)
-          (body_failed (body_of verb (upper_of kept)) None (upper_of kept) f (step_ok (plain_of (upper_of kept)) _ (upper_of kept) f p.1 e))
+      | inl p ↦
+          let plain : ArePlain None kept = record { first = tt; list = kept_plain kept p.0 } in
+          let e2 = step_ok (plain_of (upper_of kept)) _ (upper_of kept) f p.1 e in
+          elim (cases_Bool (needs_label verb)) [
+            | inl needs ↦ subst (λ (x : LineFault). WordsFault words x) (sym (step_err (no_label_of verb) _ faults.BadLabel f (needed verb needs) e2))
+                (lacks_label words verb kept h plain needs)
+            | inr free ↦ body_part f h plain (no_label verb free)
+                (body_failed (body_of verb (upper_of kept)) None (upper_of kept) f (step_ok (no_label_of verb) _ tt f (free_again verb free) e2))
+          ]
       | inr p ↦ subst (λ (x : LineFault). WordsFault words x) (sym (step_err (plain_of (upper_of kept)) _ faults.BadByte f p.1 e))
           (byte_with_verb words None verb kept h (λ a. both_ways _ p.0 (are_plain_upper kept ∙ a.list)))
     ]
@@ -240,6 +247,9 @@ words_again (bad_label words word verb kept h p b) =
     head_is h ∙ step_on (plain_of word) _ word _ (plain_again word p.first)
     (step_on (plain_of (upper_of kept)) _ (upper_of kept) _ (plain_again (upper_of kept) (are_plain_upper kept
     ∙ p.list)) (step_off (label_of verb word) _ faults.BadLabel (unlabelled verb word b)))
+words_again (lacks_label words verb kept h p n) =
+    head_is h ∙ step_on (plain_of (upper_of kept)) _ (upper_of kept) _ (plain_again (upper_of kept) (are_plain_upper kept
+    ∙ p.list)) (step_off (no_label_of verb) _ faults.BadLabel (needed verb n))
 words_again (verb_to_come words word verb kept label h p l r) = head_is h ∙ labelled_head kept p l
     ∙ step_off (body_of verb (upper_of kept)) _ faults.UnknownVerb (body_to_come verb (upper_of kept) r)
 words_again (operand_fault words word verb kept label f h p l o) =

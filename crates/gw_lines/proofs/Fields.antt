@@ -1,8 +1,8 @@
 -- The operands of forms, as data: what lists of parts that spell them come down to.
 use Rattle.std.proofs.Common.{◌≡◌, ℕ, ◌&&◌, Bool, true, false, List, [], ◌∷◌, Option, Some, None, refl, ◌∙◌, ◌⊎◌, inl, inr}
-use Rattle.std.specs.Prelude.{map, pos}
+use Rattle.std.specs.Prelude.{ℤ, map, option_map, pos}
 use Rattle.std.proofs.lemmas.Bool.{and_parts}
-use Rattle.gw_expr.specs.Term.{Term, Constant, Fraction, Label, Named}
+use Rattle.gw_expr.specs.Term.{Term, Constant, Defined, Fraction, Label, Named}
 use Rattle.gw_lines.specs.declared.form.Kind.{Kind}
 use Rattle.gw_lines.specs.declared.form.Kind.TheVariants as kinds
 use Rattle.gw_lines.specs.declared.form.Presence.{Presence}
@@ -12,23 +12,25 @@ use Rattle.gw_lines.specs.declared.operand.Operand.{Operand}
 use Rattle.gw_lines.specs.declared.operand.Operand.TheVariants as operands
 use Rattle.gw_lines.specs.Forms.{value, whole}
 use Rattle.gw_lines.specs.Parts.{part_of, is_missing}
-use Rattle.gw_lines.specs.Spelling.{SpellsOperand, absent, a_value, a_whole, a_key, named_entity, numbered_entity, a_fraction, a_label, SpellsAll, no_form, stands, unwritten}
+use Rattle.gw_lines.specs.Spelling.{SpellsOperand, absent, a_value, a_whole, a_key, named_entity, numbered_entity, a_fraction, a_label, a_definition, SpellsAll, no_form, stands, unwritten}
 
 abbrev pub Data : Kind → Type 0
-Data kinds.Value = Term
+Data kinds.Value = ℤ
 Data (kinds.Whole most) = ℕ
 Data kinds.Quiet = Unit {0}
 Data kinds.Entity = Term
 Data kinds.Fraction = Term
 Data kinds.Label = Term
+Data kinds.Defined = Term
 
 abbrev pub data_operand : (kind : Kind) → Data kind → Option Operand
-data_operand kinds.Value t = Some (operands.Value t)
+data_operand kinds.Value z = Some (operands.Value (Constant z))
 data_operand (kinds.Whole most) n = Some (operands.Whole n)
 data_operand kinds.Quiet u = None
 data_operand kinds.Entity t = Some (operands.Value t)
 data_operand kinds.Fraction t = Some (operands.Value t)
 data_operand kinds.Label t = Some (operands.Value t)
+data_operand kinds.Defined t = Some (operands.Value t)
 
 abbrev pub Field : Presence → Kind → Type 0
 Field presences.Required kind = Data kind
@@ -36,12 +38,13 @@ Field presence kind = Option (Data kind)
 
 -- an operand that may be absent; a key word leaves no trace
 abbrev pub maybe : (kind : Kind) → Option (Data kind) → Option Operand
-maybe kinds.Value d = value d
+maybe kinds.Value d = value (option_map (λ z. Constant z) d)
 maybe (kinds.Whole most) d = whole d
 maybe kinds.Quiet d = None
 maybe kinds.Entity d = value d
 maybe kinds.Fraction d = value d
 maybe kinds.Label d = value d
+maybe kinds.Defined d = value d
 
 maybe_some : (kind : Kind) (d : Data kind) → maybe kind (Some d) ≡ data_operand kind d
 maybe_some kinds.Value d = refl
@@ -50,6 +53,7 @@ maybe_some kinds.Quiet d = refl
 maybe_some kinds.Entity d = refl
 maybe_some kinds.Fraction d = refl
 maybe_some kinds.Label d = refl
+maybe_some kinds.Defined d = refl
 
 maybe_none : (kind : Kind) → maybe kind None ≡ None
 maybe_none kinds.Value = refl
@@ -58,6 +62,7 @@ maybe_none kinds.Quiet = refl
 maybe_none kinds.Entity = refl
 maybe_none kinds.Fraction = refl
 maybe_none kinds.Label = refl
+maybe_none kinds.Defined = refl
 
 abbrev pub field_operand : (presence : Presence) (kind : Kind) → Field presence kind → Option Operand
 field_operand presences.Required kind d = data_operand kind d
@@ -67,13 +72,14 @@ field_operand presences.Written kind d = maybe kind d
 data_of : {kind : Kind} {text : List ℕ} {o : Option Operand} → SpellsOperand kind text o
     → ((d : Data kind) × (data_operand kind d ≡ o)) ⊎ ((text ≡ []) × (None ≡ o))
 data_of (absent kind) = inr (refl, refl)
-data_of (a_value text z v) = inl (Constant z, refl)
+data_of (a_value text z v) = inl (z, refl)
 data_of (a_whole most text n h from) = inl (n, refl)
 data_of a_key = inl (tt, refl)
 data_of (named_entity text name e) = inl (Named name, refl)
 data_of (numbered_entity text n h from) = inl (Constant (pos n), refl)
 data_of (a_fraction text n f) = inl (Fraction n, refl)
 data_of (a_label text name e) = inl (Label name, refl)
+data_of (a_definition text name e) = inl (Defined name, refl)
 
 maybe_field : (kind : Kind) {P : Type 0} {o : Option Operand}
     → ((d : Data kind) × (data_operand kind d ≡ o)) ⊎ (P × (None ≡ o))
@@ -150,6 +156,7 @@ is_value kinds.Value = true
 is_value kinds.Entity = true
 is_value kinds.Fraction = true
 is_value kinds.Label = true
+is_value kinds.Defined = true
 is_value kind = false
 
 one_value : {kind : Kind} {text : List ℕ} {o : Option Operand} → is_value kind ≡ true → SpellsOperand kind text o
@@ -162,6 +169,7 @@ one_value w (named_entity text name e) = (Some (Named name), refl)
 one_value w (numbered_entity text n h from) = (Some (Constant (pos n)), refl)
 one_value w (a_fraction text n f) = (Some (Fraction n), refl)
 one_value w (a_label text name e) = (Some (Label name), refl)
+one_value w (a_definition text name e) = (Some (Defined name), refl)
 
 pub values : {forms : List Form} {parts : List (List ℕ)} {os : List (Option Operand)} → are_all is_value forms ≡ true
     → SpellsAll forms parts os → (values : List (Option Term)) × (map value values ≡ os)
@@ -181,6 +189,7 @@ one_whole w (named_entity text name e) = absurd cc
 one_whole w (numbered_entity text n h from) = absurd cc
 one_whole w (a_fraction text n f) = absurd cc
 one_whole w (a_label text name e) = absurd cc
+one_whole w (a_definition text name e) = absurd cc
 
 pub wholes : {forms : List Form} {parts : List (List ℕ)} {os : List (Option Operand)} → are_all is_whole forms ≡ true
     → SpellsAll forms parts os → (values : List (Option ℕ)) × (map whole values ≡ os)

@@ -16,7 +16,7 @@ use Rattle.gw_lines.specs.Reading.{◌>>=◌}
 use Rattle.gw_lines.specs.Classes.{is_in, is_blank, front_of, rest_of, is_nothing, is_plain, are_plain}
 use Rattle.gw_lines.specs.Operands.{listed_of}
 use Rattle.gw_lines.specs.Bodies.{body_of}
-use Rattle.gw_lines.specs.Lines.{word_of, behind_word, verb_in, is_command, or_bad_label, label_of, plain_of, operands_of, unlabelled_of, labelled_of, by_first, by_second, coded_of, behind_number}
+use Rattle.gw_lines.specs.Lines.{word_of, behind_word, verb_in, is_command, needs_label, or_bad_label, label_of, no_label_of, plain_of, operands_of, unlabelled_of, labelled_of, by_first, by_second, coded_of, behind_number}
 use Rattle.gw_lines.specs.Spelling.{AreIn, Stops, Behind, Head, first_word, second_word, Label, no_label, named, ArePlain, Numbering, unnumbered, numbered, Coded}
 use Rattle.gw_lines.proofs.Fronts.{nonzero, not_true, not_false, front_again, rest_again, parts, front_all, rest_stops, blank_no_mark}
 use Rattle.gw_lines.proofs.Kept.{parted_of, behind_of}
@@ -187,10 +187,16 @@ made_of label o b s h =
     let m = made label (b o) s h in
     record { a_is = ap done m.0; b_is = ap b (sym m.0) ∙ m.1; label_is = m.2 }
 
-unlabelled_steps : (a : Result (List ℕ) LineFault) (b : List ℕ → Result Body LineFault) (s : Statement)
-    → (a >>= λ operands. b operands >>= λ body. Ok (record { label = None; body = body; operands = operands })) ≡ Ok s → Made None a b s
-unlabelled_steps (Err f) b s h = absurd cc
-unlabelled_steps (Ok o) b s h = made_of None o b s h
+record UnlabelledSteps (a : Result (List ℕ) LineFault) (l : Result (Unit {0}) LineFault) (b : List ℕ → Result Body LineFault) (s : Statement) : Type 0 where
+  pub l_is : l ≡ Ok tt
+  pub made : Made None a b s
+
+unlabelled_steps : (a : Result (List ℕ) LineFault) (l : Result (Unit {0}) LineFault) (b : List ℕ → Result Body LineFault) (s : Statement)
+    → (a >>= λ operands. l >>= λ free. b operands >>= λ body. Ok (record { label = None; body = body; operands = operands })) ≡ Ok s
+    → UnlabelledSteps a l b s
+unlabelled_steps (Err f) l b s h = absurd cc
+unlabelled_steps (Ok o) (Err f) b s h = absurd cc
+unlabelled_steps (Ok o) (Ok u) b s h = record { l_is = refl; made = made_of None o b s h }
 
 record LabelledSteps (p : Result (List ℕ) LineFault) (a : Result (List ℕ) LineFault) (l : Result (List ℕ) LineFault) (b : List ℕ
     → Result Body LineFault) (s : Statement) : Type 0 where
@@ -220,22 +226,30 @@ label_ok verb word name e =
       | inr fails ↦ (fails, good_label (name_of word) name (rw fails at e))
     ]
 
+free_ok : (verb : Verb) → no_label_of verb ≡ Ok tt → needs_label verb ≡ false
+unfolding no_label_of
+free_ok verb e =
+    elim (cases_Bool (needs_label verb)) [
+      | inl needs ↦ absurd (let f = rw needs at e in cc)
+      | inr free ↦ free
+    ]
+
 unlabelled_found : (words : List ℕ) (verb : Verb) (s : Statement) → verb_in (word_of words) ≡ Some verb → unlabelled_of verb (behind_word words) ≡ Ok s
     → Coded words s
 unfolding unlabelled_of operands_of
 unlabelled_found words verb s v e =
     let kept = listed_of true (behind_word words) in
-    let m = unlabelled_steps (plain_of (upper_of kept)) (body_of verb) s e in
-    let p = plain_found (upper_of kept) s.operands m.a_is in
+    let m = unlabelled_steps (plain_of (upper_of kept)) (no_label_of verb) (body_of verb) s e in
+    let p = plain_found (upper_of kept) s.operands m.made.a_is in
     record {
       word = None;
       verb = verb;
       kept = kept;
       head = head_first words verb v;
       plain = record { first = tt; list = sym (are_plain_upper kept) ∙ p.0 };
-      label = subst (λ (x : Option (List ℕ)). Label None verb x) m.label_is (no_label verb);
+      label = subst (λ (x : Option (List ℕ)). Label None verb x) m.made.label_is (no_label verb (free_ok verb m.l_is));
       listed = sym p.1;
-      body = body_found verb s.operands s.body m.b_is;
+      body = body_found verb s.operands s.body m.made.b_is;
     }
 
 labelled_found : (words : List ℕ) (verb : Verb) (s : Statement) → verb_in (word_of words) ≡ None → verb_in (word_of (behind_word words)) ≡ Some verb
@@ -275,7 +289,7 @@ coded_found words s e = first_found words (verb_in (word_of words)) s refl e
 -- ---- again
 
 abbrev at_head_first : Verb → List ℕ → Result Statement LineFault
-at_head_first verb kept = plain_of (upper_of kept) >>= λ operands. body_of verb operands >>= λ body. Ok (record {
+at_head_first verb kept = plain_of (upper_of kept) >>= λ operands. no_label_of verb >>= λ free. body_of verb operands >>= λ body. Ok (record {
   label = None;
   body = body;
   operands =
@@ -352,10 +366,14 @@ pub label_again : (verb : Verb) (word name : List ℕ) → is_command verb ≡ f
 unfolding label_of
 label_again verb word name c n = rw (c, n) refl
 
+pub free_again : (verb : Verb) → needs_label verb ≡ false → no_label_of verb ≡ Ok tt
+unfolding no_label_of
+free_again verb n = rw n refl
+
 -- what words with a lawful head and label give
 pub labelled_head : {word : Option (List ℕ)} {verb : Verb} {label : Option (List ℕ)} (kept : List ℕ) → ArePlain word kept → Label word verb label
     → at_head word verb kept ≡ (body_of verb (upper_of kept) >>= λ body. Ok (record { label = label; body = body; operands = upper_of kept }))
-labelled_head kept p (no_label verb) = rw (plain_again (upper_of kept) (are_plain_upper kept ∙ p.list)) refl
+labelled_head kept p (no_label verb n) = rw (plain_again (upper_of kept) (are_plain_upper kept ∙ p.list), free_again verb n) refl
 labelled_head kept p (named word verb name c n) =
     rw (plain_again word p.first, plain_again (upper_of kept) (are_plain_upper kept ∙ p.list), label_again verb word name c n) refl
 

@@ -1,21 +1,24 @@
 -- A statement is made of its operands, and operands of a verb's forms make a statement. All blocks are one case; a command
--- has a row in `built` and a row in `command_made`.
+-- has a row in `built` and a row in `command_made`, and a definition one in `built` and one in `definition_made`.
 use Rattle.std.proofs.Common.{◌≡◌, ℕ, Bool, true, false, List, [], ◌∷◌, Option, Some, None, refl, ap, subst}
 use Rattle.std.specs.Prelude.{map}
 use Rattle.gw_names.specs.declared.verb.BlockVerb.{BlockVerb}
 use Rattle.gw_names.specs.declared.verb.BlockVerb.TheVariants as blocks
+use Rattle.gw_names.specs.declared.verb.DefinitionVerb.{DefinitionVerb}
+use Rattle.gw_names.specs.declared.verb.DefinitionVerb.TheVariants as definition_verbs
 use Rattle.gw_names.specs.declared.verb.CommandVerb.{CommandVerb}
 use Rattle.gw_names.specs.declared.verb.CommandVerb.TheVariants as command_verbs
 use Rattle.gw_names.specs.declared.verb.Verb.{Verb}
 use Rattle.gw_names.specs.declared.verb.Verb.TheVariants as verbs
 use Rattle.gw_expr.specs.Term.{Term}
+use Rattle.gw_meaning.specs.declared.statement.Definition.TheVariants as definitions
 use Rattle.gw_meaning.specs.declared.statement.Command.TheVariants as commands
 use Rattle.gw_meaning.specs.declared.statement.Body.{Body}
 use Rattle.gw_meaning.specs.declared.statement.Body.TheVariants as bodies
 use Rattle.gw_meaning.specs.Statements.{verb_of_body}
 use Rattle.gw_lines.specs.declared.form.Form.{Form}
 use Rattle.gw_lines.specs.declared.operand.Operand.{Operand}
-use Rattle.gw_lines.specs.Forms.{forms_of_block, forms_of_command, forms_of, value, whole, fields_of}
+use Rattle.gw_lines.specs.Forms.{forms_of_block, forms_of_definition, forms_of_command, forms_of, value, whole, fields_of}
 use Rattle.gw_lines.specs.Bodies.{value_in, whole_in, body_with}
 use Rattle.gw_lines.specs.Spelling.{SpellsAll}
 use Rattle.gw_lines.proofs.Fields.{Row, row_operands, have_places, row, is_value, are_all, values, wholes}
@@ -37,6 +40,8 @@ values_back (v ∷ values) = rw (value_back v, values_back values) refl
 pub built : (body : Body) → body_with (verb_of_body body) (fields_of body) ≡ Some body
 unfolding body_with
 built (bodies.Block block) = rw (values_back block.operands) refl
+built (bodies.Definition (definitions.Storage capacity)) = refl
+built (bodies.Definition (definitions.Equ z)) = refl
 built (bodies.Command (commands.Start count)) = refl
 built (bodies.Command (commands.Rmult values)) = rw (wholes_back values) refl
 
@@ -76,6 +81,13 @@ block_made verb None are = tt
 block_made verb (Some forms) are =
     λ parts os s. (let vs = values are s in makes (bodies.Block (record { verb = verb; operands = vs.0 })) vs.1)
 
+definition_made : (verb : DefinitionVerb) → MadeOf (verbs.Definition verb) (forms_of_definition verb)
+definition_made definition_verbs.Storage =
+    of_row (verbs.Definition definition_verbs.Storage) _ refl (λ (c, u). makes (bodies.Definition (definitions.Storage c)) refl)
+definition_made definition_verbs.Equ =
+    of_row (verbs.Definition definition_verbs.Equ) _ refl (λ (z, u). makes (bodies.Definition (definitions.Equ z)) refl)
+definition_made verb = tt
+
 command_made : (verb : CommandVerb) → MadeOf (verbs.Command verb) (forms_of_command verb)
 command_made command_verbs.Start =
     of_row (verbs.Command command_verbs.Start) _ refl (λ (c, (q, u)). makes (bodies.Command (commands.Start c)) refl)
@@ -85,7 +97,7 @@ command_made verb = tt
 
 made : (verb : Verb) (given : Bool) → MadeOf verb (forms_of verb given)
 made (verbs.Block verb) given = block_made verb (forms_of_block verb given) (block_values verb given)
-made (verbs.Definition verb) given = tt
+made (verbs.Definition verb) given = definition_made verb
 made (verbs.Command verb) given = command_made verb
 
 -- operands of a verb's forms make a statement

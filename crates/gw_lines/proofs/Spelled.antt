@@ -8,7 +8,7 @@ use Rattle.std.proofs.lemmas.Bool.{cases_Bool}
 use Rattle.std.proofs.lemmas.Bool.Decides.{nat_tests}
 use Rattle.std.proofs.lemmas.Slice.Eq.{bytes_eq-Decides}
 use Rattle.gw_names.specs.Names.{name_of}
-use Rattle.gw_expr.specs.Term.{Term, Constant, Fraction, Label, Named}
+use Rattle.gw_expr.specs.Term.{Term, Constant, Defined, Fraction, Label, Named}
 use Rattle.gw_lines.specs.declared.fault.LineFault.{LineFault}
 use Rattle.gw_lines.specs.declared.fault.LineFault.TheVariants as faults
 use Rattle.gw_lines.specs.declared.form.Kind.{Kind}
@@ -20,9 +20,9 @@ use Rattle.gw_lines.specs.declared.operand.Operand.{Operand}
 use Rattle.gw_lines.specs.declared.operand.Operand.TheVariants as operands
 use Rattle.gw_lines.specs.Numbers.{number_of, value_of, from_one, fraction_of}
 use Rattle.gw_lines.specs.Forms.{is_listed}
-use Rattle.gw_lines.specs.Operands.{numbered, or_number, label_of, as_value, operand_in, listed_here, each_of, missing_of, has_more, operands_of}
+use Rattle.gw_lines.specs.Operands.{numbered, or_number, label_of, defined_of, as_value, operand_in, listed_here, each_of, missing_of, has_more, operands_of}
 use Rattle.gw_lines.specs.Parts.{goes_on, part_of, others_of, is_missing}
-use Rattle.gw_lines.specs.Spelling.{SpellsOperand, absent, a_value, a_whole, a_key, named_entity, numbered_entity, a_fraction, a_label, SpellsAll, no_form, stands, unwritten}
+use Rattle.gw_lines.specs.Spelling.{SpellsOperand, absent, a_value, a_whole, a_key, named_entity, numbered_entity, a_fraction, a_label, a_definition, SpellsAll, no_form, stands, unwritten}
 use Rattle.gw_lines.specs.Faulty.{Lawful, FirstBad, bad_here, bad_later, AllLawful, FirstMissing, missing_here, missing_later, FaultOfAll, bad_operand, extra_operand, missing_operand}
 use Rattle.gw_lines.proofs.Results.{some, some_is}
 use Rattle.gw_lines.proofs.Fronts.{nonzero}
@@ -92,6 +92,13 @@ label_is text o e =
     subst (λ (x : Option Operand). SpellsOperand kinds.Label text x) (ap (λ (t : Term). some (operands.Value t)) k.2 ∙ m.2)
     (a_label text k.0 k.1)
 
+defined_is : (text : List ℕ) (o : Option Operand) → as_value (defined_of text) ≡ Some o → SpellsOperand kinds.Defined text o
+defined_is text o e =
+    let m = mapped (λ (t : Term). some (operands.Value t)) (defined_of text) o e in
+    let k = mapped (λ (name : List ℕ). Defined name) (name_of text) m.0 m.1 in
+    subst (λ (x : Option Operand). SpellsOperand kinds.Defined text x) (ap (λ (t : Term). some (operands.Value t)) k.2 ∙ m.2)
+    (a_definition text k.0 k.1)
+
 operand_found : (kind : Kind) (text : List ℕ) (o : Option Operand) → operand_in kind text ≡ Some o
     → SpellsOperand kind text o
 operand_found kind [] o e = subst (λ (x : Option Operand). SpellsOperand kind [] x) (some_is none o e) (absent kind)
@@ -105,6 +112,7 @@ operand_found kinds.Quiet (b ∷ bs) o e =
 operand_found kinds.Entity (b ∷ bs) o e = entity_is (b ∷ bs) (name_of (b ∷ bs)) o refl e
 operand_found kinds.Fraction (b ∷ bs) o e = fraction_is (b ∷ bs) o e
 operand_found kinds.Label (b ∷ bs) o e = label_is (b ∷ bs) o e
+operand_found kinds.Defined (b ∷ bs) o e = defined_is (b ∷ bs) o e
 
 value_in_again : (text : List ℕ) (z : ℤ) → value_of text ≡ Some z
     → operand_in kinds.Value text ≡ Some (Some (operands.Value (Constant z)))
@@ -151,6 +159,11 @@ label_in_again : (text name : List ℕ) → name_of text ≡ Some name
 label_in_again [] name e = absurd (no_name name e)
 label_in_again (b ∷ bs) name e = rw e refl
 
+defined_in_again : (text name : List ℕ) → name_of text ≡ Some name
+    → operand_in kinds.Defined text ≡ Some (Some (operands.Value (Defined name)))
+defined_in_again [] name e = absurd (no_name name e)
+defined_in_again (b ∷ bs) name e = rw e refl
+
 operand_again : {kind : Kind} {text : List ℕ} {o : Option Operand} → SpellsOperand kind text o
     → operand_in kind text ≡ Some o
 operand_again (absent kind) = refl
@@ -161,6 +174,7 @@ operand_again (named_entity text name e) = name_in_again text name e
 operand_again (numbered_entity text n h from) = number_in_again text n (begins h.digits) (number_again 1000000000 text n h) from
 operand_again (a_fraction text n f) = fraction_in_again text n (fraction_again f)
 operand_again (a_label text name e) = label_in_again text name e
+operand_again (a_definition text name e) = defined_in_again text name e
 
 -- ---- one part
 

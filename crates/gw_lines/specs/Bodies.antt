@@ -1,10 +1,13 @@
 -- The body of a statement as it is made of the operands that were read. (Manual; the operand table of the profile.)
-use Rattle.std.specs.Prelude.{ℕ, zero, suc, Bool, List, [], ◌∷◌, Option, Some, None, Result, Ok, Err, if◌then◌else◌, map}
+use Rattle.std.specs.Prelude.{ℕ, ℤ, zero, suc, Bool, List, [], ◌∷◌, Option, Some, None, Result, Ok, Err, if◌then◌else◌, map, option_and_then}
+use Rattle.gw_names.specs.declared.verb.DefinitionVerb.{DefinitionVerb}
+use Rattle.gw_names.specs.declared.verb.DefinitionVerb.TheVariants as definition_verbs
 use Rattle.gw_names.specs.declared.verb.CommandVerb.{CommandVerb}
 use Rattle.gw_names.specs.declared.verb.CommandVerb.TheVariants as command_verbs
 use Rattle.gw_names.specs.declared.verb.Verb.{Verb}
 use Rattle.gw_names.specs.declared.verb.Verb.TheVariants as verbs
-use Rattle.gw_expr.specs.Term.{Term}
+use Rattle.gw_expr.specs.Term.{Term, Constant}
+use Rattle.gw_meaning.specs.declared.statement.Definition.TheVariants as definitions
 use Rattle.gw_meaning.specs.declared.statement.Command.TheVariants as commands
 use Rattle.gw_meaning.specs.declared.statement.Body.{Body}
 use Rattle.gw_meaning.specs.declared.statement.Body.TheVariants as bodies
@@ -28,6 +31,14 @@ abbrev pub whole_in : Option Operand → Option ℕ
 whole_in (Some (operands.Whole n)) = Some n
 whole_in operand = None
 
+-- an operand as a constant
+abbrev pub constant_of : Term → Option ℤ
+constant_of (Constant z) = Some z
+constant_of term = None
+
+abbrev pub constant_in : Option Operand → Option ℤ
+constant_in operand = option_and_then constant_of (value_in operand)
+
 -- the operand that stands first
 abbrev pub first_of : List (Option Operand) → Option Operand
 first_of [] = None
@@ -37,6 +48,20 @@ first_of (operand ∷ os) = operand
 abbrev pub place : List (Option Operand) → ℕ → Option Operand
 place os zero = first_of os
 place os (suc n) = place (others_of os) n
+
+abbrev pub storage_with : Option ℕ → Option Body
+storage_with None = None
+storage_with (Some capacity) = Some (bodies.Definition (definitions.Storage capacity))
+
+abbrev pub equ_with : Option ℤ → Option Body
+equ_with None = None
+equ_with (Some z) = Some (bodies.Definition (definitions.Equ z))
+
+-- the definition of a verb with these operands
+abbrev pub definition_with : DefinitionVerb → List (Option Operand) → Option Body
+definition_with definition_verbs.Storage os = storage_with (whole_in (place os 0))
+definition_with definition_verbs.Equ os = equ_with (constant_in (place os 0))
+definition_with verb os = None
 
 abbrev pub start_with : Option ℕ → Option Body
 start_with None = None
@@ -51,7 +76,7 @@ command_with verb os = None
 -- the statement of a verb with these operands
 unfoldable pub body_with : Verb → List (Option Operand) → Option Body
 body_with (verbs.Block verb) os = Some (bodies.Block (record { verb = verb; operands = map value_in os }))
-body_with (verbs.Definition verb) os = None
+body_with (verbs.Definition verb) os = definition_with verb os
 body_with (verbs.Command verb) os = command_with verb os
 
 abbrev pub or_unknown : Option Body → Result Body LineFault

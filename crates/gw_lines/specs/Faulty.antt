@@ -13,7 +13,7 @@ use Rattle.gw_lines.specs.Reading.{OrMemory}
 use Rattle.gw_lines.specs.Classes.{are_plain}
 use Rattle.gw_lines.specs.Forms.{forms_of, lacks}
 use Rattle.gw_lines.specs.Parts.{parts_of, part_of, is_given, others_of, is_missing}
-use Rattle.gw_lines.specs.Lines.{verb_in, is_command, is_remark}
+use Rattle.gw_lines.specs.Lines.{verb_in, is_command, needs_label, is_remark}
 use Rattle.gw_lines.specs.Spelling.{AreIn, Stops, SpellsOperand, SpellsAll, Head, Label, ArePlain, Cut, HasWords}
 
 -- a text that spells an operand of the kind, or an absent one
@@ -80,6 +80,8 @@ pub data WordsFault : List ℕ → LineFault → Type 0 where
       → name_of first ≡ None → WordsFault words faults.BadLabel
   bad_label : (words word : List ℕ) (verb : Verb) (kept : List ℕ) → Head words (Some word) verb kept
       → ArePlain (Some word) kept → (is_command verb ≡ true) ⊎ (name_of word ≡ None) → WordsFault words faults.BadLabel
+  lacks_label : (words : List ℕ) (verb : Verb) (kept : List ℕ) → Head words None verb kept → ArePlain None kept
+      → needs_label verb ≡ true → WordsFault words faults.BadLabel
   verb_to_come : (words : List ℕ) (word : Option (List ℕ)) (verb : Verb) (kept : List ℕ) (label : Option (List ℕ))
       → Head words word verb kept → ArePlain word kept → Label word verb label
       → forms_of verb (is_given (parts_of (upper_of kept))) ≡ None → WordsFault words faults.UnknownVerb

@@ -3,11 +3,15 @@
 use Rattle.std.specs.Prelude.{ℕ, Bool, true, false, ◌&&◌, List, [], ◌∷◌, Option, Some, None, map, option_map, slice_get}
 use Rattle.gw_names.specs.declared.verb.BlockVerb.{BlockVerb}
 use Rattle.gw_names.specs.declared.verb.BlockVerb.TheVariants as blocks
+use Rattle.gw_names.specs.declared.verb.DefinitionVerb.{DefinitionVerb}
+use Rattle.gw_names.specs.declared.verb.DefinitionVerb.TheVariants as definition_verbs
 use Rattle.gw_names.specs.declared.verb.CommandVerb.{CommandVerb}
 use Rattle.gw_names.specs.declared.verb.CommandVerb.TheVariants as command_verbs
 use Rattle.gw_names.specs.declared.verb.Verb.{Verb}
 use Rattle.gw_names.specs.declared.verb.Verb.TheVariants as verbs
-use Rattle.gw_expr.specs.Term.{Term}
+use Rattle.gw_expr.specs.Term.{Term, Constant}
+use Rattle.gw_meaning.specs.declared.statement.Definition.{Definition}
+use Rattle.gw_meaning.specs.declared.statement.Definition.TheVariants as definitions
 use Rattle.gw_meaning.specs.declared.statement.Command.{Command}
 use Rattle.gw_meaning.specs.declared.statement.Command.TheVariants as commands
 use Rattle.gw_meaning.specs.declared.statement.Body.{Body}
@@ -23,7 +27,11 @@ use Rattle.gw_lines.specs.declared.operand.Operand.TheVariants as operands
 abbrev pub a_value : Form
 a_value = record { kind = kinds.Value; presence = presences.Optional }
 
--- how many terminations a run takes
+-- a value
+abbrev pub a_constant : Form
+a_constant = record { kind = kinds.Value; presence = presences.Required }
+
+-- how many terminations a run takes, or how many units a storage has
 abbrev pub a_count : Form
 a_count = record { kind = kinds.Whole 1000000000; presence = presences.Required }
 
@@ -55,6 +63,10 @@ a_label = record { kind = kinds.Label; presence = presences.Required }
 abbrev pub another_label : Form
 another_label = record { kind = kinds.Label; presence = presences.Optional }
 
+-- the name of a definition
+abbrev pub a_definition : Form
+a_definition = record { kind = kinds.Defined; presence = presences.Required }
+
 -- a TRANSFER goes to a label, or, with a fraction before it, to one of two, the first of which may be absent
 abbrev pub forms_of_transfer : Bool → List Form
 forms_of_transfer false = a_chance ∷ a_label ∷ []
@@ -69,8 +81,15 @@ forms_of_block blocks.Queue given = Some (an_entity ∷ a_value ∷ [])
 forms_of_block blocks.Depart given = Some (an_entity ∷ a_value ∷ [])
 forms_of_block blocks.Seize given = Some (an_entity ∷ [])
 forms_of_block blocks.Release given = Some (an_entity ∷ [])
+forms_of_block blocks.Enter given = Some (a_definition ∷ a_value ∷ [])
+forms_of_block blocks.Leave given = Some (a_definition ∷ a_value ∷ [])
 forms_of_block blocks.Transfer given = Some (forms_of_transfer given)
 forms_of_block verb given = None
+
+abbrev pub forms_of_definition : DefinitionVerb → Option (List Form)
+forms_of_definition definition_verbs.Storage = Some (a_count ∷ [])
+forms_of_definition definition_verbs.Equ = Some (a_constant ∷ [])
+forms_of_definition verb = None
 
 abbrev pub forms_of_command : CommandVerb → Option (List Form)
 forms_of_command command_verbs.Start = Some (a_count ∷ a_quiet ∷ [])
@@ -79,7 +98,7 @@ forms_of_command verb = None
 
 abbrev pub forms_of : Verb → Bool → Option (List Form)
 forms_of (verbs.Block verb) given = forms_of_block verb given
-forms_of (verbs.Definition verb) given = None
+forms_of (verbs.Definition verb) given = forms_of_definition verb
 forms_of (verbs.Command verb) given = forms_of_command verb
 
 abbrev pub value : Option Term → Option Operand
@@ -87,6 +106,11 @@ value v = option_map (λ t. operands.Value t) v
 
 abbrev pub whole : Option ℕ → Option Operand
 whole v = option_map (λ n. operands.Whole n) v
+
+-- the operands that a definition has
+abbrev pub fields_of_definition : Definition → List (Option Operand)
+fields_of_definition (definitions.Storage capacity) = Some (operands.Whole capacity) ∷ []
+fields_of_definition (definitions.Equ z) = Some (operands.Value (Constant z)) ∷ []
 
 -- the operands that a command has: `NP` leaves no trace
 abbrev pub fields_of_command : Command → List (Option Operand)
@@ -96,6 +120,7 @@ fields_of_command (commands.Rmult values) = map whole values
 -- the operands that a statement has
 abbrev pub fields_of : Body → List (Option Operand)
 fields_of (bodies.Block block) = map value block.operands
+fields_of (bodies.Definition definition) = fields_of_definition definition
 fields_of (bodies.Command command) = fields_of_command command
 
 abbrev pub is_no_operand : Option (Option Operand) → Bool

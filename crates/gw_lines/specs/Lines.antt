@@ -11,6 +11,7 @@ use Rattle.gw_lines.specs.declared.fault.LineFault.{LineFault}
 use Rattle.gw_lines.specs.declared.fault.LineFault.TheVariants as faults
 use Rattle.gw_lines.specs.Reading.{◌>>=◌}
 use Rattle.gw_lines.specs.Classes.{front_of, rest_of, is_nothing, are_plain}
+use Rattle.gw_lines.specs.Forms.{forms_of_definition}
 use Rattle.gw_lines.specs.Operands.{listed_of}
 use Rattle.gw_lines.specs.Bodies.{body_of}
 
@@ -30,6 +31,11 @@ abbrev pub is_command : Verb → Bool
 is_command (verbs.Command command) = true
 is_command verb = false
 
+-- a definition has a label; one that is still to come is looked at no further
+abbrev pub needs_label : Verb → Bool
+needs_label (verbs.Definition verb) = is_some (forms_of_definition verb)
+needs_label verb = false
+
 abbrev pub or_bad_label : Option (List ℕ) → Result (List ℕ) LineFault
 or_bad_label None = Err faults.BadLabel
 or_bad_label (Some name) = Ok name
@@ -37,6 +43,10 @@ or_bad_label (Some name) = Ok name
 -- the label that a word is before a verb
 unfoldable pub label_of : Verb → List ℕ → Result (List ℕ) LineFault
 label_of verb word = if is_command verb then Err faults.BadLabel else or_bad_label (name_of word)
+
+-- no label, where the verb needs none
+unfoldable pub no_label_of : Verb → Result (Unit {0}) LineFault
+no_label_of verb = if needs_label verb then Err faults.BadLabel else Ok tt
 
 -- a text of plain bytes
 abbrev pub plain_of : List ℕ → Result (List ℕ) LineFault
@@ -50,6 +60,7 @@ operands_of bytes = plain_of (upper_of (listed_of true bytes))
 unfoldable pub unlabelled_of : Verb → List ℕ → Result Statement LineFault
 unlabelled_of verb bytes = do
   operands ← operands_of bytes
+  free ← no_label_of verb
   body ← body_of verb operands
   Ok (record { label = None; body = body; operands = operands })
 

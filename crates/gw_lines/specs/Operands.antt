@@ -3,7 +3,7 @@
 use Rattle.std.specs.Prelude.{ℕ, pos, ◌+◌, ◌==◌, Bool, true, List, [], ◌∷◌, ◌++◌, length, Option, Some, None, Result, Ok, Err, option_map, if◌then◌else◌, codes}
 use Rattle.std.specs.Str.{bytes_eq}
 use Rattle.gw_names.specs.Names.{name_of}
-use Rattle.gw_expr.specs.Term.{Term, Constant, Fraction, Label, Named}
+use Rattle.gw_expr.specs.Term.{Term, Constant, Defined, Fraction, Label, Named}
 use Rattle.gw_lines.specs.declared.fault.LineFault.{LineFault}
 use Rattle.gw_lines.specs.declared.fault.LineFault.TheVariants as faults
 use Rattle.gw_lines.specs.declared.form.Kind.{Kind}
@@ -40,6 +40,10 @@ entity_of text = or_number (name_of text) text
 abbrev pub label_of : List ℕ → Option Term
 label_of text = option_map (λ name. Label name) (name_of text)
 
+-- the name of a definition that a text is
+abbrev pub defined_of : List ℕ → Option Term
+defined_of text = option_map (λ name. Defined name) (name_of text)
+
 abbrev pub as_value : Option Term → Option (Option Operand)
 as_value value = option_map (λ t. Some (operands.Value t)) value
 
@@ -51,6 +55,7 @@ given_in kinds.Quiet text = if bytes_eq text (codes "NP") then Some None else No
 given_in kinds.Entity text = as_value (entity_of text)
 given_in kinds.Fraction text = as_value (option_map (λ n. Fraction n) (fraction_of text))
 given_in kinds.Label text = as_value (label_of text)
+given_in kinds.Defined text = as_value (defined_of text)
 
 -- what a text is, if it is lawful
 abbrev pub operand_in : Kind → List ℕ → Option (Option Operand)

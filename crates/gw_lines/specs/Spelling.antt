@@ -21,7 +21,7 @@ use Rattle.gw_lines.specs.declared.operand.Operand.TheVariants as operands
 use Rattle.gw_lines.specs.Classes.{is_in, is_blank, are_plain}
 use Rattle.gw_lines.specs.Forms.{forms_of, fields_of, lacks, is_listed}
 use Rattle.gw_lines.specs.Parts.{parts_of, goes_on, part_of, is_given, others_of, is_missing}
-use Rattle.gw_lines.specs.Lines.{verb_in, is_command, is_remark}
+use Rattle.gw_lines.specs.Lines.{verb_in, is_command, needs_label, is_remark}
 
 -- each byte is of the class
 abbrev pub AreIn : Class → List ℕ → Type 0
@@ -75,6 +75,8 @@ pub data SpellsOperand : Kind → List ℕ → Option Operand → Type 0 where
       → SpellsOperand kinds.Fraction text (Some (operands.Value (terms.Fraction n)))
   a_label : (text name : List ℕ) → name_of text ≡ Some name
       → SpellsOperand kinds.Label text (Some (operands.Value (terms.Label name)))
+  a_definition : (text name : List ℕ) → name_of text ≡ Some name
+      → SpellsOperand kinds.Defined text (Some (operands.Value (terms.Defined name)))
 
 -- the parts of a list spell the operands of its forms: each is listed, or a written one behind the last part is not
 pub data SpellsAll : List Form → List (List ℕ) → List (Option Operand) → Type 0 where
@@ -121,9 +123,9 @@ pub data Head : List ℕ → Option (List ℕ) → Verb → List ℕ → Type 0 
       → AreIn class.Mark word → verb_in word ≡ Some verb → Behind behind kept
       → Head (label ++ (blanks ++ (word ++ behind))) (Some label) verb kept
 
--- the label that the word before a verb is
+-- the label that the word before a verb is; a definition does not go without one
 pub data Label : Option (List ℕ) → Verb → Option (List ℕ) → Type 0 where
-  no_label : (verb : Verb) → Label None verb None
+  no_label : (verb : Verb) → needs_label verb ≡ false → Label None verb None
   named : (word : List ℕ) (verb : Verb) (label : List ℕ) → is_command verb ≡ false → name_of word ≡ Some label
       → Label (Some word) verb (Some label)
 

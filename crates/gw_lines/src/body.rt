@@ -1,15 +1,16 @@
 ghost use Rattle.std.specs.Prelude.{◌≡◌, ◌≤◌, length, IfOk};
 ghost use Rattle.gw_lines.specs.Reading.{Gives};
 ghost use Rattle.gw_lines.specs.Parts.{parts_of};
-ghost use Rattle.gw_lines.specs.Bodies.{body_of, in_forms, body_with, command_with, first_of, value_in, whole_in};
+ghost use Rattle.gw_lines.specs.Bodies.{body_of, in_forms, body_with, definition_with, command_with, first_of, value_in, whole_in, constant_in, constant_of};
 
 use crate::fault::LineFault;
 use crate::form::{Form, forms_of, lacks};
 use crate::operand::Operand;
 use crate::operands::{is_given, read_operands};
-use gw_expr::Expr;
-use gw_meaning::{Block, Body, Command, Row};
-use gw_names::{CommandVerb, Verb};
+use gw_expr::{Expr, Node};
+use gw_meaning::{Block, Body, Command, Definition, Row};
+use gw_names::{CommandVerb, DefinitionVerb, Verb};
+use gw_nums::Val;
 use std::alloc::{AllocError, Global};
 
 /// The body that a verb's operand list spells, in upper case and without skipped blanks.
@@ -55,8 +56,26 @@ fn body_with(
                 operands: Row::from_vec(operands),
             })))
         }
-        Verb::Definition(_) => Ok(None),
+        Verb::Definition(verb) => Ok(definition_with(verb, operands)),
         Verb::Command(verb) => command_with(alloc, verb, operands),
+    }
+}
+
+// The definition of a verb with these operands, if they have its forms.
+fn definition_with(verb: DefinitionVerb, mut operands: Vec<Option<Operand>>) -> Option<Body>
+    ensures { result ≡ definition_with verb operands.items }
+{
+    let first = first_of(&mut operands);
+    match verb {
+        DefinitionVerb::Storage => {
+            let capacity = u64::from(whole_in(first)?);
+            Some(Body::Definition(Definition::Storage { capacity }))
+        }
+        DefinitionVerb::Equ => {
+            let value = constant_in(first)?;
+            Some(Body::Definition(Definition::Equ { value }))
+        }
+        _ => None,
     }
 }
 
@@ -113,5 +132,21 @@ fn whole_in(operand: Option<Operand>) -> Option<u32>
     match operand {
         Some(Operand::Whole(n)) => Some(n),
         Some(Operand::Value(_)) | None => None,
+    }
+}
+
+// An operand as a constant.
+fn constant_in(operand: Option<Operand>) -> Option<Val>
+    ensures { result ≡ constant_in operand }
+{
+    constant_of(&value_in(operand)?)
+}
+
+fn constant_of(value: &Expr) -> Option<Val>
+    ensures { result ≡ constant_of value.now }
+{
+    match value.node() {
+        Node::Constant(value) => Some(*value),
+        Node::Named(_) | Node::Label(_) | Node::Fraction(_) | Node::Defined(_) => None,
     }
 }

@@ -17,7 +17,7 @@ pub enum LineFault {
     /// L3: no verb among the first two words, or one that is still to come.
     #[error("the line has no known verb")]
     UnknownVerb,
-    /// L4: the word before the verb is no lawful name, or the verb takes no label.
+    /// L4: the word before the verb is no lawful name, or the verb takes no label, or it lacks one that it needs.
     #[error("the label is not lawful")]
     BadLabel,
     /// L5: the operand with this number, from 1, is not of a lawful form.

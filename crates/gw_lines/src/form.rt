@@ -1,9 +1,9 @@
 ghost use Rattle.std.specs.Prelude.{◌≡◌, ◌≤◌, IfSome, length};
 ghost use Rattle.std.specs.Option.{option_copied};
-ghost use Rattle.gw_lines.specs.Forms.{forms_of, forms_of_block, forms_of_transfer, forms_of_command, lacks, is_listed, is_required, is_absent};
+ghost use Rattle.gw_lines.specs.Forms.{forms_of, forms_of_block, forms_of_transfer, forms_of_definition, forms_of_command, lacks, is_listed, is_required, is_absent};
 
 use crate::operand::Operand;
-use gw_names::{BlockVerb, CommandVerb, Verb};
+use gw_names::{BlockVerb, CommandVerb, DefinitionVerb, Verb};
 
 /// What an operand may be.
 #[derive(Clone, Copy, Debug, PartialEq, Eq)]
@@ -20,6 +20,8 @@ pub enum Kind {
     Fraction,
     /// A block's label.
     Label,
+    /// The name of a definition.
+    Defined,
 }
 
 /// Whether an operand may be absent.
@@ -45,7 +47,7 @@ pub fn forms_of(verb: Verb, given: bool) -> Option<&'static [Form]>
 {
     match verb {
         Verb::Block(verb) => forms_of_block(verb, given),
-        Verb::Definition(_) => None,
+        Verb::Definition(verb) => forms_of_definition(verb),
         Verb::Command(verb) => forms_of_command(verb),
     }
 }
@@ -60,6 +62,7 @@ fn forms_of_block(verb: BlockVerb, given: bool) -> Option<&'static [Form]>
         BlockVerb::Terminate => Some(&[VALUE]),
         BlockVerb::Queue | BlockVerb::Depart => Some(&[ENTITY, VALUE]),
         BlockVerb::Seize | BlockVerb::Release => Some(&[ENTITY]),
+        BlockVerb::Enter | BlockVerb::Leave => Some(&[DEFINED, VALUE]),
         BlockVerb::Transfer => Some(forms_of_transfer(given)),
         _ => None,
     }
@@ -77,6 +80,18 @@ fn forms_of_transfer(given: bool) -> &'static [Form]
     }
 }
 
+/// The forms of a definition's operands, if the definition is read so far.
+pub fn forms_of_definition(verb: DefinitionVerb) -> Option<&'static [Form]>
+    ensures forms { option_copied result ≡ forms_of_definition verb }
+    ensures few { IfSome result (λ f. length f.now ≤ 7) }
+{
+    match verb {
+        DefinitionVerb::Storage => Some(&[COUNT]),
+        DefinitionVerb::Equ => Some(&[CONSTANT]),
+        _ => None,
+    }
+}
+
 fn forms_of_command(verb: CommandVerb) -> Option<&'static [Form]>
     ensures forms { option_copied result ≡ forms_of_command verb }
     ensures few { IfSome result (λ f. length f.now ≤ 7) }
@@ -91,6 +106,11 @@ fn forms_of_command(verb: CommandVerb) -> Option<&'static [Form]>
 const VALUE: Form = Form {
     kind: Kind::Value,
     presence: Presence::Optional,
+};
+
+const CONSTANT: Form = Form {
+    kind: Kind::Value,
+    presence: Presence::Required,
 };
 
 const ENTITY: Form = Form {
@@ -135,6 +155,11 @@ const LABEL: Form = Form {
 const ANOTHER_LABEL: Form = Form {
     kind: Kind::Label,
     presence: Presence::Optional,
+};
+
+const DEFINED: Form = Form {
+    kind: Kind::Defined,
+    presence: Presence::Required,
 };
 
 /// Whether the operands lack one, though none of them is required: a GENERATE has a mean or a limit.

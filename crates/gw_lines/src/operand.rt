@@ -1,5 +1,5 @@
 ghost use Rattle.std.specs.Prelude.{◌≡◌, IfOk};
-ghost use Rattle.gw_lines.specs.Operands.{operand_in, given_in, as_value, entity_of, numbered, label_of};
+ghost use Rattle.gw_lines.specs.Operands.{operand_in, given_in, as_value, entity_of, numbered, label_of, defined_of};
 
 use crate::form::Kind;
 use crate::number::{LIMIT, fraction, from_one, value};
@@ -55,6 +55,7 @@ fn given(alloc: Global, kind: Kind, text: &[u8]) -> Result<Option<Option<Operand
             None => Ok(None),
         },
         Kind::Label => Ok(as_value(label(alloc, text)?)),
+        Kind::Defined => Ok(as_value(defined(alloc, text)?)),
     }
 }
 
@@ -90,6 +91,16 @@ fn label(alloc: Global, text: &[u8]) -> Result<Option<Expr>, AllocError>
 {
     match Name::read(alloc, text)? {
         Some(name) => Ok(Some(Expr::label(name))),
+        None => Ok(None),
+    }
+}
+
+// The name of a definition that a text is.
+fn defined(alloc: Global, text: &[u8]) -> Result<Option<Expr>, AllocError>
+    ensures { IfOk result (λ o. o ≡ defined_of text.now) }
+{
+    match Name::read(alloc, text)? {
+        Some(name) => Ok(Some(Expr::defined(name))),
         None => Ok(None),
     }
 }

@@ -1,10 +1,11 @@
 ghost use Rattle.std.specs.Prelude.{◌≡◌, IfOk};
 ghost use Rattle.gw_lines.specs.Reading.{Gives, IsFault};
-ghost use Rattle.gw_lines.specs.Lines.{word_of, behind_word, verb_in, is_command, label_of, operands_of, unlabelled_of, labelled_of, fault_without_verb, coded_of};
+ghost use Rattle.gw_lines.specs.Lines.{word_of, behind_word, verb_in, is_command, needs_label, no_label_of, label_of, operands_of, unlabelled_of, labelled_of, fault_without_verb, coded_of};
 
 use crate::body::read_body;
 use crate::class::{Class, are_plain, span};
 use crate::fault::LineFault;
+use crate::form::forms_of_definition;
 use crate::listed::{listed, upper};
 use gw_meaning::{Row, Statement};
 use gw_names::{Name, Verb};
@@ -46,6 +47,7 @@ fn unlabelled(alloc: Global, verb: Verb, bytes: &[u8]) -> Result<Statement, Line
     ensures { Gives (λ s. s) result (unlabelled_of verb bytes.now) }
 {
     let operands = operands(alloc, bytes)?;
+    no_label(verb)?;
     let body = read_body(alloc, verb, &operands)?;
     Ok(Statement {
         label: None,
@@ -102,6 +104,28 @@ fn is_command(verb: Verb) -> bool
     ensures { result ≡ is_command verb }
 {
     matches!(verb, Verb::Command(_))
+}
+
+// Nothing, where the verb needs no label.
+#[tactic(auto, unfolding(crate::specs::Lines::no_label_of))]
+fn no_label(verb: Verb) -> Result<(), LineFault>
+    ensures { Gives (λ u. u) result (no_label_of verb) }
+{
+    if needs_label(verb) {
+        Err(LineFault::BadLabel)
+    } else {
+        Ok(())
+    }
+}
+
+// A definition has a label. One that is still to come is looked at no further.
+fn needs_label(verb: Verb) -> bool
+    ensures { result ≡ needs_label verb }
+{
+    match verb {
+        Verb::Definition(verb) => forms_of_definition(verb).is_some(),
+        Verb::Block(_) | Verb::Command(_) => false,
+    }
 }
 
 // The fault of code with no verb among its first two words.

@@ -60,6 +60,8 @@ fn model_text(fault: ModelFault) -> &'static [u8]
         ModelFault::BadHorizon => b"model refused: M7\n",
         ModelFault::LabelTwice => b"model refused: M1\n",
         ModelFault::NoSuchLabel => b"model refused: M2\n",
+        ModelFault::NoSuchDefinition => b"model refused: M3\n",
+        ModelFault::EquNamedDefinition => b"model refused: M4\n",
         ModelFault::Memory => b"model refused: M8\n",
     }
 }

@@ -1,6 +1,6 @@
 -- What a move does to a state. (Manual: the chains and the counts of blocks. Our own: that an ADVANCE of 0 leaves the
 -- transaction active, that a time is fixed when the transaction comes onto the future chain, and that who waited for a
--- facility enters its SEIZE block in the step that gives it back.)
+-- facility or a storage enters its block in the step that gives it back.)
 use Rattle.std.specs.Prelude.{ℕ, ◌-◌, Bool, true, not, ◌==◌, List, [], ◌∷◌, ◌++◌, Option, Some, None, if◌then◌else◌, filter, nat_lt}
 use Rattle.gw_nums.specs.Range.{is_below}
 use Rattle.gw_meaning.specs.declared.transaction.Transaction.{Transaction}
@@ -61,14 +61,14 @@ made_one counts id = let c = count_at counts id in with_count counts id (record 
 
 -- a transaction in the block that it entered
 abbrev pub placed : Transaction → ℕ → Transaction
-placed x id = record x { current = id; destination = None }
+placed x id = record x { current = id; destination = None; asked = 0 }
 
 -- a new transaction, on its way to its GENERATE
 abbrev pub newcomer : ℕ → Arrival → Event
 newcomer number a = record {
   time = a.time;
   transaction =
-      record { number = number; priority = a.priority; mark = 0; current = 0; destination = Some a.id };
+      record { number = number; priority = a.priority; mark = 0; current = 0; destination = Some a.id; asked = 0 };
 }
 
 -- what the making of transactions changes
@@ -133,14 +133,23 @@ let_in x None s = record s { current = lined_up x s.current }
 let_in x (Some id) s =
     record s { current = lined_up (placed x id) s.current; counts = crossed fates.Active s.counts x.current id }
 
--- the first of a delay chain, where there is one, leaves it and is let in
-abbrev pub first_let_in : Key → List Transaction → Machine → Machine
-first_let_in key [] s = s
-first_let_in key (x ∷ xs) s = let_in x x.destination (record s { delays = with_value s.delays key xs })
+-- a transaction leaves a delay chain, of which these go on waiting, and is let in
+abbrev pub one_let_in : Key → Transaction → List Transaction → Machine → Machine
+one_let_in key x others s = let_in x x.destination (record s { delays = with_value s.delays key others })
 
--- whom a deed lets in
+-- of a delay chain, behind those who were passed over, each with a share is let in, one by one from the front
+abbrev pub some_let_in : Key → List (Option ℕ) → List Transaction → List Transaction → Machine → Machine
+some_let_in key [] passed chain s = s
+some_let_in key (share ∷ shares) passed [] s = s
+some_let_in key (None ∷ shares) passed (x ∷ xs) s = some_let_in key shares (passed ++ x ∷ []) xs s
+some_let_in key (Some units ∷ shares) passed (x ∷ xs) s =
+    some_let_in key shares passed xs (one_let_in key x (passed ++ xs) s)
+
+-- whom a deed lets in: RELEASE the first of the facility's delay chain, where there is one; LEAVE each of the storage's
+-- that has a share
 abbrev pub admitted : Key → Deed → Machine → Machine
-admitted key (deeds.Release next) s = first_let_in key (delay_at s.delays key) s
+admitted key (deeds.Release next) s = some_let_in key (Some 1 ∷ []) [] (delay_at s.delays key) s
+admitted key (deeds.Leave units shares) s = some_let_in key shares [] (delay_at s.delays key) s
 admitted key deed s = s
 
 -- what a block brings: a GENERATE the next transaction, and the change of an entity those whom it lets in
@@ -157,15 +166,15 @@ entering s x id change fate =
       entities = touched change s.clock x.number s.entities;
     }))
 
--- a transaction that is to enter a block
-abbrev pub bound : Transaction → ℕ → Transaction
-bound x id = record x { destination = Some id }
+-- a transaction that is to enter a block, and asks so many units there
+abbrev pub bound : Transaction → ℕ → ℕ → Transaction
+bound x id units = record x { destination = Some id; asked = units }
 
--- the transaction x is refused at a block, and waits for the facility
-abbrev pub refused : Machine → Transaction → ℕ → Key → Machine
-refused s x id key = record s {
+-- the transaction x is refused at a block, and waits for the facility or the storage
+abbrev pub refused : Machine → Transaction → ℕ → Key → ℕ → Machine
+refused s x id key units = record s {
   active = None;
-  delays = with_value s.delays key (lined_up (bound x id) (delay_at s.delays key));
+  delays = with_value s.delays key (lined_up (bound x id units) (delay_at s.delays key));
 }
 
 -- the first of the current chain is active
@@ -200,7 +209,7 @@ abbrev pub moved : Machine → Move → Machine
 moved s (moves.Start count arrivals) = with_making (all_made arrivals (making_of s)) (started count s)
 moved s moves.Command = record s { commands = raised s.commands }
 moved s (moves.Enter id change fate) = with_active s.active (λ x. entering s x id change fate) s
-moved s (moves.Refuse id key) = with_active s.active (λ x. refused s x id key) s
+moved s (moves.Refuse id key units) = with_active s.active (λ x. refused s x id key units) s
 moved s moves.Pick = picked s s.current
 moved s (moves.Clock time) = advanced s time
 

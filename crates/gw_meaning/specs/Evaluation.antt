@@ -62,12 +62,20 @@ abbrev pub value_or_zero : Machine → Option Term → Eval ℤ
 value_or_zero s None = gives (pos 0)
 value_or_zero s (Some term) = value_prog s term
 
+-- the entity with a number, from 1
+abbrev pub numbered : ℤ → Eval Key
+numbered n = stops_if (is_below n (pos 1)) Range (gives (keys.Num (magnitude n)))
+
+-- the entity with a name, which may stand for a number
+abbrev pub named : List ℕ → Option ℤ → Eval Key
+named name None = gives (keys.Named name)
+named name (Some n) = numbered n
+
 -- the entity that an operand names: by a name, or by its number from 1 (no form leaves it out)
 abbrev pub entity_prog : Machine → Option Term → Eval Key
 entity_prog s None = ends_with (ends.Error Range)
-entity_prog s (Some (Named name)) = gives (keys.Named name)
-entity_prog s (Some (Constant n)) =
-    stops_if (is_below n (pos 1)) Range (gives (keys.Num (magnitude n)))
+entity_prog s (Some (Named name)) = asks (items.Name name) (named name)
+entity_prog s (Some (Constant n)) = numbered n
 entity_prog s (Some term) = ends_with (ends.Error Range)
 
 -- how many units an operand says: from 1, and 1 where it is absent

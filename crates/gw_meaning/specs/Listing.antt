@@ -1,10 +1,12 @@
 -- What a version says: its statements in order with the numbers of their own, the horizon, the replications and the
--- step limit; and what it answers when it is asked for a block, a command or a label. (Manual: blocks and commands in
--- order. Our own: numbers, replications and the step limit.)
-use Rattle.std.specs.Prelude.{ℕ, zero, suc, ◌+◌, Bool, true, false, ◌==◌, ◌&&◌, List, [], ◌∷◌, Option, Some, None, is_some, if◌then◌else◌, option_and_then, option_map, filter, length, slice_get}
+-- step limit; and what it answers when it is asked for a block, a command, a label or a definition. (Manual: blocks and
+-- commands in order. Our own: numbers, replications and the step limit.)
+use Rattle.std.specs.Prelude.{ℕ, ℤ, zero, suc, ◌+◌, Bool, true, false, ◌==◌, ◌&&◌, List, [], ◌∷◌, Option, Some, None, is_some, if◌then◌else◌, option_and_then, option_map, filter, length, unwrap_or, slice_get}
 use Rattle.std.specs.List.{filter_map}
 use Rattle.std.specs.Str.{bytes_eq}
 use Rattle.gw_meaning.specs.declared.statement.Block.{Block}
+use Rattle.gw_meaning.specs.declared.statement.Definition.{Definition}
+use Rattle.gw_meaning.specs.declared.statement.Definition.TheVariants as definitions
 use Rattle.gw_meaning.specs.declared.statement.Command.{Command}
 use Rattle.gw_meaning.specs.declared.statement.Command.TheVariants as commands
 use Rattle.gw_meaning.specs.declared.statement.Body.{Body}
@@ -24,6 +26,7 @@ pub record Listing : Type 0 where
 -- the block that a statement is, if it is one
 abbrev pub block_of_body : Body → Option Block
 block_of_body (bodies.Block block) = Some block
+block_of_body (bodies.Definition definition) = None
 block_of_body (bodies.Command command) = None
 
 abbrev pub block_of : Numbered → Option Block
@@ -32,17 +35,31 @@ block_of line = block_of_body line.statement.body
 abbrev pub is_block : Numbered → Bool
 is_block line = is_some (block_of line)
 
+-- the definition that a statement is, if it is one
+abbrev pub definition_of_body : Body → Option Definition
+definition_of_body (bodies.Block block) = None
+definition_of_body (bodies.Definition definition) = Some definition
+definition_of_body (bodies.Command command) = None
+
+abbrev pub definition_of : Numbered → Option Definition
+definition_of line = definition_of_body line.statement.body
+
 -- the command that a statement is, if it is one
 abbrev pub command_of_body : Body → Option Command
 command_of_body (bodies.Block block) = None
+command_of_body (bodies.Definition definition) = None
 command_of_body (bodies.Command command) = Some command
 
 abbrev pub command_of : Numbered → Option Command
 command_of line = command_of_body line.statement.body
 
+abbrev pub is_command : Numbered → Bool
+is_command line = is_some (command_of line)
+
 -- whether a statement is a GENERATE
 abbrev pub is_generate_body : Body → Bool
 is_generate_body (bodies.Block block) = is_generate_verb block.verb
+is_generate_body (bodies.Definition definition) = false
 is_generate_body (bodies.Command command) = false
 
 abbrev pub is_generate : Numbered → Bool
@@ -82,6 +99,44 @@ labelled_in name [] = None
 labelled_in name (line ∷ lines) =
     if is_block line && has_label name line.statement.label then Some line.number else labelled_in name lines
 
+-- the definition of a name that a statement is, if it is one
+abbrev pub definition_if : Bool → Option Definition → Option Definition
+definition_if named definition = if named then definition else None
+
+abbrev pub defines : List ℕ → Numbered → Option Definition
+defines name line = definition_if (has_label name line.statement.label) (definition_of line)
+
+-- the one of two that is there, the first before the second
+abbrev pub or_next : {X : Type 0} → Option X → Option X → Option X
+or_next None next = next
+or_next (Some x) next = Some x
+
+-- the definition of a name
+abbrev pub defined_in : List ℕ → List Numbered → Option Definition
+defined_in name [] = None
+defined_in name (line ∷ lines) = or_next (defines name line) (defined_in name lines)
+
+-- how many units a definition gives a storage, and which number it gives a name
+abbrev pub units_of : Option Definition → Option ℕ
+units_of (Some (definitions.Storage capacity)) = Some capacity
+units_of definition = None
+
+abbrev pub number_of : Option Definition → Option ℤ
+number_of (Some (definitions.Equ value)) = Some value
+number_of definition = None
+
+-- the first that statements say
+abbrev pub first_said : {X : Type 0} → (Numbered → Option X) → List Numbered → Option X
+first_said says [] = None
+first_said says (line ∷ lines) = or_next (says line) (first_said says lines)
+
+-- the units of the storage of a name, and the number that a name stands for
+abbrev pub capacity_in : List ℕ → List Numbered → Option ℕ
+capacity_in name = first_said (λ line. units_of (defines name line))
+
+abbrev pub number_in : List ℕ → List Numbered → Option ℤ
+number_in name = first_said (λ line. number_of (defines name line))
+
 -- the numbers of the GENERATEs, in order
 abbrev pub generates_in : List Numbered → List ℕ
 generates_in [] = []
@@ -107,6 +162,18 @@ position_at t number = position_in 0 t.lines number
 -- the number of the block with a label
 abbrev pub label_at : Listing → List ℕ → Option ℕ
 label_at t name = labelled_in name t.lines
+
+-- the definition of a name
+abbrev pub definition_at : Listing → List ℕ → Option Definition
+definition_at t name = defined_in name t.lines
+
+-- how many units the storage of a name has, and none where there is no such storage
+abbrev pub capacity_at : Listing → List ℕ → ℕ
+capacity_at t name = unwrap_or (capacity_in name t.lines) 0
+
+-- the number that a name stands for, where it stands for one
+abbrev pub number_at : Listing → List ℕ → Option ℤ
+number_at t name = number_in name t.lines
 
 -- the i-th statement
 abbrev pub statement_at : Listing → ℕ → Option Statement

@@ -33,8 +33,8 @@ pub record Machine : Type 0 where
   pub current : List Transaction
   -- the future chain, in the order of coming onto it
   pub future : List Event
-  -- the delay chain of each facility that somebody waited for, in the order of first waiting: who waits has the block
-  -- that refused it as its destination
+  -- the delay chain of each facility and storage that somebody waited for, in the order of first waiting: who waits has
+  -- the block that refused it as its destination
   pub delays : List (Key × List Transaction)
   -- what is counted at each block, in the order of first use
   pub counts : List (ℕ × Count)
@@ -89,7 +89,7 @@ abbrev pub with_count : List (ℕ × Count) → ℕ → Count → List (ℕ × C
 with_count [] id c = (id, c) ∷ []
 with_count (d ∷ ds) id c = if id == d.0 then (d.0, c) ∷ ds else d ∷ with_count ds id c
 
--- the delay chain of a facility, by priority, first in first out within
+-- the delay chain of a facility or a storage, by priority, first in first out within
 abbrev pub delay_at : List (Key × List Transaction) → Key → List Transaction
 delay_at delays key = unwrap_or (value_of delays key) []
 

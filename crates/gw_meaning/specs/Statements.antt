@@ -2,11 +2,14 @@
 use Rattle.std.specs.Prelude.{ℕ, Bool, true, false, Option, None, get_or}
 use Rattle.gw_names.specs.declared.verb.BlockVerb.{BlockVerb}
 use Rattle.gw_names.specs.declared.verb.BlockVerb.TheVariants as blocks
+use Rattle.gw_names.specs.declared.verb.DefinitionVerb.TheVariants as definition_verbs
 use Rattle.gw_names.specs.declared.verb.CommandVerb.TheVariants as command_verbs
 use Rattle.gw_names.specs.declared.verb.Verb.{Verb}
 use Rattle.gw_names.specs.declared.verb.Verb.TheVariants as verbs
 use Rattle.gw_expr.specs.Term.{Term}
 use Rattle.gw_meaning.specs.declared.statement.Block.{Block}
+use Rattle.gw_meaning.specs.declared.statement.Definition.{Definition}
+use Rattle.gw_meaning.specs.declared.statement.Definition.TheVariants as definitions
 use Rattle.gw_meaning.specs.declared.statement.Command.{Command}
 use Rattle.gw_meaning.specs.declared.statement.Command.TheVariants as commands
 use Rattle.gw_meaning.specs.declared.statement.Body.{Body}
@@ -37,6 +40,11 @@ abbrev pub is_generate_verb : BlockVerb → Bool
 is_generate_verb blocks.Generate = true
 is_generate_verb verb = false
 
+-- a definition's verb
+abbrev pub verb_of_definition : Definition → Verb
+verb_of_definition (definitions.Storage capacity) = verbs.Definition definition_verbs.Storage
+verb_of_definition (definitions.Equ value) = verbs.Definition definition_verbs.Equ
+
 -- a command's verb
 abbrev pub verb_of_command : Command → Verb
 verb_of_command (commands.Start count) = verbs.Command command_verbs.Start
@@ -45,4 +53,5 @@ verb_of_command (commands.Rmult values) = verbs.Command command_verbs.Rmult
 -- a statement's verb
 abbrev pub verb_of_body : Body → Verb
 verb_of_body (bodies.Block block) = verbs.Block block.verb
+verb_of_body (bodies.Definition definition) = verb_of_definition definition
 verb_of_body (bodies.Command command) = verb_of_command command

@@ -1,11 +1,13 @@
 -- A step: which move it is, by questions; then the move. One definition for each choice, with what is chosen by as an
 -- argument. (Manual: the order of the scan. Our own: commands, priming and picking as steps of their own, and the order
--- in which a GENERATE's operands are met, and that a facility refuses its own owner, too.)
-use Rattle.std.specs.Prelude.{ℕ, zero, suc, ◌+◌, Bool, true, false, ◌==◌, List, [], ◌∷◌, ◌++◌, Option, Some, None, Result, Ok, Err, ℤ, ◌&&◌, ◌||◌, if◌then◌else◌, nat_le, nat_lt, min, not, is_some}
+-- in which a GENERATE's operands are met, that a facility refuses its own owner, too, and that units that
+-- fit go in, whoever waits.)
+use Rattle.std.specs.Prelude.{ℕ, zero, suc, ◌+◌, ◌-◌, Bool, true, false, ◌==◌, List, [], ◌∷◌, ◌++◌, Option, Some, None, Result, Ok, Err, ℤ, ◌&&◌, ◌||◌, if◌then◌else◌, nat_le, nat_lt, min, not, is_some}
 use Rattle.gw_nums.specs.Range.{is_negative, magnitude}
-use Rattle.gw_expr.specs.Term.{Term, Label, Fraction}
-use Rattle.gw_expr.specs.declared.stop.Stop.TheVariants.{NegativeTime, NotOwner, DepartTooMany, NoNextBlock, TooManyTransactions, BadCount, TooManyUnits}
+use Rattle.gw_expr.specs.Term.{Term, Label, Fraction, Defined}
+use Rattle.gw_expr.specs.declared.stop.Stop.TheVariants.{NegativeTime, NotOwner, LeaveTooMany, DepartTooMany, NoNextBlock, TooManyTransactions, BadCount, TooManyUnits, Range}
 use Rattle.gw_names.specs.declared.key.Key.{Key}
+use Rattle.gw_names.specs.declared.key.Key.TheVariants as keys
 use Rattle.gw_names.specs.declared.verb.BlockVerb.{BlockVerb}
 use Rattle.gw_names.specs.declared.verb.BlockVerb.TheVariants as blocks
 use Rattle.gw_meaning.specs.declared.item.Item.{Item}
@@ -29,10 +31,10 @@ use Rattle.gw_meaning.specs.declared.moves.Move.TheVariants as moves
 use Rattle.gw_meaning.specs.Statements.{A, B, C, D, E, operand, is_generate_verb}
 use Rattle.gw_meaning.specs.Listing.{Listing}
 use Rattle.gw_meaning.specs.Machine.{Machine, zero_state, raised, live, count_at, delay_at}
-use Rattle.gw_entities.specs.Records.{Line}
+use Rattle.gw_entities.specs.Records.{Line, Store, capped}
 use Rattle.gw_entities.specs.Comings.{came}
-use Rattle.gw_meaning.specs.Entities.{facility_at, line_at}
-use Rattle.gw_meaning.specs.Questions.{Prog, Gives, Ends, Asks, result_of, items_of, ◌>>=◌}
+use Rattle.gw_meaning.specs.Entities.{facility_at, line_at, store_at}
+use Rattle.gw_meaning.specs.Questions.{Prog, Gives, result_of, items_of, ◌>>=◌}
 use Rattle.gw_meaning.specs.Evaluation.{Eval, gives, ends_with, asks, ◌~>◌, stops_if, value_prog, value_or_zero, entity_prog, units_prog, millionths, draw, time_prog}
 use Rattle.gw_meaning.specs.Changes.{decided}
 
@@ -151,7 +153,7 @@ depart_prog s x id entity units = entity_prog s entity ~> (λ key. units_prog s 
 
 -- SEIZE, of a facility that may be owned; RELEASE, by its owner, for the first that waits.
 abbrev pub seize_or_wait : ℕ → Key → Bool → Eval Move
-seize_or_wait id key true = gives (moves.Refuse id key)
+seize_or_wait id key true = gives (moves.Refuse id key 1)
 seize_or_wait id key false = gives (moves.Enter id (changes.Entity (key, deeds.Seize)) fates.Active)
 
 abbrev pub seize_prog : Machine → ℕ → Option Term → Eval Move
@@ -175,6 +177,63 @@ release_to id key owns next =
 abbrev pub release_prog : Machine → Transaction → ℕ → Option Term → Eval Move
 release_prog s x id entity = entity_prog s entity ~> (λ key. release_to id key
     (is_owner (facility_at s.entities key).owner x.number) (first_number (delay_at s.delays key)))
+
+-- so many units beside those in use (a count of 64 bits stays at its greatest value)
+abbrev pub beside : ℕ → ℕ → ℕ
+beside units content = capped (units + content)
+
+-- ENTER, of a storage that has as many units at least: they come into use where they fit beside those in use, whoever
+-- waits.
+abbrev pub enter_or_wait : ℕ → Key → Store → ℕ → Bool → Eval Move
+enter_or_wait id key store units true =
+    stops_if (is_too_many (store.entries + units)) TooManyUnits
+    (gives (moves.Enter id (changes.Entity (key, deeds.Enter units)) fates.Active))
+enter_or_wait id key store units false = gives (moves.Refuse id key units)
+
+abbrev pub enter_storage : ℕ → List ℕ → Store → ℕ → Bool → Eval Move
+enter_storage id name store units large =
+    stops_if (not large) TooManyUnits
+    (asks (items.Fits name (beside units store.level.content)) (enter_or_wait id (keys.Defined name) store units))
+
+abbrev pub enter_prog : Machine → ℕ → Option Term → Option Term → Eval Move
+enter_prog s id (Some (Defined name)) units =
+    units_prog s units ~> (λ n. asks (items.Fits name n) (enter_storage id name (store_at s.entities (keys.Defined name)) n))
+enter_prog s id storage units = ends_with (ends.Error Range)
+
+-- LEAVE, of no more units than are in use: then each of the delay chain, from the front, is let in where its units fit
+-- beside those that are in use by then.
+abbrev pub share_of : ℕ → Bool → Option ℕ
+share_of units fits = if fits then Some units else None
+
+abbrev pub in_use : ℕ → ℕ → Bool → ℕ
+in_use content units fits = if fits then beside units content else content
+
+abbrev pub shares_prog : List ℕ → ℕ → List (Option ℕ) → List Transaction → Eval (List (Option ℕ))
+shares_prog name content shares [] = gives shares
+shares_prog name content shares (x ∷ xs) = asks (items.Fits name (beside x.asked content))
+    (λ fits. shares_prog name (in_use content x.asked fits) (shares ++ share_of x.asked fits ∷ []) xs)
+
+-- the units of those who are let in
+abbrev pub all_shares : List (Option ℕ) → ℕ
+all_shares [] = 0
+all_shares (None ∷ shares) = all_shares shares
+all_shares (Some units ∷ shares) = units + all_shares shares
+
+abbrev pub leave_for : ℕ → Key → Store → ℕ → List (Option ℕ) → Eval Move
+leave_for id key store units shares =
+    stops_if (is_too_many (store.entries + all_shares shares)) TooManyUnits
+    (gives (moves.Enter id (changes.Entity (key, deeds.Leave units shares)) fates.Active))
+
+abbrev pub leave_units : Machine → ℕ → List ℕ → Store → ℕ → Eval Move
+leave_units s id name store units =
+    stops_if (nat_lt store.level.content units) LeaveTooMany
+    (shares_prog name (store.level.content - units) [] (delay_at s.delays (keys.Defined name)) ~>
+    (λ shares. leave_for id (keys.Defined name) store units shares))
+
+abbrev pub leave_prog : Machine → ℕ → Option Term → Option Term → Eval Move
+leave_prog s id (Some (Defined name)) units =
+    units_prog s units ~> (λ n. leave_units s id name (store_at s.entities (keys.Defined name)) n)
+leave_prog s id storage units = ends_with (ends.Error Range)
 
 -- TRANSFER: to the block with a label, which each version has, or to the next block where there is no label. With a
 -- fraction it draws, and goes to the third operand's block where the number is below the fraction, else to the second's.
@@ -203,16 +262,18 @@ block_prog s x id b blocks.Queue = queue_prog s id (operand b A) (operand b B)
 block_prog s x id b blocks.Depart = depart_prog s x id (operand b A) (operand b B)
 block_prog s x id b blocks.Seize = seize_prog s id (operand b A)
 block_prog s x id b blocks.Release = release_prog s x id (operand b A)
+block_prog s x id b blocks.Enter = enter_prog s id (operand b A) (operand b B)
+block_prog s x id b blocks.Leave = leave_prog s id (operand b A) (operand b B)
 block_prog s x id b blocks.Transfer = transfer_prog id (operand b A) (operand b B) (operand b C)
 block_prog s x id b verb = ends_with (ends.Error NoNextBlock)
 
-abbrev pub enter_prog : Machine → Transaction → ℕ → Option Block → Eval Move
-enter_prog s x id None = ends_with (ends.Error NoNextBlock)
-enter_prog s x id (Some b) = block_prog s x id b b.verb
+abbrev pub meet_prog : Machine → Transaction → ℕ → Option Block → Eval Move
+meet_prog s x id None = ends_with (ends.Error NoNextBlock)
+meet_prog s x id (Some b) = block_prog s x id b b.verb
 
 abbrev pub try_prog : Machine → Transaction → Option ℕ → Eval Move
 try_prog s x None = ends_with (ends.Error NoNextBlock)
-try_prog s x (Some id) = asks (items.Block id) (enter_prog s x id)
+try_prog s x (Some id) = asks (items.Block id) (meet_prog s x id)
 
 abbrev pub attempt_prog : Machine → Transaction → Option ℕ → Eval Move
 attempt_prog s x None = asks (items.After x.current) (try_prog s x)

@@ -1,26 +1,44 @@
-ghost use Rattle.std.specs.Prelude.{◌≡◌, IfOk};
+ghost use Rattle.std.specs.Prelude.{◌≡◌};
 
+use crate::row::Row;
 use gw_names::Key;
-use std::alloc::{AllocError, Global};
 use std::marker::Model;
 
 /// What a block makes of the entity that it names.
-#[derive(Clone, Copy, Debug)]
+#[derive(Debug, Drop)]
 pub enum Deed {
     /// So many units come to a queue.
-    Queue { units: u64 },
+    Queue {
+        units: u64,
+    },
     /// So many units leave a queue; `at_once` says that the transaction came there while the clock stands as it does.
-    Depart { units: u64, at_once: bool },
+    Depart {
+        units: u64,
+        at_once: bool,
+    },
     /// The transaction takes a facility.
     Seize,
     /// The transaction gives a facility back; `next` is the number of the first that waits for it, who takes it at once.
-    Release { next: Option<u64> },
+    Release {
+        next: Option<u64>,
+    },
+    /// So many units of a storage come into use.
+    Enter {
+        units: u64,
+    },
+    /// So many units of a storage are given back; `shares` has for each of its delay chain, from the front, the units with
+    /// which it is let in, and `None` where it goes on waiting.
+    Leave {
+        units: u64,
+        shares: Row<Option<u64>>,
+    },
 }
 
-/// An entity, and what a block makes of it. It lies in memory of its own, since most steps change none.
+/// An entity, and what a block makes of it.
 #[derive(Debug, Drop)]
 pub struct EntityChange {
-    pair: Box<(Key, Deed)>,
+    key: Key,
+    deed: Deed,
 }
 
 impl Model for EntityChange {
@@ -29,29 +47,28 @@ impl Model for EntityChange {
 
     ghost Value = { Key × Deed };
 
-    ghost view = { λ c. c.pair.value };
+    ghost view = { λ c. (c.key, c.deed) };
 }
 
 impl EntityChange {
     /// This deed at this entity.
-    pub fn new(alloc: Global, key: Key, deed: Deed) -> Result<EntityChange, AllocError>
-        ensures { IfOk result (λ c. c ≡ (key, deed)) }
+    pub fn new(key: Key, deed: Deed) -> EntityChange
+        ensures { result ≡ (key, deed) }
     {
-        let pair = Box::new(alloc, (key, deed))?;
-        Ok(EntityChange { pair })
+        EntityChange { key, deed }
     }
 
     /// The entity.
     pub fn key(&self) -> &Key
         ensures { result.now ≡ self.now.0 }
     {
-        &self.pair.0
+        &self.key
     }
 
     /// What is made of it.
-    pub fn deed(&self) -> Deed
-        ensures { result ≡ self.now.1 }
+    pub fn deed(&self) -> &Deed
+        ensures { result.now ≡ self.now.1 }
     {
-        self.pair.1
+        &self.deed
     }
 }

@@ -12,6 +12,10 @@ pub enum Item {
     After(StatementId),
     /// Which block has this label?
     Label(Name),
+    /// Which number does this name stand for, if any?
+    Name(Name),
+    /// Do so many units fit into the storage of this name?
+    Fits(Name, u64),
     /// Which blocks are GENERATEs?
     Generates,
     /// What is the i-th command, from 1?

@@ -22,6 +22,6 @@ pub use entity_change::{Deed, EntityChange};
 pub use item::{End, Item, Outcome};
 pub use moves::{Arrival, Change, Fate, Move};
 pub use row::Row;
-pub use statement::{Block, Body, Command, Numbered, Replication, Statement};
+pub use statement::{Block, Body, Command, Definition, Numbered, Replication, Statement};
 pub use statement_id::StatementId;
 pub use transaction::{Count, Event, Transaction};

@@ -22,7 +22,7 @@ pub enum Change {
     Generate { next: Option<Arrival> },
     /// A TRANSFER sends its transaction to a block.
     Transfer { to: StatementId },
-    /// What it makes of the entity that it names.
+    /// What it makes of the entity that it names, and whom that lets in.
     Entity(EntityChange),
 }
 
@@ -53,10 +53,12 @@ pub enum Move {
         change: Change,
         fate: Fate,
     },
-    /// The active transaction is refused at a block by the facility that it names, and waits on its delay chain.
+    /// The active transaction is refused at a block by the facility or storage that it names, of which it asks so many
+    /// units, and waits on its delay chain.
     Refuse {
         id: StatementId,
         key: Key,
+        units: u64,
     },
     /// The first transaction of the current chain becomes active.
     Pick,

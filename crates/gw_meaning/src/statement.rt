@@ -1,11 +1,12 @@
 ghost use Rattle.std.specs.Prelude.{◌≡◌, IfOk, option_copied};
-ghost use Rattle.gw_meaning.specs.Statements.{operand, is_generate_verb, verb_of_command, verb_of_body};
-ghost use Rattle.gw_meaning.specs.Listing.{block_of, command_of, is_block, is_generate};
+ghost use Rattle.gw_meaning.specs.Statements.{operand, is_generate_verb, verb_of_definition, verb_of_command, verb_of_body};
+ghost use Rattle.gw_meaning.specs.Listing.{block_of, definition_of, command_of, is_block, is_command, is_generate};
 
 use crate::row::Row;
 use crate::statement_id::StatementId;
 use gw_expr::Expr;
-use gw_names::{BlockVerb, CommandVerb, Name, Verb};
+use gw_names::{BlockVerb, CommandVerb, DefinitionVerb, Name, Verb};
+use gw_nums::Val;
 use std::alloc::{AllocError, Global};
 
 /// A statement of a model.
@@ -17,10 +18,11 @@ pub struct Statement {
     pub operands: Row<u8>,
 }
 
-/// What a statement is: a block, or a command.
+/// What a statement is: a block, a definition or a command.
 #[derive(Debug, Drop)]
 pub enum Body {
     Block(Block),
+    Definition(Definition),
     Command(Command),
 }
 
@@ -29,6 +31,15 @@ pub enum Body {
 pub struct Block {
     pub verb: BlockVerb,
     pub operands: Row<Option<Expr>>,
+}
+
+/// A definition of its statement's label.
+#[derive(Clone, Copy, Debug, PartialEq, Eq)]
+pub enum Definition {
+    /// A storage of so many units, 1 to 1,000,000,000.
+    Storage { capacity: u64 },
+    /// The number that the name stands for.
+    Equ { value: Val },
 }
 
 /// A command.
@@ -90,6 +101,18 @@ impl Block {
     }
 }
 
+impl Definition {
+    /// The definition's verb.
+    pub fn verb(self) -> Verb
+        ensures { result ≡ verb_of_definition self }
+    {
+        match self {
+            Definition::Storage { .. } => Verb::Definition(DefinitionVerb::Storage),
+            Definition::Equ { .. } => Verb::Definition(DefinitionVerb::Equ),
+        }
+    }
+}
+
 impl Command {
     /// The command's verb.
     pub fn verb(&self) -> Verb
@@ -121,6 +144,7 @@ impl Body {
     {
         match self {
             Body::Block(block) => Verb::Block(block.verb),
+            Body::Definition(definition) => definition.verb(),
             Body::Command(command) => command.verb(),
         }
     }
@@ -131,6 +155,7 @@ impl Body {
     {
         match self {
             Body::Block(block) => Ok(Body::Block(block.copy(alloc)?)),
+            Body::Definition(definition) => Ok(Body::Definition(*definition)),
             Body::Command(command) => Ok(Body::Command(command.copy(alloc)?)),
         }
     }
@@ -162,7 +187,17 @@ impl Numbered {
     {
         match &self.statement.body {
             Body::Block(block) => Some(block),
-            Body::Command(_) => None,
+            Body::Definition(_) | Body::Command(_) => None,
+        }
+    }
+
+    /// The definition that the statement is, if it is one.
+    pub fn definition(&self) -> Option<Definition>
+        ensures { result ≡ definition_of self.now }
+    {
+        match &self.statement.body {
+            Body::Definition(definition) => Some(*definition),
+            Body::Block(_) | Body::Command(_) => None,
         }
     }
 
@@ -171,7 +206,7 @@ impl Numbered {
         ensures { option_copied result ≡ command_of self.now }
     {
         match &self.statement.body {
-            Body::Block(_) => None,
+            Body::Block(_) | Body::Definition(_) => None,
             Body::Command(command) => Some(command),
         }
     }
@@ -181,6 +216,13 @@ impl Numbered {
         ensures { result ≡ is_block self.now }
     {
         self.block().is_some()
+    }
+
+    /// Whether the statement is a command.
+    pub fn is_command(&self) -> bool
+        ensures { result ≡ is_command self.now }
+    {
+        self.command().is_some()
     }
 
     /// Whether the statement is a GENERATE.

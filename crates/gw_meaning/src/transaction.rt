@@ -14,6 +14,8 @@ pub struct Transaction {
     pub current: StatementId,
     /// The block that it goes to next, where that is set; else it goes to the block after the current one.
     pub destination: Destination,
+    /// How many units it waits for on a delay chain; 0 where it waits on none.
+    pub asked: u64,
 }
 
 /// A transaction on the future chain, with the time at which it moves on.

@@ -1,6 +1,7 @@
 pub mod Numbering
 pub mod Numbers
 pub mod Twice
+pub mod Once
 pub mod Wellness
 pub mod Making
 pub mod Apart

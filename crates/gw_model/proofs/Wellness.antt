@@ -5,12 +5,12 @@ use Rattle.std.proofs.lemmas.Bool.{ltb-false, le-ltb, cases_Bool}
 use Rattle.gw_meaning.specs.Listing.{Listing}
 use Rattle.gw_meaning.specs.declared.statement.Numbered.{Numbered}
 use Rattle.gw_meaning.specs.declared.statement.Replication.{Replication}
-use Rattle.gw_model.specs.Faults.{fault_of, is_too_long, has_bad_replication, is_bad_horizon, has_label_twice, has_unknown_label, label_fault_of, is_bad_replication, has_number_twice, is_outside, IsFault}
+use Rattle.gw_model.specs.Faults.{fault_of, is_too_long, has_bad_replication, is_bad_horizon, has_label_twice, has_unknown_label, has_unknown_definition, has_equ_named, definition_fault_of, label_fault_of, is_bad_replication, has_number_twice, is_outside, IsFault}
 use Rattle.gw_model.specs.declared.fault.ModelFault.{ModelFault}
-use Rattle.gw_model.specs.declared.fault.ModelFault.TheVariants.{TooMany, BadSeed, BadHorizon, LabelTwice, NoSuchLabel, Memory}
+use Rattle.gw_model.specs.declared.fault.ModelFault.TheVariants.{TooMany, BadSeed, BadHorizon, LabelTwice, NoSuchLabel, NoSuchDefinition, EquNamedDefinition, Memory}
 use Rattle.gw_model.specs.Well.{Well, IsSeeded}
 use Rattle.gw_model.proofs.Apart.{or_parts, or_from, none_of, none_from, numbers_apart, numbers_once, labels_apart, labels_once}
-use Rattle.gw_model.proofs.Known.{labels_there, labels_known}
+use Rattle.gw_model.proofs.Known.{labels_there, labels_known, storages_there, definitions_known, none_equ_named}
 
 -- a number in range
 inside : (least greatest n : ℕ) → is_outside least greatest n ≡ false → (least ≤ n) × (n ≤ greatest)
@@ -36,8 +36,8 @@ unseeded r s =
 -- where no test of the scan holds, the version is well-formed
 well_from : (t : Listing) → is_too_long t.lines t.replications ≡ false → has_bad_replication t.replications ≡ false →
     is_bad_horizon t.horizon t.limit ≡ false → has_label_twice t.lines ≡ false →
-    has_unknown_label t.lines ≡ false → Well t
-well_from t long bad limits twice unknown =
+    has_unknown_label t.lines ≡ false → has_unknown_definition t.lines ≡ false → has_equ_named t.lines ≡ false → Well t
+well_from t long bad limits twice unknown missing equ =
     let sizes = or_parts (nat_lt 2000 (length t.lines)) (nat_lt 32 (length t.replications)) long in
     let seeds = or_parts (list_any is_bad_replication t.replications) (has_number_twice t.replications) bad in
     let bounds = or_parts (is_outside 1 1000000000000 t.horizon) (is_outside 1 1000000 t.limit) limits in
@@ -54,16 +54,36 @@ well_from t long bad limits twice unknown =
       greatest_limit = limit.1;
       labels_apart = labels_apart t.lines twice;
       labels_there = labels_there t.lines unknown;
+      storages_there = storages_there t.lines missing equ;
     }
 
--- labels without a fault
-sound_parts : (lines : List Numbered) → label_fault_of lines ≡ None → (has_label_twice lines ≡ false) × (has_unknown_label lines ≡ false)
+-- the names of definitions without a fault
+definition_parts : (lines : List Numbered) → definition_fault_of lines ≡ None → (has_unknown_definition lines ≡ false) × (has_equ_named lines ≡ false)
+definition_parts lines sound =
+    elim (cases_Bool (has_unknown_definition lines)) [
+      | inl missing ↦ absurd (let f = rw missing at sound in cc)
+      | inr missing ↦ elim (cases_Bool (has_equ_named lines)) [
+        | inl equ ↦ absurd (let f = rw (missing, equ) at sound in cc)
+        | inr equ ↦ (missing, equ)
+      ]
+    ]
+
+-- labels and names of definitions without a fault
+record AreSound (lines : List Numbered) : Type 0 where
+  twice : has_label_twice lines ≡ false
+  unknown : has_unknown_label lines ≡ false
+  missing : has_unknown_definition lines ≡ false
+  equ : has_equ_named lines ≡ false
+
+sound_parts : (lines : List Numbered) → label_fault_of lines ≡ None → AreSound lines
 sound_parts lines sound =
     elim (cases_Bool (has_label_twice lines)) [
       | inl twice ↦ absurd (let f = rw twice at sound in cc)
       | inr twice ↦ elim (cases_Bool (has_unknown_label lines)) [
         | inl unknown ↦ absurd (let f = rw (twice, unknown) at sound in cc)
-        | inr unknown ↦ (twice, unknown)
+        | inr unknown ↦ let rest : definition_fault_of lines ≡ None = rw (twice, unknown) at sound in
+            let parts = definition_parts lines rest in
+            record { twice = twice; unknown = unknown; missing = parts.0; equ = parts.1 }
       ]
     ]
 
@@ -71,7 +91,9 @@ pub sound_from : (t : Listing) → Well t → label_fault_of t.lines ≡ None
 sound_from t w =
     let twice : has_label_twice t.lines ≡ false = labels_once t.lines w.labels_apart in
     let unknown : has_unknown_label t.lines ≡ false = labels_known t.lines w.labels_there in
-    rw (twice, unknown)
+    let missing : has_unknown_definition t.lines ≡ false = definitions_known t.lines w.storages_there in
+    let equ : has_equ_named t.lines ≡ false = none_equ_named t.lines w.storages_there in
+    rw (twice, unknown, missing, equ)
 
 -- a version without a fault is well-formed, where its labels are looked at last
 pub well_left : (t : Listing) → fault_of t ≡ label_fault_of t.lines → label_fault_of t.lines ≡ None → Well t
@@ -84,7 +106,7 @@ well_left t left sound =
         | inl bad ↦ absurd (let f = rw (long, bad) at none in cc)
         | inr bad ↦ elim (cases_Bool (is_bad_horizon t.horizon t.limit)) [
           | inl limits ↦ absurd (let f = rw (long, bad, limits) at none in cc)
-          | inr limits ↦ well_from t long bad limits labels.0 labels.1
+          | inr limits ↦ well_from t long bad limits labels.twice labels.unknown labels.missing labels.equ
         ]
       ]
     ]
@@ -110,4 +132,6 @@ memory_alone first BadSeed e h = cc
 memory_alone first BadHorizon e h = cc
 memory_alone first LabelTwice e h = cc
 memory_alone first NoSuchLabel e h = cc
+memory_alone first NoSuchDefinition e h = cc
+memory_alone first EquNamedDefinition e h = cc
 memory_alone first Memory e h = refl

@@ -2,14 +2,15 @@
 -- the limits are the product's own.)
 use Rattle.std.specs.Prelude.{ℕ, Bool, false, not, ◌||◌, ◌==◌, ◌≡◌, List, [], ◌∷◌, Option, Some, None, is_some, if◌then◌else◌, length, nat_lt}
 use Rattle.std.specs.List.{list_any}
-use Rattle.gw_expr.specs.Term.{Term, Label}
-use Rattle.gw_meaning.specs.Listing.{Listing, block_of, labelled_in}
-use Rattle.gw_model.specs.Listed.{block_label}
+use Rattle.gw_expr.specs.Term.{Term, Defined, Label}
+use Rattle.gw_meaning.specs.Listing.{Listing, block_of, defined_in, has_label, labelled_in}
+use Rattle.gw_meaning.specs.Listing as listings
+use Rattle.gw_model.specs.Listed.{counted_label}
 use Rattle.gw_meaning.specs.declared.statement.Block.{Block}
 use Rattle.gw_meaning.specs.declared.statement.Numbered.{Numbered}
 use Rattle.gw_meaning.specs.declared.statement.Replication.{Replication}
 use Rattle.gw_model.specs.declared.fault.ModelFault.{ModelFault}
-use Rattle.gw_model.specs.declared.fault.ModelFault.TheVariants.{TooMany, BadSeed, BadHorizon, LabelTwice, NoSuchLabel, Memory}
+use Rattle.gw_model.specs.declared.fault.ModelFault.TheVariants.{TooMany, BadSeed, BadHorizon, LabelTwice, NoSuchLabel, NoSuchDefinition, EquNamedDefinition, Memory}
 
 -- the fault's number, which a report prints behind an M
 abbrev pub number_of : ModelFault → ℕ
@@ -18,6 +19,8 @@ number_of BadSeed = 6
 number_of BadHorizon = 7
 number_of LabelTwice = 1
 number_of NoSuchLabel = 2
+number_of NoSuchDefinition = 3
+number_of EquNamedDefinition = 4
 number_of Memory = 8
 
 -- more statements or replications than a version may have
@@ -48,22 +51,22 @@ has_bad_replication rs = list_any is_bad_replication rs || has_number_twice rs
 abbrev pub is_bad_horizon : ℕ → ℕ → Bool
 is_bad_horizon horizon limit = is_outside 1 1000000000000 horizon || is_outside 1 1000000 limit
 
--- whether a block of these has the label
+-- whether a block or a definition of these has the label
 abbrev pub is_labelled : Option (List ℕ) → List Numbered → Bool
 is_labelled None lines = false
-is_labelled (Some name) lines = is_some (labelled_in name lines)
+is_labelled (Some name) lines = list_any (λ (line : Numbered). has_label name (counted_label line)) lines
 
--- whether two blocks have one label
+-- whether two of the blocks and definitions have one label
 abbrev pub has_label_twice : List Numbered → Bool
 has_label_twice [] = false
-has_label_twice (line ∷ lines) = is_labelled (block_label line) lines || has_label_twice lines
+has_label_twice (line ∷ lines) = is_labelled (counted_label line) lines || has_label_twice lines
 
 -- whether an operand is a label that is not among those that are known
 abbrev pub is_unknown : (List ℕ → Bool) → Option Term → Bool
 is_unknown known (Some (Label name)) = not (known name)
 is_unknown known operand = false
 
--- the operands of a block; a command has none
+-- the operands of a block; what is no block has none
 abbrev pub block_operands : Option Block → List (Option Term)
 block_operands None = []
 block_operands (Some block) = block.operands
@@ -76,12 +79,36 @@ names_unknown known line = list_any (is_unknown known) (block_operands (block_of
 unfoldable pub has_unknown_label : List Numbered → Bool
 has_unknown_label lines = list_any (names_unknown (λ name. is_some (labelled_in name lines))) lines
 
--- the first fault of the labels, if they have one
+-- whether an operand is the name of a definition, of which the test holds
+abbrev pub is_defined_so : (List ℕ → Bool) → Option Term → Bool
+is_defined_so test (Some (Defined name)) = test name
+is_defined_so test operand = false
+
+-- whether an operand of a block is such a name
+abbrev pub names_defined : (List ℕ → Bool) → Numbered → Bool
+names_defined test line = list_any (is_defined_so test) (block_operands (block_of line))
+
+-- whether an operand of a block is the name of a definition that is not there
+unfoldable pub has_unknown_definition : List Numbered → Bool
+has_unknown_definition lines = list_any (names_defined (λ name. not (is_some (defined_in name lines)))) lines
+
+-- whether an operand of a block is the name of a definition, and an EQU's
+unfoldable pub has_equ_named : List Numbered → Bool
+has_equ_named lines = list_any (names_defined (λ name. is_some (listings.number_of (defined_in name lines)))) lines
+
+-- the first fault of the names that operands of blocks are, if they have one
+abbrev pub definition_fault_of : List Numbered → Option ModelFault
+definition_fault_of lines =
+    if has_unknown_definition lines
+    then Some NoSuchDefinition
+    else (if has_equ_named lines then Some EquNamedDefinition else None)
+
+-- the first fault of the labels and of what operands name, if they have one
 abbrev pub label_fault_of : List Numbered → Option ModelFault
 label_fault_of lines =
     if has_label_twice lines
     then Some LabelTwice
-    else (if has_unknown_label lines then Some NoSuchLabel else None)
+    else (if has_unknown_label lines then Some NoSuchLabel else definition_fault_of lines)
 
 -- the first fault of a version, if it has one
 abbrev pub fault_of : Listing → Option ModelFault
@@ -98,4 +125,6 @@ IsFault first BadSeed = first ≡ Some BadSeed
 IsFault first BadHorizon = first ≡ Some BadHorizon
 IsFault first LabelTwice = first ≡ Some LabelTwice
 IsFault first NoSuchLabel = first ≡ Some NoSuchLabel
+IsFault first NoSuchDefinition = first ≡ Some NoSuchDefinition
+IsFault first EquNamedDefinition = first ≡ Some EquNamedDefinition
 IsFault first Memory = Unit {0}

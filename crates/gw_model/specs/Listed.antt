@@ -1,6 +1,6 @@
 -- The version that a list of statements makes, and what is counted in a version. (Our own.)
 use Rattle.std.specs.Prelude.{ℕ, ◌+◌, List, [], ◌∷◌, Option, None, if◌then◌else◌, length, filter}
-use Rattle.gw_meaning.specs.Listing.{Listing, is_block}
+use Rattle.gw_meaning.specs.Listing.{Listing, is_block, is_command}
 use Rattle.gw_meaning.specs.declared.statement.Statement.{Statement}
 use Rattle.gw_meaning.specs.declared.statement.Numbered.{Numbered}
 use Rattle.gw_meaning.specs.declared.statement.Replication.{Replication}
@@ -24,6 +24,6 @@ listed statements = listing_of (numbered 1 statements)
 abbrev pub blocks : Listing → ℕ
 blocks t = length (filter is_block t.lines)
 
--- the label of a block; a command has none
-abbrev pub block_label : Numbered → Option (List ℕ)
-block_label line = if is_block line then line.statement.label else None
+-- the label of a block or of a definition; that of a command does not count
+abbrev pub counted_label : Numbered → Option (List ℕ)
+counted_label line = if is_command line then None else line.statement.label

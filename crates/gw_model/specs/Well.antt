@@ -1,10 +1,11 @@
 -- What a version may be, in the subject's own words. (Our own limits.)
 use Rattle.std.specs.Prelude.{ℕ, ◌≤◌, ◌<◌, ◌≡◌, ◌≢◌, List, Some, length, slice_get}
-use Rattle.gw_expr.specs.Term.{Label}
-use Rattle.gw_meaning.specs.Listing.{Listing, block_of, label_at}
+use Rattle.gw_expr.specs.Term.{Defined, Label}
+use Rattle.gw_meaning.specs.Listing.{Listing, block_of, definition_at, label_at}
 use Rattle.gw_meaning.specs.Statements.{operand}
-use Rattle.gw_model.specs.Listed.{block_label}
+use Rattle.gw_model.specs.Listed.{counted_label}
 use Rattle.gw_meaning.specs.declared.statement.Block.{Block}
+use Rattle.gw_meaning.specs.declared.statement.Definition.TheVariants as definitions
 use Rattle.gw_meaning.specs.declared.statement.Numbered.{Numbered}
 use Rattle.gw_meaning.specs.declared.statement.Replication.{Replication}
 
@@ -27,6 +28,9 @@ pub record Well (t : Listing) : Type 0 where
   pub least_limit : 1 ≤ t.limit
   pub greatest_limit : t.limit ≤ 1000000
   pub labels_apart : (i j : ℕ) (k l : Numbered) (m n : List ℕ) → i < j → slice_get t.lines i ≡ Some k →
-      slice_get t.lines j ≡ Some l → block_label k ≡ Some m → block_label l ≡ Some n → m ≢ n
+      slice_get t.lines j ≡ Some l → counted_label k ≡ Some m → counted_label l ≡ Some n → m ≢ n
   pub labels_there : (i place : ℕ) (line : Numbered) (block : Block) (name : List ℕ) → slice_get t.lines i ≡ Some line →
       block_of line ≡ Some block → operand block place ≡ Some (Label name) → (id : ℕ) × (label_at t name ≡ Some id)
+  pub storages_there : (i place : ℕ) (line : Numbered) (block : Block) (name : List ℕ) →
+      slice_get t.lines i ≡ Some line → block_of line ≡ Some block → operand block place ≡ Some (Defined name) →
+      (capacity : ℕ) × (definition_at t name ≡ Some (definitions.Storage capacity))

@@ -4,8 +4,8 @@ ghost use Rattle.gw_model.specs.Faults.{number_of};
 use std::alloc::{AllocError, AllocFailed};
 use thiserror::Error;
 
-/// The first fault of a model. The numbers M1 to M8 are the product's own. The order is M5, M6, M7, M1, M2:
-/// the first of these that holds. M8 may come in place of any.
+/// The first fault of a model. The numbers M1 to M8 are the product's own. The order is M5, M6, M7, M1, M2,
+/// M3, M4: the first of these that holds. M8 may come in place of any.
 #[derive(Clone, Copy, Debug, PartialEq, Eq, Error)]
 pub enum ModelFault {
     /// M5: more than 2,000 statements, or more than 32 replications.
@@ -18,12 +18,18 @@ pub enum ModelFault {
     /// M7: a horizon outside 1 to 1,000,000,000,000, or a step limit outside 1 to 1,000,000.
     #[error("the horizon or the step limit is out of range")]
     BadHorizon,
-    /// M1: two blocks with the same label.
+    /// M1: two blocks or definitions with the same label.
     #[error("a label is given twice")]
     LabelTwice,
     /// M2: an operand of a block is a label that no block has.
     #[error("a label is named that no block has")]
     NoSuchLabel,
+    /// M3: an operand of a block names a definition that is not there.
+    #[error("a definition is named that is not there")]
+    NoSuchDefinition,
+    /// M4: an operand of a block names a definition that is no storage's, but an EQU's.
+    #[error("a storage is named whose name an EQU defines")]
+    EquNamedDefinition,
     /// M8: memory was refused.
     #[error("out of memory")]
     Memory,
@@ -40,6 +46,8 @@ impl ModelFault {
             ModelFault::BadHorizon => 7,
             ModelFault::LabelTwice => 1,
             ModelFault::NoSuchLabel => 2,
+            ModelFault::NoSuchDefinition => 3,
+            ModelFault::EquNamedDefinition => 4,
             ModelFault::Memory => 8,
         }
     }

@@ -2,11 +2,13 @@
 //! replications and the step limit, all well-formed, and what it answers.
 #![tactic(auto)]
 
+mod definitions;
 mod fault;
 mod labels;
 mod limits;
 mod lines;
 mod lists;
+mod names;
 mod places;
 mod replications;
 mod settings;

@@ -1,11 +1,10 @@
-ghost use Rattle.std.specs.Prelude.{◌≡◌, ◌≤◌, ◌+◌, ◌++◌, if◌then◌else◌, length, IsTrue, IfOk, IfSome, OnOk, None, option_copied};
+ghost use Rattle.std.specs.Prelude.{◌≡◌, ◌≤◌, ◌+◌, ◌++◌, if◌then◌else◌, length, IsTrue, IfOk, IfSome, OnOk, None};
 ghost use Rattle.gw_meaning.specs.Listing.{nth};
-ghost use Rattle.gw_model.specs.Listed.{numbered, block_label};
+ghost use Rattle.gw_model.specs.Listed.{numbered};
 ghost use Rattle.gw_model.specs.Spliced.{greatest_number, number_in, spliced};
 
 use crate::lists::nth;
-use gw_meaning::{Body, Numbered, Statement, StatementId};
-use gw_names::Name;
+use gw_meaning::{Numbered, Statement, StatementId};
 use std::alloc::{AllocError, Global};
 
 /// The statements with the numbers 1, 2, 3 and so on.
@@ -82,14 +81,4 @@ fn copy_behind(
         made.push(Numbered { number, statement })?;
     }
     Ok(())
-}
-
-/// The block's label; a command has none.
-pub fn block_label(line: &Numbered) -> Option<&Name>
-    ensures { option_copied result ≡ block_label line.now }
-{
-    match (&line.statement.body, &line.statement.label) {
-        (Body::Block(_), Some(name)) => Some(name),
-        _ => None,
-    }
 }

@@ -8,8 +8,8 @@ use crate::replications::has_bad_replication;
 use gw_meaning::{Numbered, Replication};
 use gw_nums::Time;
 
-/// The horizon of a version with these settings, or its first fault, in the order M5, M6, M7. Only the faults of the
-/// labels, M1 and M2, are left to look for.
+/// The horizon of a version with these settings, or its first fault, in the order M5, M6, M7. Only the faults of
+/// labels and of the names of definitions, M1 to M4, are left to look for.
 pub fn checked_horizon(
     lines: &[Numbered],
     horizon: u64,

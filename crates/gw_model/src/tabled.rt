@@ -18,7 +18,7 @@ pub struct Tabled {
 }
 
 impl Tabled {
-    /// These lines with their tables. Their labels may have no fault.
+    /// These lines with their tables. Their labels and the names of definitions may have no fault.
     pub fn new(alloc: Global, lines: Vec<Numbered>) -> Result<Tabled, ModelFault>
         ensures lines { IfOk result (λ tabled. tabled.lines ≡ lines) }
         ensures tables { IfOk result (λ tabled. AreTablesOf lines.items tabled.tables) }

@@ -3,10 +3,10 @@ ghost use Rattle.gw_model.specs.Faults.{IsFault, label_fault_of};
 ghost use Rattle.gw_model.specs.Tables.{AreTablesOf};
 
 use crate::fault::ModelFault;
-use crate::labels::labels_of;
 use crate::lists::{commands_of, count_blocks, count_starts, generates_of};
+use crate::names::{Names, sound_names};
 use crate::places::{Place, places_of};
-use gw_meaning::{Command, Numbered, StatementId};
+use gw_meaning::{Command, Definition, Numbered, StatementId};
 use gw_names::Name;
 use std::alloc::Global;
 use std::collections::BTreeMap;
@@ -26,16 +26,21 @@ pub struct Tables {
     pub generates: Vec<StatementId>,
     /// The number of the block with each label.
     pub labels: BTreeMap<Name, StatementId>,
+    /// What each name is defined as.
+    pub definitions: BTreeMap<Name, Definition>,
 }
 
 impl Tables {
-    /// The tables of these lines. Their labels may have no fault.
+    /// The tables of these lines. Their labels and the names of definitions may have no fault.
     pub fn new(alloc: Global, lines: &[Numbered]) -> Result<Tables, ModelFault>
         ensures tables { IfOk result (λ tables. AreTablesOf lines.now tables) }
         ensures sound { OnOk result (label_fault_of lines.now ≡ None) }
         ensures err { IfErr result (IsFault (label_fault_of lines.now)) }
     {
-        let labels = labels_of(alloc, lines)?;
+        let Names {
+            labels,
+            definitions,
+        } = sound_names(alloc, lines)?;
         let places = places_of(alloc, lines)?;
         let blocks = count_blocks(lines);
         let commands = commands_of(alloc, lines)?;
@@ -48,6 +53,7 @@ impl Tables {
             starts,
             generates,
             labels,
+            definitions,
         })
     }
 }

@@ -1,5 +1,5 @@
 ghost use Rattle.std.specs.Prelude.{◌≡◌, ◌≤◌, ◌⊎◌, IfOk, OnOk, IfErr, IfSome, IsTrue, Some, None, option_copied, length, nat_le, if◌then◌else◌};
-ghost use Rattle.gw_meaning.specs.Listing.{block_at, after_at, position_at, label_at, command_at, generates_in, statement_at, starts, replication_at, seed_at};
+ghost use Rattle.gw_meaning.specs.Listing.{block_at, after_at, position_at, label_at, command_at, definition_at, capacity_at, number_at, generates_in, statement_at, starts, replication_at, seed_at};
 
 use crate::fault::ModelFault;
 use crate::lines::{number, spliced};
@@ -8,9 +8,9 @@ use crate::places::{after_of, line_of, position_of};
 use crate::replications::seed_of;
 use crate::settings::checked_horizon;
 use crate::tabled::Tabled;
-use gw_meaning::{Block, Command, Numbered, Replication, Statement, StatementId};
+use gw_meaning::{Block, Command, Definition, Numbered, Replication, Statement, StatementId};
 use gw_names::Name;
-use gw_nums::{Clock, Time};
+use gw_nums::{Clock, Time, Val};
 use std::alloc::{AllocError, Global};
 use std::marker::Model;
 use std::sync::Arc;
@@ -50,7 +50,7 @@ impl Version {
     ghost use Rattle.gw_model.specs.Spliced.{with_splice};
 
     /// The version with these statements, which get the numbers 1, 2, 3 and so on, and these replications in
-    /// the order of adding; or the first fault, in the order M5, M6, M7, M1, M2. M8 may come in place of any.
+    /// the order of adding; or the first fault, in the order M5, M6, M7, M1, M2, M3, M4. M8 may come in place of any.
     pub fn new(
         alloc: Global,
         statements: Vec<Statement>,
@@ -208,6 +208,42 @@ impl Version {
         ensures { result ≡ label_at self.now name.now }
     {
         self.tabled.tables.labels.get(name).copied()
+    }
+
+    /// What the name is defined as.
+    pub fn definition(&self, name: &Name) -> Option<Definition>
+        ensures { result ≡ definition_at self.now name.now }
+    {
+        self.tabled.tables.definitions.get(name).copied()
+    }
+
+    /// The number that the name stands for, by an EQU.
+    #[tactic(auto, using(crate::proofs::Once::number_once))]
+    pub fn number_of(&self, name: &Name) -> Option<Val>
+        ensures { result ≡ number_at self.now name.now }
+    {
+        match self.tabled.tables.definitions.get(name) {
+            Some(Definition::Equ { value }) => Some(*value),
+            _ => None,
+        }
+    }
+
+    /// How many units the storage of this name has; 0 where there is no such storage.
+    #[tactic(auto, using(crate::proofs::Once::capacity_once))]
+    pub fn capacity(&self, name: &Name) -> u64
+        ensures { result ≡ capacity_at self.now name.now }
+    {
+        match self.tabled.tables.definitions.get(name) {
+            Some(Definition::Storage { capacity }) => *capacity,
+            _ => 0,
+        }
+    }
+
+    /// Whether so many units fit into the storage of this name, where nothing of it is in use.
+    pub fn fits(&self, name: &Name, units: u64) -> bool
+        ensures { result ≡ nat_le units (capacity_at self.now name.now) }
+    {
+        units <= self.capacity(name)
     }
 
     /// The i-th command, from 1.

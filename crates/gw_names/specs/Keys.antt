@@ -5,12 +5,13 @@ use Rattle.std.specs.Cmp.Lexicographic.{pointwise}
 use Rattle.std.specs.Hash as fed
 use Rattle.std.specs.Hash.{HashWrites}
 use Rattle.gw_names.specs.declared.key.Key.{Key}
-use Rattle.gw_names.specs.declared.key.Key.TheVariants.{Num, Named}
+use Rattle.gw_names.specs.declared.key.Key.TheVariants.{Num, Named, Defined}
 
--- what tells a key from the others: a number, or a name's bytes
+-- what tells a key from the others: a number, or a name's bytes, with what kind of key it is
 abbrev pub told_by : Key → List ℕ
 told_by (Num number) = 0 ∷ number ∷ []
 told_by (Named name) = 1 ∷ name
+told_by (Defined name) = 2 ∷ name
 
 -- whether two keys are one
 abbrev pub key_eq : Key → Key → Bool

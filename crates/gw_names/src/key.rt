@@ -5,11 +5,13 @@ use crate::name::Name;
 use std::alloc::AllocError;
 use std::hash::{Hash, Hasher};
 
-/// What an entity is called: a number from 1, or a name.
+/// What an entity is called: a number from 1, a name, or the name of the definition that it has.
 #[derive(Debug, Drop)]
 pub enum Key {
     Num(u32),
     Named(Name),
+    /// A storage: no facility or queue has its key, also where it has the same name.
+    Defined(Name),
 }
 
 /// An equal key, as cheap as that of a [`Name`].
@@ -20,6 +22,7 @@ impl Clone for Key {
         match self {
             Key::Num(number) => Ok(Key::Num(*number)),
             Key::Named(name) => Ok(Key::Named(name.clone()?)),
+            Key::Defined(name) => Ok(Key::Defined(name.clone()?)),
         }
     }
 }
@@ -36,6 +39,7 @@ impl PartialEq for Key {
         match (self, other) {
             (Key::Num(a), Key::Num(b)) => a == b,
             (Key::Named(a), Key::Named(b)) => a == b,
+            (Key::Defined(a), Key::Defined(b)) => a == b,
             _ => false,
         }
     }
@@ -59,7 +63,7 @@ impl Hash for Key {
     fn hash<H: Hasher>(&self, state: &mut H) {
         match self {
             Key::Num(number) => state.write_u32(*number),
-            Key::Named(name) => state.write(name.as_bytes()),
+            Key::Named(name) | Key::Defined(name) => state.write(name.as_bytes()),
         }
     }
 }

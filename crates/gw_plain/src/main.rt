@@ -13,8 +13,8 @@ use gw_io::{Budget, FromRead, Sink, Source, ToWrite, split_model, write_all};
 use gw_meaning::{End, Outcome};
 use gw_model::Version;
 use gw_report::print;
-use gw_script::{Fault, Options, open};
-use plain::plain_run;
+use gw_script::{Fault, Options, open_version};
+use plain::{PlainRun, plain_run};
 use std::alloc::Global;
 use std::io::BufReader;
 use std::process::ExitCode;
@@ -40,8 +40,8 @@ fn report_plainly<S: Source, K: Sink>(
 ) -> Result<(), Fault> {
     let mut budget = Budget::new();
     let model = split_model(alloc, reader, &mut budget)?;
-    let desk = open(alloc, &model, Options::USUAL)?;
-    let Some(text) = last_report(alloc, desk.version())? else {
+    let version = open_version(alloc, &model, Options::USUAL)?;
+    let Some(text) = last_report(alloc, &version)? else {
         return Ok(());
     };
     match write_all(writer, &text) {
@@ -55,9 +55,16 @@ fn last_report(alloc: Global, version: &Version) -> Result<Option<Vec<u8>>, Faul
     let Some(seed) = version.seed(1) else {
         return Ok(None);
     };
-    let Ok(run) = plain_run(alloc, version, seed) else {
-        return Err(Fault::Memory);
-    };
+    match plain_run(alloc, version, seed) {
+        Ok(run) => report_of(alloc, version, &run),
+        Err(_) => Err(Fault::Memory),
+    }
+}
+
+// The report of the last START of a run, where it is complete.
+fn report_of(alloc: Global, version: &Version, run: &PlainRun) -> Result<Option<Vec<u8>>, Fault>
+    requires { IsSome (seed_at version.now 1) }
+{
     if run.end != Some(End::CommandsDone) {
         return Ok(None);
     }

@@ -5,4 +5,5 @@ pub mod ReachLaws
 pub mod CutLaws
 pub mod LeastLaws
 pub mod FirstLaws
+pub mod AskLaws
 pub mod CarryLaws

@@ -1,5 +1,5 @@
 -- What stays the record of a run: when a state is kept, when a step is made, when first uses are forgotten.
-use Rattle.std.proofs.Common.{◌≡◌, ◌⊎◌, ℕ, zero, suc, ◌+◌, ◌-◌, ◌<◌, ◌≤◌, Bool, true, false, cond, nat_eq, nat_lt, List, [], ◌∷◌, ◌++◌, length, get_or, slice_get, Option, Some, None, Ok, inl, inr, ⊎_elim, refl, sym, ap, subst, ◌∙◌, arith}
+use Rattle.std.proofs.Common.{◌≡◌, ◌⊎◌, ℕ, zero, suc, ◌+◌, ◌-◌, ◌<◌, ◌≤◌, Bool, true, false, cond, nat_eq, nat_lt, List, [], ◌∷◌, ◌++◌, length, get_or, slice_get, Option, Some, None, Ok, inl, inr, ⊎_elim, refl, sym, ap, ap₂, subst, ◌∙◌, arith}
 use Rattle.std.specs.List.{list_any}
 use Rattle.std.proofs.lemmas.Bool.Decides.{nat_tests}
 use Rattle.std.proofs.lemmas.List.{length_push}
@@ -19,7 +19,7 @@ use Rattle.gw_meaning.specs.declared.moves.Change.{Change}
 use Rattle.gw_meaning.specs.declared.moves.Change.TheVariants as changes
 use Rattle.gw_meaning.specs.declared.moves.Fate.{Fate}
 use Rattle.gw_meaning.specs.declared.moves.Fate.TheVariants as fates
-use Rattle.gw_meaning.specs.Changes.{moved, decided, fated, let_in, first_let_in, admitted, changed, with_active, picked}
+use Rattle.gw_meaning.specs.Changes.{moved, decided, fated, let_in, one_let_in, some_let_in, admitted, changed, with_active, picked}
 use Rattle.gw_meaning.specs.Step.{step, step_items, run}
 use Rattle.gw_meaning.specs.Reads.{or_later, is_use, read_from, first_use}
 use Rattle.gw_meaning.proofs.Programs.{run_on}
@@ -27,8 +27,62 @@ use Rattle.gw_record.specs.declared.kept.Kept.{Kept}
 use Rattle.gw_record.specs.declared.first_uses.FirstUses.{FirstUses}
 use Rattle.gw_record.specs.Steps.{below, AreBelow}
 use Rattle.gw_record.specs.Uses.{first_in}
-use Rattle.gw_record.specs.Tape.{Tape, Records, IsKeptUp, IsStartEnd, IsWanted, IsThere, IsOfRun, IsEndThere}
+use Rattle.gw_record.specs.Tape.{Tape, blank, Records, IsKeptUp, IsStartEnd, IsWanted, IsThere, IsOfRun, IsEndThere}
 use Rattle.gw_record.proofs.UseLaws.{reading_cut}
+use Rattle.gw_meaning.specs.declared.item.Item.TheVariants as items
+use Rattle.gw_meaning.specs.contracts.item.ItemEq.TheImpl.Laws as laws
+use Rattle.gw_record.specs.Uses.{nothing_used, first_in, AreFirstUses}
+use Rattle.gw_meaning.specs.Reads.{same_item}
+use Rattle.gw_record.specs.Steps.{step_of}
+
+-- nothing is used yet
+nothing_yet : (item : Item) → first_in nothing_used item ≡ None
+nothing_yet (items.Block id) = refl
+nothing_yet (items.After id) = refl
+nothing_yet (items.Label name) = refl
+nothing_yet (items.Name name) = refl
+nothing_yet (items.Fits name units) = refl
+nothing_yet items.Generates = refl
+nothing_yet (items.Cmd i) = refl
+nothing_yet items.Seed = refl
+nothing_yet (items.Within time) = refl
+
+pub blank_firsts : (t : Listing) (seed : ℕ) → AreFirstUses t seed 0 nothing_used
+blank_firsts t seed = record { each = nothing_yet; clock = λ i d less. absurd (omega (arith, less)) }
+
+-- the run of no steps
+pub blank_records : (t : Listing) (seed every : ℕ) → Records t seed (blank every)
+blank_records t seed every = record {
+  tip = refl;
+  within = omega arith;
+  kept = λ i e is. absurd cc;
+  rising = λ i j d before within. absurd (omega (arith, within));
+  all_kept = λ m less want. absurd (omega (arith, less));
+  ends = λ i m is. absurd cc;
+  ends_rise = λ i j d before within. absurd (omega (arith, within));
+  all_ends = λ m u less is. absurd (omega (arith, less));
+  tip_end = omega arith;
+  firsts = blank_firsts t seed;
+}
+
+-- a step that notes an item, of which none was noted
+lookup_same : (es : List (Item × ℕ)) (item q : Item) → same_item item q ≡ true → step_of es q ≡ step_of es item
+lookup_same [] item q same = refl
+lookup_same (e ∷ es) item q same =
+    let one : same_item q e.0 ≡ same_item item e.0 = sym (laws.laws-law.congr item q e.0 same) in
+    ap₂ (λ b o. cond b (Some e.1) o) one (lookup_same es item q same)
+
+pub noted_new : (old new : List (Item × ℕ)) (item q : Item) (step : ℕ) → step_of old item ≡ None →
+    step_of new q ≡ cond (same_item item q) (Some step) (step_of old q) →
+    step_of new q ≡ or_later (step_of old q) (cond (same_item item q) (Some step) None)
+noted_new old new item q step none is = go (same_item item q) refl is where
+  or_none : (o : Option ℕ) → o ≡ or_later o None
+  or_none None = refl
+  or_none (Some n) = refl
+
+  go : (b : Bool) → same_item item q ≡ b → step_of new q ≡ cond b (Some step) (step_of old q) → step_of new q ≡ or_later (step_of old q) (cond b (Some step) None)
+  go true same e = e ∙ sym (ap (λ o. or_later o (Some step)) (lookup_same old item q same ∙ none))
+  go false other e = e ∙ or_none (step_of old q)
 
 -- the last of a longer list, or one of those before
 pushed_at :
@@ -170,12 +224,18 @@ complete_let_in : (x : Transaction) (destination : Option ℕ) (s : Machine) (n 
 complete_let_in x None s n h = h
 complete_let_in x (Some id) s n h = h
 
-complete_first : (key : Key) (chain : List Transaction) (s : Machine) (n : ℕ) → s.complete ≤ n + 1 → (first_let_in key chain s).complete ≤ n + 1
-complete_first key [] s n h = h
-complete_first key (x ∷ xs) s n h = complete_let_in x x.destination _ n h
+complete_some :
+    (key : Key) (shares : List (Option ℕ)) (passed chain : List Transaction) (s : Machine) (n : ℕ) → s.complete ≤ n + 1 →
+    (some_let_in key shares passed chain s).complete ≤ n + 1
+complete_some key [] passed chain s n h = h
+complete_some key (share ∷ shares) passed [] s n h = h
+complete_some key (None ∷ shares) passed (x ∷ xs) s n h = complete_some key shares (passed ++ x ∷ []) xs s n h
+complete_some key (Some units ∷ shares) passed (x ∷ xs) s n h =
+    complete_some key shares passed xs (one_let_in key x (passed ++ xs) s) n (complete_let_in x x.destination _ n h)
 
 complete_admitted : (key : Key) (deed : Deed) (s : Machine) (n : ℕ) → s.complete ≤ n + 1 → (admitted key deed s).complete ≤ n + 1
-complete_admitted key (deeds.Release next) s n h = complete_first key (delay_at s.delays key) s n h
+complete_admitted key (deeds.Release next) s n h = complete_some key (Some 1 ∷ []) [] (delay_at s.delays key) s n h
+complete_admitted key (deeds.Leave units shares) s n h = complete_some key shares [] (delay_at s.delays key) s n h
 complete_admitted key deed s n h = h
 
 complete_changed : (change : Change) (s : Machine) (n : ℕ) → s.complete ≤ n + 1 → (changed change s).complete ≤ n + 1
@@ -189,7 +249,7 @@ complete_moved s (moves.Start count arrivals) = omega arith
 complete_moved s moves.Command = omega arith
 complete_moved s (moves.Enter id change fate) =
     complete_active s s.active _ (λ x. complete_changed change _ s.complete (complete_fated fate _ _))
-complete_moved s (moves.Refuse id key) = complete_active s s.active _ (λ x. omega arith)
+complete_moved s (moves.Refuse id key units) = complete_active s s.active _ (λ x. omega arith)
 complete_moved s moves.Pick = complete_picked s s.current
 complete_moved s (moves.Clock time) = omega arith
 

@@ -5,6 +5,7 @@ pub mod Tape
 pub mod Extending
 pub mod Cutting
 pub mod Reaching
+pub mod Asks
 pub mod Lookups
 pub mod Carrying
 pub use Rattle.gw_meaning.specs.Reads

@@ -63,14 +63,18 @@ impl FirstUses {
         ensures err { OnErr result ((item : Item) →
             below step (first_in self.new item) ≡ below step (first_in self.old item)) }
     {
+        let mut reader = 0;
         for item in items {
-            self.note(item, step)?;
+            if let Item::Block(id) = item {
+                reader = id.number();
+            }
+            self.note(item, step, reader)?;
         }
         Ok(())
     }
 
-    // Notes that a step read an item.
-    fn note(&mut self, item: &Item, step: u64) -> Result<(), AllocError>
+    // Notes that a step read an item, at a block with this statement id, if any.
+    fn note(&mut self, item: &Item, step: u64, reader: u64) -> Result<(), AllocError>
         requires step { step < 2 ^ 64 - 1 }
         requires clock { AreBelow (step + 1) self.old.clock_steps }
         ensures ok { OnOk result ((q : Item) →
@@ -83,7 +87,7 @@ impl FirstUses {
             Item::After(id) => self.afters.note(id.number(), step),
             Item::Cmd(i) => self.commands.note(*i, step),
             Item::Within(time) => self.clock_steps.note(step, *time),
-            _ => self.others.note(item, step),
+            _ => self.others.note(item, step, reader),
         }
     }
 

@@ -1,17 +1,26 @@
-ghost use Rattle.std.specs.Prelude.{◌≡◌, [], Some, None, if◌then◌else◌, OnOk, OnErr, nat_lt};
+ghost use Rattle.std.specs.Prelude.{◌≡◌, [], Some, None, if◌then◌else◌, OnOk, OnErr, nat_lt, IsTrue, IsSome};
 ghost use Rattle.gw_meaning.specs.declared.item.Item.{Item};
 ghost use Rattle.gw_meaning.specs.Reads.{same_item, or_later};
+ghost use Rattle.gw_record.specs.Asks.{differs, earlier, is_ask, least_in};
 ghost use Rattle.gw_record.specs.Steps.{step_of, below};
+ghost use Rattle.std.specs.List.{IsDistinct};
+ghost use Rattle.std.specs.Map.{keys_of};
 
 use gw_meaning::Item;
+use gw_names::Name;
 use indexmap::IndexMap;
 use std::alloc::{AllocError, Global};
 use std::marker::Model;
+
+// How many places are kept at which items were found.
+const NEAR: usize = 64;
 
 /// For each item of any kind the first step that used it, if any did, in the order in which they were noted.
 #[derive(Debug, Drop)]
 pub struct ItemSteps {
     steps: IndexMap<Item, u64>,
+    // Where an item was found last, by what read it: it is looked for there first.
+    near: [usize; NEAR],
 }
 
 impl Model for ItemSteps {
@@ -35,6 +44,7 @@ impl ItemSteps {
     {
         ItemSteps {
             steps: IndexMap::new(alloc),
+            near: [0; NEAR],
         }
     }
 
@@ -48,17 +58,52 @@ impl ItemSteps {
         }
     }
 
+    /// The first step that asked an amount of the storage of this name that two capacities answer in two ways, if any
+    /// did. Without a storage before or behind it is any amount.
+    pub fn first_ask(&self, name: &Name, from: Option<u64>, to: Option<u64>) -> Option<u64>
+        ensures least { result ≡ least_in (is_ask name.now from to) self.now }
+        ensures apart { IsDistinct same_item (keys_of self.now) }
+    {
+        let mut first = None;
+        for i in 0..self.steps.len() {
+            match self.steps.get_index(i) {
+                Some((item, step)) => {
+                    first = earlier(first, asked_at(name, from, to, item, *step));
+                }
+                None => unreachable!(),
+            }
+        }
+        first
+    }
+
     /// Notes that a step used this item, unless one is noted already, which takes no memory. Where memory is refused,
-    /// nothing changes.
-    pub fn note(&mut self, item: &Item, step: u64) -> Result<(), AllocError>
+    /// nothing changes. `reader`, a statement id or 0, only says where it is looked for first.
+    pub fn note(&mut self, item: &Item, step: u64, reader: u64) -> Result<(), AllocError>
         ensures ok { OnOk result ((q : Item) →
             step_of self.new q ≡ or_later (step_of self.old q) (if same_item item.now q then Some step else None)) }
         ensures err { OnErr result (self.new ≡ self.old) }
     {
-        if !self.steps.contains_key(item) {
-            self.steps.insert(item.clone()?, step)?;
+        let slot = (reader % NEAR as u64) as usize;
+        if self.is_at(self.near[slot], item) {
+            return Ok(());
+        }
+        match self.steps.get_index_of(item) {
+            Some(index) => self.near[slot] = index,
+            None => {
+                self.steps.insert(item.clone()?, step)?;
+            }
         }
         Ok(())
+    }
+
+    // Whether this item is noted at an index.
+    fn is_at(&self, index: usize, item: &Item) -> bool
+        ensures { IsTrue result → IsSome (step_of self.now item.now) }
+    {
+        match self.steps.get_index(index) {
+            Some((kept, _)) => kept == item,
+            None => false,
+        }
     }
 
     /// Forgets the steps from one on, that one too. It takes no memory.
@@ -70,5 +115,46 @@ impl ItemSteps {
                 ensures { (result ≡ nat_lt step.old from) × (step.new ≡ step.old) }
             { *step < from },
         );
+    }
+}
+
+// The step that noted an item, where it asks such an amount.
+fn asked_at(name: &Name, from: Option<u64>, to: Option<u64>, item: &Item, step: u64) -> Option<u64>
+    ensures { result ≡ (if is_ask name.now from to item.now then Some step else None) }
+{
+    if is_ask(name, from, to, item) {
+        Some(step)
+    } else {
+        None
+    }
+}
+
+// Whether an amount is asked of the storage of this name that two capacities answer in two ways.
+fn is_ask(name: &Name, from: Option<u64>, to: Option<u64>, item: &Item) -> bool
+    ensures { result ≡ is_ask name.now from to item.now }
+{
+    match item {
+        Item::Fits(other, amount) => name == other && differs(from, to, *amount),
+        _ => false,
+    }
+}
+
+fn differs(from: Option<u64>, to: Option<u64>, amount: u64) -> bool
+    ensures { result ≡ differs from to amount }
+{
+    match (from, to) {
+        (Some(from), Some(to)) => (amount <= from) != (amount <= to),
+        _ => true,
+    }
+}
+
+/// The earlier of two steps, of which either may be none.
+pub fn earlier(a: Option<u64>, b: Option<u64>) -> Option<u64>
+    ensures { result ≡ earlier a b }
+{
+    match (a, b) {
+        (Some(a), Some(b)) => Some(a.min(b)),
+        (Some(a), None) => Some(a),
+        (None, b) => b,
     }
 }

@@ -19,7 +19,7 @@ mod recorded;
 pub use clock_steps::{ClockStep, ClockSteps};
 pub use first_steps::FirstSteps;
 pub use first_uses::FirstUses;
-pub use item_steps::ItemSteps;
+pub use item_steps::{ItemSteps, earlier};
 pub use kept::Kept;
 pub use reach::Reach;
 pub use recorded::Recorded;

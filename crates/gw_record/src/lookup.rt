@@ -4,11 +4,13 @@ ghost use Rattle.gw_meaning.specs.Listing.{Listing};
 ghost use Rattle.gw_meaning.specs.Reads.{first_reading, first_use, is_command_use};
 ghost use Rattle.gw_meaning.specs.declared.item.Item.TheVariants as items;
 ghost use Rattle.gw_record.specs.Tape.{Records};
+ghost use Rattle.gw_record.specs.Asks.{is_ask};
 ghost use Rattle.gw_record.specs.Lookups.{IsStateAt, IsEndOf};
 
 use crate::kept::state_in;
 use crate::recorded::Recorded;
 use gw_meaning::Item;
+use gw_names::Name;
 use gw_nums::Time;
 use gw_scan::State;
 
@@ -57,5 +59,14 @@ impl Recorded {
             result ≡ first_reading (is_command_use i) t seed self.now.moment }
     {
         self.firsts.commands.least_from(i)
+    }
+
+    /// The first step below the tip, from 0, that asked an amount of the storage of this name that fits one of two
+    /// capacities and not the other, if any did. Without a storage before or behind, any amount counts.
+    pub fn first_ask(&self, name: &Name, from: Option<u64>, to: Option<u64>) -> Option<u64>
+        ensures { (t : Listing) (seed : ℕ) → Records t seed self.now →
+            result ≡ first_reading (is_ask name.now from to) t seed self.now.moment }
+    {
+        self.firsts.others.first_ask(name, from, to)
     }
 }

@@ -44,6 +44,7 @@ impl Model for Recorded {
 
 impl Recorded {
     /// The run of no steps, which is to keep the states at the multiples of `every` (1 to 1,000,000).
+    #[tactic(auto, using(crate::proofs::RecordLaws::blank_firsts))]
     pub fn new(alloc: Global, every: u64) -> Recorded
         requires { 1 ≤ every }
         ensures value { result ≡ blank every }

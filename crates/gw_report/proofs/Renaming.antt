@@ -1,27 +1,30 @@
 -- The report of a version with its ids renamed is the report.
-use Rattle.std.proofs.Common.{◌≡◌, ℕ, suc, ◌-◌, true, false, cond, ◌&&◌, List, [], ◌∷◌, ◌++◌, map, filter, length, Option, Some, None, is_some, option_map, option_to_list, unwrap_or, refl, ap, ap₂, ◌∙◌}
+use Rattle.std.proofs.Common.{◌≡◌, ℕ, ℤ, suc, ◌-◌, true, false, cond, ◌&&◌, List, [], ◌∷◌, ◌++◌, map, filter, length, Option, Some, None, is_some, option_map, option_to_list, unwrap_or, refl, ap, ap₂, ◌∙◌}
 use Rattle.std.specs.Prelude.{decimal, nat_le}
 use Rattle.std.specs.List.{flat_map}
 use Rattle.std.proofs.lemmas.List.{length-map}
 use Rattle.gw_names.specs.declared.key.Key.{Key}
+use Rattle.gw_names.specs.declared.key.Key.TheVariants as keys
 use Rattle.gw_entities.specs.Levels.{sum_up_to}
-use Rattle.gw_entities.specs.Records.{Ownership}
+use Rattle.gw_entities.specs.Records.{Ownership, Store}
 use Rattle.gw_meaning.specs.declared.statement.Block.{Block}
 use Rattle.gw_meaning.specs.declared.statement.Statement.{Statement}
 use Rattle.gw_meaning.specs.declared.statement.Numbered.{Numbered}
 use Rattle.gw_meaning.specs.declared.transaction.Transaction.{Transaction}
 use Rattle.gw_meaning.specs.declared.transaction.Event.{Event}
-use Rattle.gw_meaning.specs.Listing.{Listing, block_of, block_of_body, is_block, has_label, labelled_in, label_at, seed_in}
+use Rattle.gw_meaning.specs.Listing.{Listing, block_of, block_of_body, is_block, has_label, labelled_in, label_at, units_of, number_of, number_at, seed_in}
 use Rattle.gw_meaning.specs.Machine.{Machine, count_at, delay_at}
 use Rattle.gw_frame.specs.Moved.{moved_machine, moved_transaction, moved_event, moved_count}
 use Rattle.gw_frame.specs.Renamed.{AreRenamed, IsRenamed}
 use Rattle.gw_frame.proofs.Delays.{delay_at_moved}
 use Rattle.gw_frame.proofs.MovedLists.{count_at_moved, cond_under}
-use Rattle.gw_frame.proofs.Renaming.{after_renamed, position_renamed}
+use Rattle.gw_frame.proofs.Renaming.{after_renamed, position_renamed, said_renamed}
 use Rattle.gw_report.specs.Layout.{section_of, table_of}
 use Rattle.gw_report.specs.Cells.{signed}
 use Rattle.gw_report.specs.Chains.{position_of, next_number, line_of, put_by, by_time, current_line, future_line, current_columns, future_columns, current_text, future_text}
-use Rattle.gw_report.specs.Names.{name_columns, names_in_block, names_of, names_in, each_once, value_by, next_by, name_lines, names_text}
+use Rattle.gw_report.specs.Names.{name_columns, names_in_block, names_of, names_in, each_once, value_by, next_by, value_text, next_behind, name_lines, names_text}
+use Rattle.gw_report.specs.Storages.{storage_columns, storage_row, storage_line, storages_text}
+use Rattle.gw_report.specs.Storages as storages
 use Rattle.gw_report.specs.Blocks.{label_text, block_line, block_lines_of, block_lines, block_columns, blocks_text}
 use Rattle.gw_report.specs.Facilities.{facility_columns, facility_row, facility_line, facilities_text}
 use Rattle.gw_report.specs.Queues.{queue_line, queues_text}
@@ -100,13 +103,23 @@ module _ (move : ℕ → ℕ) (t u : Listing) (r : IsRenamed move t u) where
   next_by_renamed next None = refl
   next_by_renamed next (Some p) = refl
 
+  text_renamed : (next : ℕ) (number : Option ℤ) (o : Option ℕ) → value_text u next number (option_map move o) ≡ value_text t next number o
+  text_renamed next (Some n) o = refl
+  text_renamed next None o = ap decimal (value_renamed next o)
+
+  behind_renamed : (next : ℕ) (number : Option ℤ) (o : Option ℕ) → next_behind next number (option_map move o) ≡ next_behind next number o
+  behind_renamed next (Some n) o = refl
+  behind_renamed next None o = next_by_renamed next o
+
   name_lines_renamed : (next : ℕ) (names : List (List ℕ)) → name_lines u next names ≡ name_lines t next names
   name_lines_renamed next [] = refl
   name_lines_renamed next (name ∷ names) =
       let label = label_renamed name t.lines u.lines r.lines in
-      let value = ap (value_by u next) label ∙ value_renamed next (label_at t name) in
-      let behind = ap (next_by next) label ∙ next_by_renamed next (label_at t name) in
-      ap₂ (λ v ns. (name ∷ decimal v ∷ []) ∷ ns) value (ap (λ n. name_lines u n names) behind ∙ name_lines_renamed (next_by next (label_at t name)) names)
+      let number = said_renamed move r.is_move number_of name t.lines u.lines r.lines in
+      let value = ap₂ (value_text u next) number label ∙ text_renamed next (number_at t name) (label_at t name) in
+      let behind = ap₂ (next_behind next) number label ∙ behind_renamed next (number_at t name) (label_at t name) in
+      let rest = name_lines_renamed (next_behind next (number_at t name) (label_at t name)) names in
+      ap₂ (λ v ns. (name ∷ v ∷ []) ∷ ns) value (ap (λ n. name_lines u n names) behind ∙ rest)
 
   named_renamed : (ls ms : List Numbered) → AreRenamed move ls ms → flat_map names_of ms ≡ flat_map names_of ls
   named_renamed [] [] h = refl
@@ -162,7 +175,7 @@ blocks_counted move (l ∷ ls) (m ∷ ms) h =
 head_renamed : (move : ℕ → ℕ) (t u : Listing) (s : Machine) → IsRenamed move t u → head_text u (moved_machine move s) ≡ head_text t s
 unfolding head_text
 head_renamed move t u s r =
-    ap (λ n. table_of head_columns ((decimal s.since ∷ decimal s.clock ∷ decimal n ∷ decimal (length s.entities.facilities) ∷ decimal 0 ∷ []) ∷ []))
+    ap (λ n. table_of head_columns ((decimal s.since ∷ decimal s.clock ∷ decimal n ∷ decimal (length s.entities.facilities) ∷ decimal (length s.entities.storages) ∷ []) ∷ []))
     (blocks_counted move t.lines u.lines r.lines)
 
 seed_renamed : (move : ℕ → ℕ) (t u : Listing) (rep : ℕ) → IsRenamed move t u → seed_of u rep ≡ seed_of t rep
@@ -196,6 +209,28 @@ queues_text_renamed : (move : ℕ → ℕ) (s : Machine) → queues_text (moved_
 unfolding queues_text queue_line
 queues_text_renamed move s = refl
 
+-- the units of a storage, and as many wait for it
+units_renamed : (move : ℕ → ℕ) (t u : Listing) → IsRenamed move t u → (key : Key) → storages.units_of u key ≡ storages.units_of t key
+units_renamed move t u r (keys.Num number) = refl
+units_renamed move t u r (keys.Named name) = refl
+units_renamed move t u r (keys.Defined name) = ap (λ o. unwrap_or o 0) (said_renamed move r.is_move units_of name t.lines u.lines r.lines)
+
+storage_renamed : (move : ℕ → ℕ) (t u : Listing) → IsRenamed move t u → (s : Machine) (e : Key × Store) →
+    storage_line u (moved_machine move s) e ≡ storage_line t s e
+unfolding storage_line
+storage_renamed move t u r s e =
+    ap₂ (λ c n. storage_row c (sum_up_to e.1.level s.clock) (s.clock - s.since) n e.0 e.1) (units_renamed move t u r e.0)
+    (ap length (delay_at_moved move s.delays e.0) ∙ length-map (delay_at s.delays e.0) (moved_transaction move))
+
+storages_renamed : (move : ℕ → ℕ) (t u : Listing) → IsRenamed move t u → (s : Machine) (es : List (Key × Store)) →
+    map (storage_line u (moved_machine move s)) es ≡ map (storage_line t s) es
+storages_renamed move t u r s [] = refl
+storages_renamed move t u r s (e ∷ es) = ap₂ (λ line lines. line ∷ lines) (storage_renamed move t u r s e) (storages_renamed move t u r s es)
+
+storages_text_renamed : (move : ℕ → ℕ) (t u : Listing) (s : Machine) → IsRenamed move t u → storages_text u (moved_machine move s) ≡ storages_text t s
+unfolding storages_text
+storages_text_renamed move t u s r = ap (section_of storage_columns) (storages_renamed move t u r s s.entities.storages)
+
 pub renamed_text : RenamedText
 unfolding text_of
 renamed_text move t u rep k s outcome r =
@@ -204,9 +239,11 @@ renamed_text move t u rep k s outcome r =
     (ap₂ ◌++◌
     (ap₂ ◌++◌
     (ap₂ ◌++◌
+    (ap₂ ◌++◌
     (ap₂ ◌++◌ (ap₂ ◌++◌ (ap (λ seed. title_text rep seed k outcome) (seed_renamed move t u rep r)) (head_renamed move t u s r)) (names_text_renamed move t u r))
     (blocks_text_renamed move t u s r))
     (facilities_text_renamed move s))
     (queues_text_renamed move s))
+    (storages_text_renamed move t u s r))
     (current_renamed move t u r s))
     (future_renamed move t u r s)

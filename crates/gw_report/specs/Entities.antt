@@ -2,7 +2,7 @@
 -- own: three decimals, cut off, and 0.000 where there is nothing to divide by.)
 use Rattle.std.specs.Prelude.{ℕ, List, decimal}
 use Rattle.gw_names.specs.declared.key.Key.{Key}
-use Rattle.gw_names.specs.declared.key.Key.TheVariants.{Num, Named}
+use Rattle.gw_names.specs.declared.key.Key.TheVariants.{Num, Named, Defined}
 use Rattle.gw_nums.specs.Ratio.{thousandths_of}
 use Rattle.gw_report.specs.Cells.{decimals}
 
@@ -10,6 +10,7 @@ use Rattle.gw_report.specs.Cells.{decimals}
 abbrev pub key_text : Key → List ℕ
 key_text (Num number) = decimal number
 key_text (Named name) = name
+key_text (Defined name) = name
 
 -- a sum divided by what it goes over
 abbrev pub average : ℕ → ℕ → List ℕ

@@ -7,6 +7,7 @@ pub mod Blocks
 pub mod Entities
 pub mod Facilities
 pub mod Queues
+pub mod Storages
 pub mod Report
 pub mod Renamed
 pub use Rattle.gw_meaning.specs.Listing

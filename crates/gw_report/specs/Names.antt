@@ -1,16 +1,17 @@
--- The names of a version, each once, with its value. (Manual: names, and that a block's name has its position. Our own:
--- the order, and that the others have 10000, 10001 and so on in it.)
-use Rattle.std.specs.Prelude.{ℕ, ◌+◌, not, List, [], ◌∷◌, ◌++◌, Option, Some, None, option_to_list, filter, decimal}
+-- The names of a version, each once, with its value. (Manual: names, that a block's name has its position, and an EQU's
+-- its number. Our own: the order, and that the others have 10000, 10001 and so on in it.)
+use Rattle.std.specs.Prelude.{ℕ, ℤ, ◌+◌, not, List, [], ◌∷◌, ◌++◌, Option, Some, None, option_to_list, filter, decimal}
 use Rattle.std.specs.Prelude.{codes}
 use Rattle.std.specs.List.{flat_map}
 use Rattle.std.specs.Str.{bytes_eq}
-use Rattle.gw_expr.specs.Term.{Term, Constant, Named, Label, Fraction}
-use Rattle.gw_meaning.specs.Listing.{Listing, block_of, label_at}
+use Rattle.gw_expr.specs.Term.{Term, Constant, Named, Label, Fraction, Defined}
+use Rattle.gw_meaning.specs.Listing.{Listing, block_of, label_at, number_at}
 use Rattle.gw_meaning.specs.declared.statement.Block.{Block}
 use Rattle.gw_meaning.specs.declared.statement.Numbered.{Numbered}
 use Rattle.gw_report.specs.declared.column.Side.TheVariants.{Left, Right}
 use Rattle.gw_report.specs.Layout.{Column, section_of}
 use Rattle.gw_report.specs.Chains.{position_of}
+use Rattle.gw_report.specs.Cells.{signed}
 
 abbrev pub name_columns : List Column
 name_columns = record { title = codes "NAME"; width = 10; side = Left } ∷
@@ -22,6 +23,7 @@ names_in_term (Constant value) = []
 names_in_term (Named name) = name ∷ []
 names_in_term (Label name) = name ∷ []
 names_in_term (Fraction part) = []
+names_in_term (Defined name) = name ∷ []
 
 abbrev pub names_in_operand : Option Term → List (List ℕ)
 names_in_operand None = []
@@ -52,14 +54,23 @@ abbrev pub next_by : ℕ → Option ℕ → ℕ
 next_by next None = next + 1
 next_by next (Some id) = next
 
+-- the same of a name that may stand for a number
+abbrev pub value_text : Listing → ℕ → Option ℤ → Option ℕ → List ℕ
+value_text t next (Some number) label = signed number
+value_text t next None label = decimal (value_by t next label)
+
+abbrev pub next_behind : ℕ → Option ℤ → Option ℕ → ℕ
+next_behind next (Some number) label = next
+next_behind next None label = next_by next label
+
 -- a name and its value, where `next` is the next one that is free
 abbrev pub name_line : Listing → ℕ → List ℕ → List (List ℕ)
-name_line t next name = name ∷ decimal (value_by t next (label_at t name)) ∷ []
+name_line t next name = name ∷ value_text t next (number_at t name) (label_at t name) ∷ []
 
 abbrev pub name_lines : Listing → ℕ → List (List ℕ) → List (List (List ℕ))
 name_lines t next [] = []
 name_lines t next (name ∷ names) =
-    name_line t next name ∷ name_lines t (next_by next (label_at t name)) names
+    name_line t next name ∷ name_lines t (next_behind next (number_at t name) (label_at t name)) names
 
 -- the names, in order of first appearance
 unfoldable pub names_text : Listing → List ℕ

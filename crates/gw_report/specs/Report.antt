@@ -11,6 +11,7 @@ use Rattle.gw_report.specs.Names.{names_text}
 use Rattle.gw_report.specs.Blocks.{blocks_text}
 use Rattle.gw_report.specs.Facilities.{facilities_text}
 use Rattle.gw_report.specs.Queues.{queues_text}
+use Rattle.gw_report.specs.Storages.{storages_text}
 use Rattle.gw_report.specs.Chains.{current_text, future_text}
 
 -- how the run of a START stands, as a word; an error with its number behind an X
@@ -43,12 +44,12 @@ head_columns =
     ∷ record { title = codes "FACILITIES"; width = 10; side = Right } ∷
     record { title = codes "STORAGES"; width = 10; side = Right } ∷ []
 
--- the head: from when to when, and how much there is; no storages so far
+-- the head: from when to when, and how much there is
 unfoldable pub head_text : Listing → Machine → List ℕ
 head_text t s = table_of head_columns ((decimal s.since ∷ decimal s.clock ∷ decimal (length (filter is_block t.lines)) ∷
-    decimal (length s.entities.facilities) ∷ decimal 0 ∷ []) ∷ [])
+    decimal (length s.entities.facilities) ∷ decimal (length s.entities.storages) ∷ []) ∷ [])
 
 -- the whole report, section behind section
 unfoldable pub text_of : Listing → ℕ → ℕ → Machine → Outcome → List ℕ
 text_of t rep k s outcome = title_text rep (seed_of t rep) k outcome ++ head_text t s ++ names_text t ++
-    blocks_text t s ++ facilities_text s ++ queues_text s ++ current_text t s ++ future_text t s
+    blocks_text t s ++ facilities_text s ++ queues_text s ++ storages_text t s ++ current_text t s ++ future_text t s

@@ -12,14 +12,14 @@ pub fn key_cell(key: &Key) -> Cell<'_>
 {
     match key {
         Key::Num(number) => Cell::Number(u64::from(*number)),
-        Key::Named(name) => Cell::Text(name.as_bytes()),
+        Key::Named(name) | Key::Defined(name) => Cell::Text(name.as_bytes()),
     }
 }
 
 /// A sum divided by what it goes over.
-pub fn average_cell(sum: u128, over: u64) -> Cell<'static>
+pub fn average_cell(sum: u128, over: u128) -> Cell<'static>
     requires { sum ≤ 10 ^ 35 }
     ensures { text_of_cell result ≡ average sum over }
 {
-    Cell::Thousandths(thousandths(sum, u128::from(over)))
+    Cell::Thousandths(thousandths(sum, over))
 }

@@ -64,8 +64,8 @@ fn put_facility(
     let cells = [
         key_cell(key),
         Cell::Number(captures),
-        average_cell(sum, time),
-        average_cell(sum, captures),
+        average_cell(sum, u128::from(time)),
+        average_cell(sum, u128::from(captures)),
         Cell::Number(1),
         Cell::Number(facility.owner().unwrap_or(0)),
         Cell::Number(0),

@@ -24,7 +24,7 @@ pub fn put_head(out: &mut Vec<u8>, version: &Version, state: &State) -> Result<(
         Cell::Number(state.clock().ticks()),
         Cell::Number(version.blocks()),
         Cell::Number(state.entities().facilities().len() as u64),
-        Cell::Number(0),
+        Cell::Number(state.entities().storages().len() as u64),
     ];
     let mut line = Vec::new(*out.allocator());
     put_row(&mut line, &HEAD_COLUMNS, &cells)?;

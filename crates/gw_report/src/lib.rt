@@ -19,6 +19,7 @@ mod position;
 mod queues;
 mod report;
 mod section;
+mod storages;
 mod title;
 
 pub use laws::renamed_text;

@@ -2,10 +2,10 @@ ghost use Rattle.std.specs.Prelude.{◌≡◌, ◌<◌, ◌^◌, ◌-◌, ◌++�
 ghost use Rattle.std.specs.List.{flat_map};
 ghost use Rattle.indexmap.specs.IndexSet.{insert_all};
 ghost use Rattle.gw_names.specs.Keys.{key_eq};
-ghost use Rattle.gw_meaning.specs.Listing.{label_at};
+ghost use Rattle.gw_meaning.specs.Listing.{label_at, number_at};
 ghost use Rattle.gw_report.specs.Layout.{row_of, rows_of};
 ghost use Rattle.gw_report.specs.Names.{name_columns, name_line, name_lines, names_in, names_of, names_text};
-ghost use Rattle.gw_report.specs.Names.{names_in_operand, next_by};
+ghost use Rattle.gw_report.specs.Names.{names_in_operand, next_behind};
 ghost use Rattle.gw_report.specs.NameKeys.{as_keys, names_among};
 
 use crate::column::{Cell, Column, Side, put_row};
@@ -81,7 +81,7 @@ fn add_operand(names: &mut IndexSet<Key>, operand: &Option<Expr>) -> Result<(), 
     };
     match expr.node() {
         Node::Constant(_) | Node::Fraction(_) => Ok(()),
-        Node::Named(name) | Node::Label(name) => add_name(names, name),
+        Node::Named(name) | Node::Label(name) | Node::Defined(name) => add_name(names, name),
     }
 }
 
@@ -113,14 +113,15 @@ fn put_name(out: &mut Vec<u8>, version: &Version, next: u64, name: &Name) -> Res
     requires { next < 2 ^ 64 - 1 }
     ensures row { OnOk result (out.new.items ≡ out.old.items ++
         row_of name_columns (name_line version.now next name.now)) }
-    ensures next { IfOk result (λ n. n ≡ next_by next (label_at version.now name.now)) }
+    ensures next { IfOk result (λ n. n ≡
+        next_behind next (number_at version.now name.now) (label_at version.now name.now)) }
 {
-    let label = version.label(name);
-    let (value, behind) = match label {
-        Some(_) => (position_of(version, label), next),
-        None => (next, next + 1),
+    let (value, behind) = match (version.number_of(name), version.label(name)) {
+        (Some(number), _) => (Cell::Signed(number), next),
+        (None, Some(id)) => (Cell::Number(position_of(version, Some(id))), next),
+        (None, None) => (Cell::Number(next), next + 1),
     };
-    let cells = [Cell::Text(name.as_bytes()), Cell::Number(value)];
+    let cells = [Cell::Text(name.as_bytes()), value];
     put_row(out, &NAME_COLUMNS, &cells)?;
     Ok(behind)
 }

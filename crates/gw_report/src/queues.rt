@@ -61,9 +61,9 @@ fn put_queue(out: &mut Vec<u8>, state: &State, key: &Key, queue: Queue) -> Resul
         Cell::Number(queue.level().content()),
         Cell::Number(entries),
         Cell::Number(zero_entries),
-        average_cell(sum, time),
-        average_cell(sum, entries),
-        average_cell(sum, entries.saturating_sub(zero_entries)),
+        average_cell(sum, u128::from(time)),
+        average_cell(sum, u128::from(entries)),
+        average_cell(sum, u128::from(entries.saturating_sub(zero_entries))),
         Cell::Number(0),
     ];
     put_row(out, &QUEUE_COLUMNS, &cells)

@@ -9,6 +9,7 @@ use crate::future::put_future;
 use crate::head::put_head;
 use crate::names::put_names;
 use crate::queues::put_queues;
+use crate::storages::put_storages;
 use crate::title::put_title;
 use gw_meaning::Outcome;
 use gw_model::Version;
@@ -35,6 +36,7 @@ pub fn print(
     put_blocks(&mut text, version, state)?;
     put_facilities(&mut text, state)?;
     put_queues(&mut text, state)?;
+    put_storages(&mut text, version, state)?;
     put_current(&mut text, version, state)?;
     put_future(&mut text, version, state)?;
     Ok(text)

@@ -15,17 +15,13 @@ use Rattle.gw_entities.proofs.TableLaws.{set_value_is, insert_entry_is, copied_i
 use Rattle.gw_meaning.specs.declared.transaction.Transaction.{Transaction}
 use Rattle.gw_meaning.specs.Machine.{delay_at, waiting}
 use Rattle.gw_meaning.specs.Changes.{lined_up}
-use Rattle.gw_scan.specs.Parts.{Chain, delays_of, first_of, HasPlace}
+use Rattle.gw_scan.specs.Parts.{Chain, delays_of, items_of, first_of, HasPlace}
 
 abbrev Chains : Type 0
 Chains = List (Key × Chain Transaction)
 
 abbrev Delays : Type 0
 Delays = List (Key × List Transaction)
-
-abbrev pub items_of : Option (Chain Transaction) → List Transaction
-items_of None = []
-items_of (Some c) = c.items
 
 -- the delay chain of a facility
 delay_items : (cs : Chains) (key : Key) → delay_at (delays_of cs) key ≡ items_of (value_of cs key)
@@ -66,7 +62,7 @@ with_same (d ∷ ds) key xs h = go (key_eq key d.0) h (with_same ds key xs) wher
   go true h rest = let same : d.1 ≡ xs = cc in ap (λ ys. (d.0, ys) ∷ ds) (sym same)
   go false h rest = ap (λ (es : Delays). d ∷ es) (rest h)
 
-value_is : (cs : Chains) (key : Key) (was : Chain Transaction) → Some was ≡ value_of cs key → value_of (delays_of cs) key ≡ Some was.items
+pub value_is : (cs : Chains) (key : Key) (was : Chain Transaction) → Some was ≡ value_of cs key → value_of (delays_of cs) key ≡ Some was.items
 value_is [] key was h = absurd cc
 value_is (c ∷ cs) key was h = go (key_eq key c.0) h (value_is cs key was) where
   go : (b : Bool) → Some was ≡ cond b (Some c.1) (value_of cs key) → (Some was ≡ value_of cs key → value_of (delays_of cs) key ≡ Some was.items) →
@@ -115,6 +111,13 @@ one_waits ds key x xs is =
 
 pub some_wait : (ds : Delays) (key : Key) (x : Transaction) (xs : List Transaction) (n : ℕ) → n ≡ length (waiting ds) → delay_at ds key ≡ x ∷ xs → 1 ≤ n
 some_wait ds key x xs n all is = omega (arith, one_waits ds key x xs is, all)
+
+-- where nobody waits at all, nobody is the first
+pub none_first : (ds : Delays) (key : Key) (n : ℕ) → n ≡ length (waiting ds) → n ≡ 0 → None ≡ first_of (delay_at ds key)
+none_first ds key n all is = go (delay_at ds key) refl where
+  go : (xs : List Transaction) → delay_at ds key ≡ xs → None ≡ first_of xs
+  go [] here = refl
+  go (x ∷ xs) here = absurd (omega (arith, some_wait ds key x xs n all here, is))
 
 pub one_less_waits : (ds es : Delays) (key : Key) (x : Transaction) (xs : List Transaction) (n : ℕ) → n ≡ length (waiting ds) →
     delay_at ds key ≡ x ∷ xs → es ≡ with_value ds key xs → n - 1 ≡ length (waiting es)

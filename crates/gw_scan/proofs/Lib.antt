@@ -1,5 +1,6 @@
 pub mod CountLaws
 pub mod DelayLaws
+pub mod LetIn
 pub mod ChainLaws
 pub mod Binding
 pub mod StepLaws

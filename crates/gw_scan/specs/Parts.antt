@@ -1,13 +1,14 @@
 -- What a contract sees of the parts of a state. (Our own.)
-use Rattle.std.specs.Prelude.{◌≡◌, ℕ, ◌-◌, ◌<◌, ◌^◌, Bool, List, [], ◌∷◌, Option, Some, None, length}
+use Rattle.std.specs.Prelude.{◌≡◌, ℕ, ◌-◌, ◌<◌, ◌^◌, Bool, false, List, [], ◌∷◌, ◌≤◌, Option, Some, None, is_some, option_map, unwrap_or, slice_get, length}
 use Rattle.gw_names.specs.declared.key.Key.{Key}
-use Rattle.gw_entities.specs.Records.{Ownership, Line}
+use Rattle.gw_entities.specs.Records.{Ownership, Line, Store}
 use Rattle.gw_entities.specs.Tables.{Touched, HasRoom, value_of, with_value}
 use Rattle.gw_entities.specs.Comings.{Arrivals}
 use Rattle.gw_meaning.specs.declared.entity_change.Deed.{Deed}
 use Rattle.gw_meaning.specs.declared.entity_change.Deed.TheVariants as deeds
 use Rattle.gw_meaning.specs.declared.transaction.Transaction.{Transaction}
-use Rattle.gw_meaning.specs.Machine.{delay_at, waiting}
+use Rattle.gw_meaning.specs.Machine.{Machine, delay_at, waiting}
+use Rattle.gw_meaning.specs.Changes.{let_in}
 use Rattle.gw_meaning.specs.Entities.{Entities}
 
 -- the clocks
@@ -36,7 +37,7 @@ pub record Chain (A : Type 0) : Type 0 where
 
 -- the delay chains, with what there is room for
 pub record Delays : Type 0 where
-  -- the chain of each facility, with its room
+  -- the chain of each facility and storage, with its room
   pub chains : List (Key × Chain Transaction)
   -- for how many further chains there is room, each of one transaction at least
   pub spare : ℕ
@@ -50,17 +51,22 @@ abbrev pub HasRoomOn : Option (Chain Transaction) → ℕ → Type 0
 HasRoomOn None spare = 0 < spare
 HasRoomOn (Some chain) spare = 0 < chain.room
 
--- one more may wait for a facility
+-- one more may wait for a facility or a storage
 abbrev pub HasPlace : Delays → Key → Type 0
 HasPlace d key =
     HasRoomOn (value_of d.chains key) d.spare × (length (waiting (delays_of d.chains)) < 2 ^ 64 - 1)
+
+-- who waits on a chain, where there is one
+abbrev pub items_of : Option (Chain Transaction) → List Transaction
+items_of None = []
+items_of (Some c) = c.items
 
 -- the first of a chain
 abbrev pub first_of : List Transaction → Option Transaction
 first_of [] = None
 first_of (x ∷ xs) = Some x
 
--- the delay chains without the first of that of a facility, where there is one
+-- the delay chains without the first of one of them, where there is one
 abbrev pub without_first :
     List (Key × List Transaction) → Key → List Transaction → List (Key × List Transaction)
 without_first delays key [] = delays
@@ -75,22 +81,60 @@ abbrev pub HasRoomToLetIn : Option Transaction → ℕ → ℕ → Type 0
 HasRoomToLetIn None room limit = Unit {0}
 HasRoomToLetIn (Some x) room limit = (0 < room) × IsWithin x.destination limit
 
+-- whether the one at an index of a chain has a share
+abbrev pub has_share : List (Option ℕ) → ℕ → Bool
+has_share shares index = unwrap_or (option_map (λ (share : Option ℕ). is_some share) (slice_get shares index)) false
+
+-- of a chain those with a share, and those who go on waiting
+abbrev pub with_share : List (Option ℕ) → List Transaction → List Transaction
+with_share [] chain = []
+with_share (share ∷ shares) [] = []
+with_share (None ∷ shares) (x ∷ xs) = with_share shares xs
+with_share (Some units ∷ shares) (x ∷ xs) = x ∷ with_share shares xs
+
+abbrev pub without_share : List (Option ℕ) → List Transaction → List Transaction
+without_share [] chain = chain
+without_share (share ∷ shares) [] = []
+without_share (None ∷ shares) (x ∷ xs) = x ∷ without_share shares xs
+without_share (Some units ∷ shares) (x ∷ xs) = without_share shares xs
+
+-- there is room for all of these to be let in
+abbrev pub AreWithin : List Transaction → ℕ → Type 0
+AreWithin [] limit = Unit {0}
+AreWithin (x ∷ xs) limit = IsWithin x.destination limit × AreWithin xs limit
+
+abbrev pub HasRoomToLetAllIn : List Transaction → ℕ → ℕ → Type 0
+HasRoomToLetAllIn xs room limit = (length xs ≤ room) × AreWithin xs limit
+
+-- these are let in, one by one
+abbrev pub all_let_in : List Transaction → Machine → Machine
+all_let_in [] s = s
+all_let_in (x ∷ xs) s = all_let_in xs (let_in x x.destination s)
+
 -- and for whom a deed lets in
 abbrev pub HasRoomToAdmit : Key → Deed → List (Key × List Transaction) → ℕ → ℕ → Type 0
 HasRoomToAdmit key (deeds.Release next) delays room limit = HasRoomToLetIn (first_of (delay_at delays key)) room limit
+HasRoomToAdmit key (deeds.Leave units shares) delays room limit =
+    HasRoomToLetAllIn (with_share shares (delay_at delays key)) room limit
 HasRoomToAdmit key deed delays room limit = Unit {0}
 
 -- the entities, with what there is room for
 pub record Stock : Type 0 where
   pub facilities : Touched Ownership
   pub queues : Touched Line
+  pub storages : Touched Store
   pub comings : Arrivals
   -- the queue that there is room to come to
   pub ready : Option Key
 
 abbrev pub entities_of : Stock → Entities
 entities_of e =
-    record { facilities = e.facilities.entries; queues = e.queues.entries; comings = e.comings.comings }
+    record {
+      facilities = e.facilities.entries;
+      queues = e.queues.entries;
+      storages = e.storages.entries;
+      comings = e.comings.comings;
+    }
 
 -- there is room for what a deed adds
 abbrev pub HasRoomFor : Stock → Key → Deed → Type 0
@@ -98,3 +142,5 @@ HasRoomFor e key (deeds.Queue units) = HasRoom e.queues key × (0 < e.comings.ro
 HasRoomFor e key (deeds.Depart units at_once) = HasRoom e.queues key
 HasRoomFor e key deeds.Seize = HasRoom e.facilities key
 HasRoomFor e key (deeds.Release next) = HasRoom e.facilities key
+HasRoomFor e key (deeds.Enter units) = HasRoom e.storages key
+HasRoomFor e key (deeds.Leave units shares) = HasRoom e.storages key

@@ -1,13 +1,13 @@
 // What a step asks, of a version and a seed.
 ghost use Rattle.std.specs.Prelude.{◌≡◌, ◌++◌, ◌∷◌, [], IfOk, OnOk, OnErr, Some, None, if◌then◌else◌, option_copied, nat_le};
 ghost use Rattle.gw_meaning.specs.declared.item.Item.TheVariants as items;
-ghost use Rattle.gw_meaning.specs.Listing.{block_at, after_at, label_at, command_at, generates_in};
+ghost use Rattle.gw_meaning.specs.Listing.{block_at, after_at, label_at, number_at, capacity_at, command_at, generates_in};
 
 use crate::notes::Notes;
 use gw_meaning::{Block, Command, End, Item, StatementId};
 use gw_model::Version;
 use gw_names::Name;
-use gw_nums::{Clock, Time};
+use gw_nums::{Clock, Time, Val};
 use std::alloc::{AllocError, AllocFailed, Global};
 
 /// The version and the seed that a run is of, and where a step finds memory.
@@ -88,6 +88,37 @@ pub fn ask_label(
 {
     notes.note(Item::Label(name.clone()?))?;
     Ok(version.label(name))
+}
+
+// Which number does this name stand for, if any?
+pub fn ask_name(
+    version: &Version,
+    notes: &mut Notes,
+    name: &Name,
+) -> Result<Option<Val>, AllocError>
+    ensures answer { IfOk result (λ number. number ≡ number_at version.now name.now) }
+    ensures ok { OnOk result (notes.new ≡
+        record notes.old { items = notes.old.items ++ items.Name name.now ∷ [] }) }
+    ensures err { OnErr result (notes.new ≡ notes.old) }
+{
+    notes.note(Item::Name(name.clone()?))?;
+    Ok(version.number_of(name))
+}
+
+// Do so many units fit into the storage of this name?
+pub fn ask_fits(
+    version: &Version,
+    notes: &mut Notes,
+    name: &Name,
+    units: u64,
+) -> Result<bool, AllocError>
+    ensures answer { IfOk result (λ fits. fits ≡ nat_le units (capacity_at version.now name.now)) }
+    ensures ok { OnOk result (notes.new ≡
+        record notes.old { items = notes.old.items ++ items.Fits name.now units ∷ [] }) }
+    ensures err { OnErr result (notes.new ≡ notes.old) }
+{
+    notes.note(Item::Fits(name.clone()?, units))?;
+    Ok(version.fits(name, units))
 }
 
 // Which blocks are GENERATEs?

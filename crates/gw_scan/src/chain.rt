@@ -1,7 +1,11 @@
 ghost use Rattle.std.specs.Prelude.{◌≡◌, ◌+◌, ◌++◌, ◌≤◌, ◌<◌, [], length, insert, option_to_list, ◌==◌, IfNone, IfOk, OnOk, IsTrue, ◌∷◌, ◌^◌};
 ghost use Rattle.std.specs.Slice.{IsItemAt};
+ghost use Rattle.gw_meaning.specs.Machine.{Machine};
 ghost use Rattle.gw_meaning.specs.Changes.{lined_up};
+ghost use Rattle.gw_scan.specs.Parts.{with_share, without_share, has_share, HasRoomToLetAllIn, all_let_in};
 
+use crate::counts::Counts;
+use crate::entity_change::let_in;
 use gw_meaning::Transaction;
 use std::alloc::{AllocError, Global};
 use std::collections::VecDeque;
@@ -131,11 +135,48 @@ impl PriorityChain {
         self.transactions.pop_front()
     }
 
+    // Each with a share is let in, one by one from the front. The others stay in their order: each of them goes round
+    // to the back once.
+    pub(crate) fn let_in_some(
+        &mut self,
+        shares: &[Option<u64>],
+        current: &mut PriorityChain,
+        counts: &mut Counts,
+    )
+        requires { HasRoomToLetAllIn (with_share shares.now self.old.items) current.old.room counts.old.limit }
+        ensures items { self.new.items ≡ without_share shares.now self.old.items }
+        ensures let_in { (s : Machine) →
+            record s { current = current.new.items; counts = counts.new.entries } ≡
+            all_let_in (with_share shares.now self.old.items)
+            (record s { current = current.old.items; counts = counts.old.entries }) }
+    {
+        for i in 0..self.transactions.len() {
+            let Some(x) = self.transactions.pop_front() else {
+                unreachable!()
+            };
+            if has_share(shares, i) {
+                let_in(current, counts, x);
+            } else {
+                self.transactions.push_back_reserved(x);
+            }
+        }
+    }
+
     // An equal chain.
     pub(crate) fn copy(&self) -> Result<PriorityChain, AllocError>
         ensures { IfOk result (λ c. c.items ≡ self.now.items) }
     {
         let transactions = self.transactions.clone()?;
         Ok(PriorityChain { transactions })
+    }
+}
+
+// Whether the one at an index of a chain has a share.
+pub fn has_share(shares: &[Option<u64>], index: usize) -> bool
+    ensures { result ≡ has_share shares.now index }
+{
+    match shares.get(index) {
+        Some(share) => share.is_some(),
+        None => false,
     }
 }

@@ -42,7 +42,7 @@ impl State {
                 Ok(())
             }
             Move::Enter { id, change, fate } => self.enter_block(id, &change, fate),
-            Move::Refuse { id, key } => self.refuse(id, key),
+            Move::Refuse { id, key, units } => self.refuse(id, key, units),
             Move::Pick => {
                 self.pick();
                 Ok(())
@@ -127,13 +127,13 @@ impl State {
     }
 
     #[inline(never)]
-    fn refuse(&mut self, id: StatementId, key: Key) -> Result<(), AllocError>
-        ensures ok { OnOk result (self.new ≡ moved self.old (moves.Refuse id key)) }
+    fn refuse(&mut self, id: StatementId, key: Key, units: u64) -> Result<(), AllocError>
+        ensures ok { OnOk result (self.new ≡ moved self.old (moves.Refuse id key units)) }
         ensures err { OnErr result (self.new ≡ self.old) }
     {
         self.delays.reserve(&key)?;
         if let Some(x) = self.active.take() {
-            self.delays.line_up(key, bind(x, id));
+            self.delays.line_up(key, bind(x, id, units));
         }
         Ok(())
     }
@@ -167,7 +167,10 @@ fn mark(change: &Change, clock: Clock, x: Transaction) -> Transaction
             mark: clock.time(),
             ..x
         },
-        Change::Transfer { to } => bind(x, *to),
+        Change::Transfer { to } => Transaction {
+            destination: Destination::to(*to),
+            ..x
+        },
         _ => x,
     }
 }
@@ -179,16 +182,18 @@ pub fn enter(x: Transaction, id: StatementId) -> Transaction
     Transaction {
         current: id,
         destination: Destination::none(),
+        asked: 0,
         ..x
     }
 }
 
-// The transaction on its way to a block.
-fn bind(x: Transaction, id: StatementId) -> Transaction
-    ensures { result ≡ bound x id }
+// The transaction on its way to a block, where it asks so many units.
+fn bind(x: Transaction, id: StatementId, units: u64) -> Transaction
+    ensures { result ≡ bound x id units }
 {
     Transaction {
         destination: Destination::to(id),
+        asked: units,
         ..x
     }
 }

@@ -1,6 +1,6 @@
 // Which move a step is: ask and test, and change nothing.
 ghost use Rattle.std.specs.Prelude.{◌≡◌, ◌≤◌, None, option_copied};
-ghost use Rattle.gw_meaning.specs.Step.{move_prog, command_prog, start_prog, first_arrivals_prog, rmult_prog, attempt_prog, try_prog, enter_prog, generate_prog, delay_of, advance_prog, terminate_prog, pick_prog};
+ghost use Rattle.gw_meaning.specs.Step.{move_prog, command_prog, start_prog, first_arrivals_prog, rmult_prog, attempt_prog, try_prog, meet_prog, generate_prog, delay_of, advance_prog, terminate_prog, pick_prog};
 ghost use Rattle.gw_meaning.specs.Statements.{A, B, D, E, operand};
 ghost use Rattle.gw_scan.specs.Deciding.{Decides};
 
@@ -138,7 +138,7 @@ impl State {
         block: Option<&Block>,
     ) -> Result<Move, Halt>
         ensures { Decides case.entry.version.now case.entry.seed
-            (enter_prog self.now x.now id (option_copied block.entry)) result notes.old notes.new }
+            (meet_prog self.now x.now id (option_copied block.entry)) result notes.old notes.new }
     {
         let Some(block) = block else {
             return Err(Halt::End(End::Error(Stop::NoNextBlock)));
@@ -151,6 +151,8 @@ impl State {
             BlockVerb::Depart => self.depart_of(case, notes, x, id, block),
             BlockVerb::Seize => self.seize_of(case, notes, id, block),
             BlockVerb::Release => self.release_of(case, notes, x, id, block),
+            BlockVerb::Enter => self.enter_of(case, notes, id, block),
+            BlockVerb::Leave => self.leave_of(case, notes, id, block),
             BlockVerb::Transfer => transfer_of(case, notes, id, block),
             _ => Err(Halt::End(End::Error(Stop::NoNextBlock))),
         }

@@ -1,11 +1,12 @@
 ghost use Rattle.std.specs.Prelude.{◌≡◌, [], length, min, option_copied, IfOk, OnOk};
 ghost use Rattle.indexmap.specs.IndexMap.{spare};
 ghost use Rattle.gw_entities.specs.Tables.{value_of, with_value};
-ghost use Rattle.gw_meaning.specs.Changes.{lined_up};
-ghost use Rattle.gw_meaning.specs.Machine.{delay_at, waiting};
-ghost use Rattle.gw_scan.specs.Parts.{delays_of, HasRoomOn, HasPlace, first_of, without_first};
+ghost use Rattle.gw_meaning.specs.Changes.{lined_up, some_let_in};
+ghost use Rattle.gw_meaning.specs.Machine.{Machine, delay_at, waiting};
+ghost use Rattle.gw_scan.specs.Parts.{delays_of, items_of, HasRoomOn, HasPlace, first_of, without_first, with_share, HasRoomToLetAllIn};
 
 use crate::chain::PriorityChain;
+use crate::counts::Counts;
 use gw_meaning::Transaction;
 use gw_names::Key;
 use indexmap::IndexMap;
@@ -13,11 +14,11 @@ use std::alloc::{AllocError, Global};
 use std::marker::Model;
 use std::mem;
 
-/// The delay chain of each facility that somebody waited for, in the order of first waiting.
+/// The delay chain of each facility and storage that somebody waited for, in the order of first waiting.
 #[derive(Drop)]
 pub struct DelayChains {
     chains: IndexMap<Key, PriorityChain>,
-    // An empty chain, for the next facility that has none.
+    // An empty chain, for the next entity that has none.
     fresh: PriorityChain,
     // How many wait on all chains.
     count: usize,
@@ -51,7 +52,7 @@ impl DelayChains {
         }
     }
 
-    /// How many wait for a facility.
+    /// How many wait for a facility or a storage.
     pub fn len(&self, key: &Key) -> usize
         ensures { result ≡ length (delay_at (delays_of self.now.chains) key.now) }
     {
@@ -61,24 +62,34 @@ impl DelayChains {
         }
     }
 
-    // How many wait for any facility.
+    // How many wait on all chains.
     pub(crate) fn count(&self) -> usize
         ensures { result ≡ length (waiting (delays_of self.now.chains)) }
     {
         self.count
     }
 
+    // The chain of a facility or a storage, where somebody waited for it.
+    pub(crate) fn chain(&self, key: &Key) -> Option<&PriorityChain>
+        ensures { items_of (option_copied result) ≡ delay_at (delays_of self.now.chains) key.now }
+    {
+        self.chains.get(key)
+    }
+
     // The first that waits for a facility.
     pub(crate) fn first(&self, key: &Key) -> Option<&Transaction>
         ensures { option_copied result ≡ first_of (delay_at (delays_of self.now.chains) key.now) }
     {
+        if self.count == 0 {
+            return None;
+        }
         match self.chains.get(key) {
             Some(chain) => chain.get(0),
             None => None,
         }
     }
 
-    // Makes room for one more to wait for a facility.
+    // Makes room for one more to wait for a facility or a storage.
     pub(crate) fn reserve(&mut self, key: &Key) -> Result<(), AllocError>
         ensures ok { OnOk result (HasPlace self.new key.now) }
         ensures delays { delays_of self.new.chains ≡ delays_of self.old.chains }
@@ -96,7 +107,7 @@ impl DelayChains {
         }
     }
 
-    // A transaction waits for a facility: behind its equals, in front of the first of lower priority.
+    // A transaction waits for a facility or a storage: behind its equals, in front of the first of lower priority.
     pub(crate) fn line_up(&mut self, key: Key, x: Transaction)
         requires { HasPlace self.old key }
         ensures { delays_of self.new.chains ≡
@@ -116,6 +127,33 @@ impl DelayChains {
         let x = chain.take_first()?;
         self.count -= 1;
         Some(x)
+    }
+
+    // Of those who wait for a storage each with a share is let in.
+    pub(crate) fn let_in_some(
+        &mut self,
+        key: &Key,
+        shares: &[Option<u64>],
+        current: &mut PriorityChain,
+        counts: &mut Counts,
+    )
+        requires { HasRoomToLetAllIn (with_share shares.now (delay_at (delays_of self.old.chains) key.now))
+            current.old.room counts.old.limit }
+        ensures { (s : Machine) →
+            record s { delays = delays_of self.new.chains; current = current.new.items; counts = counts.new.entries } ≡
+            some_let_in key.now shares.now [] (delay_at (delays_of self.old.chains) key.now) (record s {
+              delays = delays_of self.old.chains;
+              current = current.old.items;
+              counts = counts.old.entries;
+            }) }
+    {
+        let Some(chain) = self.chains.get_mut(key) else {
+            return;
+        };
+        let before = chain.len();
+        chain.let_in_some(shares, current, counts);
+        let gone = before - chain.len();
+        self.count -= gone;
     }
 
     // Equal chains.
@@ -141,7 +179,7 @@ impl DelayChains {
     }
 }
 
-// Puts a transaction on the chain of a facility, and on the fresh one where it has none.
+// Puts a transaction on the chain of a facility or a storage, and on the fresh one where it has none.
 fn put(
     chains: &mut IndexMap<Key, PriorityChain>,
     fresh: &mut PriorityChain,

@@ -2,11 +2,11 @@
 ghost use Rattle.std.specs.Prelude.{◌≡◌, ◌<◌, Some, IfOk, OnOk};
 ghost use Rattle.gw_meaning.specs.declared.entity_change.Deed.TheVariants as deeds;
 ghost use Rattle.gw_entities.specs.Tables.{HasRoom};
-ghost use Rattle.gw_meaning.specs.Entities.{no_entities, facility_at, line_at, done, later};
+ghost use Rattle.gw_meaning.specs.Entities.{no_entities, facility_at, line_at, store_at, all_entered, done, later};
 ghost use Rattle.gw_entities.specs.Comings.{came};
 ghost use Rattle.gw_scan.specs.Parts.{entities_of, HasRoomFor};
 
-use gw_entities::{ByKey, Comings, Facility, Queue};
+use gw_entities::{ByKey, Comings, Facility, Queue, Storage};
 use gw_meaning::{Deed, EntityChange};
 use gw_names::Key;
 use gw_nums::Clock;
@@ -18,8 +18,9 @@ use std::marker::Model;
 pub struct Entities {
     facilities: ByKey<Facility>,
     queues: ByKey<Queue>,
+    storages: ByKey<Storage>,
     comings: Comings,
-    // A copy of the key of the queue that room was made to come to.
+    // The key under which the next coming is noted, copied before anything changes.
     ready: Option<Key>,
 }
 
@@ -31,6 +32,7 @@ impl Model for Entities {
     ghost view = { λ e. record {
       facilities = e.facilities;
       queues = e.queues;
+      storages = e.storages;
       comings = e.comings;
       ready = e.ready;
     } };
@@ -44,6 +46,7 @@ impl Entities {
         Entities {
             facilities: ByKey::new(alloc),
             queues: ByKey::new(alloc),
+            storages: ByKey::new(alloc),
             comings: Comings::new(alloc),
             ready: None,
         }
@@ -61,6 +64,13 @@ impl Entities {
         ensures { result.now ≡ self.now.queues }
     {
         &self.queues
+    }
+
+    /// The storages that were touched.
+    pub fn storages(&self) -> &ByKey<Storage>
+        ensures { result.now ≡ self.now.storages }
+    {
+        &self.storages
     }
 
     // A facility, which is free where nothing touched it yet.
@@ -83,6 +93,16 @@ impl Entities {
         }
     }
 
+    // A storage, of which no unit is in use where nothing touched it yet.
+    pub(crate) fn storage(&self, key: &Key) -> Storage
+        ensures { result ≡ store_at (entities_of self.now) key.now }
+    {
+        match self.storages.get(key) {
+            Some(storage) => storage,
+            None => Storage::new(),
+        }
+    }
+
     // Whether a transaction came to a queue since the clock stands as it does.
     pub(crate) fn came(&self, key: &Key, number: u64) -> bool
         ensures { result ≡ came (entities_of self.now).comings key.now number }
@@ -100,6 +120,7 @@ impl Entities {
             Deed::Queue { .. } => self.reserve_coming(key),
             Deed::Depart { .. } => self.queues.reserve(key),
             Deed::Seize | Deed::Release { .. } => self.facilities.reserve(key),
+            Deed::Enter { .. } | Deed::Leave { .. } => self.storages.reserve(key),
         }
     }
 
@@ -121,10 +142,12 @@ impl Entities {
     {
         let key = change.key();
         match change.deed() {
-            Deed::Queue { units } => self.come(key, units, clock, number),
-            Deed::Depart { units, at_once } => self.go(key, units, clock, at_once),
+            Deed::Queue { units } => self.come(key, *units, clock, number),
+            Deed::Depart { units, at_once } => self.go(key, *units, clock, *at_once),
             Deed::Seize => self.seize(key, clock, number),
-            Deed::Release { next } => self.release(key, clock, next),
+            Deed::Release { next } => self.release(key, clock, *next),
+            Deed::Enter { units } => self.enter(key, *units, clock),
+            Deed::Leave { units, shares } => self.leave(key, *units, shares.as_slice(), clock),
         }
     }
 
@@ -175,6 +198,27 @@ impl Entities {
         self.facilities.set(key, facility);
     }
 
+    // Units of a storage come into use.
+    fn enter(&mut self, key: &Key, units: u64, clock: Clock)
+        requires { HasRoom self.old.storages key.now }
+        ensures { entities_of self.new ≡ done key.now (deeds.Enter units) clock 0 (entities_of self.old) }
+    {
+        let mut storage = self.storage(key);
+        storage.enter(units, clock);
+        self.storages.set(key, storage);
+    }
+
+    // Units of a storage are given back, and those who have a share of them come in.
+    fn leave(&mut self, key: &Key, units: u64, shares: &[Option<u64>], clock: Clock)
+        requires { HasRoom self.old.storages key.now }
+        ensures { entities_of self.new ≡ done key.now (deeds.Leave units shares.now) clock 0 (entities_of self.old) }
+    {
+        let mut storage = self.storage(key);
+        storage.leave(units, clock);
+        enter_all(&mut storage, shares, clock);
+        self.storages.set(key, storage);
+    }
+
     // The clock goes on.
     pub(crate) fn go_on(&mut self, before: Clock, now: Clock)
         ensures { entities_of self.new ≡ later before now (entities_of self.old) }
@@ -193,12 +237,25 @@ impl Entities {
     {
         let facilities = self.facilities.copy()?;
         let queues = self.queues.copy()?;
+        let storages = self.storages.copy()?;
         let comings = self.comings.copy()?;
         Ok(Entities {
             facilities,
             queues,
+            storages,
             comings,
             ready: None,
         })
+    }
+}
+
+// The units of each share come into use, one by one.
+fn enter_all(storage: &mut Storage, shares: &[Option<u64>], clock: Clock)
+    ensures { storage.new ≡ all_entered shares.now clock storage.old }
+{
+    for share in shares {
+        if let Some(units) = share {
+            storage.enter(*units, clock);
+        }
     }
 }

@@ -1,12 +1,12 @@
 // The change of an entity: what it makes of the entity, and whom it lets in. Both lie apart from the step's own path,
 // since most steps change none.
-ghost use Rattle.std.specs.Prelude.{◌≡◌, ◌<◌, ◌≤◌, OnOk};
+ghost use Rattle.std.specs.Prelude.{◌≡◌, ◌+◌, ◌<◌, ◌≤◌, [], ◌∷◌, Some, length, IfOk, OnOk};
 ghost use Rattle.gw_meaning.specs.Machine.{Machine, delay_at};
-ghost use Rattle.gw_meaning.specs.Changes.{let_in, first_let_in, admitted};
+ghost use Rattle.gw_meaning.specs.Changes.{let_in, some_let_in, admitted};
 ghost use Rattle.gw_meaning.specs.Entities.{done};
-ghost use Rattle.gw_scan.specs.Parts.{entities_of, delays_of, first_of, IsWithin, HasRoomFor, HasRoomToLetIn, HasRoomToAdmit};
+ghost use Rattle.gw_scan.specs.Parts.{entities_of, delays_of, first_of, with_share, IsWithin, AreWithin, HasRoomFor, HasRoomToLetIn, HasRoomToLetAllIn, HasRoomToAdmit};
 
-use crate::chain::PriorityChain;
+use crate::chain::{PriorityChain, has_share};
 use crate::changes::enter;
 use crate::counts::Counts;
 use crate::delays::DelayChains;
@@ -36,6 +36,9 @@ pub fn reserve_change(
     entities.reserve(change)?;
     match change.deed() {
         Deed::Release { .. } => reserve_first(delays, current, counts, change.key()),
+        Deed::Leave { shares, .. } => {
+            reserve_some(delays, current, counts, change.key(), shares.as_slice())
+        }
         _ => Ok(()),
     }
 }
@@ -57,6 +60,60 @@ fn reserve_first(
         return Ok(());
     };
     current.reserve(1)?;
+    reserve_block(x, counts)
+}
+
+// Makes room for those who wait for a storage and have a share to be let in.
+fn reserve_some(
+    delays: &DelayChains,
+    current: &mut PriorityChain,
+    counts: &mut Counts,
+    key: &Key,
+    shares: &[Option<u64>],
+) -> Result<(), AllocError>
+    ensures ok { OnOk result (HasRoomToLetAllIn (with_share shares.now (delay_at (delays_of delays.now.chains) key.now))
+        current.new.room counts.new.limit) }
+    ensures current { current.new.items ≡ current.old.items }
+    ensures counts { counts.new.entries ≡ counts.old.entries }
+    ensures limit { counts.old.limit ≤ counts.new.limit }
+{
+    let Some(chain) = delays.chain(key) else {
+        return Ok(());
+    };
+    let count = reserve_blocks(chain, shares, counts)?;
+    current.reserve(count)
+}
+
+// Makes room for the counts of the blocks at which those with a share wait. How many they are.
+fn reserve_blocks(
+    chain: &PriorityChain,
+    shares: &[Option<u64>],
+    counts: &mut Counts,
+) -> Result<usize, AllocError>
+    ensures count { IfOk result (λ count. count ≡ length (with_share shares.now chain.now.items)) }
+    ensures within { OnOk result (AreWithin (with_share shares.now chain.now.items) counts.new.limit) }
+    ensures entries { counts.new.entries ≡ counts.old.entries }
+    ensures limit { counts.old.limit ≤ counts.new.limit }
+{
+    let mut count = 0;
+    for i in 0..chain.len() {
+        let Some(x) = chain.get(i) else {
+            unreachable!()
+        };
+        if has_share(shares, i) {
+            reserve_block(x, counts)?;
+            count += 1;
+        }
+    }
+    Ok(count)
+}
+
+// Makes room for the count of the block at which a transaction waits.
+fn reserve_block(x: &Transaction, counts: &mut Counts) -> Result<(), AllocError>
+    ensures ok { OnOk result (IsWithin x.now.destination counts.new.limit) }
+    ensures entries { counts.new.entries ≡ counts.old.entries }
+    ensures limit { counts.old.limit ≤ counts.new.limit }
+{
     match x.destination.id() {
         Some(id) => counts.reserve(id),
         None => Ok(()),
@@ -90,6 +147,9 @@ pub fn change_entity(
     entities.change(change, clock, number);
     match change.deed() {
         Deed::Release { .. } => let_first_in(delays, current, counts, change.key()),
+        Deed::Leave { shares, .. } => {
+            delays.let_in_some(change.key(), shares.as_slice(), current, counts)
+        }
         _ => (),
     }
 }
@@ -105,7 +165,7 @@ fn let_first_in(
         current.old.room counts.old.limit }
     ensures { (s : Machine) →
         record s { delays = delays_of delays.new.chains; current = current.new.items; counts = counts.new.entries } ≡
-        first_let_in key.now (delay_at (delays_of delays.old.chains) key.now) (record s {
+        some_let_in key.now (Some 1 ∷ []) [] (delay_at (delays_of delays.old.chains) key.now) (record s {
           delays = delays_of delays.old.chains;
           current = current.old.items;
           counts = counts.old.entries;
@@ -117,12 +177,14 @@ fn let_first_in(
 }
 
 // A transaction that waited at a block enters it, and goes to the current chain.
-fn let_in(current: &mut PriorityChain, counts: &mut Counts, x: Transaction)
+pub fn let_in(current: &mut PriorityChain, counts: &mut Counts, x: Transaction)
     requires room { 0 < current.old.room }
     requires counts { IsWithin x.destination counts.old.limit }
-    ensures { (s : Machine) →
+    ensures let_in { (s : Machine) →
         record s { current = current.new.items; counts = counts.new.entries } ≡
         let_in x x.destination (record s { current = current.old.items; counts = counts.old.entries }) }
+    ensures room { current.old.room ≤ current.new.room + 1 }
+    ensures limit { counts.new.limit ≡ counts.old.limit }
 {
     match x.destination.id() {
         Some(id) => {

@@ -15,7 +15,6 @@ use gw_expr::Stop;
 use gw_meaning::operands::A;
 use gw_meaning::{Block, Change, Deed, End, EntityChange, Fate, Move, StatementId, Transaction};
 use gw_names::Key;
-use std::alloc::Global;
 
 impl State {
     // A facility is taken, or waited for where it is owned.
@@ -31,18 +30,18 @@ impl State {
             result notes.old notes.new }
     {
         let key = self.entity(case, notes, block.operand(A))?;
-        self.seize_or_wait(case.alloc, id, key)
+        self.seize_or_wait(id, key)
     }
 
-    fn seize_or_wait(&self, alloc: Global, id: StatementId, key: Key) -> Result<Move, Halt>
+    fn seize_or_wait(&self, id: StatementId, key: Key) -> Result<Move, Halt>
         ensures { Comes (seize_or_wait id key (is_some (facility_at self.now.entities key).owner)) result }
     {
         if self.entities.facility(&key).is_owned() {
-            return Ok(Move::Refuse { id, key });
+            return Ok(Move::Refuse { id, key, units: 1 });
         }
         Ok(Move::Enter {
             id,
-            change: Change::Entity(EntityChange::new(alloc, key, Deed::Seize)?),
+            change: Change::Entity(EntityChange::new(key, Deed::Seize)),
             fate: Fate::Active,
         })
     }
@@ -61,16 +60,10 @@ impl State {
             result notes.old notes.new }
     {
         let key = self.entity(case, notes, block.operand(A))?;
-        self.release(case.alloc, x, id, key)
+        self.release(x, id, key)
     }
 
-    fn release(
-        &self,
-        alloc: Global,
-        x: &Transaction,
-        id: StatementId,
-        key: Key,
-    ) -> Result<Move, Halt>
+    fn release(&self, x: &Transaction, id: StatementId, key: Key) -> Result<Move, Halt>
         ensures { Comes (release_to id key (is_owner (facility_at self.now.entities key).owner x.now.number)
             (first_number (delay_at self.now.delays key))) result }
     {
@@ -80,7 +73,7 @@ impl State {
         let next = number_of(self.delays.first(&key));
         Ok(Move::Enter {
             id,
-            change: Change::Entity(EntityChange::new(alloc, key, Deed::Release { next })?),
+            change: Change::Entity(EntityChange::new(key, Deed::Release { next })),
             fate: Fate::Active,
         })
     }

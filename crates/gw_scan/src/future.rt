@@ -130,5 +130,6 @@ fn same(x: &Transaction) -> Transaction
         mark: x.mark,
         current: x.current,
         destination: x.destination,
+        asked: x.asked,
     }
 }

@@ -24,6 +24,7 @@ mod progress;
 mod queues;
 mod state;
 mod steps;
+mod storages;
 mod tally;
 mod transfer;
 mod value;

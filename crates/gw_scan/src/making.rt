@@ -24,6 +24,7 @@ pub fn make(next: &mut u64, future: &mut FutureChain, counts: &mut Counts, arriv
         mark: Time::ZERO,
         current: StatementId::NONE,
         destination: Destination::to(arrival.id),
+        asked: 0,
     };
     future.put(Event {
         time: arrival.time,

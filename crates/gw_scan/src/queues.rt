@@ -1,8 +1,9 @@
 // QUEUE and DEPART: ask and test, and change nothing.
-ghost use Rattle.std.specs.Prelude.{◌≡◌};
+ghost use Rattle.std.specs.Prelude.{◌≡◌, option_copied};
 ghost use Rattle.gw_entities.specs.Comings.{came};
 ghost use Rattle.gw_meaning.specs.Entities.{line_at};
 ghost use Rattle.gw_meaning.specs.Statements.{A, B, operand};
+ghost use Rattle.gw_meaning.specs.Evaluation.{units_prog, ◌~>◌};
 ghost use Rattle.gw_meaning.specs.Step.{is_too_many, queue_units, queue_prog, depart_units, depart_prog};
 ghost use Rattle.gw_scan.specs.Deciding.{Decides, Comes};
 
@@ -10,11 +11,10 @@ use crate::case::{Case, Halt};
 use crate::notes::Notes;
 use crate::state::State;
 use gw_entities::Queue;
-use gw_expr::Stop;
+use gw_expr::{Expr, Stop};
 use gw_meaning::operands::{A, B};
 use gw_meaning::{Block, Change, Deed, End, EntityChange, Fate, Move, StatementId, Transaction};
 use gw_names::Key;
-use std::alloc::Global;
 
 impl State {
     // Units come to a queue.
@@ -30,9 +30,23 @@ impl State {
             (queue_prog self.now id (operand block.now A) (operand block.now B)) result notes.old notes.new }
     {
         let key = self.entity(case, notes, block.operand(A))?;
-        let units = self.units(case, notes, block.operand(B))?;
+        self.queue_at(case, notes, id, key, block.operand(B))
+    }
+
+    fn queue_at(
+        &self,
+        case: Case,
+        notes: &mut Notes,
+        id: StatementId,
+        key: Key,
+        units: Option<&Expr>,
+    ) -> Result<Move, Halt>
+        ensures { Decides case.entry.version.now case.entry.seed (units_prog self.now (option_copied units.entry) ~>
+            (λ n. queue_units id key (line_at self.now.entities key) n)) result notes.old notes.new }
+    {
+        let units = self.units(case, notes, units)?;
         let queue = self.entities.queue(&key);
-        queue_units(case.alloc, id, key, queue, units)
+        queue_units(id, key, queue, units)
     }
 
     // Units leave a queue.
@@ -49,34 +63,37 @@ impl State {
             (depart_prog self.now x.now id (operand block.now A) (operand block.now B)) result notes.old notes.new }
     {
         let key = self.entity(case, notes, block.operand(A))?;
-        let units = self.units(case, notes, block.operand(B))?;
-        self.depart(case.alloc, x, id, key, units)
+        self.depart_at(case, notes, x, id, key, block.operand(B))
     }
 
-    fn depart(
+    fn depart_at(
         &self,
-        alloc: Global,
+        case: Case,
+        notes: &mut Notes,
         x: &Transaction,
         id: StatementId,
         key: Key,
-        units: u64,
+        units: Option<&Expr>,
     ) -> Result<Move, Halt>
+        ensures { Decides case.entry.version.now case.entry.seed (units_prog self.now (option_copied units.entry) ~>
+            (λ n. depart_units id key (line_at self.now.entities key)
+            (came self.now.entities.comings key x.now.number) n)) result notes.old notes.new }
+    {
+        let units = self.units(case, notes, units)?;
+        self.depart(x, id, key, units)
+    }
+
+    fn depart(&self, x: &Transaction, id: StatementId, key: Key, units: u64) -> Result<Move, Halt>
         ensures { Comes (depart_units id key (line_at self.now.entities key)
             (came self.now.entities.comings key x.now.number) units) result }
     {
         let queue = self.entities.queue(&key);
         let at_once = self.entities.came(&key, x.number);
-        depart_units(alloc, id, key, queue, at_once, units)
+        depart_units(id, key, queue, at_once, units)
     }
 }
 
-fn queue_units(
-    alloc: Global,
-    id: StatementId,
-    key: Key,
-    queue: Queue,
-    units: u64,
-) -> Result<Move, Halt>
+fn queue_units(id: StatementId, key: Key, queue: Queue, units: u64) -> Result<Move, Halt>
     ensures { Comes (queue_units id key queue units) result }
 {
     let content = queue.level().content();
@@ -87,13 +104,12 @@ fn queue_units(
     }
     Ok(Move::Enter {
         id,
-        change: Change::Entity(EntityChange::new(alloc, key, Deed::Queue { units })?),
+        change: Change::Entity(EntityChange::new(key, Deed::Queue { units })),
         fate: Fate::Active,
     })
 }
 
 fn depart_units(
-    alloc: Global,
     id: StatementId,
     key: Key,
     queue: Queue,
@@ -110,12 +126,13 @@ fn depart_units(
     }
     Ok(Move::Enter {
         id,
-        change: Change::Entity(EntityChange::new(alloc, key, Deed::Depart { units, at_once })?),
+        change: Change::Entity(EntityChange::new(key, Deed::Depart { units, at_once })),
         fate: Fate::Active,
     })
 }
 
-fn is_too_many(count: u64) -> bool
+// Whether a content or a count of entries is beyond what it may be.
+pub fn is_too_many(count: u64) -> bool
     ensures { result ≡ is_too_many count }
 {
     count > 1_000_000_000

@@ -136,14 +136,14 @@ impl State {
         &self.future
     }
 
-    /// The delay chains of the facilities.
+    /// The delay chains of the facilities and the storages.
     pub fn delays(&self) -> &DelayChains
         ensures { delays_of result.now.chains ≡ self.now.delays }
     {
         &self.delays
     }
 
-    /// The facilities, the queues, and who came to which while the clock stands as it does.
+    /// The facilities, the queues and the storages, and who came to which queue while the clock stands as it does.
     pub fn entities(&self) -> &Entities
         ensures { entities_of result.now ≡ self.now.entities }
     {

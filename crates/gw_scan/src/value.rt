@@ -1,14 +1,14 @@
 // What operands stand for: values, entities and units.
 ghost use Rattle.std.specs.Prelude.{◌≡◌, ◌++◌, option_copied};
-ghost use Rattle.gw_meaning.specs.Evaluation.{value_prog, value_or_zero, entity_prog, units_prog};
-ghost use Rattle.gw_scan.specs.Deciding.{Decides};
+ghost use Rattle.gw_meaning.specs.Evaluation.{value_prog, value_or_zero, numbered, named, entity_prog, units_prog};
+ghost use Rattle.gw_scan.specs.Deciding.{Decides, Comes};
 
-use crate::case::{Case, Halt};
+use crate::case::{Case, Halt, ask_name};
 use crate::notes::Notes;
 use crate::state::State;
 use gw_expr::{Expr, Node, Stop};
 use gw_meaning::End;
-use gw_names::Key;
+use gw_names::{Key, Name};
 use gw_nums::Val;
 
 impl State {
@@ -43,25 +43,22 @@ impl State {
     // The entity that an operand names.
     pub(crate) fn entity(
         &self,
-        _case: Case,
+        case: Case,
         notes: &mut Notes,
         operand: Option<&Expr>,
     ) -> Result<Key, Halt>
-        ensures { Decides _case.entry.version.now _case.entry.seed (entity_prog self.now (option_copied operand.entry))
+        ensures { Decides case.entry.version.now case.entry.seed (entity_prog self.now (option_copied operand.entry))
             result notes.old notes.new }
     {
-        let _ = notes;
         let Some(expr) = operand else {
             return Err(Halt::End(End::Error(Stop::Range)));
         };
         match expr.node() {
-            Node::Named(name) => Ok(Key::Named(name.clone()?)),
-            Node::Constant(number) => {
-                if number.get() < 1 {
-                    return Err(Halt::End(End::Error(Stop::Range)));
-                }
-                Ok(Key::Num(number.magnitude() as u32))
+            Node::Named(name) => {
+                let number = ask_name(case.version, notes, name)?;
+                named(name, number)
             }
+            Node::Constant(number) => numbered(*number),
             _ => Err(Halt::End(End::Error(Stop::Range))),
         }
     }
@@ -85,4 +82,24 @@ impl State {
         }
         Ok(units.magnitude())
     }
+}
+
+// The entity with a name, or with the number that the name stands for.
+fn named(name: &Name, number: Option<Val>) -> Result<Key, Halt>
+    ensures { Comes (named name.now number) result }
+{
+    match number {
+        Some(number) => numbered(number),
+        None => Ok(Key::Named(name.clone()?)),
+    }
+}
+
+// The entity with a number, from 1.
+fn numbered(number: Val) -> Result<Key, Halt>
+    ensures { Comes (numbered number) result }
+{
+    if number.get() < 1 {
+        return Err(Halt::End(End::Error(Stop::Range)));
+    }
+    Ok(Key::Num(number.magnitude() as u32))
 }

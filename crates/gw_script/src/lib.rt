@@ -19,5 +19,5 @@ pub use gw_desk::{Desk, Keeper, points_are_found};
 pub use gw_io::{
     Budget, Failed, FromRead, READ_LIMIT, ReadFault, Sink, Source, ToWrite, split_model,
 };
-pub use opening::{Options, open};
+pub use opening::{Options, open, open_version};
 pub use sessions::{session, session_on};

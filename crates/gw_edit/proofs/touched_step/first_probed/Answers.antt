@@ -8,3 +8,6 @@ returns-in-CommandsFrom c = rw c.in-CommandsFrom.is c.first_command.ensures
 
 pub returns-in-Beyond : goal.returns-in-Beyond
 returns-in-Beyond c = rw c.in-Beyond.is c.first_clock.ensures
+
+pub returns-in-Amounts : goal.returns-in-Amounts
+returns-in-Amounts c = rw c.in-Amounts.is c.first_ask.ensures

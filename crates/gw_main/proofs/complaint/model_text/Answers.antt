@@ -11,6 +11,14 @@ two : decimal 2 ≡ 50 ∷ []
 unfolding digits
 two = refl
 
+three : decimal 3 ≡ 51 ∷ []
+unfolding digits
+three = refl
+
+four : decimal 4 ≡ 52 ∷ []
+unfolding digits
+four = refl
+
 five : decimal 5 ≡ 53 ∷ []
 unfolding digits
 five = refl
@@ -41,6 +49,12 @@ returns-in-LabelTwice c = rw (c.in-LabelTwice.is, one) refl
 
 pub returns-in-NoSuchLabel : goal.returns-in-NoSuchLabel
 returns-in-NoSuchLabel c = rw (c.in-NoSuchLabel.is, two) refl
+
+pub returns-in-NoSuchDefinition : goal.returns-in-NoSuchDefinition
+returns-in-NoSuchDefinition c = rw (c.in-NoSuchDefinition.is, three) refl
+
+pub returns-in-EquNamedDefinition : goal.returns-in-EquNamedDefinition
+returns-in-EquNamedDefinition c = rw (c.in-EquNamedDefinition.is, four) refl
 
 pub returns-in-Memory : goal.returns-in-Memory
 returns-in-Memory c = rw (c.in-Memory.is, eight) refl

@@ -12,11 +12,13 @@ returns c =
     let t = c.args.version.now in
     let s = c.args.state.now in
     let facilities : c.len.result ≡ length s.entities.facilities = search rules in
-    let told = decimal c.ticks.result ∷ decimal c.ticks-2.result ∷ decimal c.blocks-2.result ∷ decimal c.len.result ∷ decimal 0 ∷ [] in
+    let storages : c.len-2.result ≡ length s.entities.storages = search rules in
+    let told = decimal c.ticks.result ∷ decimal c.ticks-2.result ∷ decimal c.blocks-2.result ∷ decimal c.len.result ∷ decimal c.len-2.result ∷ [] in
     let row =
-    decimal s.since ∷ decimal s.clock ∷ decimal (length (filter is_block t.lines)) ∷ decimal (length s.entities.facilities) ∷ decimal 0 ∷ [] in
+    decimal s.since ∷ decimal s.clock ∷ decimal (length (filter is_block t.lines)) ∷ decimal (length s.entities.facilities) ∷
+    decimal (length s.entities.storages) ∷ [] in
     let cells : row_of head_columns told ≡ row_of head_columns row =
-    rw (c.ticks.ensures.value, c.ticks-2.ensures.value, c.since.ensures, c.clock.ensures, c.blocks-2.ensures, facilities) refl in
+    rw (c.ticks.ensures.value, c.ticks-2.ensures.value, c.since.ensures, c.clock.ensures, c.blocks-2.ensures, facilities, storages) refl in
     let line : c.as_slice.result.now ≡ rows_of head_columns (row ∷ []) =
     c.as_slice.ensures.value ∙ c.in_ok-put_row.ensures ∙ ap (λ l. l ++ row_of head_columns told)
     c.new-line.ensures.items ∙ cells ∙ sym (append-nil (row_of head_columns row)) in

@@ -2,10 +2,10 @@ use Rattle.std.proofs.Common.{sym, ◌∙◌}
 use Rattle.gw_entities.proofs.TableLaws.{set_value_is, inserted_is}
 use Rattle.gw_entities.proofs.by_key.ByKey.set.Goals as goal
 
-pub returns-in-Some : goal.returns-in-Some
-returns-in-Some g c =
+pub returns-in-Some-get_mut : goal.returns-in-Some-get_mut
+returns-in-Some-get_mut g c =
     rw (← c.self.view_is)
-    ((c.get_mut.follows.holds c.args.value).0 ∙ set_value_is _ c.args.key.now c.args.value _ (sym c.in-Some.ensures.value))
+    ((c.get_mut.follows.holds c.args.value).0 ∙ set_value_is _ c.args.key.now c.args.value _ (sym c.in-Some-get_mut.ensures.value))
 
 pub returns-in-Ok : goal.returns-in-Ok
 returns-in-Ok g c =

@@ -1,6 +1,6 @@
 use Rattle.std.proofs.Common.{ap, sym, ◌∙◌}
-use Rattle.gw_scan.specs.Parts.{first_of}
-use Rattle.gw_scan.proofs.DelayLaws.{delay_is, first_is}
+use Rattle.gw_scan.specs.Parts.{delays_of, first_of}
+use Rattle.gw_scan.proofs.DelayLaws.{delay_is, first_is, none_first}
 use Rattle.gw_scan.proofs.delays.DelayChains.first.Goals as goal
 
 pub returns-in-Some : goal.returns-in-Some
@@ -10,3 +10,7 @@ returns-in-Some c =
 
 pub returns-in-None : goal.returns-in-None
 returns-in-None c = rw (← c.self.view_is) (ap first_of (sym (delay_is c.self.inside.chains.entries c.args.key.now _ c.in-None.ensures.value)))
+
+pub returns-then-self-eq0 : goal.returns-then-self-eq0
+returns-then-self-eq0 c = rw (← c.self.view_is)
+    (none_first (delays_of c.self.inside.chains.entries) c.args.key.now c.self.inside.count c.self.invariant.1 c.if-self-eq0.true)

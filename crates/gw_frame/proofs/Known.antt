@@ -1,0 +1,134 @@
+-- What is known of a move in the state in which it is decided: one line for each choice.
+use Rattle.std.proofs.Common.{◌≡◌, ℕ, ◌+◌, ◌≤◌, nat_le, Bool, true, false, ◌&&◌, List, [], ◌∷◌, length, Option, Some, None, is_some, ◌-◌, arith}
+use Rattle.std.specs.List.{AllByRecursion}
+use Rattle.std.proofs.lemmas.Bool.Decides.{nat_tests}
+use Rattle.gw_streams.specs.declared.stream.Stream.{Stream}
+use Rattle.gw_meaning.specs.declared.item.Item.{Item}
+use Rattle.gw_meaning.specs.declared.transaction.Transaction.{Transaction}
+use Rattle.gw_meaning.specs.declared.moves.Arrival.{Arrival}
+use Rattle.gw_meaning.specs.declared.entity_change.Deed.{Deed}
+use Rattle.gw_meaning.specs.declared.entity_change.Deed.TheVariants as deeds
+use Rattle.gw_meaning.specs.declared.moves.Change.{Change}
+use Rattle.gw_meaning.specs.declared.moves.Change.TheVariants as changes
+use Rattle.gw_meaning.specs.declared.moves.Fate.{Fate}
+use Rattle.gw_meaning.specs.declared.moves.Fate.TheVariants as fates
+use Rattle.gw_meaning.specs.declared.moves.Move.{Move}
+use Rattle.gw_meaning.specs.declared.moves.Move.TheVariants as moves
+use Rattle.gw_meaning.specs.Listing.{Listing}
+use Rattle.gw_meaning.specs.Numbers.{AreNumbered}
+use Rattle.gw_names.specs.declared.key.Key.{Key}
+use Rattle.gw_entities.specs.Records.{Line}
+use Rattle.gw_meaning.specs.Entities.{facility_at, line_at}
+use Rattle.gw_meaning.specs.Machine.{Machine, delay_at}
+use Rattle.gw_meaning.specs.Changes.{decided}
+use Rattle.gw_meaning.specs.Step.{is_too_many, first_number, least_time}
+use Rattle.gw_frame.specs.BlockIds.{IsBlockId, ActiveNames, ItemNames}
+use Rattle.gw_names.specs.declared.key.Key.TheVariants as keys
+use Rattle.gw_meaning.specs.Listing.{capacity_at}
+use Rattle.gw_meaning.specs.Entities.{store_at}
+use Rattle.gw_meaning.specs.Step.{beside, in_use, share_of, all_shares}
+
+-- what comes, comes to a block of the version and not before the clock
+pub record IsComing (t : Listing) (s : Machine) (a : Arrival) : Type 0 where
+  pub ahead : s.clock ≤ a.time
+  pub id : IsBlockId t a.id
+
+abbrev pub IsComingIfAny : Listing → Machine → Option Arrival → Type 0
+IsComingIfAny t s None = Unit {0}
+IsComingIfAny t s (Some a) = IsComing t s a
+
+-- the first transactions of the GENERATEs
+pub record AreFirst (t : Listing) (s : Machine) (arrivals : List Arrival) : Type 0 where
+  pub coming : AllByRecursion (IsComing t s) arrivals
+  pub few : length arrivals ≤ length t.lines
+
+-- what comes to a queue and what leaves it at once stays within the limit of counts
+pub record Fits (line : Line) (units : ℕ) : Type 0 where
+  pub entries : line.entries + units ≤ 1000000000
+  pub content : line.level.content + units ≤ 1000000000
+
+abbrev pub Leaves : Line → ℕ → Bool → Type 0
+Leaves line units at_once = at_once ≡ true → line.zero_entries + units ≤ 1000000000
+
+pub within_limit : (n : ℕ) → is_too_many n ≡ false → n ≤ 1000000000
+within_limit n h = grind (arith, nat_tests)
+
+pub leaves : (line : Line) (units : ℕ) (at_once : Bool) → (at_once && is_too_many (line.zero_entries + units)) ≡ false → Leaves line units at_once
+leaves line units true h = λ is. within_limit (line.zero_entries + units) h
+leaves line units false h = λ is. absurd cc
+
+-- whether so many units fit into the storage of a name
+abbrev pub does_fit : Listing → List ℕ → ℕ → Bool
+does_fit t name units = nat_le units (capacity_at t name)
+
+-- the shares of those who wait, from the front of a delay chain, beside so many units in use
+abbrev pub shares_of : Listing → List ℕ → ℕ → List Transaction → List (Option ℕ)
+shares_of t name content [] = []
+shares_of t name content (x ∷ xs) =
+    let fits = does_fit t name (beside x.asked content) in share_of x.asked fits ∷ shares_of t name (in_use content x.asked fits) xs
+
+-- a storage has room for units that come into use, and its entries stay within the limit of counts
+pub record ComesIn (t : Listing) (s : Machine) (key : Key) (units : ℕ) : Type 0 where
+  pub name : List ℕ
+  pub named : key ≡ keys.Defined name
+  pub fits : does_fit t name (beside units (store_at s.entities key).level.content) ≡ true
+  pub entries : (store_at s.entities key).entries + units ≤ 1000000000
+
+-- a storage has the units in use that are given back, and those who wait have the shares that fit; its entries stay within
+-- the limit of counts
+pub record GoesOut (t : Listing) (s : Machine) (key : Key) (units : ℕ) (shares : List (Option ℕ)) : Type 0 where
+  pub name : List ℕ
+  pub named : key ≡ keys.Defined name
+  pub in_use : units ≤ (store_at s.entities key).level.content
+  pub shared : shares ≡ shares_of t name ((store_at s.entities key).level.content - units) (delay_at s.delays key)
+  pub entries : (store_at s.entities key).entries + all_shares shares ≤ 1000000000
+
+-- whether an entity is a storage
+abbrev pub is_storage : Key → Bool
+is_storage (keys.Defined name) = true
+is_storage key = false
+
+-- what is known of a deed, a change, a fate and a move
+abbrev pub IsDecidedDeed : Listing → Machine → Key → Deed → Type 0
+IsDecidedDeed t s key (deeds.Queue units) = Fits (line_at s.entities key) units
+IsDecidedDeed t s key (deeds.Depart units at_once) = Leaves (line_at s.entities key) units at_once
+IsDecidedDeed t s key deeds.Seize = (is_storage key ≡ false) × (is_some (facility_at s.entities key).owner ≡ false)
+IsDecidedDeed t s key (deeds.Release next) = (is_storage key ≡ false) × (next ≡ first_number (delay_at s.delays key))
+IsDecidedDeed t s key (deeds.Enter units) = ComesIn t s key units
+IsDecidedDeed t s key (deeds.Leave units shares) = GoesOut t s key units shares
+
+abbrev pub IsDecidedChange : Listing → Machine → Change → Type 0
+IsDecidedChange t s (changes.Generate next) = IsComingIfAny t s next
+IsDecidedChange t s (changes.Transfer to) = AreNumbered t.lines → IsBlockId t to
+IsDecidedChange t s (changes.Entity change) = IsDecidedDeed t s change.0 change.1
+IsDecidedChange t s change = Unit {0}
+
+abbrev pub IsDecidedFate : Machine → Fate → Type 0
+IsDecidedFate s fates.Active = Unit {0}
+IsDecidedFate s (fates.Delayed until) = s.clock ≤ until
+IsDecidedFate s (fates.Destroyed count) = Unit {0}
+
+-- a facility refuses while it is owned, and a storage so many units that do not fit beside those in use
+abbrev pub IsRefused : Listing → Machine → Key → ℕ → Type 0
+IsRefused t s (keys.Defined name) units =
+    does_fit t name (beside units (store_at s.entities (keys.Defined name)).level.content) ≡ false
+IsRefused t s key units = is_some (facility_at s.entities key).owner ≡ true
+
+abbrev pub IsDecided : Listing → Machine → Move → Type 0
+IsDecided t s (moves.Start count arrivals) = AreFirst t s arrivals
+IsDecided t s moves.Command = Unit {0}
+IsDecided t s (moves.Enter id change fate) = IsBlockId t id × IsDecidedChange t s change × IsDecidedFate s fate
+IsDecided t s (moves.Refuse id key units) = IsBlockId t id × IsRefused t s key units
+IsDecided t s moves.Pick = s.active ≡ None
+IsDecided t s (moves.Clock time) = (least_time s.future ≡ Some time) × (nat_le time t.horizon ≡ true)
+
+-- what is known of an item that is read: where the statements have numbers of their own, it names no id but those of blocks
+abbrev pub IsRead : Listing → Machine → Item → Type 0
+IsRead t s i = AreNumbered t.lines → ActiveNames t s.active → ItemNames t i
+
+-- what is known of the state after a step
+pub record IsAfter (t : Listing) (s v : Machine) : Type 0 where
+  pub move : Move
+  pub streams : List Stream
+  pub is_decided : IsDecided t s move
+  pub is : v ≡ decided s move streams

@@ -1,0 +1,238 @@
+-- The storages, move by move and over a run: each is within its capacity.
+use Rattle.std.proofs.Common.{◌≡◌, ℕ, ◌+◌, ◌-◌, ◌≤◌, ◌<◌, ◌^◌, nat_le, Bool, true, false, cond, List, [], ◌∷◌, ◌++◌, Option, Some, Ok, unwrap_or, refl, sym, subst, ◌∙◌, arith}
+use Rattle.std.specs.List.{AllByRecursion}
+use Rattle.std.proofs.lemmas.Bool.Decides.{nat_tests}
+use Rattle.std.proofs.lemmas.List.Elements.{All-from_recursion}
+use Rattle.gw_names.specs.declared.key.Key.{Key}
+use Rattle.gw_names.specs.declared.key.Key.TheVariants as keys
+use Rattle.gw_names.specs.Keys.{key_eq}
+use Rattle.gw_entities.specs.Records.{Store, never_used, entered, left}
+use Rattle.gw_entities.specs.Tables.{value_of, with_value}
+use Rattle.gw_entities.proofs.ComingLaws.{key_same}
+use Rattle.gw_meaning.specs.declared.transaction.Transaction.{Transaction}
+use Rattle.gw_meaning.specs.declared.entity_change.Deed.{Deed}
+use Rattle.gw_meaning.specs.declared.entity_change.Deed.TheVariants as deeds
+use Rattle.gw_meaning.specs.declared.moves.Change.{Change}
+use Rattle.gw_meaning.specs.declared.moves.Change.TheVariants as changes
+use Rattle.gw_meaning.specs.declared.moves.Move.{Move}
+use Rattle.gw_meaning.specs.declared.moves.Move.TheVariants as moves
+use Rattle.gw_meaning.specs.Listing.{Listing, capacity_at}
+use Rattle.gw_meaning.specs.Entities.{store_at, all_entered, done, touched}
+use Rattle.gw_meaning.specs.Machine.{Machine, delay_at}
+use Rattle.gw_meaning.specs.Changes.{refused, moved}
+use Rattle.gw_meaning.specs.Step.{beside, in_use, share_of, all_shares, run}
+use Rattle.gw_frame.proofs.Known.{does_fit, shares_of, ComesIn, GoesOut, IsDecidedDeed, IsDecidedChange, IsDecided}
+use Rattle.gw_frame.proofs.Moves.{settled_is, with_active_has, entered_has, picked_has}
+use Rattle.gw_frame.proofs.Running.{over_run}
+use Rattle.gw_laws.specs.Storages.{IsWithin, IsStored, StoragesAreWithin}
+use Rattle.gw_laws.proofs.Waiting.{let_in_is}
+use Rattle.gw_laws.proofs.ClockLaws.{IsInTime, moved_goes_on}
+
+fits_in : (n m : ℕ) → nat_le n m ≡ true → n ≤ m
+fits_in n m is = grind (arith, nat_tests)
+
+pub no_room : (n m : ℕ) → nat_le n m ≡ false → m < n
+no_room n m is = grind (arith, nat_tests)
+
+-- a storage is within, and its content is a count of 64 bits
+pub record IsSound (capacity clock : ℕ) (s : Store) : Type 0 where
+  pub within : IsWithin capacity clock s
+  pub counted : s.level.content ≤ 2 ^ 64 - 1
+
+never_sound : (capacity clock : ℕ) → IsSound capacity clock never_used
+never_sound capacity clock = record {
+  within = record { content = omega arith; least = omega arith; most = omega arith; greatest = omega arith; entries = omega arith; at = omega arith };
+  counted = omega arith;
+}
+
+-- what a block makes of one
+entered_sound : (capacity clock units : ℕ) (s : Store) → beside units s.level.content ≤ capacity → s.entries + units ≤ 1000000000 →
+    IsSound capacity clock s → IsSound capacity clock (entered units clock s)
+entered_sound capacity clock units s fits few h = record {
+  within = record {
+    content = omega arith;
+    least = omega (arith, h.within.least, h.counted);
+    most = omega arith;
+    greatest = omega (arith, h.within.greatest);
+    entries = omega arith;
+    at = omega (arith, h.within.at);
+  };
+  counted = omega arith;
+}
+
+left_sound : (capacity clock units : ℕ) (s : Store) → IsSound capacity clock s → IsSound capacity clock (left units clock s)
+left_sound capacity clock units s h = record {
+  within = record {
+    content = omega (arith, h.within.content);
+    least = omega arith;
+    most = omega (arith, h.within.most);
+    greatest = h.within.greatest;
+    entries = h.within.entries;
+    at = omega (arith, h.within.at);
+  };
+  counted = omega (arith, h.counted);
+}
+
+module _ (t : Listing) (clock : ℕ) where
+  -- those who are let in with a share of what is left
+  shared_sound : (name : List ℕ) (chain : List Transaction) (content : ℕ) (s : Store) → s.level.content ≡ content →
+      s.entries + all_shares (shares_of t name content chain) ≤ 1000000000 → IsSound (capacity_at t name) clock s →
+      IsSound (capacity_at t name) clock (all_entered (shares_of t name content chain) clock s)
+  shared_sound name [] content s is few h = h
+  shared_sound name (x ∷ xs) content s is few h =
+      go (does_fit t name (beside x.asked content)) refl (shared_sound name xs) few
+    where
+      go : (fits : Bool) → does_fit t name (beside x.asked content) ≡ fits →
+          ((c : ℕ) (r : Store) → r.level.content ≡ c → r.entries + all_shares (shares_of t name c xs) ≤ 1000000000 → IsSound (capacity_at t name) clock r →
+          IsSound (capacity_at t name) clock (all_entered (shares_of t name c xs) clock r)) →
+          s.entries + all_shares (share_of x.asked fits ∷ shares_of t name (in_use content x.asked fits) xs) ≤ 1000000000 →
+          IsSound (capacity_at t name) clock (all_entered (share_of x.asked fits ∷ shares_of t name (in_use content x.asked fits) xs) clock s)
+      go false fits rest few = rest content s is few h
+      go true fits rest few =
+          let room = fits_in (beside x.asked content) (capacity_at t name) fits in
+          rest (beside x.asked content) (entered x.asked clock s) (omega (arith, is)) (omega (arith, few))
+          (entered_sound (capacity_at t name) clock x.asked s (omega (arith, is, room)) (omega (arith, few)) h)
+
+  -- each storage has a name, and is sound
+  abbrev IsKept : Key × Store → Type 0
+  IsKept e = (name : List ℕ) × (e.0 ≡ keys.Defined name) × IsSound (capacity_at t name) clock e.1
+
+  abbrev AreKept : List (Key × Store) → Type 0
+  AreKept = AllByRecursion IsKept
+
+  pub one_name : (a b : List ℕ) → keys.Defined a ≡ keys.Defined b → a ≡ b
+  one_name a b same = cc
+
+  pub store_sound : (es : List (Key × Store)) (name : List ℕ) → AreKept es →
+      IsSound (capacity_at t name) clock (unwrap_or (value_of es (keys.Defined name)) never_used)
+  store_sound [] name all = never_sound (capacity_at t name) clock
+  store_sound (e ∷ es) name all = go (key_eq (keys.Defined name) e.0) refl (store_sound es name all.1) where
+    go : (b : Bool) → key_eq (keys.Defined name) e.0 ≡ b →
+        IsSound (capacity_at t name) clock (unwrap_or (value_of es (keys.Defined name)) never_used) →
+        IsSound (capacity_at t name) clock (unwrap_or (cond b (Some e.1) (value_of es (keys.Defined name))) never_used)
+    go true is rest =
+        let same : all.0.0 ≡ name = one_name all.0.0 name (sym (key_same (keys.Defined name) e.0 is ∙ all.0.1)) in
+        subst (λ n. IsSound (capacity_at t n) clock e.1) same all.0.2
+    go false is rest = rest
+
+  with_sound : (es : List (Key × Store)) (name : List ℕ) (s : Store) → IsSound (capacity_at t name) clock s → AreKept es →
+      AreKept (with_value es (keys.Defined name) s)
+  with_sound [] name s here all = ((name, refl, here), tt)
+  with_sound (e ∷ es) name s here all = go (key_eq (keys.Defined name) e.0) refl (with_sound es name s here all.1) where
+    go : (b : Bool) → key_eq (keys.Defined name) e.0 ≡ b → AreKept (with_value es (keys.Defined name) s) →
+        AreKept (cond b ((e.0, s) ∷ es) (e ∷ with_value es (keys.Defined name) s))
+    go true is rest = ((name, sym (key_same (keys.Defined name) e.0 is), here), all.1)
+    go false is rest = (all.0, rest)
+
+-- what is known of ENTER and LEAVE, in the words of the name
+abbrev FitsIn : Listing → Machine → List ℕ → ℕ → Key → Type 0
+FitsIn t s name units key = (does_fit t name (beside units (store_at s.entities key).level.content) ≡ true) × ((store_at s.entities key).entries + units ≤
+    1000000000)
+
+abbrev pub LeavesTo : Listing → Machine → List ℕ → ℕ → List (Option ℕ) → Key → Type 0
+LeavesTo t s name units shares key =
+    (shares ≡ shares_of t name ((store_at s.entities key).level.content - units) (delay_at s.delays key))
+    × ((store_at s.entities key).entries + all_shares shares ≤ 1000000000)
+
+comes_in : (t : Listing) (s : Machine) (key : Key) (units : ℕ) (h : ComesIn t s key units) → FitsIn t s h.name units (keys.Defined h.name)
+comes_in t s key units h = subst (FitsIn t s h.name units) h.named (h.fits, h.entries)
+
+pub goes_out : (t : Listing) (s : Machine) (key : Key) (units : ℕ) (shares : List (Option ℕ)) (h : GoesOut t s key units shares) →
+    LeavesTo t s h.name units shares (keys.Defined h.name)
+goes_out t s key units shares h = subst (LeavesTo t s h.name units shares) h.named (h.shared, h.entries)
+
+enter_kept : (t : Listing) (s : Machine) (name : List ℕ) (units number : ℕ) → FitsIn t s name units (keys.Defined name) →
+    AreKept t s.clock s.entities.storages → AreKept t s.clock (done (keys.Defined name) (deeds.Enter units) s.clock number s.entities).storages
+enter_kept t s name units number h all =
+    let store = store_at s.entities (keys.Defined name) in
+    let room = fits_in (beside units store.level.content) (capacity_at t name) h.0 in
+    with_sound t s.clock s.entities.storages name (entered units s.clock store)
+    (entered_sound (capacity_at t name) s.clock units store room h.1 (store_sound t s.clock s.entities.storages name all)) all
+
+leave_kept : (t : Listing) (s : Machine) (name : List ℕ) (units : ℕ) (shares : List (Option ℕ)) (number : ℕ) →
+    LeavesTo t s name units shares (keys.Defined name) → AreKept t s.clock s.entities.storages →
+    AreKept t s.clock (done (keys.Defined name) (deeds.Leave units shares) s.clock number s.entities).storages
+leave_kept t s name units shares number h all =
+    let store = store_at s.entities (keys.Defined name) in
+    let chain = delay_at s.delays (keys.Defined name) in
+    let content = store.level.content - units in
+    let few : store.entries + all_shares (shares_of t name content chain) ≤ 1000000000 =
+    subst (λ rs. store.entries + all_shares rs ≤ 1000000000) h.0 h.1 in
+    with_sound t s.clock s.entities.storages name (all_entered shares s.clock (left units s.clock store))
+    (subst (λ rs. IsSound (capacity_at t name) s.clock (all_entered rs s.clock (left units s.clock store))) (sym h.0)
+    (shared_sound t s.clock name chain content (left units s.clock store) refl few
+    (left_sound (capacity_at t name) s.clock units store (store_sound t s.clock s.entities.storages name all)))) all
+
+done_kept : (t : Listing) (s : Machine) (key : Key) (deed : Deed) (number : ℕ) → IsDecidedDeed t s key deed → AreKept t s.clock s.entities.storages →
+    AreKept t s.clock (done key deed s.clock number s.entities).storages
+done_kept t s key (deeds.Enter units) number decided all =
+    subst (λ k. AreKept t s.clock (done k (deeds.Enter units) s.clock number s.entities).storages) (sym decided.named)
+    (enter_kept t s decided.name units number (comes_in t s key units decided) all)
+done_kept t s key (deeds.Leave units shares) number decided all =
+    subst (λ k. AreKept t s.clock (done k (deeds.Leave units shares) s.clock number s.entities).storages) (sym decided.named)
+    (leave_kept t s decided.name units shares number (goes_out t s key units shares decided) all)
+done_kept t s key (deeds.Queue units) number decided all = all
+done_kept t s key (deeds.Depart units at_once) number decided all = all
+done_kept t s key deeds.Seize number decided all = all
+done_kept t s key (deeds.Release next) number decided all = all
+
+touched_kept : (t : Listing) (s : Machine) (change : Change) (number : ℕ) → IsDecidedChange t s change → AreKept t s.clock s.entities.storages →
+    AreKept t s.clock (touched change s.clock number s.entities).storages
+touched_kept t s (changes.Entity change) number decided all = done_kept t s change.0 change.1 number decided all
+touched_kept t s (changes.Generate next) number decided all = all
+touched_kept t s (changes.Transfer to) number decided all = all
+touched_kept t s changes.Nothing number decided all = all
+
+-- a later clock
+later_kept : (t : Listing) (clock later : ℕ) (es : List (Key × Store)) → clock ≤ later → AreKept t clock es → AreKept t later es
+later_kept t clock later [] on all = tt
+later_kept t clock later (e ∷ es) on all =
+    let h = all.0.2 in
+    let at : e.1.level.at ≤ later = omega (arith, on, h.within.at) in
+    let now : IsSound (capacity_at t all.0.0) later e.1 = record {
+      within = record {
+        content = h.within.content;
+        least = h.within.least;
+        most = h.within.most;
+        greatest = h.within.greatest;
+        entries = h.within.entries;
+        at = at;
+      };
+      counted = h.counted;
+    } in
+    ((all.0.0, all.0.1, now), later_kept t clock later es on all.1)
+
+-- each move
+abbrev Kept : Listing → Machine → Type 0
+Kept t s = AreKept t s.clock s.entities.storages
+
+moved_kept : (t : Listing) (s : Machine) (m : Move) → IsDecided t s m → s.clock ≤ (moved s m).clock → Kept t s → Kept t (moved s m)
+moved_kept t s (moves.Start count arrivals) decided on all = all
+moved_kept t s moves.Command decided on all = all
+moved_kept t s (moves.Enter id change fate) decided on all =
+    entered_has (Kept t) (Kept t) t s id change fate decided.1 all
+    (λ x is. (let same = settled_is s x id change fate in rw (same.clock, same.entities) (touched_kept t s change x.number decided.1 all)))
+    (λ v. record {
+      nothing = λ k. k;
+      one = λ a coming k. k;
+      lets = λ w key x passed xs is k. (let same = let_in_is key x (passed ++ xs) w in rw (same.clock, same.entities) k);
+    })
+moved_kept t s (moves.Refuse id key units) decided on all =
+    with_active_has (Kept t) s.active (λ x. refused s x id key units) s all (λ x is. all)
+moved_kept t s moves.Pick decided on all = picked_has (Kept t) s s.current all (λ x xs is. all)
+moved_kept t s (moves.Clock time) decided on all = later_kept t s.clock time s.entities.storages on all
+
+-- over a run
+pub all_kept : (t : Listing) (seed n : ℕ) (s : Machine) → run t seed n ≡ Ok s → Kept t s
+all_kept t seed n s is =
+    (over_run t seed (λ n v. IsInTime t v × Kept t v) ((omega arith, tt), tt)
+    (λ n v m streams there decided h. (let goes = moved_goes_on t v m decided h.0 in (goes.1, moved_kept t v m decided goes.0 h.1))) n s is).1
+
+each_stored : (t : Listing) (clock : ℕ) (es : List (Key × Store)) → AreKept t clock es → AllByRecursion (IsStored t clock) es
+each_stored t clock [] all = tt
+each_stored t clock (e ∷ es) all =
+    (record { name = all.0.0; named = all.0.1; within = all.0.2.within }, each_stored t clock es all.1)
+
+pub storages_are_within : StoragesAreWithin
+storages_are_within t seed n s is =
+    All-from_recursion (IsStored t s.clock) s.entities.storages (each_stored t s.clock s.entities.storages (all_kept t seed n s is))

@@ -1,0 +1,82 @@
+ghost use Rattle.std.specs.Prelude.{◌≡◌, ℕ, List, not, is_some};
+ghost use Rattle.std.specs.BTreeMap as tree;
+ghost use Rattle.std.specs.Ordering.{nat_cmp};
+ghost use Rattle.std.specs.Cmp.Lexicographic.{slice_cmp};
+ghost use Rattle.gw_meaning.specs.Listing.{defined_in, number_of};
+ghost use Rattle.gw_model.specs.Faults.{has_unknown_definition, has_equ_named, names_defined, is_defined_so};
+
+use gw_expr::{Expr, Node};
+use gw_meaning::{Definition, Numbered};
+use gw_names::Name;
+use std::collections::BTreeMap;
+
+/// Whether an operand of a block is the name of a definition that is not there.
+#[tactic(auto, unfolding(crate::specs::Faults::has_unknown_definition))]
+pub fn has_unknown_definition(lines: &[Numbered], definitions: &BTreeMap<Name, Definition>) -> bool
+    requires { (name : List ℕ) → tree.get (slice_cmp nat_cmp) definitions.now name ≡ defined_in name lines.now }
+    ensures { result ≡ has_unknown_definition lines.now }
+{
+    lines.iter().any(|line| names_unknown(definitions, line))
+}
+
+/// Whether an operand of a block is the name of a definition, and an EQU's.
+#[tactic(auto, unfolding(crate::specs::Faults::has_equ_named))]
+pub fn has_equ_named(lines: &[Numbered], definitions: &BTreeMap<Name, Definition>) -> bool
+    requires { (name : List ℕ) → tree.get (slice_cmp nat_cmp) definitions.now name ≡ defined_in name lines.now }
+    ensures { result ≡ has_equ_named lines.now }
+{
+    lines.iter().any(|line| names_equ(definitions, line))
+}
+
+fn names_unknown(definitions: &BTreeMap<Name, Definition>, line: &Numbered) -> bool
+    ensures { result ≡
+        names_defined (λ name. not (is_some (tree.get (slice_cmp nat_cmp) definitions.now name))) line.now }
+{
+    match line.block() {
+        Some(block) => block
+            .operands
+            .as_slice()
+            .iter()
+            .any(|operand| is_unknown(definitions, operand)),
+        None => false,
+    }
+}
+
+fn names_equ(definitions: &BTreeMap<Name, Definition>, line: &Numbered) -> bool
+    ensures { result ≡
+        names_defined (λ name. is_some (number_of (tree.get (slice_cmp nat_cmp) definitions.now name))) line.now }
+{
+    match line.block() {
+        Some(block) => block
+            .operands
+            .as_slice()
+            .iter()
+            .any(|operand| is_equ(definitions, operand)),
+        None => false,
+    }
+}
+
+fn is_unknown(definitions: &BTreeMap<Name, Definition>, operand: &Option<Expr>) -> bool
+    ensures { result ≡
+        is_defined_so (λ name. not (is_some (tree.get (slice_cmp nat_cmp) definitions.now name))) operand.now }
+{
+    let Some(expr) = operand else { return false };
+    match expr.node() {
+        Node::Defined(name) => definitions.get(name).is_none(),
+        Node::Constant(_) | Node::Named(_) | Node::Label(_) | Node::Fraction(_) => false,
+    }
+}
+
+fn is_equ(definitions: &BTreeMap<Name, Definition>, operand: &Option<Expr>) -> bool
+    ensures { result ≡
+        is_defined_so (λ name. is_some (number_of (tree.get (slice_cmp nat_cmp) definitions.now name))) operand.now }
+{
+    let Some(expr) = operand else { return false };
+    match expr.node() {
+        Node::Defined(name) => match definitions.get(name) {
+            Some(Definition::Equ { .. }) => true,
+            Some(Definition::Storage { .. }) | None => false,
+        },
+        Node::Constant(_) | Node::Named(_) | Node::Label(_) | Node::Fraction(_) => false,
+    }
+}

@@ -1,0 +1,92 @@
+ghost use Rattle.gw_meaning.specs.Listing.{Listing};
+ghost use Rattle.std.specs.Prelude.{◌≡◌, ◌++◌, OnOk, IfOk, map};
+ghost use Rattle.gw_report.specs.Layout.{row_of, rows_of};
+ghost use Rattle.gw_report.specs.Storages.{units_of, storage_columns, storage_line, storages_text};
+
+use crate::column::{Cell, Column, Side, put_row};
+use crate::entity::{average_cell, key_cell};
+use crate::section::put_section;
+use gw_entities::Storage;
+use gw_model::Version;
+use gw_names::Key;
+use gw_scan::State;
+use std::alloc::{AllocError, Global};
+
+const STORAGE_COLUMNS: [Column; 11] = [
+    Column(b"STORAGE", 10, Side::Left),
+    Column(b"CAP.", 8, Side::Right),
+    Column(b"REM.", 8, Side::Right),
+    Column(b"MIN.", 8, Side::Right),
+    Column(b"MAX.", 8, Side::Right),
+    Column(b"ENTRIES", 8, Side::Right),
+    Column(b"AVL.", 4, Side::Right),
+    Column(b"AVE.C.", 11, Side::Right),
+    Column(b"UTIL.", 8, Side::Right),
+    Column(b"RETRY", 5, Side::Right),
+    Column(b"DELAY", 5, Side::Right),
+];
+
+/// Appends the storages, in order of first touch, with the units that the version gives them.
+pub fn put_storages(out: &mut Vec<u8>, version: &Version, state: &State) -> Result<(), AllocError>
+    ensures { OnOk result (out.new.items ≡ out.old.items ++ storages_text version.now state.now) }
+{
+    let lines = storage_lines(*out.allocator(), version, state)?;
+    put_section(out, &STORAGE_COLUMNS, lines.as_slice())
+}
+
+// The lines of the storages.
+fn storage_lines(alloc: Global, version: &Version, state: &State) -> Result<Vec<u8>, AllocError>
+    ensures { IfOk result (λ lines. lines.items ≡
+        rows_of storage_columns (map (storage_line version.now state.now) state.now.entities.storages)) }
+{
+    let storages = state.entities().storages();
+    let mut lines = Vec::new(alloc);
+    for index in 0..storages.len() {
+        if let Some((key, storage)) = storages.at(index) {
+            put_storage(&mut lines, state, units_of(version, key), key, storage)?;
+        }
+    }
+    Ok(lines)
+}
+
+// How many units a version gives a storage.
+fn units_of(version: &Version, key: &Key) -> u64
+    ensures { result ≡ units_of version.now key.now }
+{
+    match key {
+        Key::Defined(name) => version.capacity(name),
+        Key::Num(_) | Key::Named(_) => 0,
+    }
+}
+
+// The line of a storage of so many units.
+#[tactic(auto, unfolding(crate::specs::Storages::storage_line))]
+fn put_storage(
+    out: &mut Vec<u8>,
+    state: &State,
+    capacity: u64,
+    key: &Key,
+    storage: Storage,
+) -> Result<(), AllocError>
+    ensures { (t : Listing) → units_of t key.now ≡ capacity → OnOk result (out.new.items ≡ out.old.items ++
+        row_of storage_columns (storage_line t state.now (key.now, storage))) }
+{
+    let sum = storage.level().sum_up_to(state.clock_now());
+    let time = state.clock().ticks().saturating_sub(state.since().ticks());
+    let content = storage.level().content();
+    let delayed = state.delays().len(key) as u64;
+    let cells = [
+        key_cell(key),
+        Cell::Number(capacity),
+        Cell::Number(capacity.saturating_sub(content)),
+        Cell::Number(storage.least()),
+        Cell::Number(storage.greatest()),
+        Cell::Number(storage.entries()),
+        Cell::Number(1),
+        average_cell(sum, u128::from(time)),
+        average_cell(sum, u128::from(capacity) * u128::from(time)),
+        Cell::Number(0),
+        Cell::Number(delayed),
+    ];
+    put_row(out, &STORAGE_COLUMNS, &cells)
+}

@@ -1,0 +1,70 @@
+use Rattle.std.proofs.Common.{◌≡◌, ℕ, ◌-◌, List, [], Option, Ok, Err, nat_lt, false, refl, ap, subst, ◌∙◌, arith}
+use Rattle.std.proofs.lemmas.Bool.Decides.{nat_tests}
+use Rattle.std.proofs.lemmas.Result.{err_from_is_err_and}
+use Rattle.gw_names.specs.declared.key.Key.TheVariants as keys
+use Rattle.gw_entities.specs.Records.{Store}
+use Rattle.gw_meaning.specs.declared.moves.Move.{Move}
+use Rattle.gw_meaning.specs.Machine.{Machine, delay_at}
+use Rattle.gw_meaning.specs.Entities.{store_at}
+use Rattle.gw_meaning.specs.Evaluation.{Eval, ◌~>◌}
+use Rattle.gw_meaning.specs.Step.{shares_prog, leave_for, leave_units}
+use Rattle.gw_scan.specs.Deciding.{Decides}
+use Rattle.gw_scan.proofs.Binding.{decides_exit, decides_whole, decides_comes}
+use Rattle.gw_scan.proofs.state.State.leave_units.Goals as goal
+
+pub returns-in_err-shares : goal.returns-in_err-shares
+returns-in_err-shares c =
+    let p = err_from_is_err_and c.from_residual-in_err-shares.result c.from_residual-in_err-shares.ensures.1 in
+    let s = c.args.self.now in
+    let id = c.args.id in
+    let units = c.args.units in
+    let name = c.args.name.now in
+    let copy = c.in_ok-clone.field-0 in
+    let key = keys.Defined name in
+    let store = store_at s.entities key in
+    let same : copy ≡ name = c.in_ok-clone.ensures.cases in
+    let kept : c.storage-storage.result ≡ store =
+    c.storage-storage.ensures ∙ (ap (λ (m : Machine). store_at m.entities (keys.Defined copy)) c.self.view_is ∙
+    ap (λ (n : List ℕ). store_at s.entities (keys.Defined n)) same) in
+    let content : c.content-content.result ≡ store.level.content =
+    c.content-content.ensures ∙ (ap (λ l. l.content) c.level.ensures ∙ ap (λ (st : Store). st.level.content) kept) in
+    let enough : nat_lt store.level.content units ≡ false = rw (← content) (grind (arith, nat_tests)) in
+    let shares = shares_prog name (store.level.content - units) [] (delay_at s.delays key) in
+    let rest : List (Option ℕ) → Eval Move = λ given. leave_for id key store units given in
+    let whole : leave_units s id name store units ≡ (shares ~> rest) = rw enough refl in
+    let asked : shares_prog name (c.content-content.result - units) [] (delay_at s.delays (keys.Defined copy)) ≡ shares =
+    ap (λ n. shares_prog name (n - units) [] (delay_at s.delays (keys.Defined copy))) content ∙
+    ap (λ (n : List ℕ). shares_prog name (store.level.content - units) [] (delay_at s.delays (keys.Defined n))) same in
+    let said = subst (λ (p : Eval (List (Option ℕ))). Decides c.args.case.version.now c.args.case.seed p (Err c.in_err-shares.field-0.0)
+    c.args.notes.now c.shares.new.notes) asked c.in_err-shares.ensures in
+    decides_exit c.args.case.version.now c.args.case.seed shares rest _ _ _ c.in_err-shares.field-0.0 _ _ whole p.1 p.2 said
+
+pub returns : goal.returns
+returns c =
+    let t = c.args.case.version.now in
+    let seed = c.args.case.seed in
+    let s = c.args.self.now in
+    let id = c.args.id in
+    let units = c.args.units in
+    let name = c.args.name.now in
+    let copy = c.in_ok-clone.field-0 in
+    let key = keys.Defined name in
+    let store = store_at s.entities key in
+    let same : copy ≡ name = c.in_ok-clone.ensures.cases in
+    let kept : c.storage-storage.result ≡ store =
+    c.storage-storage.ensures ∙ (ap (λ (m : Machine). store_at m.entities (keys.Defined copy)) c.self.view_is ∙
+    ap (λ (n : List ℕ). store_at s.entities (keys.Defined n)) same) in
+    let content : c.content-content.result ≡ store.level.content =
+    c.content-content.ensures ∙ (ap (λ l. l.content) c.level.ensures ∙ ap (λ (st : Store). st.level.content) kept) in
+    let enough : nat_lt store.level.content units ≡ false = rw (← content) (grind (arith, nat_tests)) in
+    let shares = shares_prog name (store.level.content - units) [] (delay_at s.delays key) in
+    let rest : List (Option ℕ) → Eval Move = λ given. leave_for id key store units given in
+    let whole : leave_units s id name store units ≡ (shares ~> rest) = rw enough refl in
+    let asked : shares_prog name (c.content-content.result - units) [] (delay_at s.delays (keys.Defined copy)) ≡ shares =
+    ap (λ n. shares_prog name (n - units) [] (delay_at s.delays (keys.Defined copy))) content ∙
+    ap (λ (n : List ℕ). shares_prog name (store.level.content - units) [] (delay_at s.delays (keys.Defined n))) same in
+    let said = subst (λ (p : Eval (List (Option ℕ))). Decides t seed p (Ok c.in_ok-shares.shares)
+    c.args.notes.now c.shares.new.notes) asked c.in_ok-shares.ensures in
+    let comes = rw (same, kept) at c.leave_for.ensures in
+    decides_whole t seed shares rest _ c.in_ok-shares.shares c.leave_for.result c.args.notes.now c.shares.new.notes _ whole said
+    (decides_comes t seed (rest c.in_ok-shares.shares) c.leave_for.result c.shares.new.notes comes)
