@@ -4,9 +4,12 @@ It takes sessions whose statements have no fault in their operands, and none tha
 run from clock zero; what an edit leaves of a recorded run goes by the items that each step read."""
 import re
 
-BLOCKS = "GENERATE ADVANCE TERMINATE QUEUE DEPART SEIZE RELEASE ENTER LEAVE TRANSFER".split()
+BLOCKS = "GENERATE ADVANCE TERMINATE QUEUE DEPART SEIZE RELEASE ENTER LEAVE TRANSFER MARK PRIORITY BUFFER".split()
 DEFINITIONS = "STORAGE EQU".split()
 COMMANDS = "START RMULT".split()
+# The operands that are values, counted from 0: a number, or a name to which an EQU gives one.
+VALUES = {"GENERATE": [0, 1, 2, 3, 4], "ADVANCE": [0, 1], "TERMINATE": [0], "PRIORITY": [0]}
+VALUES |= {verb: [1] for verb in ("QUEUE", "DEPART", "ENTER", "LEAVE")}
 MODULUS = 2147483647
 
 
@@ -26,8 +29,14 @@ class Statement:
     def operand(self, place):
         return self.operands[place] if place < len(self.operands) and self.operands[place] else None
 
-    def value(self, place, absent=0):
-        return absent if self.operand(place) is None else int(self.operand(place))
+    def number(self, place):
+        """The number of an operand that takes digits only."""
+        return int(self.operand(place))
+
+    def values(self):
+        """The names that stand for a number."""
+        words = [self.operand(place) for place in VALUES.get(self.verb, [])]
+        return [w for w in words if w and w[0].isalpha()]
 
     def text(self):
         return " ".join(part for part in (self.label, self.verb, self.listed) if part)
@@ -43,8 +52,8 @@ class Version:
         self.statements, self.horizon, self.seeds, self.limit = statements, horizon, seeds, limit
         self.blocks = [s for s in statements if s.verb in BLOCKS]
         self.commands = [s for s in statements if s.verb in COMMANDS]
-        self.capacities = {s.label: s.value(0) for s in statements if s.verb == "STORAGE"}
-        self.numbers = {s.label: s.value(0) for s in statements if s.verb == "EQU"}
+        self.capacities = {s.label: s.number(0) for s in statements if s.verb == "STORAGE"}
+        self.numbers = {s.label: s.number(0) for s in statements if s.verb == "EQU"}
 
     def block(self, id):
         return next((b for b in self.blocks if b.id == id), None)
@@ -72,6 +81,8 @@ class Version:
             return "M2"
         storages = [b.operand(0) for b in self.blocks if b.verb in ("ENTER", "LEAVE")]
         if any(s not in self.capacities and s not in self.numbers for s in storages):
+            return "M3"
+        if any(name not in self.numbers for b in self.blocks for name in b.values()):
             return "M3"
         return "M4" if any(s in self.numbers for s in storages) else None
 
@@ -134,6 +145,15 @@ class Run:
         return self.counts.get(id, {"made": 0})["made"]
 
     # ---- values and draws; nothing of the run changes until all tests are passed
+    def value(self, block, place, absent=0):
+        word = block.operand(place)
+        if word is None:
+            return absent
+        if not word[0].isalpha():
+            return int(word)
+        self.items.append(("name", word))
+        return self.version.numbers[word]
+
     def draw(self, j=1):
         kind, x = self.drawn[j]
         if kind == "set":
@@ -143,7 +163,9 @@ class Run:
         self.drawn[j] = ("at", x)
         return x
 
-    def time(self, mean, spread):
+    def time(self, block):
+        """A time of the first operand plus or minus the second."""
+        mean, spread = self.value(block, 0), self.value(block, 1)
         if spread < 0:
             raise End("X1")
         if spread == 0:
@@ -153,21 +175,25 @@ class Run:
             raise End("X7")
         return time
 
-    def arrival(self, block, mean, spread):
+    def arrival(self, block, priming=False):
+        """The next transaction of a GENERATE, if there is one: the limit is evaluated first, the priority last."""
         if block.operand(3) is not None:
-            if block.value(3) < 0:
+            most = self.value(block, 3)
+            if most < 0:
                 raise End("X11")
-            if self.made(block.id) >= block.value(3):
+            if self.made(block.id) >= most:
                 return None
-        time, priority = self.time(mean, spread), block.value(4)
+        time = self.value(block, 2) if priming and block.operand(2) is not None else self.time(block)
+        priority = self.value(block, 4)
         if time < 0:
             raise End("X1")
         return self.clock + time, priority, block.id
 
     def units(self, block):
-        if block.value(1, 1) < 1:
+        units = self.value(block, 1, 1)
+        if units < 1:
             raise End("X11")
-        return block.value(1, 1)
+        return units
 
     def key(self, block):
         name = block.operand(0)
@@ -232,10 +258,7 @@ class Run:
         arrivals = []
         for block in [b for b in self.version.blocks if b.verb == "GENERATE"]:
             self.items.append(("block", block.id))
-            if block.operand(2) is None:
-                arrivals.append(self.arrival(block, block.value(0), block.value(1)))
-            else:
-                arrivals.append(self.arrival(block, block.value(2), 0))
+            arrivals.append(self.arrival(block, priming=True))
         return [a for a in arrivals if a]
 
     def make(self, arrival):
@@ -288,7 +311,7 @@ class Run:
 
     # ---- blocks
     def generate(self, x, block):
-        arrival = self.arrival(block, block.value(0), block.value(1))
+        arrival = self.arrival(block)
 
         def go():
             self.enter(x, block)
@@ -299,7 +322,7 @@ class Run:
         return go
 
     def advance(self, x, block):
-        time = self.time(block.value(0), block.value(1))
+        time = self.time(block)
         if time < 0:
             raise End("X1")
 
@@ -312,7 +335,7 @@ class Run:
         return go
 
     def terminate(self, x, block):
-        count = block.value(0)
+        count = self.value(block, 0)
         if count < 0:
             raise End("X11")
 
@@ -321,6 +344,30 @@ class Run:
             self.active = None
             self.remaining = max(0, self.remaining - count)
             self.complete += self.remaining == 0
+
+        return go
+
+    def mark(self, x, block):
+        def go():
+            self.enter(x, block)
+            x.mark = self.clock
+
+        return go
+
+    def priority(self, x, block):
+        priority = self.value(block, 0)
+
+        def go():
+            self.enter(x, block)
+            x.priority = priority
+
+        return go
+
+    def buffer(self, x, block):
+        def go():
+            self.enter(x, block)
+            self.active = None
+            line_up(self.current, x)
 
         return go
 
@@ -642,7 +689,7 @@ class Session:
                 items |= {("generates",)} if "GENERATE" in (old.verb, new.verb) else set()
         elif old and new and (old.verb, old.label) == (new.verb, new.label) and old.verb in DEFINITIONS:
             if old.verb == "STORAGE":
-                items = {("between", old.label, *sorted((old.value(0), new.value(0))))}
+                items = {("between", old.label, *sorted((old.number(0), new.number(0))))}
             else:
                 items = {("name", old.label)} if old.listed != new.listed else set()
         else:

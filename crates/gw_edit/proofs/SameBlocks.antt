@@ -8,7 +8,7 @@ use Rattle.std.proofs.lemmas.Bool.Decides.{Decides-int_eq}
 use Rattle.std.proofs.lemmas.Slice.Eq.{bytes_eq-Decides}
 use Rattle.gw_names.specs.contracts.verb.BlockVerb.{the_type}
 use Rattle.gw_names.specs.declared.verb.BlockVerb.{BlockVerb}
-use Rattle.gw_expr.specs.Term.{Term, Constant, Named, Label, Fraction, Defined}
+use Rattle.gw_expr.specs.Term.{Term, Constant, Number, Named, Label, Fraction, Defined}
 use Rattle.gw_meaning.specs.declared.statement.Statement.{Statement}
 use Rattle.gw_meaning.specs.declared.statement.Block.{Block}
 use Rattle.gw_meaning.specs.declared.statement.Body.{Body}
@@ -22,7 +22,8 @@ told (suc zero) z bytes = Named bytes
 told (suc (suc zero)) z bytes = Label bytes
 told (suc (suc (suc zero))) (pos part) bytes = Fraction part
 told (suc (suc (suc zero))) (negsuc part) bytes = Fraction part
-told (suc (suc (suc (suc n)))) z bytes = Defined bytes
+told (suc (suc (suc (suc zero)))) z bytes = Defined bytes
+told (suc (suc (suc (suc (suc n))))) z bytes = Number bytes
 
 told_back : (a : Term) → told (kind_of a) (number_of a) (bytes_of a) ≡ a
 told_back (Constant z) = refl
@@ -30,6 +31,7 @@ told_back (Named name) = refl
 told_back (Label name) = refl
 told_back (Fraction part) = refl
 told_back (Defined name) = refl
+told_back (Number name) = refl
 
 term_same : (a b : Term) → same_term a b ≡ true → a ≡ b
 term_same a b h =

@@ -6,7 +6,7 @@ use Rattle.std.specs.Str.{bytes_eq}
 use denote.Enum.Bare.{sameb}
 use Rattle.gw_names.specs.contracts.verb.BlockVerb.{the_type}
 use Rattle.gw_names.specs.declared.verb.BlockVerb.{BlockVerb}
-use Rattle.gw_expr.specs.Term.{Term, Constant, Named, Label, Fraction, Defined}
+use Rattle.gw_expr.specs.Term.{Term, Constant, Number, Named, Label, Fraction, Defined}
 use Rattle.gw_meaning.specs.declared.statement.Statement.{Statement}
 use Rattle.gw_meaning.specs.declared.statement.Block.{Block}
 use Rattle.gw_meaning.specs.declared.statement.Body.{Body}
@@ -19,6 +19,7 @@ kind_of (Named name) = 1
 kind_of (Label name) = 2
 kind_of (Fraction part) = 3
 kind_of (Defined name) = 4
+kind_of (Number name) = 5
 
 abbrev pub number_of : Term → ℤ
 number_of (Constant z) = z
@@ -26,6 +27,7 @@ number_of (Fraction part) = pos part
 number_of term = pos 0
 
 abbrev pub bytes_of : Term → List ℕ
+bytes_of (Number name) = name
 bytes_of (Named name) = name
 bytes_of (Label name) = name
 bytes_of (Defined name) = name

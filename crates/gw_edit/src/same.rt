@@ -74,6 +74,7 @@ fn kind(node: &Node) -> u8
         Node::Label(_) => 2,
         Node::Fraction(_) => 3,
         Node::Defined(_) => 4,
+        Node::Number(_) => 5,
     }
 }
 
@@ -83,7 +84,7 @@ fn number(node: &Node) -> i64
     match node {
         Node::Constant(value) => value.get(),
         Node::Fraction(part) => i64::from(*part),
-        Node::Named(_) | Node::Label(_) | Node::Defined(_) => 0,
+        Node::Number(_) | Node::Named(_) | Node::Label(_) | Node::Defined(_) => 0,
     }
 }
 
@@ -91,7 +92,9 @@ fn bytes(node: &Node) -> &[u8]
     ensures { result.now ≡ bytes_of (term_of node.now) }
 {
     match node {
-        Node::Named(name) | Node::Label(name) | Node::Defined(name) => name.as_bytes(),
+        Node::Number(name) | Node::Named(name) | Node::Label(name) | Node::Defined(name) => {
+            name.as_bytes()
+        }
         Node::Constant(_) | Node::Fraction(_) => b"",
     }
 }

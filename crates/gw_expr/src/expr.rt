@@ -1,5 +1,5 @@
 ghost use Rattle.std.specs.Prelude.{◌≡◌, IfOk};
-ghost use Rattle.gw_expr.specs.Term.{Constant, Defined, Fraction, Label, Named, term_of};
+ghost use Rattle.gw_expr.specs.Term.{Constant, Defined, Fraction, Label, Named, Number, term_of};
 
 use gw_names::Name;
 use gw_nums::Val;
@@ -17,7 +17,9 @@ pub struct Expr {
 pub enum Node {
     /// A whole number.
     Constant(Val),
-    /// A name.
+    /// A name that stands for a number.
+    Number(Name),
+    /// The name of an entity.
     Named(Name),
     /// A block's label.
     Label(Name),
@@ -45,7 +47,16 @@ impl Expr {
         }
     }
 
-    /// The operand that is a name.
+    /// The operand that is the number for which a name stands.
+    pub fn number(name: Name) -> Expr
+        ensures { result ≡ Number name }
+    {
+        Expr {
+            node: Node::Number(name),
+        }
+    }
+
+    /// The operand that is the name of an entity.
     pub fn named(name: Name) -> Expr
         ensures { result ≡ Named name }
     {
@@ -94,6 +105,7 @@ impl Expr {
     {
         match &self.node {
             Node::Constant(value) => Ok(Expr::constant(*value)),
+            Node::Number(name) => Ok(Expr::number(name.clone()?)),
             Node::Named(name) => Ok(Expr::named(name.clone()?)),
             Node::Label(name) => Ok(Expr::label(name.clone()?)),
             Node::Fraction(millionths) => Ok(Expr::fraction(*millionths)),

@@ -6,7 +6,7 @@ use Rattle.std.proofs.lemmas.Bool.{cond_both, or_parts}
 use Rattle.std.proofs.lemmas.Bool.Decides.{nat_tests}
 use Rattle.std.proofs.lemmas.List.{length-append}
 use Rattle.gw_nums.specs.Range.{is_value, is_negative, is_below, magnitude}
-use Rattle.gw_expr.specs.Term.{Term, Constant, Named, Label, Fraction, Defined}
+use Rattle.gw_expr.specs.Term.{Term, Constant, Number, Named, Label, Fraction, Defined}
 use Rattle.gw_streams.specs.declared.stream.Stream.{Stream}
 use Rattle.gw_streams.specs.declared.stream.Stream.TheVariants as streams
 use Rattle.gw_streams.specs.Draws.{is_set, stream_at}
@@ -29,8 +29,8 @@ use Rattle.gw_entities.specs.Comings.{came}
 use Rattle.gw_meaning.specs.Entities.{facility_at, line_at}
 use Rattle.gw_meaning.specs.Machine.{Machine, raised, live, delay_at}
 use Rattle.gw_meaning.specs.Questions.{ask, result_of}
-use Rattle.gw_meaning.specs.Evaluation.{Eval, asks, number_of_draw, draw, value_prog, value_or_zero, entity_prog, units_prog, spread, millionths, sample_within, time_prog}
-use Rattle.gw_meaning.specs.Step.{arrival_at, arrival_in_time, arrival_prog, first_of_generate, first_of, first_arrival, with_arrival, prime_prog, arrivals_prog, first_arrivals_prog, start_prog, command_prog, generate_prog, delay_of, advance_prog, terminate_prog, is_too_many, queue_units, queue_prog, depart_units, depart_prog, seize_or_wait, seize_prog, first_number, is_owner, release_to, release_prog, go_to, lead_to, transfer_prog, block_prog, meet_prog, try_prog, attempt_prog, least_time, within_prog, clock_prog, pick_prog, scan_prog, move_prog, step_prog}
+use Rattle.gw_meaning.specs.Evaluation.{Eval, asks, number_of_draw, draw, number_given, value_prog, value_or_zero, value_there, entity_prog, units_prog, spread, millionths, sample_within, time_prog}
+use Rattle.gw_meaning.specs.Step.{arrival_at, arrival_in_time, arrival_prog, first_of_generate, first_of, first_arrival, with_arrival, prime_prog, arrivals_prog, first_arrivals_prog, start_prog, command_prog, generate_prog, delay_of, advance_prog, terminate_prog, is_too_many, queue_units, queue_prog, depart_units, depart_prog, seize_or_wait, seize_prog, first_number, is_owner, release_to, release_prog, go_to, lead_to, transfer_prog, priority_prog, block_prog, meet_prog, try_prog, attempt_prog, least_time, within_prog, clock_prog, pick_prog, scan_prog, move_prog, step_prog}
 use Rattle.gw_frame.specs.BlockIds.{IsBlockId, ActiveNames, TransactionNames}
 use Rattle.gw_frame.proofs.Generates.{IsBlockIn, generates_there}
 use Rattle.gw_frame.proofs.Labels.{label_there}
@@ -75,12 +75,18 @@ module _ (t : Listing) (seed : ℕ) (s : Machine) where
         (λ x is h. prog_gives (tt, rw append-nil h.0, rw append-nil (one_drew before i x is kept h.1)));
   }
 
+  number_given_decides : (number : Option ℤ) → Decides Whatever (number_given number)
+  number_given_decides None = keeps_ends
+  number_given_decides (Some n) = keeps_gives tt
+
   value_decides : (term : Term) → Decides Whatever (value_prog s term)
   value_decides (Constant value) = keeps_gives tt
-  value_decides (Named name) = keeps_ends
-  value_decides (Label name) = keeps_ends
-  value_decides (Fraction part) = keeps_ends
-  value_decides (Defined name) = keeps_ends
+  value_decides (Number name) = keeps_asks (items.Name name) refl (λ numbered named. tt) (number_given_decides (number_at t name))
+  value_decides term = keeps_ends
+
+  value_there_decides : (term : Option Term) → Decides Whatever (value_there s term)
+  value_there_decides None = keeps_ends
+  value_there_decides (Some term) = value_decides term
 
   value_or_zero_decides : (term : Option Term) → Decides Whatever (value_or_zero s term)
   value_or_zero_decides None = keeps_gives tt
@@ -101,9 +107,7 @@ module _ (t : Listing) (seed : ℕ) (s : Machine) where
   entity_decides None = keeps_ends
   entity_decides (Some (Constant n)) = numbered_decides n
   entity_decides (Some (Named name)) = keeps_asks (items.Name name) refl (λ numbered named. tt) (named_decides name (number_at t name))
-  entity_decides (Some (Label name)) = keeps_ends
-  entity_decides (Some (Fraction part)) = keeps_ends
-  entity_decides (Some (Defined name)) = keeps_ends
+  entity_decides (Some term) = keeps_ends
 
   units_decides : (term : Option Term) → Decides Whatever (units_prog s term)
   units_decides None = keeps_gives tt
@@ -280,10 +284,7 @@ module _ (t : Listing) (seed : ℕ) (s : Machine) where
   enter_decides : (id : ℕ) (storage units : Option Term) → IsBlockId t id → Decides (IsDecided t s) (enter_prog s id storage units)
   enter_decides id (Some (Defined name)) units named = keeps_bind (units_decides units)
       (λ n h. keeps_asks (items.Fits name n) refl (λ numbered there. tt) (enter_storage_decides id name n _ named))
-  enter_decides id (Some (Constant n)) units named = keeps_ends
-  enter_decides id (Some (Named name)) units named = keeps_ends
-  enter_decides id (Some (Label name)) units named = keeps_ends
-  enter_decides id (Some (Fraction part)) units named = keeps_ends
+  enter_decides id (Some term) units named = keeps_ends
   enter_decides id None units named = keeps_ends
 
   shares_decide : (name : List ℕ) (content : ℕ) (before : List (Option ℕ)) (chain : List Transaction) →
@@ -314,10 +315,7 @@ module _ (t : Listing) (seed : ℕ) (s : Machine) where
 
   leave_decides : (id : ℕ) (storage units : Option Term) → IsBlockId t id → Decides (IsDecided t s) (leave_prog s id storage units)
   leave_decides id (Some (Defined name)) units named = keeps_bind (units_decides units) (λ n h. leave_units_decides id name n named)
-  leave_decides id (Some (Constant n)) units named = keeps_ends
-  leave_decides id (Some (Named name)) units named = keeps_ends
-  leave_decides id (Some (Label name)) units named = keeps_ends
-  leave_decides id (Some (Fraction part)) units named = keeps_ends
+  leave_decides id (Some term) units named = keeps_ends
   leave_decides id None units named = keeps_ends
 
   go_to_decides : (id : ℕ) (name : List ℕ) (to : Option ℕ) → label_at t name ≡ to → IsBlockId t id → Decides (IsDecided t s) (go_to id to)
@@ -327,20 +325,18 @@ module _ (t : Listing) (seed : ℕ) (s : Machine) where
   lead_to_decides : (id : ℕ) (label : Option Term) → IsBlockId t id → Decides (IsDecided t s) (lead_to id label)
   lead_to_decides id (Some (Label name)) named =
       keeps_asks (items.Label name) refl (λ numbered there. tt) (go_to_decides id name (label_at t name) refl named)
-  lead_to_decides id (Some (Constant n)) named = keeps_gives (named, tt, tt)
-  lead_to_decides id (Some (Named name)) named = keeps_gives (named, tt, tt)
-  lead_to_decides id (Some (Fraction part)) named = keeps_gives (named, tt, tt)
-  lead_to_decides id (Some (Defined name)) named = keeps_gives (named, tt, tt)
+  lead_to_decides id (Some term) named = keeps_gives (named, tt, tt)
   lead_to_decides id None named = keeps_gives (named, tt, tt)
 
   transfer_decides : (id : ℕ) (fraction near far : Option Term) → IsBlockId t id → Decides (IsDecided t s) (transfer_prog id fraction near far)
   transfer_decides id (Some (Fraction part)) near far named = keeps_bind (draw_decides 0 (omega arith))
       (λ x h. lead_to_decides id (cond (nat_lt (millionths x) part) far near) named)
-  transfer_decides id (Some (Constant n)) near far named = lead_to_decides id near named
-  transfer_decides id (Some (Named name)) near far named = lead_to_decides id near named
-  transfer_decides id (Some (Label name)) near far named = lead_to_decides id near named
-  transfer_decides id (Some (Defined name)) near far named = lead_to_decides id near named
+  transfer_decides id (Some term) near far named = lead_to_decides id near named
   transfer_decides id None near far named = lead_to_decides id near named
+
+  -- PRIORITY
+  priority_decides : (id : ℕ) (priority : Option Term) → IsBlockId t id → Decides (IsDecided t s) (priority_prog s id priority)
+  priority_decides id priority named = keeps_bind (value_there_decides priority) (λ p h. keeps_gives (named, tt, tt))
 
   block_decides : (x : Transaction) (id : ℕ) (b : Block) (verb : BlockVerb) → IsBlockId t id → Decides (IsDecided t s) (block_prog s x id b verb)
   block_decides x id b blocks.Generate named = generate_decides x id (operand b A) (operand b B) (operand b D) (operand b E) named
@@ -353,6 +349,9 @@ module _ (t : Listing) (seed : ℕ) (s : Machine) where
   block_decides x id b blocks.Enter named = enter_decides id (operand b A) (operand b B) named
   block_decides x id b blocks.Leave named = leave_decides id (operand b A) (operand b B) named
   block_decides x id b blocks.Transfer named = transfer_decides id (operand b A) (operand b B) (operand b C) named
+  block_decides x id b blocks.Mark named = keeps_gives (named, tt, tt)
+  block_decides x id b blocks.Priority named = priority_decides id (operand b A) named
+  block_decides x id b blocks.Buffer named = keeps_gives (named, tt, tt)
   block_decides x id b verb named = keeps_ends
 
   -- attempts: an id that is no block ends the run

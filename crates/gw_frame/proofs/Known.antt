@@ -10,6 +10,8 @@ use Rattle.gw_meaning.specs.declared.entity_change.Deed.{Deed}
 use Rattle.gw_meaning.specs.declared.entity_change.Deed.TheVariants as deeds
 use Rattle.gw_meaning.specs.declared.moves.Change.{Change}
 use Rattle.gw_meaning.specs.declared.moves.Change.TheVariants as changes
+use Rattle.gw_meaning.specs.declared.transaction_change.TransactionChange.{TransactionChange}
+use Rattle.gw_meaning.specs.declared.transaction_change.TransactionChange.TheVariants as own
 use Rattle.gw_meaning.specs.declared.moves.Fate.{Fate}
 use Rattle.gw_meaning.specs.declared.moves.Fate.TheVariants as fates
 use Rattle.gw_meaning.specs.declared.moves.Move.{Move}
@@ -97,16 +99,19 @@ IsDecidedDeed t s key (deeds.Release next) = (is_storage key ≡ false) × (next
 IsDecidedDeed t s key (deeds.Enter units) = ComesIn t s key units
 IsDecidedDeed t s key (deeds.Leave units shares) = GoesOut t s key units shares
 
+abbrev pub IsDecidedOwn : Listing → TransactionChange → Type 0
+IsDecidedOwn t (own.Transfer to) = AreNumbered t.lines → IsBlockId t to
+IsDecidedOwn t change = Unit {0}
+
 abbrev pub IsDecidedChange : Listing → Machine → Change → Type 0
 IsDecidedChange t s (changes.Generate next) = IsComingIfAny t s next
-IsDecidedChange t s (changes.Transfer to) = AreNumbered t.lines → IsBlockId t to
+IsDecidedChange t s (changes.Transaction change) = IsDecidedOwn t change
 IsDecidedChange t s (changes.Entity change) = IsDecidedDeed t s change.0 change.1
 IsDecidedChange t s change = Unit {0}
 
 abbrev pub IsDecidedFate : Machine → Fate → Type 0
-IsDecidedFate s fates.Active = Unit {0}
 IsDecidedFate s (fates.Delayed until) = s.clock ≤ until
-IsDecidedFate s (fates.Destroyed count) = Unit {0}
+IsDecidedFate s fate = Unit {0}
 
 -- a facility refuses while it is owned, and a storage so many units that do not fit beside those in use
 abbrev pub IsRefused : Listing → Machine → Key → ℕ → Type 0

@@ -10,13 +10,15 @@ use Rattle.gw_meaning.specs.declared.moves.Arrival.{Arrival}
 use Rattle.gw_streams.specs.declared.stream.Stream.{Stream}
 use Rattle.gw_meaning.specs.declared.moves.Change.{Change}
 use Rattle.gw_meaning.specs.declared.moves.Change.TheVariants as changes
+use Rattle.gw_meaning.specs.declared.transaction_change.TransactionChange.{TransactionChange}
+use Rattle.gw_meaning.specs.declared.transaction_change.TransactionChange.TheVariants as own
 use Rattle.gw_meaning.specs.declared.moves.Fate.{Fate}
 use Rattle.gw_meaning.specs.declared.moves.Fate.TheVariants as fates
 use Rattle.gw_meaning.specs.declared.moves.Move.{Move}
 use Rattle.gw_meaning.specs.declared.moves.Move.TheVariants as moves
 use Rattle.gw_meaning.specs.Entities.{Entities, touched}
 use Rattle.gw_meaning.specs.Machine.{Machine, raised, delay_at}
-use Rattle.gw_meaning.specs.Changes.{crossed, due, Making, making, made, maybe_made, all_made, making_of, with_making, newcomer, placed, started, arrived, lined_up, marked, fated, let_in, one_let_in, some_let_in, admitted, changed, entering, bound, refused, picked, advanced, with_active, moved, decided}
+use Rattle.gw_meaning.specs.Changes.{crossed, due, Making, making, made, maybe_made, all_made, making_of, with_making, newcomer, placed, started, arrived, lined_up, own_marked, marked, fated, let_in, one_let_in, some_let_in, admitted, changed, entering, bound, refused, picked, advanced, with_active, moved, decided}
 use Rattle.gw_frame.specs.Moved.{IsMove, moved_transaction, moved_event, moved_count, moved_machine}
 use Rattle.gw_frame.proofs.MovedLists.{made_one_moved, crossed_moved, lined_up_moved, all_lined_up_moved, due_moved, later_moved}
 use Rattle.gw_frame.proofs.Delays.{delay_at_moved, with_delay_moved}
@@ -26,9 +28,13 @@ module _ (move : ℕ → ℕ) where
   abbrev pub moved_arrival : Arrival → Arrival
   moved_arrival a = record a { id = move a.id }
 
+  abbrev pub moved_own : TransactionChange → TransactionChange
+  moved_own (own.Transfer to) = own.Transfer (move to)
+  moved_own change = change
+
   abbrev pub moved_change : Change → Change
   moved_change (changes.Generate next) = changes.Generate (option_map moved_arrival next)
-  moved_change (changes.Transfer to) = changes.Transfer (move to)
+  moved_change (changes.Transaction change) = changes.Transaction (moved_own change)
   moved_change change = change
 
   abbrev pub moved_move : Move → Move
@@ -71,15 +77,22 @@ module _ (move : ℕ → ℕ) (is : IsMove move) where
   arrived_moved next s = ap (λ w. with_making w (moved_machine move s)) (maybe_made_moved next (making_of s))
 
   -- entering a block
+  own_moved : (change : TransactionChange) (clock : ℕ) (x : Transaction) →
+      own_marked (moved_own move change) clock (moved_transaction move x) ≡ moved_transaction move (own_marked change clock x)
+  own_moved own.Mark clock x = refl
+  own_moved (own.Priority to) clock x = refl
+  own_moved (own.Transfer to) clock x = refl
+
   marked_moved : (change : Change) (clock : ℕ) (x : Transaction) →
       marked (moved_change move change) clock (moved_transaction move x) ≡ moved_transaction move (marked change clock x)
   marked_moved (changes.Generate next) clock x = refl
-  marked_moved (changes.Transfer to) clock x = refl
+  marked_moved (changes.Transaction change) clock x = own_moved change clock x
   marked_moved change clock x = refl
 
   fated_moved : (fate : Fate) (x : Transaction) (s : Machine) →
       fated fate (moved_transaction move x) (moved_machine move s) ≡ moved_machine move (fated fate x s)
   fated_moved fates.Active x s = refl
+  fated_moved fates.Current x s = rw (lined_up_moved move x s.current) refl
   fated_moved (fates.Delayed until) x s = rw (map-append (moved_event move) s.future) refl
   fated_moved (fates.Destroyed count) x s = refl
 
@@ -118,12 +131,12 @@ module _ (move : ℕ → ℕ) (is : IsMove move) where
   changed_moved : (change : Change) (s : Machine) → changed (moved_change move change) (moved_machine move s) ≡ moved_machine move (changed change s)
   changed_moved (changes.Generate next) s = arrived_moved next s
   changed_moved (changes.Entity change) s = admitted_moved change.0 change.1 s
-  changed_moved (changes.Transfer to) s = refl
+  changed_moved (changes.Transaction change) s = refl
   changed_moved changes.Nothing s = refl
 
   touched_moved : (change : Change) (clock number : ℕ) (e : Entities) → touched (moved_change move change) clock number e ≡ touched change clock number e
   touched_moved (changes.Generate next) clock number e = refl
-  touched_moved (changes.Transfer to) clock number e = refl
+  touched_moved (changes.Transaction change) clock number e = refl
   touched_moved change clock number e = refl
 
   entering_moved : (s : Machine) (x : Transaction) (id : ℕ) (change : Change) (fate : Fate) →

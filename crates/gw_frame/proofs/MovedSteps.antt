@@ -2,7 +2,7 @@
 use Rattle.std.proofs.Common.{◌≡◌, ℕ, zero, suc, nat_eq, nat_le, nat_lt, ◌+◌, Bool, true, false, cond, not, ◌&&◌, ◌||◌, List, [], ◌∷◌, ◌++◌, ◌-◌, map, Option, Some, None, is_some, option_map, ℤ, pos, refl, ap, sym, ◌∙◌}
 use Rattle.std.proofs.lemmas.List.{map-append, length-map}
 use Rattle.gw_nums.specs.Range.{is_value, is_negative, is_below, magnitude}
-use Rattle.gw_expr.specs.Term.{Term, Constant, Named, Label, Fraction, Defined}
+use Rattle.gw_expr.specs.Term.{Term, Constant, Number, Named, Label, Fraction, Defined}
 use Rattle.gw_streams.specs.declared.stream.Stream.{Stream}
 use Rattle.gw_streams.specs.declared.stream.Stream.TheVariants as streams
 use Rattle.gw_streams.specs.Draws.{stream_at}
@@ -22,8 +22,8 @@ use Rattle.gw_entities.specs.Records.{Line, Store}
 use Rattle.gw_entities.specs.Comings.{came}
 use Rattle.gw_meaning.specs.Entities.{facility_at, line_at, store_at}
 use Rattle.gw_meaning.specs.Machine.{Machine, raised, live, number_of_active, count_at, delay_at, waiting}
-use Rattle.gw_meaning.specs.Evaluation.{number_of_draw, draw, value_prog, value_or_zero, numbered, named, entity_prog, units_prog, in_range, spread, millionths, sample_within, time_prog}
-use Rattle.gw_meaning.specs.Step.{arrival_at, arrival_in_time, arrival_within, arrival_prog, first_of_generate, first_of, first_arrival, with_arrival, arrivals_prog, first_arrivals_prog, start_prog, command_prog, generate_prog, advance_prog, terminate_prog, is_too_many, queue_units, queue_prog, depart_units, depart_prog, seize_or_wait, seize_prog, first_number, is_owner, release_to, release_prog, beside, in_use, share_of, all_shares, enter_or_wait, enter_storage, enter_prog, shares_prog, leave_for, leave_units, leave_prog, go_to, lead_to, transfer_prog, block_prog, meet_prog, try_prog, attempt_prog, sooner, least_time, within_prog, clock_prog, pick_prog, scan_prog, move_prog, step_prog, run_prog}
+use Rattle.gw_meaning.specs.Evaluation.{number_of_draw, draw, number_given, value_prog, value_or_zero, value_there, numbered, named, entity_prog, units_prog, in_range, spread, millionths, sample_within, time_prog}
+use Rattle.gw_meaning.specs.Step.{arrival_at, arrival_in_time, arrival_within, arrival_prog, first_of_generate, first_of, first_arrival, with_arrival, arrivals_prog, first_arrivals_prog, start_prog, command_prog, generate_prog, advance_prog, terminate_prog, is_too_many, queue_units, queue_prog, depart_units, depart_prog, seize_or_wait, seize_prog, first_number, is_owner, release_to, release_prog, beside, in_use, share_of, all_shares, enter_or_wait, enter_storage, enter_prog, shares_prog, leave_for, leave_units, leave_prog, go_to, lead_to, transfer_prog, priority_prog, block_prog, meet_prog, try_prog, attempt_prog, sooner, least_time, within_prog, clock_prog, pick_prog, scan_prog, move_prog, step_prog, run_prog}
 use Rattle.gw_frame.specs.Moved.{IsMove, moved_transaction, moved_event, moved_machine}
 use Rattle.gw_frame.proofs.Follows.{ProgFollows, prog_gives, prog_asks, prog_bind, Follows, follows_gives, follows_ends, follows_asks, follows_cond, follows_stops, follows_bind}
 use Rattle.gw_frame.proofs.MovedLists.{count_at_moved, none_moved}
@@ -45,12 +45,18 @@ module _ (move : ℕ → ℕ) (is : IsMove move) where
   draw_follows : (j : ℕ) → Follows move same (draw j) (draw j)
   draw_follows j = record { from = λ before. prog_bind _ (number_follows (stream_at before j)) (λ x. prog_gives refl) }
 
+  number_given_follows : (number : Option ℤ) → Follows move same (number_given number) (number_given number)
+  number_given_follows None = follows_ends
+  number_given_follows (Some n) = follows_gives refl
+
   value_follows : (s : Machine) (term : Term) → Follows move same (value_prog s term) (value_prog (moved_machine move s) term)
   value_follows s (Constant value) = follows_gives refl
-  value_follows s (Named name) = follows_ends
-  value_follows s (Label name) = follows_ends
-  value_follows s (Fraction part) = follows_ends
-  value_follows s (Defined name) = follows_ends
+  value_follows s (Number name) = follows_asks (items.Name name) number_given_follows
+  value_follows s term = follows_ends
+
+  value_there_follows : (s : Machine) (term : Option Term) → Follows move same (value_there s term) (value_there (moved_machine move s) term)
+  value_there_follows s None = follows_ends
+  value_there_follows s (Some term) = value_follows s term
 
   value_or_zero_follows : (s : Machine) (term : Option Term) → Follows move same (value_or_zero s term) (value_or_zero (moved_machine move s) term)
   value_or_zero_follows s None = follows_gives refl
@@ -67,9 +73,7 @@ module _ (move : ℕ → ℕ) (is : IsMove move) where
   entity_follows s None = follows_ends
   entity_follows s (Some (Constant n)) = numbered_follows n
   entity_follows s (Some (Named name)) = follows_asks (items.Name name) (named_follows name)
-  entity_follows s (Some (Defined name)) = follows_ends
-  entity_follows s (Some (Label name)) = follows_ends
-  entity_follows s (Some (Fraction part)) = follows_ends
+  entity_follows s (Some term) = follows_ends
 
   units_follows : (s : Machine) (term : Option Term) → Follows move same (units_prog s term) (units_prog (moved_machine move s) term)
   units_follows s None = follows_gives refl
@@ -252,10 +256,7 @@ module _ (move : ℕ → ℕ) (is : IsMove move) where
       Follows move (moved_move move) (enter_prog s id storage units) (enter_prog (moved_machine move s) (move id) storage units)
   enter_follows s id (Some (Defined name)) units = follows_bind _ (units_follows s units)
       (λ n. follows_asks (items.Fits name n) (enter_storage_follows id name (store_at s.entities (keys.Defined name)) n))
-  enter_follows s id (Some (Constant n)) units = follows_ends
-  enter_follows s id (Some (Named name)) units = follows_ends
-  enter_follows s id (Some (Label name)) units = follows_ends
-  enter_follows s id (Some (Fraction part)) units = follows_ends
+  enter_follows s id (Some term) units = follows_ends
   enter_follows s id None units = follows_ends
 
   shares_follow : (name : List ℕ) (content : ℕ) (shares : List (Option ℕ)) (chain : List Transaction) →
@@ -280,10 +281,7 @@ module _ (move : ℕ → ℕ) (is : IsMove move) where
       Follows move (moved_move move) (leave_prog s id storage units) (leave_prog (moved_machine move s) (move id) storage units)
   leave_follows s id (Some (Defined name)) units = follows_bind _ (units_follows s units)
       (λ n. leave_units_follows s id name (store_at s.entities (keys.Defined name)) n)
-  leave_follows s id (Some (Constant n)) units = follows_ends
-  leave_follows s id (Some (Named name)) units = follows_ends
-  leave_follows s id (Some (Label name)) units = follows_ends
-  leave_follows s id (Some (Fraction part)) units = follows_ends
+  leave_follows s id (Some term) units = follows_ends
   leave_follows s id None units = follows_ends
 
   -- TRANSFER
@@ -293,21 +291,20 @@ module _ (move : ℕ → ℕ) (is : IsMove move) where
 
   lead_to_follows : (id : ℕ) (label : Option Term) → Follows move (moved_move move) (lead_to id label) (lead_to (move id) label)
   lead_to_follows id (Some (Label name)) = follows_asks (items.Label name) (go_to_follows id)
-  lead_to_follows id (Some (Constant n)) = follows_gives refl
-  lead_to_follows id (Some (Named name)) = follows_gives refl
-  lead_to_follows id (Some (Fraction part)) = follows_gives refl
-  lead_to_follows id (Some (Defined name)) = follows_gives refl
+  lead_to_follows id (Some term) = follows_gives refl
   lead_to_follows id None = follows_gives refl
 
   transfer_follows : (id : ℕ) (fraction near far : Option Term) →
       Follows move (moved_move move) (transfer_prog id fraction near far) (transfer_prog (move id) fraction near far)
   transfer_follows id (Some (Fraction part)) near far =
       follows_bind _ (draw_follows 1) (λ x. lead_to_follows id (cond (nat_lt (millionths x) part) far near))
-  transfer_follows id (Some (Constant n)) near far = lead_to_follows id near
-  transfer_follows id (Some (Named name)) near far = lead_to_follows id near
-  transfer_follows id (Some (Label name)) near far = lead_to_follows id near
-  transfer_follows id (Some (Defined name)) near far = lead_to_follows id near
+  transfer_follows id (Some term) near far = lead_to_follows id near
   transfer_follows id None near far = lead_to_follows id near
+
+  -- PRIORITY
+  priority_follows : (s : Machine) (id : ℕ) (priority : Option Term) →
+      Follows move (moved_move move) (priority_prog s id priority) (priority_prog (moved_machine move s) (move id) priority)
+  priority_follows s id priority = follows_bind _ (value_there_follows s priority) (λ p. follows_gives refl)
 
   block_follows : (s : Machine) (x : Transaction) (id : ℕ) (b : Block) (verb : BlockVerb) →
       Follows move (moved_move move) (block_prog s x id b verb) (block_prog (moved_machine move s) (moved_transaction move x) (move id) b verb)
@@ -321,6 +318,9 @@ module _ (move : ℕ → ℕ) (is : IsMove move) where
   block_follows s x id b blocks.Enter = enter_follows s id (operand b A) (operand b B)
   block_follows s x id b blocks.Leave = leave_follows s id (operand b A) (operand b B)
   block_follows s x id b blocks.Transfer = transfer_follows id (operand b A) (operand b B) (operand b C)
+  block_follows s x id b blocks.Mark = follows_gives refl
+  block_follows s x id b blocks.Priority = priority_follows s id (operand b A)
+  block_follows s x id b blocks.Buffer = follows_gives refl
   block_follows s x id b verb = follows_ends
 
   meet_follows : (s : Machine) (x : Transaction) (id : ℕ) (block : Option Block) →

@@ -9,13 +9,15 @@ use Rattle.gw_meaning.specs.declared.entity_change.Deed.TheVariants as deeds
 use Rattle.gw_meaning.specs.declared.moves.Arrival.{Arrival}
 use Rattle.gw_meaning.specs.declared.moves.Change.{Change}
 use Rattle.gw_meaning.specs.declared.moves.Change.TheVariants as changes
+use Rattle.gw_meaning.specs.declared.transaction_change.TransactionChange.{TransactionChange}
+use Rattle.gw_meaning.specs.declared.transaction_change.TransactionChange.TheVariants as own
 use Rattle.gw_meaning.specs.declared.moves.Fate.{Fate}
 use Rattle.gw_meaning.specs.declared.moves.Fate.TheVariants as fates
 use Rattle.gw_meaning.specs.declared.moves.Move.TheVariants as moves
 use Rattle.gw_meaning.specs.Listing.{Listing}
 use Rattle.gw_meaning.specs.Entities.{touched}
 use Rattle.gw_meaning.specs.Machine.{Machine, delay_at}
-use Rattle.gw_meaning.specs.Changes.{crossed, made, making_of, with_making, placed, marked, fated, let_in, one_let_in, some_let_in, admitted, changed, entering, with_active, picked, moved}
+use Rattle.gw_meaning.specs.Changes.{lined_up, crossed, made, making_of, with_making, placed, own_marked, marked, fated, let_in, one_let_in, some_let_in, admitted, changed, entering, with_active, picked, moved}
 use Rattle.gw_frame.proofs.Known.{IsComing, IsDecidedChange}
 use Rattle.gw_frame.proofs.Delays.{delay_set}
 
@@ -28,23 +30,35 @@ settled s x id change fate =
     })
 
 -- what a mark and a fate leave alone
+own_same : (change : TransactionChange) (clock : ℕ) (x : Transaction) →
+    ((own_marked change clock x).number ≡ x.number) × ((own_marked change clock x).current ≡ x.current)
+own_same own.Mark clock x = (refl, refl)
+own_same (own.Priority to) clock x = (refl, refl)
+own_same (own.Transfer to) clock x = (refl, refl)
+
 pub marked_same : (change : Change) (clock : ℕ) (x : Transaction) →
     ((marked change clock x).number ≡ x.number) × ((marked change clock x).current ≡ x.current)
 marked_same (changes.Generate next) clock x = (refl, refl)
-marked_same (changes.Transfer to) clock x = (refl, refl)
+marked_same (changes.Transaction change) clock x = own_same change clock x
 marked_same (changes.Entity change) clock x = (refl, refl)
 marked_same changes.Nothing clock x = (refl, refl)
+
+-- the current chain behind a fate
+abbrev pub current_behind : Fate → Transaction → List Transaction → List Transaction
+current_behind fates.Current x chain = lined_up x chain
+current_behind fate x chain = chain
 
 pub record IsSettled (s : Machine) (x : Transaction) (id : ℕ) (change : Change) (fate : Fate) (v : Machine) : Type 0 where
   pub clock : v.clock ≡ s.clock
   pub next : v.next ≡ s.next
-  pub current : v.current ≡ s.current
+  pub current : v.current ≡ current_behind fate (marked change s.clock (placed x id)) s.current
   pub delays : v.delays ≡ s.delays
   pub counts : v.counts ≡ crossed fate s.counts x.current id
   pub entities : v.entities ≡ touched change s.clock x.number s.entities
 
 pub settled_is : (s : Machine) (x : Transaction) (id : ℕ) (change : Change) (fate : Fate) → IsSettled s x id change fate (settled s x id change fate)
 settled_is s x id change fates.Active = record { clock = refl; next = refl; current = refl; delays = refl; counts = refl; entities = refl }
+settled_is s x id change fates.Current = record { clock = refl; next = refl; current = refl; delays = refl; counts = refl; entities = refl }
 settled_is s x id change (fates.Delayed until) = record { clock = refl; next = refl; current = refl; delays = refl; counts = refl; entities = refl }
 settled_is s x id change (fates.Destroyed count) = record { clock = refl; next = refl; current = refl; delays = refl; counts = refl; entities = refl }
 
@@ -90,7 +104,7 @@ changed_has : (P Q : Machine → Type 0) (t : Listing) (s : Machine) (change : C
 changed_has P Q t s (changes.Generate None) v coming h brings = brings.nothing h
 changed_has P Q t s (changes.Generate (Some a)) v coming h brings = brings.one a coming h
 changed_has P Q t s (changes.Entity change) v coming h brings = admitted_has P Q t s v change.0 change.1 h brings
-changed_has P Q t s (changes.Transfer to) v coming h brings = brings.nothing h
+changed_has P Q t s (changes.Transaction change) v coming h brings = brings.nothing h
 changed_has P Q t s changes.Nothing v coming h brings = brings.nothing h
 
 pub with_active_has : (P : Machine → Type 0) (o : Option Transaction) (f : Transaction → Machine) (s : Machine) → P s →

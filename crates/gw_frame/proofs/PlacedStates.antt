@@ -12,6 +12,8 @@ use Rattle.gw_entities.specs.Tables.{with_value}
 use Rattle.gw_meaning.specs.declared.moves.Arrival.{Arrival}
 use Rattle.gw_meaning.specs.declared.moves.Change.{Change}
 use Rattle.gw_meaning.specs.declared.moves.Change.TheVariants as changes
+use Rattle.gw_meaning.specs.declared.transaction_change.TransactionChange.{TransactionChange}
+use Rattle.gw_meaning.specs.declared.transaction_change.TransactionChange.TheVariants as own
 use Rattle.gw_meaning.specs.declared.moves.Fate.{Fate}
 use Rattle.gw_meaning.specs.declared.moves.Fate.TheVariants as fates
 use Rattle.gw_meaning.specs.declared.moves.Move.{Move}
@@ -19,10 +21,10 @@ use Rattle.gw_meaning.specs.declared.moves.Move.TheVariants as moves
 use Rattle.gw_meaning.specs.Listing.{Listing}
 use Rattle.gw_meaning.specs.Numbers.{AreNumbered}
 use Rattle.gw_meaning.specs.Machine.{Machine, count_in, with_count, delay_at}
-use Rattle.gw_meaning.specs.Changes.{lined_up, all_lined_up, left_at, left, crossed, is_due, due, Making, made, all_made, making_of, with_making, started, placed, marked, fated, let_in, bound, refused, moved}
+use Rattle.gw_meaning.specs.Changes.{lined_up, all_lined_up, left_at, left, crossed, is_due, due, Making, made, all_made, making_of, with_making, started, placed, own_marked, marked, fated, let_in, bound, refused, moved}
 use Rattle.gw_frame.specs.BlockIds.{IsBlockId, IsIdIfAny, TransactionNames, ActiveNames, EventNames, DelayNames, CountNames, StateNames, ItemNames, StatesNameBlocks, StepsReadBlocks}
 use Rattle.gw_frame.proofs.Keeps.{all_with}
-use Rattle.gw_frame.proofs.Known.{IsComing, IsDecidedChange, IsDecided, IsRead}
+use Rattle.gw_frame.proofs.Known.{IsComing, IsDecidedOwn, IsDecidedChange, IsDecided, IsRead}
 use Rattle.gw_frame.proofs.Decided.{step_decides}
 use Rattle.gw_frame.proofs.Moves.{LetsIn, settled, with_active_has, entered_has, picked_has}
 use Rattle.gw_frame.proofs.Delays.{delay_has, with_delay_has}
@@ -87,14 +89,22 @@ module _ (t : Listing) where
   -- entering a block
   fated_names : (fate : Fate) (x : Transaction) (s : Machine) → TransactionNames t x → StateNames t s → StateNames t (fated fate x s)
   fated_names fates.Active x s named h = record { active = named; current = h.current; future = h.future; delays = h.delays; counts = h.counts }
+  fated_names fates.Current x s named h =
+      record { active = tt; current = lined_up_names x s.current named h.current; future = h.future; delays = h.delays; counts = h.counts }
   fated_names (fates.Delayed until) x s named h =
       record { active = tt; current = h.current; future = all_with (EventNames t) s.future _ h.future (named, tt); delays = h.delays; counts = h.counts }
   fated_names (fates.Destroyed count) x s named h = record { active = tt; current = h.current; future = h.future; delays = h.delays; counts = h.counts }
 
+  own_names : (x : Transaction) (id clock : ℕ) (change : TransactionChange) → AreNumbered t.lines → IsDecidedOwn t change → IsBlockId t id →
+      TransactionNames t (own_marked change clock (placed x id))
+  own_names x id clock own.Mark numbered coming named = record { current = named; destination = tt }
+  own_names x id clock (own.Priority to) numbered coming named = record { current = named; destination = tt }
+  own_names x id clock (own.Transfer to) numbered coming named = record { current = named; destination = coming numbered }
+
   marked_names : (s : Machine) (x : Transaction) (id : ℕ) (change : Change) → AreNumbered t.lines → IsDecidedChange t s change → IsBlockId t id →
       TransactionNames t (marked change s.clock (placed x id))
   marked_names s x id (changes.Generate next) numbered coming named = record { current = named; destination = tt }
-  marked_names s x id (changes.Transfer to) numbered coming named = record { current = named; destination = coming numbered }
+  marked_names s x id (changes.Transaction change) numbered coming named = own_names x id s.clock change numbered coming named
   marked_names s x id (changes.Entity change) numbered coming named = record { current = named; destination = tt }
   marked_names s x id changes.Nothing numbered coming named = record { current = named; destination = tt }
 

@@ -1,6 +1,6 @@
 -- The current chain, move by move and over a run: in order of priority, and first in first out within. The delay chains, too,
 -- are in order.
-use Rattle.std.proofs.Common.{◌≡◌, ℕ, ◌+◌, ◌≤◌, ℤ, nat_eq, Bool, true, false, List, [], ◌∷◌, ◌++◌, Ok, refl, sym, ap, ap₂, subst, ◌∙◌, append-nil, append_assoc, arith, inl, inr}
+use Rattle.std.proofs.Common.{◌≡◌, ℕ, ◌+◌, ◌≤◌, ℤ, nat_eq, Bool, true, false, List, [], ◌∷◌, ◌++◌, Some, Ok, refl, sym, ap, ap₂, subst, ◌∙◌, append-nil, append_assoc, arith, inl, inr}
 use Rattle.std.specs.List.{AllByRecursion}
 use Rattle.std.specs.Ordering.{int_eq}
 use Rattle.std.proofs.lemmas.Bool.{cases_Bool, eq-eqb, false≢true, or_parts}
@@ -13,11 +13,12 @@ use Rattle.gw_entities.specs.Tables.{with_value}
 use Rattle.gw_meaning.specs.declared.transaction.Transaction.{Transaction}
 use Rattle.gw_meaning.specs.declared.moves.Change.{Change}
 use Rattle.gw_meaning.specs.declared.moves.Fate.{Fate}
+use Rattle.gw_meaning.specs.declared.moves.Fate.TheVariants as fates
 use Rattle.gw_meaning.specs.declared.moves.Move.{Move}
 use Rattle.gw_meaning.specs.declared.moves.Move.TheVariants as moves
 use Rattle.gw_meaning.specs.Listing.{Listing}
 use Rattle.gw_meaning.specs.Machine.{Machine, delay_at, waiting}
-use Rattle.gw_meaning.specs.Changes.{lined_up, all_lined_up, one_let_in, bound, refused, due, moved}
+use Rattle.gw_meaning.specs.Changes.{lined_up, all_lined_up, placed, marked, one_let_in, bound, refused, due, moved}
 use Rattle.gw_meaning.specs.Step.{run}
 use Rattle.gw_meaning.proofs.Programs.{run_on}
 use Rattle.gw_meaning.proofs.Chains.{IsOrdered, AreNotAbove, in_order, ordered_lined, ordered_all_lined, below_one_way}
@@ -25,11 +26,11 @@ use Rattle.gw_laws.specs.Chain.{ChainIsInOrder, ChainIsFirstInFirstOut, IsFirstI
 use Rattle.gw_frame.proofs.Decided.{step_decides}
 use Rattle.gw_frame.proofs.Known.{IsDecided}
 use Rattle.gw_frame.proofs.Keeps.{all_with}
-use Rattle.gw_frame.proofs.Moves.{settled, settled_is, with_active_has, entered_has, picked_has}
+use Rattle.gw_frame.proofs.Moves.{marked_same, settled, settled_is, current_behind, with_active_has, entered_has, picked_has}
 use Rattle.gw_frame.proofs.Running.{over_run}
 use Rattle.gw_laws.proofs.Entries.{Each, at_has, with_has}
 use Rattle.gw_laws.proofs.Waiting.{let_in_as, let_in_number, let_in_is, all_without}
-use Rattle.gw_laws.proofs.Crowd.{one, many, many_lined, many_without, waiting_with, future_parts}
+use Rattle.gw_laws.proofs.Crowd.{one, active_crowd, many, many_lined, many_without, waiting_with, future_parts}
 use Rattle.gw_laws.proofs.NumberLaws.{has_number, IsNumbered, all_numbered}
 
 -- the current chain and each delay chain are in order of priority
@@ -40,11 +41,17 @@ pub record AreChained (s : Machine) : Type 0 where
 pub delay_ordered : (s : Machine) (key : Key) → AreChained s → IsOrdered (delay_at s.delays key)
 delay_ordered s key h = at_has IsOrdered [] s.delays key tt h.delays
 
--- a block leaves the chains as they are, but for one who is let in or refused
+-- the current chain stays in order behind a fate
+behind_ordered : (fate : Fate) (x : Transaction) (chain : List Transaction) → IsOrdered chain → IsOrdered (current_behind fate x chain)
+behind_ordered fates.Current x chain h = ordered_lined x chain h
+behind_ordered fate x chain h = h
+
+-- a block leaves the chains as they are, but for one who goes behind his equals, is let in or refused
 settled_ordered : (s : Machine) (x : Transaction) (id : ℕ) (change : Change) (fate : Fate) → AreChained s → AreChained (settled s x id change fate)
 settled_ordered s x id change fate h =
     let same = settled_is s x id change fate in
-    record { current = subst IsOrdered (sym same.current) h.current; delays = subst (Each IsOrdered) (sym same.delays) h.delays }
+    let chain = behind_ordered fate (marked change s.clock (placed x id)) s.current h.current in
+    record { current = subst IsOrdered (sym same.current) chain; delays = subst (Each IsOrdered) (sym same.delays) h.delays }
 
 ordered_without : (passed : List Transaction) (x : Transaction) (xs : List Transaction) → IsOrdered (passed ++ x ∷ xs) → IsOrdered (passed ++ xs)
 ordered_without [] x xs h = h.1
@@ -229,6 +236,34 @@ module _ (priority : ℤ) where
     apart = λ k. let once = h.apart k in rw (same, chains) (omega arith);
   }
 
+  -- the active one behind its equals, who is not there yet
+  lined_behind : (s v : Machine) (x y : Transaction) → s.active ≡ Some x → y.number ≡ x.number → IsNumbered s → IsOrdered s.current →
+      v.current ≡ lined_up y s.current → v.delays ≡ s.delays → StandBehind s v
+  lined_behind s v x y is named h order same chains =
+      let number : (k : ℕ) → one (has_number k y) ≡ one (has_number k x) = λ k. ap (λ n. one (nat_eq n k)) named in
+      record {
+        order = subst IsOrdered (sym same) (ordered_lined y s.current order);
+        come = numbers_of priority (y ∷ []);
+        numbers = ap (numbers_of priority) same ∙ lined_numbers y s.current order;
+        new = come_new s.current (y ∷ [])
+            (λ k. let all = active_crowd (has_number k) s x is in let n = number k in let once = h.apart k in omega arith);
+        apart = λ k.
+            let all = active_crowd (has_number k) s x is in
+            let n = number k in
+            let once = h.apart k in
+            let lined = many_lined (has_number k) y s.current in
+            rw (same, chains) (omega arith);
+      }
+
+  settled_behind : (s : Machine) (x : Transaction) (id : ℕ) (change : Change) (fate : Fate) → s.active ≡ Some x → IsNumbered s → IsOrdered s.current →
+      StandBehind s (settled s x id change fate)
+  settled_behind s x id change fates.Current is h order =
+      let y = marked change s.clock (placed x id) in
+      let same = settled_is s x id change fates.Current in
+      lined_behind s (settled s x id change fates.Current) x y is (marked_same change s.clock (placed x id)).0 h order same.current same.delays
+  settled_behind s x id change fate is h order =
+      let same = settled_is s x id change fate in stood s (settled s x id change fate) h order same.current same.delays
+
   lets_behind : (s w : Machine) (key : Key) (x : Transaction) (passed xs : List Transaction) → delay_at w.delays key ≡ passed ++ x ∷ xs →
       StandBehind s w → StandBehind s (one_let_in key x (passed ++ xs) w)
   lets_behind s w key x passed xs is h =
@@ -270,7 +305,7 @@ module _ (priority : ℤ) where
   moved_turn t s (moves.Enter id change fate) decided h order =
       behind_turn s (moved s (moves.Enter id change fate))
       (entered_has (StandBehind s) (StandBehind s) t s id change fate decided.1 (stood s s h order refl refl)
-      (λ x is. (let same = settled_is s x id change fate in stood s (settled s x id change fate) h order same.current same.delays))
+      (λ x is. settled_behind s x id change fate is h order)
       (λ v. record {
         nothing = λ k. k;
         one = λ a coming k. record { order = k.order; come = k.come; numbers = k.numbers; new = k.new; apart = k.apart };

@@ -80,6 +80,7 @@ all_made_ahead t s (a ∷ rest) w coming h =
 
 fated_ahead : (fate : Fate) (x : Transaction) (s : Machine) → IsDecidedFate s fate → AreAhead s.clock s.future → AreAhead s.clock (fated fate x s).future
 fated_ahead fates.Active x s decided h = h
+fated_ahead fates.Current x s decided h = h
 fated_ahead (fates.Delayed until) x s decided h = all_with (λ (e : Event). s.clock ≤ e.time) s.future _ h (decided, tt)
 fated_ahead (fates.Destroyed count) x s decided h = h
 

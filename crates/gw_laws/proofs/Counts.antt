@@ -59,6 +59,7 @@ content_left cs q p =
 
 behind_is : (fate : Fate) (n : ℕ) → n < 2 ^ 64 - 1 → content_behind fate n ≡ n + remains fate 1
 behind_is fates.Active n room = omega arith
+behind_is fates.Current n room = omega arith
 behind_is (fates.Delayed until) n room = omega arith
 behind_is (fates.Destroyed count) n room = omega arith
 

@@ -24,12 +24,12 @@ one b = cond b 1 0
 
 -- what a fate leaves of a number that counts the transaction
 abbrev pub remains : Fate → ℕ → ℕ
-remains fates.Active n = n
-remains (fates.Delayed until) n = n
 remains (fates.Destroyed count) n = 0
+remains fate n = n
 
 pub remains_less : (fate : Fate) (n : ℕ) → remains fate n ≤ n
 remains_less fates.Active n = omega arith
+remains_less fates.Current n = omega arith
 remains_less (fates.Delayed until) n = omega arith
 remains_less (fates.Destroyed count) n = omega arith
 
@@ -180,6 +180,7 @@ module _ (test : Transaction → Bool) where
   -- so does entering a block, but for a transaction that is destroyed
   fated_crowd : (fate : Fate) (x : Transaction) (s : Machine) → crowd (fated fate x s) ≡ remains fate (one (test x)) + others s
   fated_crowd fates.Active x s = omega arith
+  fated_crowd fates.Current x s = let more = many_lined x s.current in omega arith
   fated_crowd (fates.Delayed until) x s = let push = future_push s.future (record { time = until; transaction = x }) in omega arith
   fated_crowd (fates.Destroyed count) x s = omega arith
 

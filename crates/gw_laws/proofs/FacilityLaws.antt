@@ -101,7 +101,7 @@ module _ (steps : ℕ) where
   touched_used s (changes.Entity change) number all = done_used s change.0 change.1 number all
   touched_used s changes.Nothing number all = again s.clock s.entities.facilities all
   touched_used s (changes.Generate next) number all = again s.clock s.entities.facilities all
-  touched_used s (changes.Transfer to) number all = again s.clock s.entities.facilities all
+  touched_used s (changes.Transaction change) number all = again s.clock s.entities.facilities all
 
   -- each move
   moved_used : (t : Listing) (s : Machine) (m : Move) → IsDecided t s m → s.clock ≤ (moved s m).clock → Used s → UsedAgain (moved s m)

@@ -76,9 +76,9 @@ entering_has R t s x id (changes.Entity change) fate decided stays does =
 entering_has R t s x id (changes.Generate next) fate decided stays does =
     let same = settled_is s x id (changes.Generate next) fate in
     stays (entering s x id (changes.Generate next) fate) same.delays same.entities
-entering_has R t s x id (changes.Transfer to) fate decided stays does =
-    let same = settled_is s x id (changes.Transfer to) fate in
-    stays (entering s x id (changes.Transfer to) fate) same.delays same.entities
+entering_has R t s x id (changes.Transaction change) fate decided stays does =
+    let same = settled_is s x id (changes.Transaction change) fate in
+    stays (entering s x id (changes.Transaction change) fate) same.delays same.entities
 entering_has R t s x id changes.Nothing fate decided stays does =
     let same = settled_is s x id changes.Nothing fate in
     stays (entering s x id changes.Nothing fate) same.delays same.entities

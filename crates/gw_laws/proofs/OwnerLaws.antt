@@ -191,7 +191,7 @@ settled_free t s x id change fate decided h =
         (facility_at (touched c s.clock x.number s.entities) q).owner ≡ None → delay_at s.delays q ≡ []
     go (changes.Entity change) decided q facility free = done_free t s change.0 change.1 x.number decided h q facility free
     go (changes.Generate next) decided q facility free = h q facility free
-    go (changes.Transfer to) decided q facility free = h q facility free
+    go (changes.Transaction change) decided q facility free = h q facility free
     go changes.Nothing decided q facility free = h q facility free
 
 nobody_there : (passed : List Transaction) (x : Transaction) (xs : List Transaction) → [] ≡ passed ++ x ∷ xs → ⊥

@@ -180,7 +180,7 @@ touched_kept : (t : Listing) (s : Machine) (change : Change) (number : ℕ) → 
     AreKept t s.clock (touched change s.clock number s.entities).storages
 touched_kept t s (changes.Entity change) number decided all = done_kept t s change.0 change.1 number decided all
 touched_kept t s (changes.Generate next) number decided all = all
-touched_kept t s (changes.Transfer to) number decided all = all
+touched_kept t s (changes.Transaction change) number decided all = all
 touched_kept t s changes.Nothing number decided all = all
 
 -- a later clock

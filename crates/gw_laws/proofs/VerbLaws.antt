@@ -2,13 +2,14 @@
 use Rattle.std.proofs.Common.{[], ◌∷◌, Option, Some, None, pos, false, refl}
 use Rattle.gw_names.specs.declared.verb.BlockVerb.TheVariants as blocks
 use Rattle.gw_names.specs.declared.key.Key.TheVariants as keys
-use Rattle.gw_expr.specs.Term.{Term, Named, Defined}
+use Rattle.gw_expr.specs.Term.{Term, Constant, Named, Defined}
 use Rattle.gw_entities.specs.Records.{never_owned, seized, queued, no_line, never_used, entered}
 use Rattle.gw_meaning.specs.declared.statement.Definition.TheVariants as definitions
 use Rattle.gw_meaning.specs.declared.statement.Body.TheVariants as bodies
 use Rattle.gw_meaning.specs.declared.transaction.Transaction.{Transaction}
 use Rattle.gw_meaning.specs.declared.entity_change.Deed.TheVariants as deeds
 use Rattle.gw_meaning.specs.declared.moves.Change.TheVariants as changes
+use Rattle.gw_meaning.specs.declared.transaction_change.TransactionChange.TheVariants as own
 use Rattle.gw_meaning.specs.declared.moves.Fate.TheVariants as fates
 use Rattle.gw_meaning.specs.Listing.{Listing}
 use Rattle.gw_meaning.specs.Machine.{Machine, zero_state}
@@ -152,6 +153,36 @@ each_verb_is_evaluated blocks.Transfer given forms is = record {
   transaction = first;
   change = changes.Nothing;
   fate = fates.Active;
+  of_verb = refl;
+  enters = refl;
+}
+each_verb_is_evaluated blocks.Mark given forms is = record {
+  version = version;
+  block = record { verb = blocks.Mark; operands = [] };
+  state = zero_state;
+  transaction = first;
+  change = (changes.Transaction own.Mark);
+  fate = fates.Active;
+  of_verb = refl;
+  enters = refl;
+}
+each_verb_is_evaluated blocks.Priority given forms is = record {
+  version = version;
+  block = record { verb = blocks.Priority; operands = Some (Constant (pos 1)) ∷ [] };
+  state = zero_state;
+  transaction = first;
+  change = (changes.Transaction (own.Priority (pos 1)));
+  fate = fates.Active;
+  of_verb = refl;
+  enters = refl;
+}
+each_verb_is_evaluated blocks.Buffer given forms is = record {
+  version = version;
+  block = record { verb = blocks.Buffer; operands = [] };
+  state = zero_state;
+  transaction = first;
+  change = changes.Nothing;
+  fate = fates.Current;
   of_verb = refl;
   enters = refl;
 }

@@ -2,7 +2,7 @@
 use Rattle.std.proofs.Common.{◌≡◌, ℕ, ◌&&◌, Bool, true, false, List, [], ◌∷◌, Option, Some, None, refl, ◌∙◌, ◌⊎◌, inl, inr}
 use Rattle.std.specs.Prelude.{ℤ, map, option_map, pos}
 use Rattle.std.proofs.lemmas.Bool.{and_parts}
-use Rattle.gw_expr.specs.Term.{Term, Constant, Defined, Fraction, Label, Named}
+use Rattle.gw_expr.specs.Term.{Term, Constant, Defined, Fraction, Label, Named, Number}
 use Rattle.gw_lines.specs.declared.form.Kind.{Kind}
 use Rattle.gw_lines.specs.declared.form.Kind.TheVariants as kinds
 use Rattle.gw_lines.specs.declared.form.Presence.{Presence}
@@ -12,10 +12,11 @@ use Rattle.gw_lines.specs.declared.operand.Operand.{Operand}
 use Rattle.gw_lines.specs.declared.operand.Operand.TheVariants as operands
 use Rattle.gw_lines.specs.Forms.{value, whole}
 use Rattle.gw_lines.specs.Parts.{part_of, is_missing}
-use Rattle.gw_lines.specs.Spelling.{SpellsOperand, absent, a_value, a_whole, a_key, named_entity, numbered_entity, a_fraction, a_label, a_definition, SpellsAll, no_form, stands, unwritten}
+use Rattle.gw_lines.specs.Spelling.{SpellsOperand, absent, a_value, a_constant, named_value, a_whole, a_key, named_entity, numbered_entity, a_fraction, a_label, a_definition, SpellsAll, no_form, stands, unwritten}
 
 abbrev pub Data : Kind → Type 0
-Data kinds.Value = ℤ
+Data kinds.Value = Term
+Data kinds.Constant = ℤ
 Data (kinds.Whole most) = ℕ
 Data kinds.Quiet = Unit {0}
 Data kinds.Entity = Term
@@ -24,7 +25,8 @@ Data kinds.Label = Term
 Data kinds.Defined = Term
 
 abbrev pub data_operand : (kind : Kind) → Data kind → Option Operand
-data_operand kinds.Value z = Some (operands.Value (Constant z))
+data_operand kinds.Value t = Some (operands.Value t)
+data_operand kinds.Constant z = Some (operands.Value (Constant z))
 data_operand (kinds.Whole most) n = Some (operands.Whole n)
 data_operand kinds.Quiet u = None
 data_operand kinds.Entity t = Some (operands.Value t)
@@ -38,7 +40,8 @@ Field presence kind = Option (Data kind)
 
 -- an operand that may be absent; a key word leaves no trace
 abbrev pub maybe : (kind : Kind) → Option (Data kind) → Option Operand
-maybe kinds.Value d = value (option_map (λ z. Constant z) d)
+maybe kinds.Value d = value d
+maybe kinds.Constant d = value (option_map (λ z. Constant z) d)
 maybe (kinds.Whole most) d = whole d
 maybe kinds.Quiet d = None
 maybe kinds.Entity d = value d
@@ -48,6 +51,7 @@ maybe kinds.Defined d = value d
 
 maybe_some : (kind : Kind) (d : Data kind) → maybe kind (Some d) ≡ data_operand kind d
 maybe_some kinds.Value d = refl
+maybe_some kinds.Constant d = refl
 maybe_some (kinds.Whole most) d = refl
 maybe_some kinds.Quiet d = refl
 maybe_some kinds.Entity d = refl
@@ -57,6 +61,7 @@ maybe_some kinds.Defined d = refl
 
 maybe_none : (kind : Kind) → maybe kind None ≡ None
 maybe_none kinds.Value = refl
+maybe_none kinds.Constant = refl
 maybe_none (kinds.Whole most) = refl
 maybe_none kinds.Quiet = refl
 maybe_none kinds.Entity = refl
@@ -72,7 +77,9 @@ field_operand presences.Written kind d = maybe kind d
 data_of : {kind : Kind} {text : List ℕ} {o : Option Operand} → SpellsOperand kind text o
     → ((d : Data kind) × (data_operand kind d ≡ o)) ⊎ ((text ≡ []) × (None ≡ o))
 data_of (absent kind) = inr (refl, refl)
-data_of (a_value text z v) = inl (z, refl)
+data_of (a_value text z v) = inl (Constant z, refl)
+data_of (a_constant text z v) = inl (z, refl)
+data_of (named_value text name e) = inl (Number name, refl)
 data_of (a_whole most text n h from) = inl (n, refl)
 data_of a_key = inl (tt, refl)
 data_of (named_entity text name e) = inl (Named name, refl)
@@ -153,6 +160,7 @@ all_put is put one w (unwritten form forms os p others) =
 
 abbrev pub is_value : Kind → Bool
 is_value kinds.Value = true
+is_value kinds.Constant = true
 is_value kinds.Entity = true
 is_value kinds.Fraction = true
 is_value kinds.Label = true
@@ -163,6 +171,8 @@ one_value : {kind : Kind} {text : List ℕ} {o : Option Operand} → is_value ki
     → (v : Option Term) × (value v ≡ o)
 one_value w (absent kind) = (None, refl)
 one_value w (a_value text z v) = (Some (Constant z), refl)
+one_value w (a_constant text z v) = (Some (Constant z), refl)
+one_value w (named_value text name e) = (Some (Number name), refl)
 one_value w (a_whole most text n h from) = absurd cc
 one_value w a_key = absurd cc
 one_value w (named_entity text name e) = (Some (Named name), refl)
@@ -183,6 +193,8 @@ one_whole : {kind : Kind} {text : List ℕ} {o : Option Operand} → is_whole ki
     → (v : Option ℕ) × (whole v ≡ o)
 one_whole w (absent kind) = (None, refl)
 one_whole w (a_value text z v) = absurd cc
+one_whole w (a_constant text z v) = absurd cc
+one_whole w (named_value text name e) = absurd cc
 one_whole w (a_whole most text n h from) = (Some n, refl)
 one_whole w a_key = absurd cc
 one_whole w (named_entity text name e) = absurd cc

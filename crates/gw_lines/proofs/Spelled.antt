@@ -8,7 +8,7 @@ use Rattle.std.proofs.lemmas.Bool.{cases_Bool}
 use Rattle.std.proofs.lemmas.Bool.Decides.{nat_tests}
 use Rattle.std.proofs.lemmas.Slice.Eq.{bytes_eq-Decides}
 use Rattle.gw_names.specs.Names.{name_of}
-use Rattle.gw_expr.specs.Term.{Term, Constant, Defined, Fraction, Label, Named}
+use Rattle.gw_expr.specs.Term.{Term, Constant, Defined, Fraction, Label, Named, Number}
 use Rattle.gw_lines.specs.declared.fault.LineFault.{LineFault}
 use Rattle.gw_lines.specs.declared.fault.LineFault.TheVariants as faults
 use Rattle.gw_lines.specs.declared.form.Kind.{Kind}
@@ -20,9 +20,9 @@ use Rattle.gw_lines.specs.declared.operand.Operand.{Operand}
 use Rattle.gw_lines.specs.declared.operand.Operand.TheVariants as operands
 use Rattle.gw_lines.specs.Numbers.{number_of, value_of, from_one, fraction_of}
 use Rattle.gw_lines.specs.Forms.{is_listed}
-use Rattle.gw_lines.specs.Operands.{numbered, or_number, label_of, defined_of, as_value, operand_in, listed_here, each_of, missing_of, has_more, operands_of}
+use Rattle.gw_lines.specs.Operands.{constant_of, or_constant, numbered, or_number, label_of, defined_of, as_value, operand_in, listed_here, each_of, missing_of, has_more, operands_of}
 use Rattle.gw_lines.specs.Parts.{goes_on, part_of, others_of, is_missing}
-use Rattle.gw_lines.specs.Spelling.{SpellsOperand, absent, a_value, a_whole, a_key, named_entity, numbered_entity, a_fraction, a_label, a_definition, SpellsAll, no_form, stands, unwritten}
+use Rattle.gw_lines.specs.Spelling.{SpellsOperand, absent, a_value, a_constant, named_value, Value, without_sign, with_sign, a_whole, a_key, named_entity, numbered_entity, a_fraction, a_label, a_definition, SpellsAll, no_form, stands, unwritten}
 use Rattle.gw_lines.specs.Faulty.{Lawful, FirstBad, bad_here, bad_later, AllLawful, FirstMissing, missing_here, missing_later, FaultOfAll, bad_operand, extra_operand, missing_operand}
 use Rattle.gw_lines.proofs.Results.{some, some_is}
 use Rattle.gw_lines.proofs.Fronts.{nonzero}
@@ -41,11 +41,22 @@ from_one_again : (n : ℕ) → 1 ≤ n → from_one (Some n) ≡ Some n
 from_one_again zero h = absurd (omega arith)
 from_one_again (suc n) h = rw (nonzero n) refl
 
-value_is : (text : List ℕ) (o : Option Operand) → option_map (λ z. some (operands.Value (Constant z))) (value_of text) ≡ Some o
-    → SpellsOperand kinds.Value text o
-value_is text o e =
-    let m = mapped (λ z. some (operands.Value (Constant z))) (value_of text) o e in
-    subst (λ (x : Option Operand). SpellsOperand kinds.Value text x) m.2 (a_value text m.0 (value_found text m.0 m.1))
+-- what a constant that is read spells, for each kind that lets a constant stand
+constant_is : (kind : Kind) (text : List ℕ) (o : Option Operand)
+    → ((z : ℤ) → Value text z → SpellsOperand kind text (Some (operands.Value (Constant z))))
+    → as_value (constant_of text) ≡ Some o → SpellsOperand kind text o
+constant_is kind text o spells e =
+    let m = mapped (λ (t : Term). some (operands.Value t)) (constant_of text) o e in
+    let k = mapped (λ (z : ℤ). Constant z) (value_of text) m.0 m.1 in
+    subst (λ (x : Option Operand). SpellsOperand kind text x) (ap (λ (t : Term). some (operands.Value t)) k.2 ∙ m.2)
+    (spells k.0 (value_found text k.0 k.1))
+
+value_is : (text : List ℕ) (name : Option (List ℕ)) (o : Option Operand) → name_of text ≡ name
+    → as_value (or_constant name text) ≡ Some o → SpellsOperand kinds.Value text o
+value_is text (Some name) o is e =
+    subst (λ (x : Option Operand). SpellsOperand kinds.Value text x) (some_is (some (operands.Value (Number name))) o e)
+    (named_value text name is)
+value_is text None o is e = constant_is kinds.Value text o (λ z v. a_value text z v) e
 
 whole_is : (most : ℕ) (text : List ℕ) (o : Option Operand)
     → option_map (λ n. some (operands.Whole n)) (from_one (number_of most text)) ≡ Some o
@@ -102,7 +113,8 @@ defined_is text o e =
 operand_found : (kind : Kind) (text : List ℕ) (o : Option Operand) → operand_in kind text ≡ Some o
     → SpellsOperand kind text o
 operand_found kind [] o e = subst (λ (x : Option Operand). SpellsOperand kind [] x) (some_is none o e) (absent kind)
-operand_found kinds.Value (b ∷ bs) o e = value_is (b ∷ bs) o e
+operand_found kinds.Value (b ∷ bs) o e = value_is (b ∷ bs) (name_of (b ∷ bs)) o refl e
+operand_found kinds.Constant (b ∷ bs) o e = constant_is kinds.Constant (b ∷ bs) o (λ z v. a_constant (b ∷ bs) z v) e
 operand_found (kinds.Whole most) (b ∷ bs) o e = whole_is most (b ∷ bs) o e
 operand_found kinds.Quiet (b ∷ bs) o e =
     elim (cases_Bool (bytes_eq (b ∷ bs) (codes "NP"))) [
@@ -114,10 +126,10 @@ operand_found kinds.Fraction (b ∷ bs) o e = fraction_is (b ∷ bs) o e
 operand_found kinds.Label (b ∷ bs) o e = label_is (b ∷ bs) o e
 operand_found kinds.Defined (b ∷ bs) o e = defined_is (b ∷ bs) o e
 
-value_in_again : (text : List ℕ) (z : ℤ) → value_of text ≡ Some z
-    → operand_in kinds.Value text ≡ Some (Some (operands.Value (Constant z)))
-value_in_again [] z e = absurd cc
-value_in_again (b ∷ bs) z e = rw e refl
+constant_in_again : (text : List ℕ) (z : ℤ) → value_of text ≡ Some z
+    → operand_in kinds.Constant text ≡ Some (Some (operands.Value (Constant z)))
+constant_in_again [] z e = absurd cc
+constant_in_again (b ∷ bs) z e = rw e refl
 
 whole_in_again : (most : ℕ) (text : List ℕ) (n : ℕ) → number_of most text ≡ Some n → 1 ≤ n
     → operand_in (kinds.Whole most) text ≡ Some (Some (operands.Whole n))
@@ -140,6 +152,30 @@ no_letter b h = grind (arith, nat_tests)
 digit_first : (b : ℕ) (bs : List ℕ) → is_ascii_digit b ≡ true → name_of (b ∷ bs) ≡ None
 unfolding name_of
 digit_first b bs h = rw (no_letter b h) refl
+
+-- nor with a sign
+sign_first : (bs : List ℕ) → name_of (45 ∷ bs) ≡ None
+unfolding name_of
+sign_first bs = refl
+
+value_in_again : {text : List ℕ} {z : ℤ} → Value text z
+    → operand_in kinds.Value text ≡ Some (Some (operands.Value (Constant z)))
+value_in_again {z = z} (with_sign text n h) =
+    let read = value_again (with_sign text n h) in rw (sign_first text, read) refl
+value_in_again (without_sign text n h) = plain_in_again text n (begins h.digits) (value_again (without_sign text n h))
+  where
+    plain_in_again : (text : List ℕ) (n : ℕ) → Begins text → value_of text ≡ Some (pos n)
+        → operand_in kinds.Value text ≡ Some (Some (operands.Value (Constant (pos n))))
+    plain_in_again [] n d e = absurd cc
+    plain_in_again (b ∷ bs) n d e =
+        let same : b ≡ d.first = let i = d.is in cc in
+        let digit = subst (λ (c : ℕ). is_ascii_digit c ≡ true) (sym same) d.digit in
+        rw (digit_first b bs digit, e) refl
+
+number_name_again : (text name : List ℕ) → name_of text ≡ Some name
+    → operand_in kinds.Value text ≡ Some (Some (operands.Value (Number name)))
+number_name_again [] name e = absurd (no_name name e)
+number_name_again (b ∷ bs) name e = rw e refl
 
 number_in_again : (text : List ℕ) (n : ℕ) → Begins text → number_of 1000000000 text ≡ Some n → 1 ≤ n
     → operand_in kinds.Entity text ≡ Some (Some (operands.Value (Constant (pos n))))
@@ -167,7 +203,9 @@ defined_in_again (b ∷ bs) name e = rw e refl
 operand_again : {kind : Kind} {text : List ℕ} {o : Option Operand} → SpellsOperand kind text o
     → operand_in kind text ≡ Some o
 operand_again (absent kind) = refl
-operand_again (a_value text z v) = value_in_again text z (value_again v)
+operand_again (a_value text z v) = value_in_again v
+operand_again (a_constant text z v) = constant_in_again text z (value_again v)
+operand_again (named_value text name e) = number_name_again text name e
 operand_again (a_whole most text n h from) = whole_in_again most text n (number_again most text n h) from
 operand_again a_key = refl
 operand_again (named_entity text name e) = name_in_again text name e

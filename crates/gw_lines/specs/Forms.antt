@@ -28,8 +28,12 @@ abbrev pub a_value : Form
 a_value = record { kind = kinds.Value; presence = presences.Optional }
 
 -- a value
+abbrev pub one_value : Form
+one_value = record { kind = kinds.Value; presence = presences.Required }
+
+-- a constant
 abbrev pub a_constant : Form
-a_constant = record { kind = kinds.Value; presence = presences.Required }
+a_constant = record { kind = kinds.Constant; presence = presences.Required }
 
 -- how many terminations a run takes, or how many units a storage has
 abbrev pub a_count : Form
@@ -84,6 +88,9 @@ forms_of_block blocks.Release given = Some (an_entity ∷ [])
 forms_of_block blocks.Enter given = Some (a_definition ∷ a_value ∷ [])
 forms_of_block blocks.Leave given = Some (a_definition ∷ a_value ∷ [])
 forms_of_block blocks.Transfer given = Some (forms_of_transfer given)
+forms_of_block blocks.Mark given = Some []
+forms_of_block blocks.Priority given = Some (one_value ∷ [])
+forms_of_block blocks.Buffer given = Some []
 forms_of_block verb given = None
 
 abbrev pub forms_of_definition : DefinitionVerb → Option (List Form)

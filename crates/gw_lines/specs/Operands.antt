@@ -3,7 +3,7 @@
 use Rattle.std.specs.Prelude.{ℕ, pos, ◌+◌, ◌==◌, Bool, true, List, [], ◌∷◌, ◌++◌, length, Option, Some, None, Result, Ok, Err, option_map, if◌then◌else◌, codes}
 use Rattle.std.specs.Str.{bytes_eq}
 use Rattle.gw_names.specs.Names.{name_of}
-use Rattle.gw_expr.specs.Term.{Term, Constant, Defined, Fraction, Label, Named}
+use Rattle.gw_expr.specs.Term.{Term, Constant, Defined, Fraction, Label, Named, Number}
 use Rattle.gw_lines.specs.declared.fault.LineFault.{LineFault}
 use Rattle.gw_lines.specs.declared.fault.LineFault.TheVariants as faults
 use Rattle.gw_lines.specs.declared.form.Kind.{Kind}
@@ -23,6 +23,18 @@ listed_of skips [] = []
 listed_of skips (b ∷ bs) = if is_blank b then (if skips then listed_of true bs else []) else b ∷ listed_of (b == 44) bs
 
 -- ---- one operand
+
+-- the constant that a text is
+abbrev pub constant_of : List ℕ → Option Term
+constant_of text = option_map (λ z. Constant z) (value_of text)
+
+abbrev pub or_constant : Option (List ℕ) → List ℕ → Option Term
+or_constant None text = constant_of text
+or_constant (Some name) text = Some (Number name)
+
+-- the value that a text is: a name that stands for a number, or a constant
+abbrev pub given_value : List ℕ → Option Term
+given_value text = or_constant (name_of text) text
 
 -- the number from 1 that a text is
 abbrev pub numbered : List ℕ → Option Term
@@ -49,7 +61,8 @@ as_value value = option_map (λ t. Some (operands.Value t)) value
 
 -- what a text that is not empty is, if it is lawful: `NP` says nothing
 abbrev pub given_in : Kind → List ℕ → Option (Option Operand)
-given_in kinds.Value text = option_map (λ z. Some (operands.Value (Constant z))) (value_of text)
+given_in kinds.Value text = as_value (given_value text)
+given_in kinds.Constant text = as_value (constant_of text)
 given_in (kinds.Whole most) text = option_map (λ n. Some (operands.Whole n)) (from_one (number_of most text))
 given_in kinds.Quiet text = if bytes_eq text (codes "NP") then Some None else None
 given_in kinds.Entity text = as_value (entity_of text)

@@ -64,6 +64,10 @@ pub data SpellsOperand : Kind → List ℕ → Option Operand → Type 0 where
   absent : (kind : Kind) → SpellsOperand kind [] None
   a_value : (text : List ℕ) (z : ℤ) → Value text z
       → SpellsOperand kinds.Value text (Some (operands.Value (terms.Constant z)))
+  a_constant : (text : List ℕ) (z : ℤ) → Value text z
+      → SpellsOperand kinds.Constant text (Some (operands.Value (terms.Constant z)))
+  named_value : (text name : List ℕ) → name_of text ≡ Some name
+      → SpellsOperand kinds.Value text (Some (operands.Value (terms.Number name)))
   a_whole : (most : ℕ) (text : List ℕ) (n : ℕ) → Number most text n → 1 ≤ n
       → SpellsOperand (kinds.Whole most) text (Some (operands.Whole n))
   a_key : SpellsOperand kinds.Quiet (codes "NP") None

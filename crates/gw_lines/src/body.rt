@@ -147,6 +147,7 @@ fn constant_of(value: &Expr) -> Option<Val>
 {
     match value.node() {
         Node::Constant(value) => Some(*value),
-        Node::Named(_) | Node::Label(_) | Node::Fraction(_) | Node::Defined(_) => None,
+        Node::Number(_) | Node::Named(_) | Node::Label(_) | Node::Fraction(_) | Node::Defined(_) =>
+            None,
     }
 }

@@ -8,8 +8,10 @@ use gw_names::{BlockVerb, CommandVerb, DefinitionVerb, Verb};
 /// What an operand may be.
 #[derive(Clone, Copy, Debug, PartialEq, Eq)]
 pub enum Kind {
-    /// A value.
+    /// A value: a name that stands for a number, or a constant.
     Value,
+    /// A constant: digits, with one `-` before them or none.
+    Constant,
     /// A whole number from 1 to `most`.
     Whole { most: u32 },
     /// The key word `NP`, which has no effect.
@@ -64,6 +66,8 @@ fn forms_of_block(verb: BlockVerb, given: bool) -> Option<&'static [Form]>
         BlockVerb::Seize | BlockVerb::Release => Some(&[ENTITY]),
         BlockVerb::Enter | BlockVerb::Leave => Some(&[DEFINED, VALUE]),
         BlockVerb::Transfer => Some(forms_of_transfer(given)),
+        BlockVerb::Mark | BlockVerb::Buffer => Some(&[]),
+        BlockVerb::Priority => Some(&[ONE_VALUE]),
         _ => None,
     }
 }
@@ -108,8 +112,13 @@ const VALUE: Form = Form {
     presence: Presence::Optional,
 };
 
-const CONSTANT: Form = Form {
+const ONE_VALUE: Form = Form {
     kind: Kind::Value,
+    presence: Presence::Required,
+};
+
+const CONSTANT: Form = Form {
+    kind: Kind::Constant,
     presence: Presence::Required,
 };
 

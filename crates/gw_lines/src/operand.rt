@@ -1,5 +1,5 @@
 ghost use Rattle.std.specs.Prelude.{◌≡◌, IfOk};
-ghost use Rattle.gw_lines.specs.Operands.{operand_in, given_in, as_value, entity_of, numbered, label_of, defined_of};
+ghost use Rattle.gw_lines.specs.Operands.{operand_in, given_in, as_value, constant_of, given_value, entity_of, numbered, label_of, defined_of};
 
 use crate::form::Kind;
 use crate::number::{LIMIT, fraction, from_one, value};
@@ -34,10 +34,8 @@ fn given(alloc: Global, kind: Kind, text: &[u8]) -> Result<Option<Option<Operand
     ensures { IfOk result (λ o. o ≡ given_in kind text.now) }
 {
     match kind {
-        Kind::Value => match value(text) {
-            Some(value) => Ok(Some(Some(Operand::Value(Expr::constant(value))))),
-            None => Ok(None),
-        },
+        Kind::Value => Ok(as_value(given_value(alloc, text)?)),
+        Kind::Constant => Ok(as_value(constant(text))),
         Kind::Whole { most } => match from_one(most, text) {
             Some(n) => Ok(Some(Some(Operand::Whole(n)))),
             None => Ok(None),
@@ -66,6 +64,23 @@ fn as_value(value: Option<Expr>) -> Option<Option<Operand>>
         Some(value) => Some(Some(Operand::Value(value))),
         None => None,
     }
+}
+
+// The value that a text is: a name that stands for a number, or a constant.
+fn given_value(alloc: Global, text: &[u8]) -> Result<Option<Expr>, AllocError>
+    ensures { IfOk result (λ o. o ≡ given_value text.now) }
+{
+    match Name::read(alloc, text)? {
+        Some(name) => Ok(Some(Expr::number(name))),
+        None => Ok(constant(text)),
+    }
+}
+
+// The constant that a text is.
+fn constant(text: &[u8]) -> Option<Expr>
+    ensures { result ≡ constant_of text.now }
+{
+    Some(Expr::constant(value(text)?))
 }
 
 // The entity that a text is: a name, or a number from 1.

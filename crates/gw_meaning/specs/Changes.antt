@@ -14,6 +14,8 @@ use Rattle.gw_meaning.specs.declared.entity_change.Deed.TheVariants as deeds
 use Rattle.gw_meaning.specs.declared.moves.Arrival.{Arrival}
 use Rattle.gw_meaning.specs.declared.moves.Change.{Change}
 use Rattle.gw_meaning.specs.declared.moves.Change.TheVariants as changes
+use Rattle.gw_meaning.specs.declared.transaction_change.TransactionChange.{TransactionChange}
+use Rattle.gw_meaning.specs.declared.transaction_change.TransactionChange.TheVariants as own
 use Rattle.gw_meaning.specs.declared.moves.Fate.{Fate}
 use Rattle.gw_meaning.specs.declared.moves.Fate.TheVariants as fates
 use Rattle.gw_meaning.specs.declared.moves.Move.{Move}
@@ -42,6 +44,7 @@ left counts id = left_at (count_in counts id) counts id
 -- the content of a block behind the entry of a transaction, which stays in it or is destroyed
 abbrev pub content_behind : Fate → ℕ → ℕ
 content_behind fates.Active content = raised content
+content_behind fates.Current content = raised content
 content_behind (fates.Delayed until) content = raised content
 content_behind (fates.Destroyed count) content = content
 
@@ -107,16 +110,22 @@ started count s = record s { remaining = count; commands = raised s.commands; pr
 abbrev pub arrived : Option Arrival → Machine → Machine
 arrived next s = with_making (maybe_made next (making_of s)) s
 
--- what a block changes of its transaction
+-- what a block changes of its transaction: its mark time, its priority, or the block that it goes to
+abbrev pub own_marked : TransactionChange → ℕ → Transaction → Transaction
+own_marked own.Mark clock x = record x { mark = clock }
+own_marked (own.Priority to) clock x = record x { priority = to }
+own_marked (own.Transfer to) clock x = record x { destination = Some to }
+
 abbrev pub marked : Change → ℕ → Transaction → Transaction
-marked (changes.Generate next) clock x = record x { mark = clock }
-marked (changes.Transfer to) clock x = record x { destination = Some to }
+marked (changes.Generate next) clock x = own_marked own.Mark clock x
+marked (changes.Transaction change) clock x = own_marked change clock x
 marked change clock x = x
 
--- what becomes of the transaction x: it stays active, is on the future chain, or is gone with its count taken from the
--- termination count, which completes the START at 0
+-- what becomes of the transaction x: it stays active, goes behind its equals on the current chain, is on the future
+-- chain, or is gone with its count taken from the termination count, which completes the START at 0
 abbrev pub fated : Fate → Transaction → Machine → Machine
 fated fates.Active x s = record s { active = Some x }
+fated fates.Current x s = record s { active = None; current = lined_up x s.current }
 fated (fates.Delayed until) x s =
     record s { active = None; future = s.future ++ record { time = until; transaction = x } ∷ [] }
 fated (fates.Destroyed count) x s =

@@ -5,7 +5,7 @@ use Rattle.std.specs.Prelude.{ℕ, zero, suc, ◌+◌, ◌-◌, ◌*◌, ◌/◌
 use Rattle.gw_nums.specs.Range.{is_value, is_negative, is_below, magnitude}
 use Rattle.gw_names.specs.declared.key.Key.{Key}
 use Rattle.gw_names.specs.declared.key.Key.TheVariants as keys
-use Rattle.gw_expr.specs.Term.{Term, Constant, Named}
+use Rattle.gw_expr.specs.Term.{Term, Constant, Named, Number}
 use Rattle.gw_expr.specs.declared.stop.Stop.{Stop}
 use Rattle.gw_expr.specs.declared.stop.Stop.TheVariants.{NegativeTime, Range, BadCount}
 use Rattle.gw_streams.specs.declared.stream.Stream.{Stream}
@@ -51,11 +51,22 @@ number_of_draw (streams.At x) = Gives (next_of x)
 abbrev pub draw : ℕ → Eval ℕ
 draw j = λ before. number_of_draw (stream_at before j) >>= (λ x. Gives (x, with_stream before j (streams.At x)))
 
--- the value of an operand in a state; a name, a label and a fraction are none, and no form lets one stand for a value so
--- far
+-- the number that a name stands for, which each version gives to a name that stands for a value
+abbrev pub number_given : Option ℤ → Eval ℤ
+number_given None = ends_with (ends.Error Range)
+number_given (Some n) = gives n
+
+-- the value of an operand in a state: a constant, or the number that a name stands for; an entity, a label, a fraction
+-- and a definition are none, and no form lets one stand for a value
 abbrev pub value_prog : Machine → Term → Eval ℤ
 value_prog s (Constant value) = gives value
+value_prog s (Number name) = asks (items.Name name) number_given
 value_prog s term = ends_with (ends.Error Range)
+
+-- the value of an operand that is there: no form leaves it out
+abbrev pub value_there : Machine → Option Term → Eval ℤ
+value_there s None = ends_with (ends.Error Range)
+value_there s (Some term) = value_prog s term
 
 -- the value of an operand that may be absent, which then counts as 0
 abbrev pub value_or_zero : Machine → Option Term → Eval ℤ

@@ -1,7 +1,7 @@
 -- A step: which move it is, by questions; then the move. One definition for each choice, with what is chosen by as an
 -- argument. (Manual: the order of the scan. Our own: commands, priming and picking as steps of their own, and the order
--- in which a GENERATE's operands are met, that a facility refuses its own owner, too, and that units that
--- fit go in, whoever waits.)
+-- in which a GENERATE's operands are met, that a facility refuses its own owner, too, that units that
+-- fit go in, whoever waits, and that a PRIORITY leaves its transaction active.)
 use Rattle.std.specs.Prelude.{ℕ, zero, suc, ◌+◌, ◌-◌, Bool, true, false, ◌==◌, List, [], ◌∷◌, ◌++◌, Option, Some, None, Result, Ok, Err, ℤ, ◌&&◌, ◌||◌, if◌then◌else◌, nat_le, nat_lt, min, not, is_some}
 use Rattle.gw_nums.specs.Range.{is_negative, magnitude}
 use Rattle.gw_expr.specs.Term.{Term, Label, Fraction, Defined}
@@ -24,6 +24,7 @@ use Rattle.gw_streams.specs.Draws.{all_set}
 use Rattle.gw_meaning.specs.declared.moves.Arrival.{Arrival}
 use Rattle.gw_meaning.specs.declared.entity_change.Deed.TheVariants as deeds
 use Rattle.gw_meaning.specs.declared.moves.Change.TheVariants as changes
+use Rattle.gw_meaning.specs.declared.transaction_change.TransactionChange.TheVariants as own
 use Rattle.gw_meaning.specs.declared.moves.Fate.{Fate}
 use Rattle.gw_meaning.specs.declared.moves.Fate.TheVariants as fates
 use Rattle.gw_meaning.specs.declared.moves.Move.{Move}
@@ -35,7 +36,7 @@ use Rattle.gw_entities.specs.Records.{Line, Store, capped}
 use Rattle.gw_entities.specs.Comings.{came}
 use Rattle.gw_meaning.specs.Entities.{facility_at, line_at, store_at}
 use Rattle.gw_meaning.specs.Questions.{Prog, Gives, result_of, items_of, ◌>>=◌}
-use Rattle.gw_meaning.specs.Evaluation.{Eval, gives, ends_with, asks, ◌~>◌, stops_if, value_prog, value_or_zero, entity_prog, units_prog, millionths, draw, time_prog}
+use Rattle.gw_meaning.specs.Evaluation.{Eval, gives, ends_with, asks, ◌~>◌, stops_if, value_prog, value_or_zero, value_there, entity_prog, units_prog, millionths, draw, time_prog}
 use Rattle.gw_meaning.specs.Changes.{decided}
 
 -- The next transaction of a GENERATE: its limit, then the time, then its priority.
@@ -239,7 +240,7 @@ leave_prog s id storage units = ends_with (ends.Error Range)
 -- fraction it draws, and goes to the third operand's block where the number is below the fraction, else to the second's.
 abbrev pub go_to : ℕ → Option ℕ → Eval Move
 go_to id None = ends_with (ends.Error NoNextBlock)
-go_to id (Some to) = gives (moves.Enter id (changes.Transfer to) fates.Active)
+go_to id (Some to) = gives (moves.Enter id (changes.Transaction (own.Transfer to)) fates.Active)
 
 abbrev pub lead_to : ℕ → Option Term → Eval Move
 lead_to id (Some (Label name)) = asks (items.Label name) (go_to id)
@@ -251,6 +252,18 @@ by_fraction id part near far = draw 1 ~> (λ x. lead_to id (if nat_lt (millionth
 abbrev pub transfer_prog : ℕ → Option Term → Option Term → Option Term → Eval Move
 transfer_prog id (Some (Fraction part)) near far = by_fraction id part near far
 transfer_prog id fraction near far = lead_to id near
+
+-- MARK; PRIORITY, after which the transaction stays active; BUFFER, after which it stands behind its equals on the
+-- current chain, so that they move first.
+abbrev pub mark_prog : ℕ → Eval Move
+mark_prog id = gives (moves.Enter id (changes.Transaction own.Mark) fates.Active)
+
+abbrev pub priority_prog : Machine → ℕ → Option Term → Eval Move
+priority_prog s id priority =
+    value_there s priority ~> (λ p. gives (moves.Enter id (changes.Transaction (own.Priority p)) fates.Active))
+
+abbrev pub buffer_prog : ℕ → Eval Move
+buffer_prog id = gives (moves.Enter id changes.Nothing fates.Current)
 
 -- by the block's verb; no other verb is read so far
 abbrev pub block_prog : Machine → Transaction → ℕ → Block → BlockVerb → Eval Move
@@ -265,6 +278,9 @@ block_prog s x id b blocks.Release = release_prog s x id (operand b A)
 block_prog s x id b blocks.Enter = enter_prog s id (operand b A) (operand b B)
 block_prog s x id b blocks.Leave = leave_prog s id (operand b A) (operand b B)
 block_prog s x id b blocks.Transfer = transfer_prog id (operand b A) (operand b B) (operand b C)
+block_prog s x id b blocks.Mark = mark_prog id
+block_prog s x id b blocks.Priority = priority_prog s id (operand b A)
+block_prog s x id b blocks.Buffer = buffer_prog id
 block_prog s x id b verb = ends_with (ends.Error NoNextBlock)
 
 abbrev pub meet_prog : Machine → Transaction → ℕ → Option Block → Eval Move

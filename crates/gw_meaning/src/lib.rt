@@ -16,6 +16,7 @@ mod statement;
 mod statement_id;
 mod text;
 mod transaction;
+mod transaction_change;
 
 pub use destination::Destination;
 pub use entity_change::{Deed, EntityChange};
@@ -25,3 +26,4 @@ pub use row::Row;
 pub use statement::{Block, Body, Command, Definition, Numbered, Replication, Statement};
 pub use statement_id::StatementId;
 pub use transaction::{Count, Event, Transaction};
+pub use transaction_change::TransactionChange;

@@ -1,6 +1,7 @@
 use crate::entity_change::EntityChange;
 use crate::row::Row;
 use crate::statement_id::StatementId;
+use crate::transaction_change::TransactionChange;
 use gw_names::Key;
 use gw_nums::{Clock, Time, Val};
 
@@ -20,8 +21,8 @@ pub enum Change {
     Nothing,
     /// A GENERATE sets the mark time of its transaction and makes the next one, if any.
     Generate { next: Option<Arrival> },
-    /// A TRANSFER sends its transaction to a block.
-    Transfer { to: StatementId },
+    /// What it changes of its transaction, and no more.
+    Transaction(TransactionChange),
     /// What it makes of the entity that it names, and whom that lets in.
     Entity(EntityChange),
 }
@@ -31,6 +32,8 @@ pub enum Change {
 pub enum Fate {
     /// It stays active.
     Active,
+    /// It goes to the current chain, behind its equals.
+    Current,
     /// It goes to the future chain.
     Delayed { until: Time },
     /// It is destroyed, and takes `count` from the termination count.

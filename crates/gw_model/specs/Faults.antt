@@ -2,11 +2,12 @@
 -- the limits are the product's own.)
 use Rattle.std.specs.Prelude.{ℕ, Bool, false, not, ◌||◌, ◌==◌, ◌≡◌, List, [], ◌∷◌, Option, Some, None, is_some, if◌then◌else◌, length, nat_lt}
 use Rattle.std.specs.List.{list_any}
-use Rattle.gw_expr.specs.Term.{Term, Defined, Label}
+use Rattle.gw_expr.specs.Term.{Term, Defined, Label, Number}
 use Rattle.gw_meaning.specs.Listing.{Listing, block_of, defined_in, has_label, labelled_in}
 use Rattle.gw_meaning.specs.Listing as listings
 use Rattle.gw_model.specs.Listed.{counted_label}
 use Rattle.gw_meaning.specs.declared.statement.Block.{Block}
+use Rattle.gw_meaning.specs.declared.statement.Definition.{Definition}
 use Rattle.gw_meaning.specs.declared.statement.Numbered.{Numbered}
 use Rattle.gw_meaning.specs.declared.statement.Replication.{Replication}
 use Rattle.gw_model.specs.declared.fault.ModelFault.{ModelFault}
@@ -61,40 +62,47 @@ abbrev pub has_label_twice : List Numbered → Bool
 has_label_twice [] = false
 has_label_twice (line ∷ lines) = is_labelled (counted_label line) lines || has_label_twice lines
 
--- whether an operand is a label that is not among those that are known
-abbrev pub is_unknown : (List ℕ → Bool) → Option Term → Bool
-is_unknown known (Some (Label name)) = not (known name)
-is_unknown known operand = false
+-- whether a test holds of an operand that is there
+abbrev pub holds_of : (Term → Bool) → Option Term → Bool
+holds_of test None = false
+holds_of test (Some term) = test term
 
 -- the operands of a block; what is no block has none
 abbrev pub block_operands : Option Block → List (Option Term)
 block_operands None = []
 block_operands (Some block) = block.operands
 
--- whether an operand of a block is such a label
-abbrev pub names_unknown : (List ℕ → Bool) → Numbered → Bool
-names_unknown known line = list_any (is_unknown known) (block_operands (block_of line))
+-- whether a test holds of an operand of a block
+abbrev pub holds_in : (Term → Bool) → Numbered → Bool
+holds_in test line = list_any (holds_of test) (block_operands (block_of line))
+
+-- a label that is not among those that are known
+abbrev pub is_unknown_label : (List ℕ → Bool) → Term → Bool
+is_unknown_label known (Label name) = not (known name)
+is_unknown_label known term = false
 
 -- whether an operand of a block is the label of no block
 unfoldable pub has_unknown_label : List Numbered → Bool
-has_unknown_label lines = list_any (names_unknown (λ name. is_some (labelled_in name lines))) lines
+has_unknown_label lines = list_any (holds_in (is_unknown_label (λ name. is_some (labelled_in name lines)))) lines
 
--- whether an operand is the name of a definition, of which the test holds
-abbrev pub is_defined_so : (List ℕ → Bool) → Option Term → Bool
-is_defined_so test (Some (Defined name)) = test name
-is_defined_so test operand = false
+-- a name without the definition that it needs: that of a storage has none, or what stands for a number has no EQU
+abbrev pub is_undefined : (List ℕ → Option Definition) → Term → Bool
+is_undefined definition (Defined name) = not (is_some (definition name))
+is_undefined definition (Number name) = not (is_some (listings.number_of (definition name)))
+is_undefined definition term = false
 
 -- whether an operand of a block is such a name
-abbrev pub names_defined : (List ℕ → Bool) → Numbered → Bool
-names_defined test line = list_any (is_defined_so test) (block_operands (block_of line))
-
--- whether an operand of a block is the name of a definition that is not there
 unfoldable pub has_unknown_definition : List Numbered → Bool
-has_unknown_definition lines = list_any (names_defined (λ name. not (is_some (defined_in name lines)))) lines
+has_unknown_definition lines = list_any (holds_in (is_undefined (λ name. defined_in name lines))) lines
 
--- whether an operand of a block is the name of a definition, and an EQU's
+-- the name of a storage that is an EQU's
+abbrev pub is_equ_named : (List ℕ → Option Definition) → Term → Bool
+is_equ_named definition (Defined name) = is_some (listings.number_of (definition name))
+is_equ_named definition term = false
+
+-- whether an operand of a block is such a name
 unfoldable pub has_equ_named : List Numbered → Bool
-has_equ_named lines = list_any (names_defined (λ name. is_some (listings.number_of (defined_in name lines)))) lines
+has_equ_named lines = list_any (holds_in (is_equ_named (λ name. defined_in name lines))) lines
 
 -- the first fault of the names that operands of blocks are, if they have one
 abbrev pub definition_fault_of : List Numbered → Option ModelFault

@@ -1,6 +1,6 @@
 -- What a version may be, in the subject's own words. (Our own limits.)
-use Rattle.std.specs.Prelude.{ℕ, ◌≤◌, ◌<◌, ◌≡◌, ◌≢◌, List, Some, length, slice_get}
-use Rattle.gw_expr.specs.Term.{Defined, Label}
+use Rattle.std.specs.Prelude.{ℕ, ℤ, ◌≤◌, ◌<◌, ◌≡◌, ◌≢◌, List, Some, length, slice_get}
+use Rattle.gw_expr.specs.Term.{Defined, Label, Number}
 use Rattle.gw_meaning.specs.Listing.{Listing, block_of, definition_at, label_at}
 use Rattle.gw_meaning.specs.Statements.{operand}
 use Rattle.gw_model.specs.Listed.{counted_label}
@@ -34,3 +34,6 @@ pub record Well (t : Listing) : Type 0 where
   pub storages_there : (i place : ℕ) (line : Numbered) (block : Block) (name : List ℕ) →
       slice_get t.lines i ≡ Some line → block_of line ≡ Some block → operand block place ≡ Some (Defined name) →
       (capacity : ℕ) × (definition_at t name ≡ Some (definitions.Storage capacity))
+  pub numbers_there : (i place : ℕ) (line : Numbered) (block : Block) (name : List ℕ) → slice_get t.lines i ≡ Some line →
+      block_of line ≡ Some block → operand block place ≡ Some (Number name) →
+      (value : ℤ) × (definition_at t name ≡ Some (definitions.Equ value))

@@ -1,25 +1,25 @@
-ghost use Rattle.std.specs.Prelude.{◌≡◌, ℕ, List, not, is_some};
+ghost use Rattle.std.specs.Prelude.{◌≡◌, ℕ, List, is_some};
 ghost use Rattle.std.specs.BTreeMap as tree;
 ghost use Rattle.std.specs.Ordering.{nat_cmp};
 ghost use Rattle.std.specs.Cmp.Lexicographic.{slice_cmp};
 ghost use Rattle.gw_meaning.specs.Listing.{defined_in, number_of};
-ghost use Rattle.gw_model.specs.Faults.{has_unknown_definition, has_equ_named, names_defined, is_defined_so};
+ghost use Rattle.gw_model.specs.Faults.{has_unknown_definition, has_equ_named, holds_in, holds_of, is_undefined, is_equ_named};
 
 use gw_expr::{Expr, Node};
 use gw_meaning::{Definition, Numbered};
 use gw_names::Name;
 use std::collections::BTreeMap;
 
-/// Whether an operand of a block is the name of a definition that is not there.
+/// Whether an operand of a block is a name without the definition that it needs.
 #[tactic(auto, unfolding(crate::specs::Faults::has_unknown_definition))]
 pub fn has_unknown_definition(lines: &[Numbered], definitions: &BTreeMap<Name, Definition>) -> bool
     requires { (name : List ℕ) → tree.get (slice_cmp nat_cmp) definitions.now name ≡ defined_in name lines.now }
     ensures { result ≡ has_unknown_definition lines.now }
 {
-    lines.iter().any(|line| names_unknown(definitions, line))
+    lines.iter().any(|line| names_undefined(definitions, line))
 }
 
-/// Whether an operand of a block is the name of a definition, and an EQU's.
+/// Whether an operand of a block is the name of a storage, and an EQU's.
 #[tactic(auto, unfolding(crate::specs::Faults::has_equ_named))]
 pub fn has_equ_named(lines: &[Numbered], definitions: &BTreeMap<Name, Definition>) -> bool
     requires { (name : List ℕ) → tree.get (slice_cmp nat_cmp) definitions.now name ≡ defined_in name lines.now }
@@ -28,55 +28,64 @@ pub fn has_equ_named(lines: &[Numbered], definitions: &BTreeMap<Name, Definition
     lines.iter().any(|line| names_equ(definitions, line))
 }
 
-fn names_unknown(definitions: &BTreeMap<Name, Definition>, line: &Numbered) -> bool
+fn names_undefined(definitions: &BTreeMap<Name, Definition>, line: &Numbered) -> bool
     ensures { result ≡
-        names_defined (λ name. not (is_some (tree.get (slice_cmp nat_cmp) definitions.now name))) line.now }
+        holds_in (is_undefined (λ name. tree.get (slice_cmp nat_cmp) definitions.now name)) line.now }
 {
     match line.block() {
         Some(block) => block
             .operands
             .as_slice()
             .iter()
-            .any(|operand| is_unknown(definitions, operand)),
+            .any(|operand| is_undefined(definitions, operand)),
         None => false,
     }
 }
 
 fn names_equ(definitions: &BTreeMap<Name, Definition>, line: &Numbered) -> bool
     ensures { result ≡
-        names_defined (λ name. is_some (number_of (tree.get (slice_cmp nat_cmp) definitions.now name))) line.now }
+        holds_in (is_equ_named (λ name. tree.get (slice_cmp nat_cmp) definitions.now name)) line.now }
 {
     match line.block() {
         Some(block) => block
             .operands
             .as_slice()
             .iter()
-            .any(|operand| is_equ(definitions, operand)),
+            .any(|operand| is_equ_named(definitions, operand)),
         None => false,
     }
 }
 
-fn is_unknown(definitions: &BTreeMap<Name, Definition>, operand: &Option<Expr>) -> bool
+fn is_undefined(definitions: &BTreeMap<Name, Definition>, operand: &Option<Expr>) -> bool
     ensures { result ≡
-        is_defined_so (λ name. not (is_some (tree.get (slice_cmp nat_cmp) definitions.now name))) operand.now }
+        holds_of (is_undefined (λ name. tree.get (slice_cmp nat_cmp) definitions.now name)) operand.now }
 {
     let Some(expr) = operand else { return false };
     match expr.node() {
         Node::Defined(name) => definitions.get(name).is_none(),
+        Node::Number(name) => !is_equ(definitions, name),
         Node::Constant(_) | Node::Named(_) | Node::Label(_) | Node::Fraction(_) => false,
     }
 }
 
-fn is_equ(definitions: &BTreeMap<Name, Definition>, operand: &Option<Expr>) -> bool
+fn is_equ_named(definitions: &BTreeMap<Name, Definition>, operand: &Option<Expr>) -> bool
     ensures { result ≡
-        is_defined_so (λ name. is_some (number_of (tree.get (slice_cmp nat_cmp) definitions.now name))) operand.now }
+        holds_of (is_equ_named (λ name. tree.get (slice_cmp nat_cmp) definitions.now name)) operand.now }
 {
     let Some(expr) = operand else { return false };
     match expr.node() {
-        Node::Defined(name) => match definitions.get(name) {
-            Some(Definition::Equ { .. }) => true,
-            Some(Definition::Storage { .. }) | None => false,
-        },
-        Node::Constant(_) | Node::Named(_) | Node::Label(_) | Node::Fraction(_) => false,
+        Node::Defined(name) => is_equ(definitions, name),
+        Node::Constant(_) | Node::Number(_) | Node::Named(_) | Node::Label(_) | Node::Fraction(_) =>
+            false,
+    }
+}
+
+// Whether an EQU gives the name a number.
+fn is_equ(definitions: &BTreeMap<Name, Definition>, name: &Name) -> bool
+    ensures { result ≡ is_some (number_of (tree.get (slice_cmp nat_cmp) definitions.now name.now)) }
+{
+    match definitions.get(name) {
+        Some(Definition::Equ { .. }) => true,
+        Some(Definition::Storage { .. }) | None => false,
     }
 }

@@ -3,7 +3,7 @@ ghost use Rattle.std.specs.BTreeMap as tree;
 ghost use Rattle.std.specs.Ordering.{nat_cmp};
 ghost use Rattle.std.specs.Cmp.Lexicographic.{slice_cmp};
 ghost use Rattle.gw_meaning.specs.Listing.{labelled_in};
-ghost use Rattle.gw_model.specs.Faults.{has_unknown_label, names_unknown, is_unknown};
+ghost use Rattle.gw_model.specs.Faults.{has_unknown_label, holds_in, holds_of, is_unknown_label};
 
 use gw_expr::{Expr, Node};
 use gw_meaning::{Numbered, StatementId};
@@ -20,7 +20,8 @@ pub fn has_unknown_label(lines: &[Numbered], labels: &BTreeMap<Name, StatementId
 }
 
 fn names_unknown(labels: &BTreeMap<Name, StatementId>, line: &Numbered) -> bool
-    ensures { result ≡ names_unknown (λ name. is_some (tree.get (slice_cmp nat_cmp) labels.now name)) line.now }
+    ensures { result ≡
+        holds_in (is_unknown_label (λ name. is_some (tree.get (slice_cmp nat_cmp) labels.now name))) line.now }
 {
     match line.block() {
         Some(block) => block
@@ -33,11 +34,16 @@ fn names_unknown(labels: &BTreeMap<Name, StatementId>, line: &Numbered) -> bool
 }
 
 fn is_unknown(labels: &BTreeMap<Name, StatementId>, operand: &Option<Expr>) -> bool
-    ensures { result ≡ is_unknown (λ name. is_some (tree.get (slice_cmp nat_cmp) labels.now name)) operand.now }
+    ensures { result ≡
+        holds_of (is_unknown_label (λ name. is_some (tree.get (slice_cmp nat_cmp) labels.now name))) operand.now }
 {
     let Some(expr) = operand else { return false };
     match expr.node() {
         Node::Label(name) => labels.get(name).is_none(),
-        Node::Constant(_) | Node::Named(_) | Node::Fraction(_) | Node::Defined(_) => false,
+        Node::Constant(_)
+        | Node::Number(_)
+        | Node::Named(_)
+        | Node::Fraction(_)
+        | Node::Defined(_) => false,
     }
 }

@@ -1,1 +1,2 @@
 pub mod InUpperCase
+pub mod SameHeads

@@ -7,6 +7,7 @@
 mod class;
 mod key;
 mod name;
+mod spelling;
 mod verb;
 
 pub use class::{CLASSES, Class, is_class};

@@ -5,30 +5,32 @@ ghost use Rattle.gw_names.specs.Names.{name_of, is_name_text, is_name_byte, is_b
 ghost use Rattle.gw_names.specs.Words.{upper_of};
 
 use crate::class::is_class;
+use crate::spelling::Spelling;
 use crate::verb::Verb;
 use std::alloc::{AllocError, Global};
 use std::cmp::Ordering;
 use std::hash::{Hash, Hasher};
 use std::marker::Model;
-use std::sync::ArcSlice;
+use std::sync::Arc;
 
 /// A name of a label, an entity or a definition, in upper case: 1 to 200 letters, digits and `_`, first a
-/// letter, and neither a verb nor the class of an attribute. Its clones share the bytes.
+/// letter, and neither a verb nor the class of an attribute. Its clones share the spelling.
 #[derive(Debug, Drop)]
 pub struct Name {
-    bytes: ArcSlice<u8>,
+    spelling: Arc<Spelling>,
 }
 
 impl Model for Name {
     ghost use Rattle.std.specs.Prelude.{ℕ, List, ◌≡◌, Some};
-    ghost use Rattle.std.specs.Arc.{arc_slice_items};
     ghost use Rattle.gw_names.specs.Names.{name_of};
+    ghost use Rattle.gw_names.specs.Heads.{head_of};
 
     ghost Value = { List ℕ };
 
-    ghost view = { λ n. arc_slice_items n.bytes };
+    ghost view = { λ n. n.spelling.value.bytes.items };
 
-    ghost invariant = { λ n. name_of (arc_slice_items n.bytes) ≡ Some (arc_slice_items n.bytes) };
+    ghost invariant = { λ n. (name_of n.spelling.value.bytes.items ≡ Some n.spelling.value.bytes.items)
+        × (n.spelling.value.head ≡ head_of n.spelling.value.bytes.items) };
 }
 
 impl Name {
@@ -45,7 +47,7 @@ impl Name {
             return Ok(None);
         }
         Ok(Some(Name {
-            bytes: ArcSlice::from_vec(bytes)?,
+            spelling: Arc::new(alloc, Spelling::new(bytes))?,
         }))
     }
 
@@ -54,24 +56,26 @@ impl Name {
         ensures bytes { result.now ≡ self.now }
         ensures is_name { name_of self.now ≡ Some self.now }
     {
-        self.bytes.as_slice()
+        self.spelling.bytes.as_slice()
     }
 
-    // Whether the two are the same name.
+    // Whether the two are the same name. Heads that differ tell at once, and so do equal heads of short names.
+    #[tactic(auto, using(crate::proofs::SameHeads::short_by_heads, crate::proofs::SameHeads::others_by_heads))]
     fn is(&self, other: &Name) -> bool
         ensures value { result ≡ bytes_eq self.now other.now }
     {
-        self.bytes.as_slice() == other.bytes.as_slice()
+        self.spelling.head == other.spelling.head
+            && (self.spelling.bytes.len() < 8 || self.as_bytes() == other.as_bytes())
     }
 }
 
-/// An equal name, which shares the bytes: no memory is wanted, and only a full count of sharers refuses it.
+/// An equal name, which shares the spelling: no memory is wanted, and only a full count of sharers refuses it.
 impl Clone for Name {
     ghost is_clone = { λ name copy. copy ≡ name };
 
     fn clone(&self) -> Result<Name, AllocError> {
         Ok(Name {
-            bytes: self.bytes.clone()?,
+            spelling: Arc::try_clone(&self.spelling)?,
         })
     }
 }
@@ -126,7 +130,7 @@ impl Ord for Name {
     ghost matches_eq = { Prim.search (comparing, rules) };
 
     fn cmp(&self, other: &Name) -> Ordering {
-        self.bytes.as_slice().cmp(&other.bytes.as_slice())
+        self.as_bytes().cmp(&other.as_bytes())
     }
 }
 

@@ -217,6 +217,7 @@ complete_done false n = grind arith
 
 complete_fated : (fate : Fate) (x : Transaction) (s : Machine) → (fated fate x s).complete ≤ s.complete + 1
 complete_fated fates.Active x s = omega arith
+complete_fated fates.Current x s = omega arith
 complete_fated (fates.Delayed until) x s = omega arith
 complete_fated (fates.Destroyed count) x s = complete_done _ s.complete
 
@@ -241,7 +242,7 @@ complete_admitted key deed s n h = h
 complete_changed : (change : Change) (s : Machine) (n : ℕ) → s.complete ≤ n + 1 → (changed change s).complete ≤ n + 1
 complete_changed (changes.Generate next) s n h = h
 complete_changed (changes.Entity change) s n h = complete_admitted change.0 change.1 s n h
-complete_changed (changes.Transfer to) s n h = h
+complete_changed (changes.Transaction change) s n h = h
 complete_changed changes.Nothing s n h = h
 
 pub complete_moved : (s : Machine) (m : Move) → (moved s m).complete ≤ s.complete + 1

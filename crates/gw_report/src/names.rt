@@ -81,7 +81,9 @@ fn add_operand(names: &mut IndexSet<Key>, operand: &Option<Expr>) -> Result<(), 
     };
     match expr.node() {
         Node::Constant(_) | Node::Fraction(_) => Ok(()),
-        Node::Named(name) | Node::Label(name) | Node::Defined(name) => add_name(names, name),
+        Node::Number(name) | Node::Named(name) | Node::Label(name) | Node::Defined(name) => {
+            add_name(names, name)
+        }
     }
 }
 

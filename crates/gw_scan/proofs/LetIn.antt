@@ -10,7 +10,9 @@ use Rattle.gw_meaning.specs.declared.transaction.Transaction.{Transaction}
 use Rattle.gw_meaning.specs.Machine.{Machine, delay_at, waiting, AreInOrder}
 use Rattle.gw_meaning.specs.Changes.{let_in, some_let_in}
 use Rattle.gw_meaning.proofs.Chains.{AreNotAbove, IsOrdered, ordered, in_order}
-use Rattle.gw_scan.specs.Parts.{has_share, with_share, without_share, IsWithin, AreWithin, HasRoomToLetAllIn, all_let_in}
+use Rattle.gw_meaning.specs.declared.entity_change.Deed.{Deed}
+use Rattle.gw_meaning.specs.declared.entity_change.Deed.TheVariants as deeds
+use Rattle.gw_scan.specs.Parts.{has_share, with_share, without_share, first_of, IsWithin, AreWithin, HasRoomToLetIn, HasRoomToLetAllIn, HasRoomToAdmit, all_let_in}
 use Rattle.gw_scan.proofs.DelayLaws.{with_same, waiting_with}
 
 abbrev Shares : Type 0
@@ -255,3 +257,14 @@ room_rest xs ys x room more limit same is left is_same h =
 pub within_more : (to : Option ℕ) (limit more : ℕ) → limit ≤ more → IsWithin to limit → IsWithin to more
 within_more None limit more h within = tt
 within_more (Some id) limit more h within = omega (arith, h, within)
+
+-- where there is room for whom a deed lets in, there is where there is more
+first_more : (o : Option Transaction) (room more limit : ℕ) → room ≤ more → HasRoomToLetIn o room limit → HasRoomToLetIn o more limit
+first_more None room more limit h has = tt
+first_more (Some x) room more limit h has = let some = has.0 in (omega (arith, h, some), has.1)
+
+pub admit_more : (key : Key) (deed : Deed) (delays : List (Key × List Transaction)) (room more limit : ℕ) → room ≤ more →
+    HasRoomToAdmit key deed delays room limit → HasRoomToAdmit key deed delays more limit
+admit_more key (deeds.Release next) delays room more limit h has = first_more (first_of (delay_at delays key)) room more limit h has
+admit_more key (deeds.Leave units shares) delays room more limit h has = let some = has.0 in (omega (arith, h, some), has.1)
+admit_more key deed delays room more limit h has = has

@@ -2,5 +2,6 @@ pub mod CountLaws
 pub mod DelayLaws
 pub mod LetIn
 pub mod ChainLaws
+pub mod SegmentLaws
 pub mod Binding
 pub mod StepLaws

@@ -6,6 +6,7 @@ pub use Rattle.gw_meaning.specs.Changes
 pub use Rattle.gw_meaning.specs.Step
 pub use Rattle.gw_meaning.specs.Point
 pub mod Parts
+pub mod Segments
 pub mod Noted
 pub mod Deciding
 pub mod Stepping

@@ -1,7 +1,7 @@
 // What a move does to a state: reserve all that grows, then change.
 ghost use Rattle.std.specs.Prelude.{◌≡◌, OnOk, OnErr};
 ghost use Rattle.gw_meaning.specs.Machine.{raised};
-ghost use Rattle.gw_meaning.specs.Changes.{moved, decided, marked, placed, bound};
+ghost use Rattle.gw_meaning.specs.Changes.{moved, decided, marked, own_marked, placed, bound};
 ghost use Rattle.gw_meaning.specs.declared.moves.Move.TheVariants as moves;
 
 use crate::entity_change::{change_entity, reserve_change};
@@ -9,7 +9,10 @@ use crate::making::{make, make_all};
 use crate::notes::Notes;
 use crate::state::State;
 use crate::tally::Tally;
-use gw_meaning::{Arrival, Change, Destination, Event, Fate, Move, Row, StatementId, Transaction};
+use gw_meaning::{
+    Arrival, Change, Destination, Event, Fate, Move, Row, StatementId, Transaction,
+    TransactionChange,
+};
 use gw_names::Key;
 use gw_nums::Clock;
 use std::alloc::AllocError;
@@ -81,6 +84,7 @@ impl State {
         ensures err { OnErr result (self.new ≡ self.old) }
     {
         self.future.reserve(2)?;
+        self.current.reserve(1)?;
         self.counts.reserve(id)?;
         match change {
             Change::Generate {
@@ -98,9 +102,10 @@ impl State {
         if let Some(x) = self.active.take() {
             let number = x.number;
             self.counts.cross(x.current, id, &fate);
-            let transaction = mark(change, self.clocks.clock(), enter(x, id));
+            let transaction = mark(change, self.clocks.clock(), place(x, id));
             match &fate {
                 Fate::Active => self.active = Some(transaction),
+                Fate::Current => self.current.line_up(transaction),
                 Fate::Delayed { until } => self.future.put(Event {
                     time: *until,
                     transaction,
@@ -120,7 +125,7 @@ impl State {
                     self.clocks.clock(),
                     number,
                 ),
-                Change::Generate { next: None } | Change::Transfer { .. } | Change::Nothing => (),
+                Change::Generate { next: None } | Change::Transaction(_) | Change::Nothing => (),
             }
         }
         Ok(())
@@ -163,20 +168,30 @@ fn mark(change: &Change, clock: Clock, x: Transaction) -> Transaction
     ensures { result ≡ marked change.now clock x }
 {
     match change {
-        Change::Generate { .. } => Transaction {
+        Change::Generate { .. } => change_transaction(&TransactionChange::Mark, clock, x),
+        Change::Transaction(change) => change_transaction(change, clock, x),
+        Change::Entity(_) | Change::Nothing => x,
+    }
+}
+
+fn change_transaction(change: &TransactionChange, clock: Clock, x: Transaction) -> Transaction
+    ensures { result ≡ own_marked change.now clock x }
+{
+    match change {
+        TransactionChange::Mark => Transaction {
             mark: clock.time(),
             ..x
         },
-        Change::Transfer { to } => Transaction {
+        TransactionChange::Priority { to } => Transaction { priority: *to, ..x },
+        TransactionChange::Transfer { to } => Transaction {
             destination: Destination::to(*to),
             ..x
         },
-        _ => x,
     }
 }
 
 // The transaction in the block that it enters.
-pub fn enter(x: Transaction, id: StatementId) -> Transaction
+pub fn place(x: Transaction, id: StatementId) -> Transaction
     ensures { result ≡ placed x id }
 {
     Transaction {

@@ -129,7 +129,7 @@ fn content_behind(fate: &Fate, content: u64) -> u64
     ensures { result ≡ content_behind fate.now content }
 {
     match fate {
-        Fate::Active | Fate::Delayed { .. } => content.saturating_add(1),
+        Fate::Active | Fate::Current | Fate::Delayed { .. } => content.saturating_add(1),
         Fate::Destroyed { .. } => content,
     }
 }

@@ -6,6 +6,7 @@ ghost use Rattle.gw_scan.specs.Deciding.{Decides};
 
 use crate::case::{Case, Halt, ask_after, ask_block, ask_command, ask_generates, ask_within};
 use crate::notes::Notes;
+use crate::priorities::{buffer_of, mark_of};
 use crate::state::State;
 use crate::transfer::transfer_of;
 use gw_expr::Stop;
@@ -125,11 +126,11 @@ impl State {
             return Err(Halt::End(End::Error(Stop::NoNextBlock)));
         };
         let block = ask_block(case.version, notes, id)?;
-        self.enter(case, notes, x, id, block)
+        self.meet(case, notes, x, id, block)
     }
 
     #[inline(always)]
-    fn enter(
+    fn meet(
         &self,
         case: Case,
         notes: &mut Notes,
@@ -154,6 +155,9 @@ impl State {
             BlockVerb::Enter => self.enter_of(case, notes, id, block),
             BlockVerb::Leave => self.leave_of(case, notes, id, block),
             BlockVerb::Transfer => transfer_of(case, notes, id, block),
+            BlockVerb::Mark => mark_of(id),
+            BlockVerb::Priority => self.priority_of(case, notes, id, block),
+            BlockVerb::Buffer => buffer_of(id),
             _ => Err(Halt::End(End::Error(Stop::NoNextBlock))),
         }
     }

@@ -1,13 +1,13 @@
 // The change of an entity: what it makes of the entity, and whom it lets in. Both lie apart from the step's own path,
 // since most steps change none.
-ghost use Rattle.std.specs.Prelude.{◌≡◌, ◌+◌, ◌<◌, ◌≤◌, [], ◌∷◌, Some, length, IfOk, OnOk};
+ghost use Rattle.std.specs.Prelude.{◌≡◌, ◌+◌, ◌-◌, ◌<◌, ◌≤◌, [], ◌∷◌, Some, length, IfOk, OnOk};
 ghost use Rattle.gw_meaning.specs.Machine.{Machine, delay_at};
 ghost use Rattle.gw_meaning.specs.Changes.{let_in, some_let_in, admitted};
 ghost use Rattle.gw_meaning.specs.Entities.{done};
 ghost use Rattle.gw_scan.specs.Parts.{entities_of, delays_of, first_of, with_share, IsWithin, AreWithin, HasRoomFor, HasRoomToLetIn, HasRoomToLetAllIn, HasRoomToAdmit};
 
 use crate::chain::{PriorityChain, has_share};
-use crate::changes::enter;
+use crate::changes::place;
 use crate::counts::Counts;
 use crate::delays::DelayChains;
 use crate::entities::Entities;
@@ -16,7 +16,7 @@ use gw_names::Key;
 use gw_nums::Clock;
 use std::alloc::AllocError;
 
-// Makes room for a change.
+// Makes room for a change, and for one more on the current chain: the transaction that enters the block may go there.
 #[inline(never)]
 pub fn reserve_change(
     entities: &mut Entities,
@@ -27,7 +27,8 @@ pub fn reserve_change(
 ) -> Result<(), AllocError>
     ensures entity { OnOk result (HasRoomFor entities.new change.now.0 change.now.1) }
     ensures admitted { OnOk result (HasRoomToAdmit change.now.0 change.now.1 (delays_of delays.now.chains)
-        current.new.room counts.new.limit) }
+        (current.new.room - 1) counts.new.limit) }
+    ensures one { OnOk result (0 < current.new.room) }
     ensures entities { entities_of entities.new ≡ entities_of entities.old }
     ensures current { current.new.items ≡ current.old.items }
     ensures counts { counts.new.entries ≡ counts.old.entries }
@@ -39,7 +40,7 @@ pub fn reserve_change(
         Deed::Leave { shares, .. } => {
             reserve_some(delays, current, counts, change.key(), shares.as_slice())
         }
-        _ => Ok(()),
+        _ => current.reserve(1),
     }
 }
 
@@ -51,15 +52,16 @@ fn reserve_first(
     key: &Key,
 ) -> Result<(), AllocError>
     ensures ok { OnOk result (HasRoomToLetIn (first_of (delay_at (delays_of delays.now.chains) key.now))
-        current.new.room counts.new.limit) }
+        (current.new.room - 1) counts.new.limit) }
+    ensures one { OnOk result (0 < current.new.room) }
     ensures current { current.new.items ≡ current.old.items }
     ensures counts { counts.new.entries ≡ counts.old.entries }
     ensures limit { counts.old.limit ≤ counts.new.limit }
 {
+    current.reserve(2)?;
     let Some(x) = delays.first(key) else {
         return Ok(());
     };
-    current.reserve(1)?;
     reserve_block(x, counts)
 }
 
@@ -72,11 +74,13 @@ fn reserve_some(
     shares: &[Option<u64>],
 ) -> Result<(), AllocError>
     ensures ok { OnOk result (HasRoomToLetAllIn (with_share shares.now (delay_at (delays_of delays.now.chains) key.now))
-        current.new.room counts.new.limit) }
+        (current.new.room - 1) counts.new.limit) }
+    ensures one { OnOk result (0 < current.new.room) }
     ensures current { current.new.items ≡ current.old.items }
     ensures counts { counts.new.entries ≡ counts.old.entries }
     ensures limit { counts.old.limit ≤ counts.new.limit }
 {
+    current.reserve(1)?;
     let Some(chain) = delays.chain(key) else {
         return Ok(());
     };
@@ -84,18 +88,18 @@ fn reserve_some(
     current.reserve(count)
 }
 
-// Makes room for the counts of the blocks at which those with a share wait. How many they are.
+// Makes room for the counts of the blocks at which those with a share wait. How many they are, and one more.
 fn reserve_blocks(
     chain: &PriorityChain,
     shares: &[Option<u64>],
     counts: &mut Counts,
 ) -> Result<usize, AllocError>
-    ensures count { IfOk result (λ count. count ≡ length (with_share shares.now chain.now.items)) }
+    ensures count { IfOk result (λ count. count ≡ length (with_share shares.now chain.now.items) + 1) }
     ensures within { OnOk result (AreWithin (with_share shares.now chain.now.items) counts.new.limit) }
     ensures entries { counts.new.entries ≡ counts.old.entries }
     ensures limit { counts.old.limit ≤ counts.new.limit }
 {
-    let mut count = 0;
+    let mut count = 1;
     for i in 0..chain.len() {
         let Some(x) = chain.get(i) else {
             unreachable!()
@@ -189,7 +193,7 @@ pub fn let_in(current: &mut PriorityChain, counts: &mut Counts, x: Transaction)
     match x.destination.id() {
         Some(id) => {
             counts.cross(x.current, id, &Fate::Active);
-            current.line_up(enter(x, id));
+            current.line_up(place(x, id));
         }
         None => current.line_up(x),
     }

@@ -1,32 +1,47 @@
-ghost use Rattle.std.specs.Prelude.{◌≡◌, ◌+◌, ◌++◌, ◌∷◌, ◌≤◌, ◌<◌, [], length, filter, not, Some, IfOk, OnOk, ◌^◌};
+ghost use Rattle.std.specs.Prelude.{◌≡◌, ◌+◌, ◌++◌, ◌∷◌, ◌≤◌, ◌<◌, [], length, take, drop, filter, not, IfOk, OnOk, ◌^◌};
 ghost use Rattle.std.specs.Slice.{IsItemAt};
 ghost use Rattle.gw_meaning.specs.Changes.{all_lined_up, due, is_due};
-ghost use Rattle.gw_meaning.specs.Step.{least_time, sooner};
+ghost use Rattle.gw_meaning.specs.Step.{least_time};
+ghost use Rattle.gw_scan.specs.Segments.{all_items, is_in_use};
 
 use crate::chain::PriorityChain;
-use gw_meaning::{Event, Transaction};
+use crate::segment::{Segment, soonest};
+use gw_meaning::Event;
 use gw_nums::Time;
 use std::alloc::{AllocError, Global};
 use std::marker::Model;
+use std::mem;
 
-/// The future chain of a run, in the order of coming onto it.
+/// How many transactions close a segment. A clock step goes over the least times of all segments, and over the
+/// transactions of those with one that is due, so a segment of many and many segments both cost. A block makes room
+/// for two, and room grows by doubling: a segment that is closed at 255 never grows beyond 256.
+const MOST: usize = 255;
+
+/// How many transactions the chain takes, 2^63 - 1.
+const LIMIT: usize = 9_223_372_036_854_775_807;
+
+/// The future chain of a run, in the order of coming onto it: the closed segments, which take no more, and the last.
 #[derive(Drop)]
 pub struct FutureChain {
-    events: Vec<Event>,
+    closed: Vec<Segment>,
+    last: Segment,
+    len: usize,
 }
 
 impl Model for FutureChain {
-    ghost use Rattle.std.specs.Prelude.{◌-◌};
-    ghost use Rattle.std.specs.Prelude.{vec_len, vec_capacity};
+    ghost use Rattle.std.specs.Prelude.{◌≡◌, ◌-◌, ◌<◌, ◌^◌, ◌++◌, length, min};
     ghost use Rattle.gw_meaning.specs.declared.transaction.Event.{Event};
     ghost use Rattle.gw_scan.specs.Parts.{Chain};
+    ghost use Rattle.gw_scan.specs.Segments.{all_items};
 
     ghost Value = { Chain Event };
 
     ghost view = { λ c. record {
-      items = c.events.items;
-      room = vec_capacity c.events - vec_len c.events;
+      items = all_items c.closed.items ++ c.last.items;
+      room = min c.last.room (2 ^ 63 - 1 - c.len);
     } };
+
+    ghost invariant = { λ c. (c.len ≡ length (all_items c.closed.items ++ c.last.items)) × (c.len < 2 ^ 63) };
 }
 
 impl FutureChain {
@@ -35,7 +50,9 @@ impl FutureChain {
         ensures { result.items ≡ [] }
     {
         FutureChain {
-            events: Vec::new(alloc),
+            closed: Vec::new(alloc),
+            last: Segment::new(alloc),
+            len: 0,
         }
     }
 
@@ -44,14 +61,39 @@ impl FutureChain {
         ensures len { result ≡ length self.now.items }
         ensures bound { result < 2 ^ 63 }
     {
-        self.events.len()
+        self.len
     }
 
     /// The transaction at an index, with its time.
     pub fn get(&self, index: usize) -> Option<&Event>
         ensures { IsItemAt self.now.items index result }
     {
-        self.events.get(index)
+        let mut left = index;
+        for i in 0..self.closed.len() {
+            let len = self.closed[i].len();
+            if left < len {
+                return self.closed[i].get(left);
+            }
+            left -= len;
+        }
+        self.last.get(left)
+    }
+
+    /// The transactions from an index on, up to the end of their segment. Who goes over the chain by parts, each at the
+    /// end of the last, need not look for each transaction among the segments.
+    pub fn part(&self, index: usize) -> &[Event]
+        ensures from { take (length result.now) (drop index self.now.items) ≡ result.now }
+        ensures some { index < length self.now.items → 0 < length result.now }
+    {
+        let mut left = index;
+        for i in 0..self.closed.len() {
+            let len = self.closed[i].len();
+            if left < len {
+                return self.closed[i].from(left);
+            }
+            left -= len;
+        }
+        self.last.from(left)
     }
 
     // Makes room for so many more.
@@ -59,7 +101,13 @@ impl FutureChain {
         ensures ok { OnOk result (count ≤ self.new.room) }
         ensures items { self.new.items ≡ self.old.items }
     {
-        self.events.reserve(count)
+        if count > LIMIT - self.len {
+            return Err(AllocError);
+        }
+        if self.last.len() >= MOST {
+            close(&mut self.closed, &mut self.last, count)?;
+        }
+        self.last.reserve(count)
     }
 
     // Puts a transaction on it.
@@ -68,17 +116,17 @@ impl FutureChain {
         ensures items { self.new.items ≡ self.old.items ++ event ∷ [] }
         ensures room { self.old.room ≤ self.new.room + 1 }
     {
-        self.events.push_reserved(event);
+        self.last.put(event);
+        self.len += 1;
     }
 
     // The least time on it.
-    #[tactic(auto, using(crate::proofs::ChainLaws::item_drop))]
     pub(crate) fn least_time(&self) -> Option<Time>
         ensures { result ≡ least_time self.now.items }
     {
-        let mut least = None;
-        for i in (0..self.events.len()).rev() {
-            least = Some(sooner(self.events[i].time, least));
+        let mut least = self.last.least_time();
+        for i in (0..self.closed.len()).rev() {
+            least = soonest(self.closed[i].least_time(), least);
         }
         least
     }
@@ -89,47 +137,66 @@ impl FutureChain {
         ensures current { current.new.items ≡ all_lined_up (due time self.old.items) current.old.items }
         ensures future { self.new.items ≡ filter (λ e. not (is_due time e)) self.old.items }
     {
-        let mut kept = 0;
-        for i in 0..self.events.len() {
-            let event = &self.events[i];
-            if event.time == time {
-                current.line_up(same(&event.transaction));
-            } else {
-                self.events.swap(kept, i);
-                kept += 1;
-            }
-        }
-        self.events.truncate(kept);
+        let before = current.len();
+        take_due(&mut self.closed, current, time);
+        self.last.take_due(current, time);
+        drop_empty(&mut self.closed);
+        self.len -= current.len() - before;
     }
 
     // An equal chain.
     pub(crate) fn copy(&self) -> Result<FutureChain, AllocError>
         ensures { IfOk result (λ c. c.items ≡ self.now.items) }
     {
-        let events = self.events.clone()?;
-        Ok(FutureChain { events })
+        let closed = copy(&self.closed)?;
+        let last = self.last.copy()?;
+        Ok(FutureChain {
+            closed,
+            last,
+            len: self.len,
+        })
     }
 }
 
-fn sooner(time: Time, other: Option<Time>) -> Time
-    ensures { Some result ≡ sooner time other }
+// Closes the last segment: a new one, with room for so many, stands behind it.
+fn close(closed: &mut Vec<Segment>, last: &mut Segment, count: usize) -> Result<(), AllocError>
+    ensures { all_items closed.new.items ++ last.new.items ≡ all_items closed.old.items ++ last.old.items }
 {
-    match other {
-        Some(other) if other < time => other,
-        _ => time,
+    closed.reserve(1)?;
+    let mut fresh = Segment::new(*closed.allocator());
+    fresh.reserve(count)?;
+    let full = mem::replace(last, fresh);
+    closed.push_reserved(full);
+    Ok(())
+}
+
+// Moves the transactions of a time from each segment to the current chain, from the first segment on.
+fn take_due(segments: &mut Vec<Segment>, current: &mut PriorityChain, time: Time)
+    requires { length (all_items segments.old.items) ≤ current.old.room }
+    ensures current { current.new.items ≡ all_lined_up (due time (all_items segments.old.items)) current.old.items }
+    ensures future { all_items segments.new.items ≡ filter (λ e. not (is_due time e)) (all_items segments.old.items) }
+    ensures room { current.old.room ≤ current.new.room + length (all_items segments.old.items) }
+{
+    for i in 0..segments.len() {
+        segments[i].take_due(current, time);
     }
 }
 
-// A transaction equal to another.
-fn same(x: &Transaction) -> Transaction
-    ensures { result ≡ x.now }
+// The segments that hold something stay, in their order.
+fn drop_empty(segments: &mut Vec<Segment>)
+    ensures { segments.new.items ≡ filter is_in_use segments.old.items }
 {
-    Transaction {
-        number: x.number,
-        priority: x.priority,
-        mark: x.mark,
-        current: x.current,
-        destination: x.destination,
-        asked: x.asked,
+    segments.retain(|segment| !segment.is_empty());
+}
+
+// Equal segments.
+fn copy(segments: &Vec<Segment>) -> Result<Vec<Segment>, AllocError>
+    ensures { IfOk result (λ ss. all_items ss.items ≡ all_items segments.now.items) }
+{
+    let len = segments.len();
+    let mut copies = Vec::with_capacity(*segments.allocator(), len)?;
+    for i in 0..len {
+        copies.push(segments[i].copy()?)?;
     }
+    Ok(copies)
 }

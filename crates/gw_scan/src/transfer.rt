@@ -13,7 +13,7 @@ use crate::draws::draw;
 use crate::notes::Notes;
 use gw_expr::{Expr, Node, Stop};
 use gw_meaning::operands::{A, B, C};
-use gw_meaning::{Block, Change, End, Fate, Move, StatementId};
+use gw_meaning::{Block, Change, End, Fate, Move, StatementId, TransactionChange};
 
 // The transaction is sent to a block, or goes on to the next one.
 #[inline(never)]
@@ -124,7 +124,7 @@ fn go_to(id: StatementId, to: Option<StatementId>) -> Result<Move, Halt>
     match to {
         Some(to) => Ok(Move::Enter {
             id,
-            change: Change::Transfer { to },
+            change: Change::Transaction(TransactionChange::Transfer { to }),
             fate: Fate::Active,
         }),
         None => Err(Halt::End(End::Error(Stop::NoNextBlock))),

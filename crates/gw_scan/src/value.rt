@@ -1,6 +1,6 @@
 // What operands stand for: values, entities and units.
 ghost use Rattle.std.specs.Prelude.{◌≡◌, ◌++◌, option_copied};
-ghost use Rattle.gw_meaning.specs.Evaluation.{value_prog, value_or_zero, numbered, named, entity_prog, units_prog};
+ghost use Rattle.gw_meaning.specs.Evaluation.{number_given, value_prog, value_or_zero, value_there, numbered, named, entity_prog, units_prog};
 ghost use Rattle.gw_scan.specs.Deciding.{Decides, Comes};
 
 use crate::case::{Case, Halt, ask_name};
@@ -13,14 +13,33 @@ use gw_nums::Val;
 
 impl State {
     // The value of an operand.
-    pub(crate) fn value(&self, _case: Case, notes: &mut Notes, operand: &Expr) -> Result<Val, Halt>
-        ensures { Decides _case.entry.version.now _case.entry.seed (value_prog self.now operand.now)
+    pub(crate) fn value(&self, case: Case, notes: &mut Notes, operand: &Expr) -> Result<Val, Halt>
+        ensures { Decides case.entry.version.now case.entry.seed (value_prog self.now operand.now)
             result notes.old notes.new }
     {
-        let _ = notes;
         match operand.node() {
             Node::Constant(value) => Ok(*value),
+            Node::Number(name) => {
+                let value = ask_name(case.version, notes, name)?;
+                number_given(value)
+            }
             _ => Err(Halt::End(End::Error(Stop::Range))),
+        }
+    }
+
+    // The value of an operand that is there.
+    pub(crate) fn value_there(
+        &self,
+        case: Case,
+        notes: &mut Notes,
+        operand: Option<&Expr>,
+    ) -> Result<Val, Halt>
+        ensures { Decides case.entry.version.now case.entry.seed (value_there self.now (option_copied operand.entry))
+            result notes.old notes.new }
+    {
+        match operand {
+            Some(expr) => self.value(case, notes, expr),
+            None => Err(Halt::End(End::Error(Stop::Range))),
         }
     }
 
@@ -81,6 +100,16 @@ impl State {
             return Err(Halt::End(End::Error(Stop::BadCount)));
         }
         Ok(units.magnitude())
+    }
+}
+
+// The number that a name stands for.
+fn number_given(number: Option<Val>) -> Result<Val, Halt>
+    ensures { Comes (number_given number) result }
+{
+    match number {
+        Some(number) => Ok(number),
+        None => Err(Halt::End(End::Error(Stop::Range))),
     }
 }
 

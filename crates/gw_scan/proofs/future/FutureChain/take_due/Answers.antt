@@ -1,32 +1,40 @@
-use Rattle.std.proofs.Common.{◌≡◌, ◌<◌, length, true, false, arith, sym, ◌∙◌}
-use Rattle.gw_meaning.specs.Changes.{is_due}
-use Rattle.gw_scan.proofs.ChainLaws.{sorted_due, sorted_kept}
+use Rattle.std.proofs.Common.{ap, arith, length}
+use Rattle.gw_scan.proofs.SegmentLaws.{chain_taken, chain_kept, chain_counts, due_and_chain}
 use Rattle.gw_scan.proofs.future.FutureChain.take_due.Goals as goal
-use Rattle.gw_scan.proofs.future.FutureChain.take_due.Goals.{then-eq, else-eq}
 
-pub loop-i-preserved : goal.loop-i-preserved
-loop-i-preserved c =
-    let F = c.self.inside.events.items in
-    let C = c.args.current.now.items in
-    let t = c.args.time in
-    let i = c.loop-i.i in
-    let e = c.index-event.result.now in
-    let s = c.loop-i.invariant.sorting in
-    let room = c.loop-i.invariant.room in
-    let h : i < length F = omega arith in
-    elim c.if-eq.branch [
-      | then-eq w ↦
-          let now : is_due t e ≡ true = sym c.eq.ensures ∙ w.if-eq.true in
-          record {
-            sorting = rw (w.current-is, w.kept-is, w.self-inside-is, w.line_up.ensures.items, w.same.ensures)
-                (sorted_due t F C i c.loop-i.kept e c.loop-i.self-inside.events.items c.loop-i.current.items h c.index-event.ensures now s);
-            room = rw w.current-is (omega (arith, room, w.line_up.ensures.room));
-          }
-      | else-eq w ↦
-          let later : is_due t e ≡ false = sym c.eq.ensures ∙ w.if-eq.false in
-          record {
-            sorting = rw (w.current-is, w.kept-is, w.self-inside-is, w.swap.ensures.items)
-                (sorted_kept t F C i c.loop-i.kept e c.loop-i.self-inside.events.items c.loop-i.current.items h c.index-event.ensures later s);
-            room = rw w.current-is (omega (arith, room));
-          }
-    ]
+pub overflow_sub-self : goal.overflow_sub-self
+overflow_sub-self c =
+    let closed = c.self.inside.closed.items in
+    let last = c.self.inside.last.items in
+    let lined = chain_taken c.args.time closed last c.args.current.now.items _ _ c.take_due.ensures.current c.take_due-2.ensures.current in
+    omega (arith, due_and_chain c.args.time closed last c.args.current.now.items _ lined, c.len-before.ensures.len, c.len.ensures.len)
+
+pub overflow_sub-self-2 : goal.overflow_sub-self-2
+overflow_sub-self-2 c =
+    let closed = c.self.inside.closed.items in
+    let last = c.self.inside.last.items in
+    let lined = chain_taken c.args.time closed last c.args.current.now.items _ _ c.take_due.ensures.current c.take_due-2.ensures.current in
+    omega (arith, chain_counts c.args.time closed last c.args.current.now.items _ lined, c.len-before.ensures.len, c.len.ensures.len, c.self.invariant.0)
+
+pub invariant_of-self : goal.invariant_of-self
+invariant_of-self c =
+    let closed = c.self.inside.closed.items in
+    let last = c.self.inside.last.items in
+    let lined = chain_taken c.args.time closed last c.args.current.now.items _ _ c.take_due.ensures.current c.take_due-2.ensures.current in
+    let kept = ap length
+    (chain_kept c.args.time closed last c.take_due.new.segments.items _ _ c.take_due.ensures.future c.drop_empty.ensures c.take_due-2.ensures.future) in
+    let counts = chain_counts c.args.time closed last c.args.current.now.items _ lined in
+    let more = due_and_chain c.args.time closed last c.args.current.now.items _ lined in
+    (omega (arith, kept, counts, more, c.len-before.ensures.len, c.len.ensures.len, c.self.invariant.0), omega (arith, c.self.invariant.1))
+
+pub returns-clause-current : goal.returns-clause-current
+returns-clause-current c =
+    rw (← c.self.view_is)
+    (chain_taken c.args.time c.self.inside.closed.items c.self.inside.last.items c.args.current.now.items _ _ c.take_due.ensures.current
+    c.take_due-2.ensures.current)
+
+pub returns-clause-future : goal.returns-clause-future
+returns-clause-future c =
+    rw (← c.self.view_is)
+    (chain_kept c.args.time c.self.inside.closed.items c.self.inside.last.items c.take_due.new.segments.items _ _ c.take_due.ensures.future c.drop_empty.ensures
+    c.take_due-2.ensures.future)

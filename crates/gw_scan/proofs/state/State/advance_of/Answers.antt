@@ -1,4 +1,4 @@
-use Rattle.std.proofs.Common.{◌≡◌, option_copied, ℤ, refl}
+use Rattle.std.proofs.Common.{◌≡◌, option_copied, ℤ, Ok, refl, rules}
 use Rattle.std.proofs.lemmas.Result.{err_from_is_err_and}
 use Rattle.gw_nums.specs.Range.{is_negative, magnitude}
 use Rattle.gw_expr.specs.declared.stop.Stop.TheVariants.{NegativeTime}
@@ -8,7 +8,7 @@ use Rattle.gw_meaning.specs.declared.moves.Move.TheVariants as moves
 use Rattle.gw_meaning.specs.Statements.{A, B, operand}
 use Rattle.gw_meaning.specs.Evaluation.{Eval, gives, stops_if, time_prog, ◌~>◌}
 use Rattle.gw_meaning.specs.Step.{advance_prog, delay_of}
-use Rattle.gw_scan.proofs.Binding.{decides_exit}
+use Rattle.gw_scan.proofs.Binding.{decides_exit, decides_whole, decides_comes}
 use Rattle.gw_scan.proofs.state.State.advance_of.Goals as goal
 
 pub returns-in_err-time : goal.returns-in_err-time
@@ -21,3 +21,17 @@ returns-in_err-time c =
     λ t. stops_if (is_negative t) NegativeTime (gives (moves.Enter c.args.id changes.Nothing (delay_of s (magnitude t)))) in
     let whole : advance_prog s c.args.id (operand b A) (operand b B) ≡ (time ~> rest) = rw (c.operand.ensures, c.operand-2.ensures) refl in
     decides_exit c.args.case.version.now c.args.case.seed time rest _ _ _ c.in_err-time.field-0.0 _ _ whole p.1 p.2 c.in_err-time.ensures
+
+pub returns : goal.returns
+returns c =
+    let s = c.args.self.now in
+    let b = c.args.block.now in
+    let t = c.in_ok-time.time in
+    let time = time_prog s (option_copied c.operand.result) (option_copied c.operand-2.result) in
+    let rest : ℤ → Eval Move =
+    λ t. stops_if (is_negative t) NegativeTime (gives (moves.Enter c.args.id changes.Nothing (delay_of s (magnitude t)))) in
+    let whole : advance_prog s c.args.id (operand b A) (operand b B) ≡ (time ~> rest) = rw (c.operand.ensures, c.operand-2.ensures) refl in
+    let m = moves.Enter c.args.id changes.Nothing c.delay.result in
+    let here : rest t ≡ gives m = search rules in
+    decides_whole c.args.case.version.now c.args.case.seed time rest _ t (Ok m) c.args.notes.now c.time.new.notes c.time.new.notes whole
+    c.in_ok-time.ensures (decides_comes c.args.case.version.now c.args.case.seed (rest t) (Ok m) c.time.new.notes here)

@@ -5,7 +5,7 @@ use Rattle.gw_meaning.specs.Entities.{done}
 use Rattle.gw_meaning.specs.declared.moves.Change.TheVariants as changes
 use Rattle.gw_scan.specs.Parts.{delays_of, entities_of}
 use Rattle.gw_scan.proofs.state.State.enter_block.Goals as goal
-use Rattle.gw_scan.proofs.state.State.enter_block.Goals.{in-Active, in-Delayed, in-Destroyed}
+use Rattle.gw_scan.proofs.state.State.enter_block.Goals.{in-Active, in-Current, in-Delayed, in-Destroyed}
 
 pub returns-in-Entity-change-clause-ok : goal.returns-in-Entity-change-clause-ok
 returns-in-Entity-change-clause-ok c =
@@ -33,6 +33,6 @@ returns-in-Entity-change-clause-ok c =
     fated c.args.fate (marked (changes.Entity t) s.clock (placed x c.args.id)) (record s {
       counts = crossed c.args.fate s.counts x.current c.args.id;
       entities = done t.0 t.1 s.clock x.number s.entities;
-    }) = elim c.match-fate.branch [ in-Active w ↦ search rules | in-Delayed w ↦ search rules | in-Destroyed w ↦ search rules ] in
+    }) = elim c.match-fate.branch [ in-Active w ↦ search rules | in-Current w ↦ search rules | in-Delayed w ↦ search rules | in-Destroyed w ↦ search rules ] in
     let active : s.active ≡ Some x = search rules in
     c.change_entity.ensures.admitted rest ∙ (ap (admitted t.0 t.1) before ∙ rw (c.in-Entity-change.is, active) refl)

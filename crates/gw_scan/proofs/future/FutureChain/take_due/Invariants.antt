@@ -1,9 +1,0 @@
-use Rattle.std.proofs.Common.{◌+◌, ◌≤◌, length}
-use Rattle.gw_scan.proofs.ChainLaws.{Sorting}
-use Rattle.gw_scan.proofs.future.FutureChain.take_due.Given as goal
-
-abbrev pub invariant-loop-i : goal.invariant-loop-i
-invariant-loop-i l = record {
-  sorting : Sorting l.time l.initial.self-inside.events.items l.initial.current.items l.i l.kept l.self-inside.events.items l.current.items;
-  room : length l.initial.self-inside.events.items ≤ l.current.room + l.i;
-}

@@ -1,0 +1,10 @@
+use Rattle.std.proofs.Common.{◌+◌, ◌≤◌, length}
+use Rattle.gw_scan.proofs.ChainLaws.{Sorting}
+use Rattle.gw_scan.proofs.segment.take_due.Given as goal
+
+abbrev pub invariant-loop-i : goal.invariant-loop-i
+invariant-loop-i l = record {
+  sorting : Sorting l.time l.initial.events.items l.initial.current.items l.i l.kept l.events.items l.current.items;
+  room : length l.initial.events.items ≤ l.current.room + l.i;
+  taken : l.initial.current.room ≤ l.current.room + l.i;
+}
