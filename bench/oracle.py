@@ -7,9 +7,11 @@ import re
 BLOCKS = "GENERATE ADVANCE TERMINATE QUEUE DEPART SEIZE RELEASE ENTER LEAVE TRANSFER MARK PRIORITY BUFFER".split()
 DEFINITIONS = "STORAGE EQU".split()
 COMMANDS = "START RMULT".split()
-# The operands that are values, counted from 0: a number, or a name to which an EQU gives one.
+# The operands that are values, counted from 0: a number, a name to which an EQU gives one, or an attribute.
 VALUES = {"GENERATE": [0, 1, 2, 3, 4], "ADVANCE": [0, 1], "TERMINATE": [0], "PRIORITY": [0]}
 VALUES |= {verb: [1] for verb in ("QUEUE", "DEPART", "ENTER", "LEAVE")}
+# An attribute: its class, and the number or the name of what it is of.
+ATTRIBUTE = re.compile(r"(C1|AC1|TG1|M1|XN1|PR)|(RN|F|FC|Q|QC|QM|QZ|S|SC|SM|N|W)(?:([0-9]+)|\$([A-Z]\w*))")
 MODULUS = 2147483647
 
 
@@ -36,7 +38,11 @@ class Statement:
     def values(self):
         """The names that stand for a number."""
         words = [self.operand(place) for place in VALUES.get(self.verb, [])]
-        return [w for w in words if w and w[0].isalpha()]
+        return [w for w in words if w and w[0].isalpha() and not attribute(w)]
+
+    def attributes(self):
+        """The class of each attribute, with the number or the name of what it is of."""
+        return [attribute(w) for w in self.operands if self.verb in BLOCKS and attribute(w)]
 
     def text(self):
         return " ".join(part for part in (self.label, self.verb, self.listed) if part)
@@ -44,7 +50,17 @@ class Statement:
     def names(self):
         """The names of the statement, the label first."""
         words = [self.label] if self.label else []
-        return words + [w for w in self.operands if self.verb in BLOCKS and re.match("[A-Z]", w)]
+        own = [attribute(w)[1] if attribute(w) else w for w in self.operands if self.verb in BLOCKS]
+        return words + [w for w in own if isinstance(w, str) and re.match("[A-Z]", w)]
+
+
+def attribute(word):
+    """The class of an attribute, with the number or the name of what it is of; None where a word is no attribute."""
+    read = ATTRIBUTE.fullmatch(word)
+    if read is None:
+        return None
+    alone, of, number, name = read.groups()
+    return (alone, None) if alone else (of, int(number) if number else name)
 
 
 class Version:
@@ -76,10 +92,13 @@ class Version:
         labels = [s.label for s in self.statements if s.label]
         if len(labels) > len(set(labels)):
             return "M1"
+        attributes = [a for b in self.blocks for a in b.attributes()]
         wanted = [w for b in self.blocks if b.verb == "TRANSFER" for w in b.operands[1:] if w]
+        wanted += [name for of, name in attributes if of in ("N", "W")]
         if any(self.label(w) is None for w in wanted):
             return "M2"
         storages = [b.operand(0) for b in self.blocks if b.verb in ("ENTER", "LEAVE")]
+        storages += [name for of, name in attributes if of in ("S", "SC", "SM")]
         if any(s not in self.capacities and s not in self.numbers for s in storages):
             return "M3"
         if any(name not in self.numbers for b in self.blocks for name in b.values()):
@@ -132,7 +151,7 @@ class Run:
     def __init__(self, version, seed):
         self.version, self.seed = version, seed
         self.clock = self.remaining = self.commands = self.complete = self.steps = 0
-        self.primed, self.next, self.active = False, 1, None
+        self.primed, self.next, self.active, self.starting = False, 1, None, 0
         self.streams = {j: ("set", j) for j in range(1, 8)}
         self.current, self.future, self.waiting = [], [], {}
         self.counts, self.facilities, self.queues, self.storages = {}, {}, {}, {}
@@ -151,8 +170,43 @@ class Run:
             return absent
         if not word[0].isalpha():
             return int(word)
+        if attribute(word):
+            return self.attribute(block, *attribute(word))
         self.items.append(("name", word))
         return self.version.numbers[word]
+
+    def attribute(self, block, of, what):
+        """The value of an attribute, of an operand of a block."""
+        if of in ("C1", "AC1", "TG1", "M1", "XN1", "PR"):
+            return self.of_the_moment(block, of)
+        if of == "RN":
+            return (self.draw(what) - 1) * 1000 // 2147483646
+        if of in ("N", "W"):
+            self.items.append(("label", what))
+            count = self.counts.get(self.version.label(what), {"entries": 0, "content": 0})
+            return count["entries" if of == "N" else "content"]
+        if of in ("S", "SC", "SM"):
+            storage = self.storages.get(what, Storage())
+            return {"S": storage.content, "SC": storage.entries, "SM": storage.most}[of]
+        key = what if isinstance(what, int) else self.named(what)
+        if of in ("F", "FC"):
+            facility = self.facilities.get(key, Facility())
+            return facility.captures if of == "FC" else int(facility.owner is not None)
+        queue = self.queues.get(key, Queue())
+        return {"Q": queue.content, "QC": queue.entries, "QM": queue.most, "QZ": queue.zero}[of]
+
+    def of_the_moment(self, block, of):
+        """An attribute of the run, or of the transaction that is there but for the operands of GENERATE."""
+        if of in ("M1", "XN1", "PR") and block.verb == "GENERATE":
+            raise End("X5")
+        if of == "TG1":
+            return self.starting or self.remaining
+        if of in ("XN1", "PR"):
+            return self.active.number if of == "XN1" else self.active.priority
+        time = self.clock - self.active.mark if of == "M1" else self.clock
+        if time > 10**9:
+            raise End("X7")
+        return time
 
     def draw(self, j=1):
         kind, x = self.drawn[j]
@@ -164,10 +218,10 @@ class Run:
         return x
 
     def time(self, block):
-        """A time of the first operand plus or minus the second."""
+        """A time of the first operand plus or minus the second; below 0 where the second is."""
         mean, spread = self.value(block, 0), self.value(block, 1)
         if spread < 0:
-            raise End("X1")
+            return spread
         if spread == 0:
             return mean
         time = mean - spread + (self.draw() - 1) * (2 * spread + 1) // 2147483646
@@ -196,9 +250,19 @@ class Run:
         return units
 
     def key(self, block):
-        name = block.operand(0)
-        if name.isdigit():
-            return int(name)
+        """The entity of the first operand."""
+        word = block.operand(0)
+        if word.isdigit():
+            return int(word)
+        if not attribute(word):
+            return self.named(word)
+        number = self.attribute(block, *attribute(word))
+        if number < 1:
+            raise End("X7")
+        return number
+
+    def named(self, name):
+        """The entity with a name, or with the number that the name stands for."""
         self.items.append(("name", name))
         number = self.version.numbers.get(name)
         if number is not None and number < 1:
@@ -240,7 +304,11 @@ class Run:
                 if value:
                     self.drawn[j + 1] = ("set", int(value))
             return self.count_command
-        arrivals = [] if self.primed else self.first_arrivals()
+        self.starting = int(command.operands[0])
+        try:
+            arrivals = [] if self.primed else self.first_arrivals()
+        finally:
+            self.starting = 0
 
         def start():
             self.primed, self.remaining = True, int(command.operands[0])

@@ -1,7 +1,10 @@
 -- A version with its places renamed is answered alike, and so is the version made anew.
-use Rattle.std.proofs.Common.{◌≡◌, ℕ, zero, suc, ◌+◌, ◌||◌, nat_eq, nat_lt, Bool, true, false, cond, not, List, [], ◌∷◌, length, filter, Option, Some, None, Result, Ok, Err, refl, ap, ap₂, is_some, option_map, ◌∙◌, arith}
+use Rattle.std.proofs.Common.{◌&&◌, ◌≡◌, ℕ, zero, suc, ◌+◌, ◌||◌, nat_eq, nat_lt, Bool, true, false, cond, not, List, [], ◌∷◌, length, filter, Option, Some, None, Result, Ok, Err, refl, ap, ap₂, is_some, option_map, ◌∙◌, arith}
 use Rattle.std.specs.List.{list_any}
-use Rattle.gw_expr.specs.Term.{Term, Label, Defined, Number}
+use Rattle.gw_names.specs.declared.class.Class.{Class}
+use Rattle.gw_expr.specs.declared.attribute.Subject.{Subject}
+use Rattle.gw_expr.specs.declared.attribute.Subject.TheVariants as subjects
+use Rattle.gw_expr.specs.Term.{Term, Attribute, Label, Defined, Number}
 use Rattle.gw_meaning.specs.declared.item.End.{End}
 use Rattle.gw_meaning.specs.declared.item.Outcome.{Outcome}
 use Rattle.gw_meaning.specs.declared.statement.Statement.{Statement}
@@ -14,7 +17,7 @@ use Rattle.gw_meaning.specs.Point.{outcome_of}
 use Rattle.gw_model.specs.Listed.{numbered}
 use Rattle.gw_model.proofs.Numbers.{numbered_listed}
 use Rattle.gw_frame.specs.Moved.{IsMove, moved_machine, moved_result}
-use Rattle.gw_model.specs.Faults.{is_labelled, has_label_twice, holds_of, block_operands, holds_in, is_unknown_label, has_unknown_label, is_undefined, has_unknown_definition, is_equ_named, has_equ_named}
+use Rattle.gw_model.specs.Faults.{is_of_block, is_of_storage, lacks_name, has_name, is_labelled, has_label_twice, holds_of, block_operands, holds_in, is_unknown_label, has_unknown_label, is_undefined, has_unknown_definition, is_equ_named, has_equ_named}
 use Rattle.gw_model.specs.Listed.{counted_label}
 use Rattle.gw_frame.specs.Renamed.{statements_of, AreRenamed, IsSameModel, IsRenamed}
 use Rattle.gw_frame.proofs.Renaming.{commands_renamed, label_renamed}
@@ -154,10 +157,19 @@ lines_alike test test' same move (l ∷ ls) (m ∷ ms) r =
     operands_alike test test' same (block_operands (block_of l)) in
     ap₂ (λ a b. a || b) line (lines_alike test test' same move ls ms r.2)
 
+lacks_alike : (known known' : List ℕ → Bool) → ((name : List ℕ) → known' name ≡ known name) → (of : Subject) → lacks_name known' of ≡ lacks_name known of
+lacks_alike known known' same (subjects.Name name) = ap not (same name)
+lacks_alike known known' same of = refl
+
+named_alike : (test test' : List ℕ → Bool) → ((name : List ℕ) → test' name ≡ test name) → (of : Subject) → has_name test' of ≡ has_name test of
+named_alike test test' same (subjects.Name name) = same name
+named_alike test test' same of = refl
+
 -- where the same labels are known
 unknown_alike : (known known' : List ℕ → Bool) → ((name : List ℕ) → known' name ≡ known name) → (term : Term) →
     is_unknown_label known' term ≡ is_unknown_label known term
 unknown_alike known known' same (Label name) = ap not (same name)
+unknown_alike known known' same (Attribute class of) = ap (λ b. is_of_block class && b) (lacks_alike known known' same of)
 unknown_alike known known' same term = refl
 
 unknown_renamed : (move : ℕ → ℕ) → IsMove move → (ls ms : List Numbered) → AreRenamed move ls ms → has_unknown_label ms ≡ has_unknown_label ls
@@ -179,11 +191,15 @@ undefined_alike : (old new : List ℕ → Option Definition) → ((name : List �
     is_undefined new term ≡ is_undefined old term
 undefined_alike old new same (Defined name) = ap (λ o. not (is_some o)) (same name)
 undefined_alike old new same (Number name) = ap (λ o. not (is_some (number_of o))) (same name)
+undefined_alike old new same (Attribute class of) = ap (λ b. is_of_storage class && b)
+    (lacks_alike (λ name. is_some (old name)) (λ name. is_some (new name)) (λ name. ap is_some (same name)) of)
 undefined_alike old new same term = refl
 
 equ_alike : (old new : List ℕ → Option Definition) → ((name : List ℕ) → new name ≡ old name) → (term : Term) →
     is_equ_named new term ≡ is_equ_named old term
 equ_alike old new same (Defined name) = ap (λ o. is_some (number_of o)) (same name)
+equ_alike old new same (Attribute class of) = ap (λ b. is_of_storage class && b)
+    (named_alike (λ name. is_some (number_of (old name))) (λ name. is_some (number_of (new name))) (λ name. ap (λ o. is_some (number_of o)) (same name)) of)
 equ_alike old new same term = refl
 
 -- the definitions of these lines

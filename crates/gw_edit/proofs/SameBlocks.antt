@@ -1,5 +1,5 @@
 -- Statements that are the same are the same block.
-use Rattle.std.proofs.Common.{◌≡◌, ℕ, zero, suc, ℤ, pos, negsuc, ◌==◌, ◌≤◌, ◌<◌, true, false, length, arith, List, [], ◌∷◌, get_or, Option, Some, None, refl, sym, ap, ap₂, ◌∙◌, rules}
+use Rattle.std.proofs.Common.{◌≡◌, ℕ, zero, suc, ℤ, pos, negsuc, ◌==◌, ◌≤◌, ◌<◌, true, false, length, arith, List, [], ◌∷◌, Option, Some, None, refl, sym, ap, ap₂, ◌∙◌, rules}
 use denote.Enum.Bare.{same_true}
 use Rattle.std.specs.Str.{bytes_eq}
 use Rattle.std.specs.Ordering.{int_eq}
@@ -7,41 +7,58 @@ use Rattle.std.proofs.lemmas.Bool.{and_parts, eqb-true}
 use Rattle.std.proofs.lemmas.Bool.Decides.{Decides-int_eq}
 use Rattle.std.proofs.lemmas.Slice.Eq.{bytes_eq-Decides}
 use Rattle.gw_names.specs.contracts.verb.BlockVerb.{the_type}
+use Rattle.gw_names.specs.contracts.class.Class as classes
+use Rattle.gw_names.specs.declared.class.Class.{Class}
+use Rattle.gw_expr.specs.declared.attribute.Subject.TheVariants as subjects
 use Rattle.gw_names.specs.declared.verb.BlockVerb.{BlockVerb}
-use Rattle.gw_expr.specs.Term.{Term, Constant, Number, Named, Label, Fraction, Defined}
+use Rattle.gw_expr.specs.Term.{Term, Constant, Number, Attribute, Named, Label, Fraction, Defined}
 use Rattle.gw_meaning.specs.declared.statement.Statement.{Statement}
 use Rattle.gw_meaning.specs.declared.statement.Block.{Block}
 use Rattle.gw_meaning.specs.declared.statement.Body.{Body}
 use Rattle.gw_meaning.specs.declared.statement.Body.TheVariants as bodies
-use Rattle.gw_edit.specs.Same.{kind_of, number_of, bytes_of, same_term, same_operand, same_operands, same_verb, same_block, same_body, same_statement, same_label}
+use Rattle.gw_edit.specs.Same.{same_class, kind_of, class_of, number_of, bytes_of, same_term, same_operand, same_operands, same_verb, same_block, same_body, same_statement, same_label}
 
 -- the operand that is told so
-abbrev told : ℕ → ℤ → List ℕ → Term
-told zero z bytes = Constant z
-told (suc zero) z bytes = Named bytes
-told (suc (suc zero)) z bytes = Label bytes
-told (suc (suc (suc zero))) (pos part) bytes = Fraction part
-told (suc (suc (suc zero))) (negsuc part) bytes = Fraction part
-told (suc (suc (suc (suc zero)))) z bytes = Defined bytes
-told (suc (suc (suc (suc (suc n))))) z bytes = Number bytes
+abbrev told : ℕ → Class → ℤ → List ℕ → Term
+told zero c z bytes = Constant z
+told (suc zero) c z bytes = Named bytes
+told (suc (suc zero)) c z bytes = Label bytes
+told (suc (suc (suc zero))) c (pos part) bytes = Fraction part
+told (suc (suc (suc zero))) c (negsuc part) bytes = Fraction part
+told (suc (suc (suc (suc zero)))) c z bytes = Defined bytes
+told (suc (suc (suc (suc (suc zero))))) c z bytes = Number bytes
+told (suc (suc (suc (suc (suc (suc zero)))))) c z bytes = Attribute c subjects.Own
+told (suc (suc (suc (suc (suc (suc (suc zero))))))) c (pos n) bytes = Attribute c (subjects.Number n)
+told (suc (suc (suc (suc (suc (suc (suc zero))))))) c (negsuc n) bytes = Attribute c (subjects.Number n)
+told (suc (suc (suc (suc (suc (suc (suc (suc n)))))))) c z bytes = Attribute c (subjects.Name bytes)
 
-told_back : (a : Term) → told (kind_of a) (number_of a) (bytes_of a) ≡ a
+told_back : (a : Term) → told (kind_of a) (class_of a) (number_of a) (bytes_of a) ≡ a
 told_back (Constant z) = refl
 told_back (Named name) = refl
 told_back (Label name) = refl
 told_back (Fraction part) = refl
 told_back (Defined name) = refl
 told_back (Number name) = refl
+told_back (Attribute c subjects.Own) = refl
+told_back (Attribute c (subjects.Number n)) = refl
+told_back (Attribute c (subjects.Name name)) = refl
+
+class_same : (c d : Class) → same_class c d ≡ true → c ≡ d
+unfolding same_class
+class_same c d h = same_true classes.the_type (search rules) c d h
 
 term_same : (a b : Term) → same_term a b ≡ true → a ≡ b
 term_same a b h =
     let outer = and_parts (kind_of a == kind_of b) _ h in
-    let inner = and_parts (int_eq (number_of a) (number_of b)) (bytes_eq (bytes_of a) (bytes_of b)) outer.1 in
+    let middle = and_parts (same_class (class_of a) (class_of b)) _ outer.1 in
+    let inner = and_parts (int_eq (number_of a) (number_of b)) (bytes_eq (bytes_of a) (bytes_of b)) middle.1 in
     let kinds = eqb-true (kind_of a) (kind_of b) outer.0 in
+    let of_class = class_same (class_of a) (class_of b) middle.0 in
     let numbers = (Decides-int_eq (number_of a) (number_of b)).0 inner.0 in
     let bytes = (bytes_eq-Decides (bytes_of a) (bytes_of b)).0 inner.1 in
-    sym (told_back a) ∙ (ap (λ k. told k (number_of a) (bytes_of a)) kinds ∙
-    (ap₂ (told (kind_of b)) numbers bytes ∙ told_back b))
+    sym (told_back a) ∙ (ap (λ k. told k (class_of a) (number_of a) (bytes_of a)) kinds ∙
+    (ap (λ c. told (kind_of b) c (number_of a) (bytes_of a)) of_class ∙
+    (ap₂ (told (kind_of b) (class_of b)) numbers bytes ∙ told_back b)))
 
 operand_same : (a b : Option Term) → same_operand a b ≡ true → a ≡ b
 operand_same None None h = refl

@@ -1,10 +1,10 @@
 ghost use Rattle.std.specs.Prelude.{◌≡◌};
-ghost use Rattle.gw_edit.specs.Same.{same_term, same_operand, same_operands, same_verb, same_block, same_body, same_statement, same_label, kind_of, number_of, bytes_of};
+ghost use Rattle.gw_edit.specs.Same.{same_term, same_operand, same_operands, same_verb, same_block, same_body, same_statement, same_label, same_class, kind_of, class_of, number_of, bytes_of};
 ghost use Rattle.gw_expr.specs.Term.{term_of};
 
-use gw_expr::{Expr, Node};
+use gw_expr::{Expr, Node, Subject};
 use gw_meaning::{Block, Body, Statement};
-use gw_names::{BlockVerb, Name};
+use gw_names::{BlockVerb, Class, Name};
 
 /// Whether both are blocks with the same verb and operands. Labels do not count.
 pub fn same_statement(old: &Statement, new: &Statement) -> bool
@@ -61,10 +61,20 @@ fn same_term(old: &Expr, new: &Expr) -> bool
     ensures { result ≡ same_term old.now new.now }
 {
     let (old, new) = (old.node(), new.node());
-    kind(old) == kind(new) && number(old) == number(new) && bytes(old) == bytes(new)
+    kind(old) == kind(new)
+        && same_class(class(old), class(new))
+        && number(old) == number(new)
+        && bytes(old) == bytes(new)
 }
 
-// What tells an operand from all others: its kind, its number and its bytes.
+#[tactic(auto, unfolding(crate::specs::Same::same_class))]
+fn same_class(old: Class, new: Class) -> bool
+    ensures { result ≡ same_class old new }
+{
+    old == new
+}
+
+// What tells an operand from all others: its kind, its class, its number and its bytes.
 fn kind(node: &Node) -> u8
     ensures { result ≡ kind_of (term_of node.now) }
 {
@@ -75,6 +85,18 @@ fn kind(node: &Node) -> u8
         Node::Fraction(_) => 3,
         Node::Defined(_) => 4,
         Node::Number(_) => 5,
+        Node::Attribute(_, Subject::Own) => 6,
+        Node::Attribute(_, Subject::Number(_)) => 7,
+        Node::Attribute(_, Subject::Name(_)) => 8,
+    }
+}
+
+fn class(node: &Node) -> Class
+    ensures { result ≡ class_of (term_of node.now) }
+{
+    match node {
+        Node::Attribute(class, _) => *class,
+        _ => Class::C1,
     }
 }
 
@@ -84,7 +106,8 @@ fn number(node: &Node) -> i64
     match node {
         Node::Constant(value) => value.get(),
         Node::Fraction(part) => i64::from(*part),
-        Node::Number(_) | Node::Named(_) | Node::Label(_) | Node::Defined(_) => 0,
+        Node::Attribute(_, Subject::Number(number)) => i64::from(*number),
+        _ => 0,
     }
 }
 
@@ -95,7 +118,8 @@ fn bytes(node: &Node) -> &[u8]
         Node::Number(name) | Node::Named(name) | Node::Label(name) | Node::Defined(name) => {
             name.as_bytes()
         }
-        Node::Constant(_) | Node::Fraction(_) => b"",
+        Node::Attribute(_, Subject::Name(name)) => name.as_bytes(),
+        _ => b"",
     }
 }
 

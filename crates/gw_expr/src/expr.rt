@@ -1,7 +1,8 @@
 ghost use Rattle.std.specs.Prelude.{◌≡◌, IfOk};
-ghost use Rattle.gw_expr.specs.Term.{Constant, Defined, Fraction, Label, Named, Number, term_of};
+ghost use Rattle.gw_expr.specs.Term.{Attribute, Constant, Defined, Fraction, Label, Named, Number, term_of};
 
-use gw_names::Name;
+use crate::attribute::Subject;
+use gw_names::{Class, Name};
 use gw_nums::Val;
 use std::alloc::{AllocError, Global};
 use std::marker::Model;
@@ -19,6 +20,8 @@ pub enum Node {
     Constant(Val),
     /// A name that stands for a number.
     Number(Name),
+    /// A numerical attribute of a class, and what it is of.
+    Attribute(Class, Subject),
     /// The name of an entity.
     Named(Name),
     /// A block's label.
@@ -53,6 +56,15 @@ impl Expr {
     {
         Expr {
             node: Node::Number(name),
+        }
+    }
+
+    /// The operand that is a numerical attribute.
+    pub fn attribute(class: Class, of: Subject) -> Expr
+        ensures { result ≡ Attribute class of }
+    {
+        Expr {
+            node: Node::Attribute(class, of),
         }
     }
 
@@ -100,12 +112,13 @@ impl Expr {
     }
 
     /// An equal operand.
-    pub fn copy(&self, _alloc: Global) -> Result<Expr, AllocError>
+    pub fn copy(&self, alloc: Global) -> Result<Expr, AllocError>
         ensures { IfOk result (λ e. e ≡ self.now) }
     {
         match &self.node {
             Node::Constant(value) => Ok(Expr::constant(*value)),
             Node::Number(name) => Ok(Expr::number(name.clone()?)),
+            Node::Attribute(class, of) => Ok(Expr::attribute(*class, of.copy(alloc)?)),
             Node::Named(name) => Ok(Expr::named(name.clone()?)),
             Node::Label(name) => Ok(Expr::label(name.clone()?)),
             Node::Fraction(millionths) => Ok(Expr::fraction(*millionths)),

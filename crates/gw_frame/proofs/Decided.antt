@@ -6,10 +6,15 @@ use Rattle.std.proofs.lemmas.Bool.{cond_both, or_parts}
 use Rattle.std.proofs.lemmas.Bool.Decides.{nat_tests}
 use Rattle.std.proofs.lemmas.List.{length-append}
 use Rattle.gw_nums.specs.Range.{is_value, is_negative, is_below, magnitude}
-use Rattle.gw_expr.specs.Term.{Term, Constant, Number, Named, Label, Fraction, Defined}
+use Rattle.gw_expr.specs.Term.{Term, Constant, Number, Attribute, Named, Label, Fraction, Defined}
 use Rattle.gw_streams.specs.declared.stream.Stream.{Stream}
 use Rattle.gw_streams.specs.declared.stream.Stream.TheVariants as streams
 use Rattle.gw_streams.specs.Draws.{is_set, stream_at}
+use Rattle.gw_names.specs.declared.class.Class.{Class}
+use Rattle.gw_names.specs.declared.class.Class.TheVariants as class
+use Rattle.gw_expr.specs.declared.attribute.Subject.{Subject}
+use Rattle.gw_expr.specs.declared.attribute.Subject.TheVariants as subjects
+use Rattle.gw_meaning.specs.declared.asker.Asker.{Asker}
 use Rattle.gw_meaning.specs.declared.item.Item.{Item}
 use Rattle.gw_meaning.specs.declared.item.Item.TheVariants as items
 use Rattle.gw_meaning.specs.declared.statement.Block.{Block}
@@ -27,10 +32,10 @@ use Rattle.gw_meaning.specs.Numbers.{AreNumbered}
 use Rattle.gw_names.specs.declared.key.Key.{Key}
 use Rattle.gw_entities.specs.Comings.{came}
 use Rattle.gw_meaning.specs.Entities.{facility_at, line_at}
-use Rattle.gw_meaning.specs.Machine.{Machine, raised, live, delay_at}
+use Rattle.gw_meaning.specs.Machine.{Machine, raised, live, count_at, delay_at}
 use Rattle.gw_meaning.specs.Questions.{ask, result_of}
-use Rattle.gw_meaning.specs.Evaluation.{Eval, asks, number_of_draw, draw, number_given, value_prog, value_or_zero, value_there, entity_prog, units_prog, spread, millionths, sample_within, time_prog}
-use Rattle.gw_meaning.specs.Step.{arrival_at, arrival_in_time, arrival_prog, first_of_generate, first_of, first_arrival, with_arrival, prime_prog, arrivals_prog, first_arrivals_prog, start_prog, command_prog, generate_prog, delay_of, advance_prog, terminate_prog, is_too_many, queue_units, queue_prog, depart_units, depart_prog, seize_or_wait, seize_prog, first_number, is_owner, release_to, release_prog, go_to, lead_to, transfer_prog, priority_prog, block_prog, meet_prog, try_prog, attempt_prog, least_time, within_prog, clock_prog, pick_prog, scan_prog, move_prog, step_prog}
+use Rattle.gw_meaning.specs.Evaluation.{Eval, asks, number_of_draw, draw, amount, numbered, named, subject_prog, storage_prog, counted, block_count, random_prog, own_value, entity_value, storage_value, block_value, owned, attribute_prog, number_given, value_prog, value_there, value_or_zero, entity_prog, units_prog, in_range, spread, millionths, sample_within, time_prog}
+use Rattle.gw_meaning.specs.Step.{for_none, for_one, arrival_at, arrival_in_time, arrival_prog, first_of_generate, first_of, first_arrival, with_arrival, prime_prog, arrivals_prog, first_arrivals_prog, start_prog, command_prog, generate_prog, delay_of, advance_prog, terminate_prog, is_too_many, queue_units, queue_prog, depart_units, depart_prog, seize_or_wait, seize_prog, first_number, is_owner, release_to, release_prog, go_to, lead_to, transfer_prog, priority_prog, block_prog, meet_prog, try_prog, attempt_prog, least_time, within_prog, clock_prog, pick_prog, scan_prog, move_prog, step_prog}
 use Rattle.gw_frame.specs.BlockIds.{IsBlockId, ActiveNames, TransactionNames}
 use Rattle.gw_frame.proofs.Generates.{IsBlockIn, generates_there}
 use Rattle.gw_frame.proofs.Labels.{label_there}
@@ -39,7 +44,6 @@ use Rattle.gw_frame.proofs.Keeps.{ProgKeeps, Keeps, all_with, prog_gives, prog_e
 use Rattle.gw_names.specs.declared.key.Key.TheVariants as keys
 use Rattle.gw_meaning.specs.Listing.{number_at}
 use Rattle.gw_meaning.specs.Entities.{store_at}
-use Rattle.gw_meaning.specs.Evaluation.{numbered, named}
 use Rattle.gw_meaning.specs.Step.{beside, in_use, share_of, all_shares, enter_or_wait, enter_storage, enter_prog, shares_prog, leave_for, leave_units, leave_prog}
 use Rattle.gw_frame.proofs.Known.{IsComing, IsComingIfAny, AreFirst, within_limit, leaves, does_fit, shares_of, is_storage, IsDecidedFate, IsRefused, IsDecided, IsRead, IsAfter}
 
@@ -53,6 +57,9 @@ few_generates (line ∷ lines) =
 
 not_over : (content units : ℕ) → nat_lt content units ≡ false → units ≤ content
 not_over content units h = grind (arith, nat_tests)
+
+a_stream : (i : ℕ) → not (nat_le 1 (suc i) && nat_le (suc i) 7) ≡ false → i < 7
+a_stream i h = grind (arith, nat_tests)
 
 -- of a value nothing is wanted
 abbrev Whatever : {A : Type 0} → A → Type 0
@@ -75,22 +82,12 @@ module _ (t : Listing) (seed : ℕ) (s : Machine) where
         (λ x is h. prog_gives (tt, rw append-nil h.0, rw append-nil (one_drew before i x is kept h.1)));
   }
 
-  number_given_decides : (number : Option ℤ) → Decides Whatever (number_given number)
-  number_given_decides None = keeps_ends
-  number_given_decides (Some n) = keeps_gives tt
+  in_range_decides : (z : ℤ) → Decides Whatever (in_range z)
+  in_range_decides z = keeps_cond (is_value z) (keeps_gives tt) keeps_ends
 
-  value_decides : (term : Term) → Decides Whatever (value_prog s term)
-  value_decides (Constant value) = keeps_gives tt
-  value_decides (Number name) = keeps_asks (items.Name name) refl (λ numbered named. tt) (number_given_decides (number_at t name))
-  value_decides term = keeps_ends
-
-  value_there_decides : (term : Option Term) → Decides Whatever (value_there s term)
-  value_there_decides None = keeps_ends
-  value_there_decides (Some term) = value_decides term
-
-  value_or_zero_decides : (term : Option Term) → Decides Whatever (value_or_zero s term)
-  value_or_zero_decides None = keeps_gives tt
-  value_or_zero_decides (Some term) = value_decides term
+  -- attributes
+  amount_decides : (n : ℕ) → Decides Whatever (amount n)
+  amount_decides n = in_range_decides (pos n)
 
   -- an entity, which is no storage
   abbrev IsNoStorage : Key → Type 0
@@ -103,56 +100,154 @@ module _ (t : Listing) (seed : ℕ) (s : Machine) where
   named_decides name None = keeps_gives refl
   named_decides name (Some n) = numbered_decides n
 
-  entity_decides : (term : Option Term) → Decides IsNoStorage (entity_prog s term)
-  entity_decides None = keeps_ends
-  entity_decides (Some (Constant n)) = numbered_decides n
-  entity_decides (Some (Named name)) = keeps_asks (items.Name name) refl (λ numbered named. tt) (named_decides name (number_at t name))
-  entity_decides (Some term) = keeps_ends
+  subject_decides : (of : Subject) → Decides IsNoStorage (subject_prog of)
+  subject_decides subjects.Own = keeps_ends
+  subject_decides (subjects.Number n) = numbered_decides (pos n)
+  subject_decides (subjects.Name name) = keeps_asks (items.Name name) refl (λ numbered named. tt) (named_decides name (number_at t name))
 
-  units_decides : (term : Option Term) → Decides Whatever (units_prog s term)
-  units_decides None = keeps_gives tt
-  units_decides (Some term) = keeps_bind (value_decides term) (λ n h. keeps_stops (is_below n (pos 1)) _ (keeps_gives tt))
+  storage_decides : (of : Subject) (f : Key → Eval ℤ) → ((key : Key) → Decides Whatever (f key)) → Decides Whatever (storage_prog of f)
+  storage_decides subjects.Own f each = keeps_ends
+  storage_decides (subjects.Number n) f each = keeps_ends
+  storage_decides (subjects.Name name) f each = each (keys.Defined name)
+
+  counted_decides : (o : Option ℕ) (f : ℕ → Eval ℤ) → ((id : ℕ) → Decides Whatever (f id)) → Decides Whatever (counted o f)
+  counted_decides None f each = keeps_ends
+  counted_decides (Some id) f each = each id
+
+  block_count_decides : (of : Subject) (f : ℕ → Eval ℤ) → ((id : ℕ) → Decides Whatever (f id)) → Decides Whatever (block_count of f)
+  block_count_decides subjects.Own f each = keeps_ends
+  block_count_decides (subjects.Number n) f each = keeps_ends
+  block_count_decides (subjects.Name name) f each =
+      keeps_asks (items.Label name) refl (λ numbered named. tt) (counted_decides (label_at t name) f each)
+
+  random_decides : (of : Subject) → Decides Whatever (random_prog of)
+  random_decides subjects.Own = keeps_ends
+  random_decides (subjects.Number zero) = keeps_ends
+  random_decides (subjects.Number (suc i)) =
+      keeps_unless (not (nat_le 1 (suc i) && nat_le (suc i) 7)) _
+      (λ h. keeps_bind (draw_decides i (a_stream i h)) (λ x k. keeps_gives tt))
+  random_decides (subjects.Name name) = keeps_ends
+
+  own_decides : (q : Asker) (class : Class) → Decides Whatever (own_value s q class)
+  own_decides q class.C1 = amount_decides (s.clock - s.since)
+  own_decides q class.Ac1 = amount_decides s.clock
+  own_decides q class.Tg1 = amount_decides q.remaining
+  own_decides q class.M1 = keeps_stops (not q.is_transaction) _ (amount_decides (s.clock - q.mark))
+  own_decides q class.Xn1 = keeps_stops (not q.is_transaction) _ (amount_decides q.number)
+  own_decides q class.Pr = keeps_stops (not q.is_transaction) _ (keeps_gives tt)
+  own_decides q class = keeps_ends
+
+  entity_value_decides : (class : Class) (key : Key) → Decides Whatever (entity_value s class key)
+  entity_value_decides class.F key = amount_decides (owned (facility_at s.entities key).owner)
+  entity_value_decides class.Fc key = amount_decides (facility_at s.entities key).captures
+  entity_value_decides class.Q key = amount_decides (line_at s.entities key).level.content
+  entity_value_decides class.Qc key = amount_decides (line_at s.entities key).entries
+  entity_value_decides class.Qm key = amount_decides (line_at s.entities key).greatest
+  entity_value_decides class.Qz key = amount_decides (line_at s.entities key).zero_entries
+  entity_value_decides class key = keeps_ends
+
+  storage_value_decides : (class : Class) (key : Key) → Decides Whatever (storage_value s class key)
+  storage_value_decides class.S key = amount_decides (store_at s.entities key).level.content
+  storage_value_decides class.Sc key = amount_decides (store_at s.entities key).entries
+  storage_value_decides class.Sm key = amount_decides (store_at s.entities key).greatest
+  storage_value_decides class key = keeps_ends
+
+  block_value_decides : (class : Class) (id : ℕ) → Decides Whatever (block_value s class id)
+  block_value_decides class.N id = amount_decides (count_at s.counts id).entries
+  block_value_decides class.W id = amount_decides (count_at s.counts id).content
+  block_value_decides class id = keeps_ends
+
+  attribute_decides : (q : Asker) (class : Class) (of : Subject) → Decides Whatever (attribute_prog s q class of)
+  unfolding attribute_prog
+  attribute_decides q class.C1 of = own_decides q class.C1
+  attribute_decides q class.Ac1 of = own_decides q class.Ac1
+  attribute_decides q class.Tg1 of = own_decides q class.Tg1
+  attribute_decides q class.M1 of = own_decides q class.M1
+  attribute_decides q class.Xn1 of = own_decides q class.Xn1
+  attribute_decides q class.Pr of = own_decides q class.Pr
+  attribute_decides q class.F of = keeps_bind (subject_decides of) (λ key h. entity_value_decides class.F key)
+  attribute_decides q class.Fc of = keeps_bind (subject_decides of) (λ key h. entity_value_decides class.Fc key)
+  attribute_decides q class.Q of = keeps_bind (subject_decides of) (λ key h. entity_value_decides class.Q key)
+  attribute_decides q class.Qc of = keeps_bind (subject_decides of) (λ key h. entity_value_decides class.Qc key)
+  attribute_decides q class.Qm of = keeps_bind (subject_decides of) (λ key h. entity_value_decides class.Qm key)
+  attribute_decides q class.Qz of = keeps_bind (subject_decides of) (λ key h. entity_value_decides class.Qz key)
+  attribute_decides q class.S of = storage_decides of _ (storage_value_decides class.S)
+  attribute_decides q class.Sc of = storage_decides of _ (storage_value_decides class.Sc)
+  attribute_decides q class.Sm of = storage_decides of _ (storage_value_decides class.Sm)
+  attribute_decides q class.N of = block_count_decides of _ (block_value_decides class.N)
+  attribute_decides q class.W of = block_count_decides of _ (block_value_decides class.W)
+  attribute_decides q class.Rn of = random_decides of
+  attribute_decides q class of = keeps_ends
+
+  -- operands
+  number_given_decides : (number : Option ℤ) → Decides Whatever (number_given number)
+  number_given_decides None = keeps_ends
+  number_given_decides (Some n) = keeps_gives tt
+
+  value_decides : (q : Asker) (term : Term) → Decides Whatever (value_prog s q term)
+  unfolding value_prog
+  value_decides q (Constant value) = keeps_gives tt
+  value_decides q (Number name) = keeps_asks (items.Name name) refl (λ numbered named. tt) (number_given_decides (number_at t name))
+  value_decides q (Attribute class of) = attribute_decides q class of
+  value_decides q term = keeps_ends
+
+  value_there_decides : (q : Asker) (term : Option Term) → Decides Whatever (value_there s q term)
+  value_there_decides q None = keeps_ends
+  value_there_decides q (Some term) = value_decides q term
+
+  value_or_zero_decides : (q : Asker) (term : Option Term) → Decides Whatever (value_or_zero s q term)
+  value_or_zero_decides q None = keeps_gives tt
+  value_or_zero_decides q (Some term) = value_decides q term
+
+  entity_decides : (q : Asker) (term : Option Term) → Decides IsNoStorage (entity_prog s q term)
+  entity_decides q None = keeps_ends
+  entity_decides q (Some (Named name)) = keeps_asks (items.Name name) refl (λ numbered named. tt) (named_decides name (number_at t name))
+  entity_decides q (Some term) = keeps_bind (value_decides q term) (λ n h. numbered_decides n)
+
+  units_decides : (q : Asker) (term : Option Term) → Decides Whatever (units_prog s q term)
+  units_decides q None = keeps_gives tt
+  units_decides q (Some term) = keeps_bind (value_decides q term) (λ n h. keeps_stops (is_below n (pos 1)) _ (keeps_gives tt))
 
   sample_within_decides : (mean : ℤ) (range : ℕ) → Decides Whatever (sample_within mean range)
   sample_within_decides mean zero = keeps_gives tt
   sample_within_decides mean (suc n) =
-      keeps_bind (draw_decides 0 (omega arith)) (λ x h. keeps_cond (is_value (spread mean (suc n) x)) (keeps_gives tt) keeps_ends)
+      keeps_bind (draw_decides 0 (omega arith)) (λ x h. in_range_decides (spread mean (suc n) x))
 
-  time_decides : (mean range : Option Term) → Decides Whatever (time_prog s mean range)
-  time_decides mean range = keeps_bind (value_or_zero_decides mean)
-      (λ m h. keeps_bind (value_or_zero_decides range) (λ r k. keeps_stops (is_negative r) _ (sample_within_decides m (magnitude r))))
+  time_decides : (q : Asker) (mean range : Option Term) → Decides Whatever (time_prog s q mean range)
+  time_decides q mean range = keeps_bind (value_or_zero_decides q mean)
+      (λ m h. keeps_bind (value_or_zero_decides q range) (λ r k. keeps_cond (is_negative r) (keeps_gives tt) (sample_within_decides m (magnitude r))))
 
   -- the next transaction of a GENERATE
   arrival_at_decides : (id : ℕ) (time priority : ℤ) → IsBlockId t id → Decides (IsComingIfAny t s) (arrival_at s id time priority)
   arrival_at_decides id time priority named =
       keeps_stops (is_negative time) _ (keeps_stops (nat_le 100000 (live s)) _ (keeps_gives (record { ahead = omega arith; id = named })))
 
-  arrival_in_time_decides : (id : ℕ) (mean range priority : Option Term) → IsBlockId t id →
-      Decides (IsComingIfAny t s) (arrival_in_time s id mean range priority)
-  arrival_in_time_decides id mean range priority named =
-      keeps_bind (time_decides mean range) (λ v h. keeps_bind (value_or_zero_decides priority) (λ p k. arrival_at_decides id v p named))
+  arrival_in_time_decides : (q : Asker) (id : ℕ) (mean range priority : Option Term) → IsBlockId t id →
+      Decides (IsComingIfAny t s) (arrival_in_time s q id mean range priority)
+  arrival_in_time_decides q id mean range priority named =
+      keeps_bind (time_decides q mean range) (λ v h. keeps_bind (value_or_zero_decides q priority) (λ p k. arrival_at_decides id v p named))
 
-  arrival_decides : (id made : ℕ) (mean range limit priority : Option Term) → IsBlockId t id →
-      Decides (IsComingIfAny t s) (arrival_prog s id made mean range limit priority)
-  arrival_decides id made mean range None priority named = arrival_in_time_decides id mean range priority named
-  arrival_decides id made mean range (Some limit) priority named =
-      keeps_bind (value_decides limit)
+  arrival_decides : (q : Asker) (id made : ℕ) (mean range limit priority : Option Term) → IsBlockId t id →
+      Decides (IsComingIfAny t s) (arrival_prog s q id made mean range limit priority)
+  arrival_decides q id made mean range None priority named = arrival_in_time_decides q id mean range priority named
+  arrival_decides q id made mean range (Some limit) priority named =
+      keeps_bind (value_decides q limit)
       (λ n h. keeps_stops (is_negative n) _
-      (keeps_cond (nat_le (magnitude n) made) (keeps_gives tt) (arrival_in_time_decides id mean range priority named)))
+      (keeps_cond (nat_le (magnitude n) made) (keeps_gives tt) (arrival_in_time_decides q id mean range priority named)))
 
   -- priming
-  first_of_generate_decides : (id : ℕ) (mean range offset limit priority : Option Term) → IsBlockId t id →
-      Decides (IsComingIfAny t s) (first_of_generate s id mean range offset limit priority)
-  first_of_generate_decides id mean range None limit priority named = arrival_decides id _ mean range limit priority named
-  first_of_generate_decides id mean range (Some offset) limit priority named = arrival_decides id _ (Some offset) None limit priority named
+  first_of_generate_decides : (q : Asker) (id : ℕ) (mean range offset limit priority : Option Term) → IsBlockId t id →
+      Decides (IsComingIfAny t s) (first_of_generate s q id mean range offset limit priority)
+  first_of_generate_decides q id mean range None limit priority named = arrival_decides q id _ mean range limit priority named
+  first_of_generate_decides q id mean range (Some offset) limit priority named = arrival_decides q id _ (Some offset) None limit priority named
 
-  first_of_decides : (id : ℕ) (b : Block) (generates : Bool) → IsBlockId t id → Decides (IsComingIfAny t s) (first_of s id b generates)
-  first_of_decides id b true named = first_of_generate_decides id (operand b A) (operand b B) (operand b C) (operand b D) (operand b E) named
-  first_of_decides id b false named = keeps_gives tt
+  first_of_decides : (q : Asker) (id : ℕ) (b : Block) (generates : Bool) → IsBlockId t id → Decides (IsComingIfAny t s) (first_of s q id b generates)
+  first_of_decides q id b true named = first_of_generate_decides q id (operand b A) (operand b B) (operand b C) (operand b D) (operand b E) named
+  first_of_decides q id b false named = keeps_gives tt
 
-  first_arrival_decides : (id : ℕ) (block : Option Block) → block_at t id ≡ block → Decides (IsComingIfAny t s) (first_arrival s id block)
-  first_arrival_decides id None is = keeps_gives tt
-  first_arrival_decides id (Some b) is = first_of_decides id b (is_generate_verb b.verb) (inr (b, is))
+  first_arrival_decides : (q : Asker) (id : ℕ) (block : Option Block) → block_at t id ≡ block → Decides (IsComingIfAny t s) (first_arrival s q id block)
+  first_arrival_decides q id None is = keeps_gives tt
+  first_arrival_decides q id (Some b) is = first_of_decides q id b (is_generate_verb b.verb) (inr (b, is))
 
   with_arrival_coming : (a : Option Arrival) (made : List Arrival) → IsComingIfAny t s a → AllByRecursion (IsComing t s) made →
       AllByRecursion (IsComing t s) (with_arrival a made)
@@ -163,28 +258,29 @@ module _ (t : Listing) (seed : ℕ) (s : Machine) where
   with_arrival_few None made = omega arith
   with_arrival_few (Some a) made = let longer = length-append made (a ∷ []) in omega arith
 
-  arrivals_decide : (ids : List ℕ) (made : List Arrival) → (AreNumbered t.lines → AllByRecursion (IsBlockIn t.lines) ids) →
-      AllByRecursion (IsComing t s) made → length made + length ids ≤ length t.lines → Decides (AreFirst t s) (arrivals_prog s ids made)
-  arrivals_decide [] made named all few = keeps_gives (record { coming = all; few = omega arith })
-  arrivals_decide (id ∷ ids) made named all few =
-      keeps_bind (prime_decides id (λ numbered. (named numbered).0))
+  arrivals_decide : (q : Asker) (ids : List ℕ) (made : List Arrival) → (AreNumbered t.lines → AllByRecursion (IsBlockIn t.lines) ids) →
+      AllByRecursion (IsComing t s) made → length made + length ids ≤ length t.lines → Decides (AreFirst t s) (arrivals_prog s q ids made)
+  arrivals_decide q [] made named all few = keeps_gives (record { coming = all; few = omega arith })
+  arrivals_decide q (id ∷ ids) made named all few =
+      keeps_bind (prime_decides q id (λ numbered. (named numbered).0))
       (λ a here.
       let one = with_arrival_few a made in
-      arrivals_decide ids (with_arrival a made) (λ numbered. (named numbered).1) (with_arrival_coming a made here all) (omega arith))
+      arrivals_decide q ids (with_arrival a made) (λ numbered. (named numbered).1) (with_arrival_coming a made here all) (omega arith))
     where
-      prime_decides : (id : ℕ) → (AreNumbered t.lines → IsBlockIn t.lines id) → Decides (IsComingIfAny t s) (prime_prog s id)
-      prime_decides id there =
-          keeps_asks (items.Block id) refl (λ numbered named. inr (there numbered)) (first_arrival_decides id (block_at t id) refl)
+      prime_decides : (q : Asker) (id : ℕ) → (AreNumbered t.lines → IsBlockIn t.lines id) → Decides (IsComingIfAny t s) (prime_prog s q id)
+      prime_decides q id there =
+          keeps_asks (items.Block id) refl (λ numbered named. inr (there numbered)) (first_arrival_decides q id (block_at t id) refl)
 
-  first_arrivals_decide : Decides (AreFirst t s) (first_arrivals_prog s)
-  first_arrivals_decide =
+  first_arrivals_decide : (count : ℕ) → Decides (AreFirst t s) (first_arrivals_prog s count)
+  first_arrivals_decide count =
       let few = few_generates t.lines in
-      keeps_asks items.Generates refl (λ numbered named. tt) (arrivals_decide (generates_in t.lines) [] (generates_there t.lines) tt (omega arith))
+      keeps_asks items.Generates refl (λ numbered named. tt) (arrivals_decide (for_none count) (generates_in t.lines) [] (generates_there t.lines) tt (omega
+          arith))
 
   -- commands
   start_decides : (primed : Bool) (count : ℕ) → Decides (IsDecided t s) (start_prog s primed count)
   start_decides true count = keeps_gives (record { coming = tt; few = omega arith })
-  start_decides false count = keeps_bind first_arrivals_decide (λ first h. keeps_gives h)
+  start_decides false count = keeps_bind (first_arrivals_decide count) (λ first h. keeps_gives h)
 
   -- with a command that sets streams, less is known of them
   abbrev IsStepped : List Stream → Move × List Stream → List Item → Type 0
@@ -207,19 +303,19 @@ module _ (t : Listing) (seed : ℕ) (s : Machine) where
       Decides (IsDecided t s) (generate_prog s x id mean range limit priority)
   generate_decides x id mean range limit priority named =
       keeps_stops (not (nat_eq x.current 0)) _
-      (keeps_bind (arrival_decides id _ mean range limit priority named) (λ next h. keeps_gives (named, h, tt)))
+      (keeps_bind (arrival_decides (for_none s.remaining) id _ mean range limit priority named) (λ next h. keeps_gives (named, h, tt)))
 
   delay_decided : (n : ℕ) → IsDecidedFate s (delay_of s n)
   delay_decided zero = tt
   delay_decided (suc n) = omega arith
 
-  advance_decides : (id : ℕ) (mean range : Option Term) → IsBlockId t id → Decides (IsDecided t s) (advance_prog s id mean range)
-  advance_decides id mean range named =
-      keeps_bind (time_decides mean range) (λ v h. keeps_stops (is_negative v) _ (keeps_gives (named, tt, delay_decided (magnitude v))))
+  advance_decides : (q : Asker) (id : ℕ) (mean range : Option Term) → IsBlockId t id → Decides (IsDecided t s) (advance_prog s q id mean range)
+  advance_decides q id mean range named =
+      keeps_bind (time_decides q mean range) (λ v h. keeps_stops (is_negative v) _ (keeps_gives (named, tt, delay_decided (magnitude v))))
 
-  terminate_decides : (id : ℕ) (count : Option Term) → IsBlockId t id → Decides (IsDecided t s) (terminate_prog s id count)
-  terminate_decides id count named =
-      keeps_bind (value_or_zero_decides count) (λ n h. keeps_stops (is_negative n) _ (keeps_gives (named, tt, tt)))
+  terminate_decides : (q : Asker) (id : ℕ) (count : Option Term) → IsBlockId t id → Decides (IsDecided t s) (terminate_prog s q id count)
+  terminate_decides q id count named =
+      keeps_bind (value_or_zero_decides q count) (λ n h. keeps_stops (is_negative n) _ (keeps_gives (named, tt, tt)))
 
   queue_units_decides : (id : ℕ) (key : Key) (units : ℕ) → IsBlockId t id → Decides (IsDecided t s) (queue_units id key (line_at s.entities key) units)
   queue_units_decides id key units named =
@@ -228,9 +324,9 @@ module _ (t : Listing) (seed : ℕ) (s : Machine) where
       (let both = or_parts (is_too_many (line.entries + units)) (is_too_many (line.level.content + units)) h in
       keeps_gives (named, record { entries = within_limit _ both.0; content = within_limit _ both.1 }, tt)))
 
-  queue_decides : (id : ℕ) (entity units : Option Term) → IsBlockId t id → Decides (IsDecided t s) (queue_prog s id entity units)
-  queue_decides id entity units named = keeps_bind (entity_decides entity)
-      (λ key h. keeps_bind (units_decides units) (λ n k. queue_units_decides id key n named))
+  queue_decides : (q : Asker) (id : ℕ) (entity units : Option Term) → IsBlockId t id → Decides (IsDecided t s) (queue_prog s q id entity units)
+  queue_decides q id entity units named = keeps_bind (entity_decides q entity)
+      (λ key h. keeps_bind (units_decides q units) (λ n k. queue_units_decides id key n named))
 
   depart_units_decides : (id : ℕ) (key : Key) (at_once : Bool) (units : ℕ) → IsBlockId t id →
       Decides (IsDecided t s) (depart_units id key (line_at s.entities key) at_once units)
@@ -239,8 +335,9 @@ module _ (t : Listing) (seed : ℕ) (s : Machine) where
       keeps_unless (at_once && is_too_many (line.zero_entries + units)) _
       (λ h. keeps_stops (nat_lt line.level.content units) _ (keeps_gives (named, leaves line units at_once h, tt)))
 
-  depart_decides : (x : Transaction) (id : ℕ) (entity units : Option Term) → IsBlockId t id → Decides (IsDecided t s) (depart_prog s x id entity units)
-  depart_decides x id entity units named = keeps_bind (entity_decides entity) (λ key h. keeps_bind (units_decides units)
+  depart_decides : (q : Asker) (x : Transaction) (id : ℕ) (entity units : Option Term) → IsBlockId t id →
+      Decides (IsDecided t s) (depart_prog s q x id entity units)
+  depart_decides q x id entity units named = keeps_bind (entity_decides q entity) (λ key h. keeps_bind (units_decides q units)
       (λ n k. depart_units_decides id key (came s.entities.comings key x.number) n named))
 
   refused_by_owner : (key : Key) → IsNoStorage key → is_some (facility_at s.entities key).owner ≡ true → IsRefused t s key 1
@@ -253,16 +350,16 @@ module _ (t : Listing) (seed : ℕ) (s : Machine) where
   seize_or_wait_decides id key true none is named = keeps_gives (named, refused_by_owner key none is)
   seize_or_wait_decides id key false none is named = keeps_gives (named, (none, is), tt)
 
-  seize_decides : (id : ℕ) (entity : Option Term) → IsBlockId t id → Decides (IsDecided t s) (seize_prog s id entity)
-  seize_decides id entity named = keeps_bind (entity_decides entity)
+  seize_decides : (q : Asker) (id : ℕ) (entity : Option Term) → IsBlockId t id → Decides (IsDecided t s) (seize_prog s q id entity)
+  seize_decides q id entity named = keeps_bind (entity_decides q entity)
       (λ key h. seize_or_wait_decides id key (is_some (facility_at s.entities key).owner) h refl named)
 
   release_to_decides : (id : ℕ) (key : Key) (owns : Bool) → IsNoStorage key → IsBlockId t id →
       Decides (IsDecided t s) (release_to id key owns (first_number (delay_at s.delays key)))
   release_to_decides id key owns none named = keeps_stops (not owns) _ (keeps_gives (named, (none, refl), tt))
 
-  release_decides : (x : Transaction) (id : ℕ) (entity : Option Term) → IsBlockId t id → Decides (IsDecided t s) (release_prog s x id entity)
-  release_decides x id entity named = keeps_bind (entity_decides entity)
+  release_decides : (q : Asker) (x : Transaction) (id : ℕ) (entity : Option Term) → IsBlockId t id → Decides (IsDecided t s) (release_prog s q x id entity)
+  release_decides q x id entity named = keeps_bind (entity_decides q entity)
       (λ key h. release_to_decides id key (is_owner (facility_at s.entities key).owner x.number) h named)
 
   -- ENTER and LEAVE
@@ -281,11 +378,11 @@ module _ (t : Listing) (seed : ℕ) (s : Machine) where
       (keeps_asks (items.Fits name (beside units (store_at s.entities (keys.Defined name)).level.content)) refl (λ numbered there. tt)
       (enter_or_wait_decides id name units _ refl named))
 
-  enter_decides : (id : ℕ) (storage units : Option Term) → IsBlockId t id → Decides (IsDecided t s) (enter_prog s id storage units)
-  enter_decides id (Some (Defined name)) units named = keeps_bind (units_decides units)
+  enter_decides : (q : Asker) (id : ℕ) (storage units : Option Term) → IsBlockId t id → Decides (IsDecided t s) (enter_prog s q id storage units)
+  enter_decides q id (Some (Defined name)) units named = keeps_bind (units_decides q units)
       (λ n h. keeps_asks (items.Fits name n) refl (λ numbered there. tt) (enter_storage_decides id name n _ named))
-  enter_decides id (Some term) units named = keeps_ends
-  enter_decides id None units named = keeps_ends
+  enter_decides q id (Some term) units named = keeps_ends
+  enter_decides q id None units named = keeps_ends
 
   shares_decide : (name : List ℕ) (content : ℕ) (before : List (Option ℕ)) (chain : List Transaction) →
       Decides (λ shares. shares ≡ before ++ shares_of t name content chain) (shares_prog name content before chain)
@@ -313,10 +410,10 @@ module _ (t : Listing) (seed : ℕ) (s : Machine) where
       (λ h. keeps_bind (shares_decide name (content - units) [] (delay_at s.delays (keys.Defined name)))
       (λ shares is. leave_for_decides id name units shares (not_over content units h) is named))
 
-  leave_decides : (id : ℕ) (storage units : Option Term) → IsBlockId t id → Decides (IsDecided t s) (leave_prog s id storage units)
-  leave_decides id (Some (Defined name)) units named = keeps_bind (units_decides units) (λ n h. leave_units_decides id name n named)
-  leave_decides id (Some term) units named = keeps_ends
-  leave_decides id None units named = keeps_ends
+  leave_decides : (q : Asker) (id : ℕ) (storage units : Option Term) → IsBlockId t id → Decides (IsDecided t s) (leave_prog s q id storage units)
+  leave_decides q id (Some (Defined name)) units named = keeps_bind (units_decides q units) (λ n h. leave_units_decides id name n named)
+  leave_decides q id (Some term) units named = keeps_ends
+  leave_decides q id None units named = keeps_ends
 
   go_to_decides : (id : ℕ) (name : List ℕ) (to : Option ℕ) → label_at t name ≡ to → IsBlockId t id → Decides (IsDecided t s) (go_to id to)
   go_to_decides id name None is named = keeps_ends
@@ -335,22 +432,22 @@ module _ (t : Listing) (seed : ℕ) (s : Machine) where
   transfer_decides id None near far named = lead_to_decides id near named
 
   -- PRIORITY
-  priority_decides : (id : ℕ) (priority : Option Term) → IsBlockId t id → Decides (IsDecided t s) (priority_prog s id priority)
-  priority_decides id priority named = keeps_bind (value_there_decides priority) (λ p h. keeps_gives (named, tt, tt))
+  priority_decides : (q : Asker) (id : ℕ) (priority : Option Term) → IsBlockId t id → Decides (IsDecided t s) (priority_prog s q id priority)
+  priority_decides q id priority named = keeps_bind (value_there_decides q priority) (λ p h. keeps_gives (named, tt, tt))
 
   block_decides : (x : Transaction) (id : ℕ) (b : Block) (verb : BlockVerb) → IsBlockId t id → Decides (IsDecided t s) (block_prog s x id b verb)
   block_decides x id b blocks.Generate named = generate_decides x id (operand b A) (operand b B) (operand b D) (operand b E) named
-  block_decides x id b blocks.Advance named = advance_decides id (operand b A) (operand b B) named
-  block_decides x id b blocks.Terminate named = terminate_decides id (operand b A) named
-  block_decides x id b blocks.Queue named = queue_decides id (operand b A) (operand b B) named
-  block_decides x id b blocks.Depart named = depart_decides x id (operand b A) (operand b B) named
-  block_decides x id b blocks.Seize named = seize_decides id (operand b A) named
-  block_decides x id b blocks.Release named = release_decides x id (operand b A) named
-  block_decides x id b blocks.Enter named = enter_decides id (operand b A) (operand b B) named
-  block_decides x id b blocks.Leave named = leave_decides id (operand b A) (operand b B) named
+  block_decides x id b blocks.Advance named = advance_decides (for_one s x) id (operand b A) (operand b B) named
+  block_decides x id b blocks.Terminate named = terminate_decides (for_one s x) id (operand b A) named
+  block_decides x id b blocks.Queue named = queue_decides (for_one s x) id (operand b A) (operand b B) named
+  block_decides x id b blocks.Depart named = depart_decides (for_one s x) x id (operand b A) (operand b B) named
+  block_decides x id b blocks.Seize named = seize_decides (for_one s x) id (operand b A) named
+  block_decides x id b blocks.Release named = release_decides (for_one s x) x id (operand b A) named
+  block_decides x id b blocks.Enter named = enter_decides (for_one s x) id (operand b A) (operand b B) named
+  block_decides x id b blocks.Leave named = leave_decides (for_one s x) id (operand b A) (operand b B) named
   block_decides x id b blocks.Transfer named = transfer_decides id (operand b A) (operand b B) (operand b C) named
   block_decides x id b blocks.Mark named = keeps_gives (named, tt, tt)
-  block_decides x id b blocks.Priority named = priority_decides id (operand b A) named
+  block_decides x id b blocks.Priority named = priority_decides (for_one s x) id (operand b A) named
   block_decides x id b blocks.Buffer named = keeps_gives (named, tt, tt)
   block_decides x id b verb named = keeps_ends
 

@@ -1,12 +1,13 @@
 -- Numbers and values: what is read is spelled so, and what is spelled so is read.
-use Rattle.std.proofs.Common.{◌≡◌, ℕ, ◌+◌, ◌-◌, ◌*◌, ◌≤◌, ◌==◌, true, false, List, [], ◌∷◌, ◌++◌, Option, Some, None, refl, sym, ap, subst, ◌∙◌, append_assoc, inl, inr, arith}
+use Rattle.std.proofs.Common.{◌≡◌, ℕ, zero, suc, ◌+◌, ◌-◌, ◌*◌, ◌≤◌, ◌==◌, true, false, List, [], ◌∷◌, ◌++◌, Option, Some, None, refl, sym, ap, subst, ◌∙◌, append_assoc, inl, inr, arith}
 use Rattle.std.specs.Prelude.{ℤ, pos, neg_ℤ, nat_le, option_map}
 use Rattle.std.specs.Char.{is_ascii_digit}
 use Rattle.std.proofs.lemmas.Bool.{cases_Bool, eqb-true}
 use Rattle.std.proofs.lemmas.Bool.Decides.{nat_tests}
 use Rattle.std.proofs.lemmas.List.{append-nil}
 use Rattle.gw_lines.proofs.Results.{some_is}
-use Rattle.gw_lines.specs.Numbers.{number_after, number_of, value_of}
+use Rattle.gw_lines.proofs.Fronts.{nonzero}
+use Rattle.gw_lines.specs.Numbers.{number_after, number_of, value_of, from_one}
 use Rattle.gw_lines.specs.Spelling.{Digits, first_digit, next_digit, Number, Value, without_sign, with_sign}
 
 fits : (n most : ℕ) → n ≤ most → nat_le n most ≡ true
@@ -107,3 +108,15 @@ plain_value (b ∷ bs) n h e =
 pub value_again : {text : List ℕ} {z : ℤ} → Value text z → value_of text ≡ Some z
 value_again (without_sign text n h) = plain_value text n (begins h.digits) (number_again 1000000000 text n h)
 value_again (with_sign text n h) = rw (number_again 1000000000 text n h) refl
+
+-- ---- a number from 1
+
+pub from_one_found : (o : Option ℕ) (n : ℕ) → from_one o ≡ Some n → (o ≡ Some n) × (1 ≤ n)
+from_one_found None n e = absurd cc
+from_one_found (Some zero) n e = absurd cc
+from_one_found (Some (suc m)) n e =
+    let i = some_is (suc m) n (rw (nonzero m) at e) in (ap (λ (x : ℕ). Some x) i, omega arith)
+
+pub from_one_again : (n : ℕ) → 1 ≤ n → from_one (Some n) ≡ Some n
+from_one_again zero h = absurd (omega arith)
+from_one_again (suc n) h = rw (nonzero n) refl

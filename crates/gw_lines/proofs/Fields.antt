@@ -2,7 +2,7 @@
 use Rattle.std.proofs.Common.{◌≡◌, ℕ, ◌&&◌, Bool, true, false, List, [], ◌∷◌, Option, Some, None, refl, ◌∙◌, ◌⊎◌, inl, inr}
 use Rattle.std.specs.Prelude.{ℤ, map, option_map, pos}
 use Rattle.std.proofs.lemmas.Bool.{and_parts}
-use Rattle.gw_expr.specs.Term.{Term, Constant, Defined, Fraction, Label, Named, Number}
+use Rattle.gw_expr.specs.Term.{Term, Attribute, Constant, Defined, Fraction, Label, Named, Number}
 use Rattle.gw_lines.specs.declared.form.Kind.{Kind}
 use Rattle.gw_lines.specs.declared.form.Kind.TheVariants as kinds
 use Rattle.gw_lines.specs.declared.form.Presence.{Presence}
@@ -12,7 +12,7 @@ use Rattle.gw_lines.specs.declared.operand.Operand.{Operand}
 use Rattle.gw_lines.specs.declared.operand.Operand.TheVariants as operands
 use Rattle.gw_lines.specs.Forms.{value, whole}
 use Rattle.gw_lines.specs.Parts.{part_of, is_missing}
-use Rattle.gw_lines.specs.Spelling.{SpellsOperand, absent, a_value, a_constant, named_value, a_whole, a_key, named_entity, numbered_entity, a_fraction, a_label, a_definition, SpellsAll, no_form, stands, unwritten}
+use Rattle.gw_lines.specs.Spelling.{SpellsOperand, absent, a_value, a_constant, named_value, attribute_value, a_whole, a_key, named_entity, numbered_entity, attribute_entity, a_fraction, a_label, a_definition, SpellsAll, no_form, stands, unwritten}
 
 abbrev pub Data : Kind → Type 0
 Data kinds.Value = Term
@@ -80,10 +80,12 @@ data_of (absent kind) = inr (refl, refl)
 data_of (a_value text z v) = inl (Constant z, refl)
 data_of (a_constant text z v) = inl (z, refl)
 data_of (named_value text name e) = inl (Number name, refl)
+data_of (attribute_value text class of s) = inl (Attribute class of, refl)
 data_of (a_whole most text n h from) = inl (n, refl)
 data_of a_key = inl (tt, refl)
 data_of (named_entity text name e) = inl (Named name, refl)
 data_of (numbered_entity text n h from) = inl (Constant (pos n), refl)
+data_of (attribute_entity text class of s) = inl (Attribute class of, refl)
 data_of (a_fraction text n f) = inl (Fraction n, refl)
 data_of (a_label text name e) = inl (Label name, refl)
 data_of (a_definition text name e) = inl (Defined name, refl)
@@ -173,10 +175,12 @@ one_value w (absent kind) = (None, refl)
 one_value w (a_value text z v) = (Some (Constant z), refl)
 one_value w (a_constant text z v) = (Some (Constant z), refl)
 one_value w (named_value text name e) = (Some (Number name), refl)
+one_value w (attribute_value text class of s) = (Some (Attribute class of), refl)
 one_value w (a_whole most text n h from) = absurd cc
 one_value w a_key = absurd cc
 one_value w (named_entity text name e) = (Some (Named name), refl)
 one_value w (numbered_entity text n h from) = (Some (Constant (pos n)), refl)
+one_value w (attribute_entity text class of s) = (Some (Attribute class of), refl)
 one_value w (a_fraction text n f) = (Some (Fraction n), refl)
 one_value w (a_label text name e) = (Some (Label name), refl)
 one_value w (a_definition text name e) = (Some (Defined name), refl)
@@ -195,10 +199,12 @@ one_whole w (absent kind) = (None, refl)
 one_whole w (a_value text z v) = absurd cc
 one_whole w (a_constant text z v) = absurd cc
 one_whole w (named_value text name e) = absurd cc
+one_whole w (attribute_value text class of s) = absurd cc
 one_whole w (a_whole most text n h from) = (Some n, refl)
 one_whole w a_key = absurd cc
 one_whole w (named_entity text name e) = absurd cc
 one_whole w (numbered_entity text n h from) = absurd cc
+one_whole w (attribute_entity text class of s) = absurd cc
 one_whole w (a_fraction text n f) = absurd cc
 one_whole w (a_label text name e) = absurd cc
 one_whole w (a_definition text name e) = absurd cc

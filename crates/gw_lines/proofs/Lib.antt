@@ -5,6 +5,7 @@ pub mod Digits
 pub mod Fractions
 pub mod Kept
 pub mod Parts
+pub mod Attributes
 pub mod Spelled
 pub mod Fields
 pub mod Rows

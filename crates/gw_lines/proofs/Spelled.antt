@@ -1,6 +1,6 @@
 -- Operands by their forms: each list of parts spells operands or has a first fault, and what it spells, or its fault, is what
 -- reading gives.
-use Rattle.std.proofs.Common.{◌≡◌, ℕ, zero, suc, ◌+◌, ◌≤◌, ◌<◌, true, false, List, [], ◌∷◌, ◌++◌, length, Option, Some, None, Ok, Err, refl, sym, ap, subst, ◌∙◌, ◌⊎◌, inl, inr, arith}
+use Rattle.std.proofs.Common.{◌≡◌, ℕ, ◌+◌, ◌≤◌, ◌<◌, true, false, List, [], ◌∷◌, ◌++◌, length, Option, Some, None, Ok, Err, refl, sym, ap, subst, ◌∙◌, ◌⊎◌, inl, inr, arith}
 use Rattle.std.specs.Prelude.{ℤ, pos, option_map, codes}
 use Rattle.std.specs.Char.{is_ascii_alphabetic, is_ascii_digit}
 use Rattle.std.specs.Str.{bytes_eq}
@@ -8,7 +8,9 @@ use Rattle.std.proofs.lemmas.Bool.{cases_Bool}
 use Rattle.std.proofs.lemmas.Bool.Decides.{nat_tests}
 use Rattle.std.proofs.lemmas.Slice.Eq.{bytes_eq-Decides}
 use Rattle.gw_names.specs.Names.{name_of}
-use Rattle.gw_expr.specs.Term.{Term, Constant, Defined, Fraction, Label, Named, Number}
+use Rattle.gw_names.specs.declared.class.Class.{Class}
+use Rattle.gw_expr.specs.declared.attribute.Subject.{Subject}
+use Rattle.gw_expr.specs.Term.{Term, Attribute, Constant, Defined, Fraction, Label, Named, Number}
 use Rattle.gw_lines.specs.declared.fault.LineFault.{LineFault}
 use Rattle.gw_lines.specs.declared.fault.LineFault.TheVariants as faults
 use Rattle.gw_lines.specs.declared.form.Kind.{Kind}
@@ -19,27 +21,18 @@ use Rattle.gw_lines.specs.declared.form.Form.{Form}
 use Rattle.gw_lines.specs.declared.operand.Operand.{Operand}
 use Rattle.gw_lines.specs.declared.operand.Operand.TheVariants as operands
 use Rattle.gw_lines.specs.Numbers.{number_of, value_of, from_one, fraction_of}
+use Rattle.gw_lines.specs.Attributes.{attribute_of}
 use Rattle.gw_lines.specs.Forms.{is_listed}
-use Rattle.gw_lines.specs.Operands.{constant_of, or_constant, numbered, or_number, label_of, defined_of, as_value, operand_in, listed_here, each_of, missing_of, has_more, operands_of}
+use Rattle.gw_lines.specs.Operands.{constant_of, or_constant, or_attribute, numbered, or_number, label_of, defined_of, as_value, operand_in, listed_here, each_of, missing_of, has_more, operands_of}
 use Rattle.gw_lines.specs.Parts.{goes_on, part_of, others_of, is_missing}
-use Rattle.gw_lines.specs.Spelling.{SpellsOperand, absent, a_value, a_constant, named_value, Value, without_sign, with_sign, a_whole, a_key, named_entity, numbered_entity, a_fraction, a_label, a_definition, SpellsAll, no_form, stands, unwritten}
+use Rattle.gw_lines.specs.Spelling.{SpellsOperand, absent, a_value, a_constant, named_value, attribute_value, Value, without_sign, with_sign, a_whole, a_key, named_entity, numbered_entity, attribute_entity, SpellsAttribute, a_fraction, a_label, a_definition, SpellsAll, no_form, stands, unwritten}
 use Rattle.gw_lines.specs.Faulty.{Lawful, FirstBad, bad_here, bad_later, AllLawful, FirstMissing, missing_here, missing_later, FaultOfAll, bad_operand, extra_operand, missing_operand}
 use Rattle.gw_lines.proofs.Results.{some, some_is}
-use Rattle.gw_lines.proofs.Fronts.{nonzero}
-use Rattle.gw_lines.proofs.Digits.{Begins, begins, number_found, number_again, value_found, value_again, mapped}
+use Rattle.gw_lines.proofs.Digits.{Begins, begins, number_found, number_again, value_found, value_again, mapped, from_one_found, from_one_again}
+use Rattle.gw_lines.proofs.Attributes.{Alone, nothing_read, attribute_found, attribute_again}
 use Rattle.gw_lines.proofs.Fractions.{fraction_found, fraction_again}
 
 -- ---- one operand: what a further kind adds
-
-from_one_found : (o : Option ℕ) (n : ℕ) → from_one o ≡ Some n → (o ≡ Some n) × (1 ≤ n)
-from_one_found None n e = absurd cc
-from_one_found (Some zero) n e = absurd cc
-from_one_found (Some (suc m)) n e =
-    let i = some_is (suc m) n (rw (nonzero m) at e) in (ap (λ (x : ℕ). Some x) i, omega arith)
-
-from_one_again : (n : ℕ) → 1 ≤ n → from_one (Some n) ≡ Some n
-from_one_again zero h = absurd (omega arith)
-from_one_again (suc n) h = rw (nonzero n) refl
 
 -- what a constant that is read spells, for each kind that lets a constant stand
 constant_is : (kind : Kind) (text : List ℕ) (o : Option Operand)
@@ -51,12 +44,34 @@ constant_is kind text o spells e =
     subst (λ (x : Option Operand). SpellsOperand kind text x) (ap (λ (t : Term). some (operands.Value t)) k.2 ∙ m.2)
     (spells k.0 (value_found text k.0 k.1))
 
+-- an attribute that is read, for each kind that lets one stand
+attribute_is : (kind : Kind) (text : List ℕ) (o : Option Operand)
+    → ((class : Class) (of : Subject) → SpellsAttribute text class of
+    → SpellsOperand kind text (Some (operands.Value (Attribute class of))))
+    → as_value (attribute_of text) ≡ Some o → SpellsOperand kind text o
+attribute_is kind text o spells e =
+    let m = mapped (λ (t : Term). some (operands.Value t)) (attribute_of text) o e in
+    let f = attribute_found text m.0 m.1 in
+    subst (λ (x : Option Operand). SpellsOperand kind text x) (ap (λ (t : Term). some (operands.Value t)) f.3 ∙ m.2)
+    (spells f.0 f.1 f.2)
+
+-- what is read where neither a name nor an attribute is read, or the attribute
+or_attribute_is : (kind : Kind) (text : List ℕ) (read : Option Term) (o : Option Operand)
+    → ((class : Class) (of : Subject) → SpellsAttribute text class of
+    → SpellsOperand kind text (Some (operands.Value (Attribute class of))))
+    → (as_value read ≡ Some o → SpellsOperand kind text o) → as_value (or_attribute read text) ≡ Some o
+    → SpellsOperand kind text o
+or_attribute_is kind text None o spells other e = attribute_is kind text o spells e
+or_attribute_is kind text (Some t) o spells other e = other e
+
 value_is : (text : List ℕ) (name : Option (List ℕ)) (o : Option Operand) → name_of text ≡ name
-    → as_value (or_constant name text) ≡ Some o → SpellsOperand kinds.Value text o
+    → as_value (or_attribute (or_constant name text) text) ≡ Some o → SpellsOperand kinds.Value text o
 value_is text (Some name) o is e =
     subst (λ (x : Option Operand). SpellsOperand kinds.Value text x) (some_is (some (operands.Value (Number name))) o e)
     (named_value text name is)
-value_is text None o is e = constant_is kinds.Value text o (λ z v. a_value text z v) e
+value_is text None o is e =
+    or_attribute_is kinds.Value text (constant_of text) o (λ class of s. attribute_value text class of s)
+    (λ c. constant_is kinds.Value text o (λ z v. a_value text z v) c) e
 
 whole_is : (most : ℕ) (text : List ℕ) (o : Option Operand)
     → option_map (λ n. some (operands.Whole n)) (from_one (number_of most text)) ≡ Some o
@@ -76,17 +91,22 @@ key_is text o h e =
     subst (λ (t : List ℕ). SpellsOperand kinds.Quiet t o) (sym ((bytes_eq-Decides text (codes "NP")).0 h))
     (subst (λ (x : Option Operand). SpellsOperand kinds.Quiet (codes "NP") x) (some_is none o e) a_key)
 
-entity_is : (text : List ℕ) (name : Option (List ℕ)) (o : Option Operand) → name_of text ≡ name
-    → as_value (or_number name text) ≡ Some o → SpellsOperand kinds.Entity text o
-entity_is text (Some name) o is e =
-    subst (λ (x : Option Operand). SpellsOperand kinds.Entity text x) (some_is (some (operands.Value (Named name))) o e)
-    (named_entity text name is)
-entity_is text None o is e =
+number_is : (text : List ℕ) (o : Option Operand) → as_value (numbered text) ≡ Some o → SpellsOperand kinds.Entity text o
+number_is text o e =
     let m = mapped (λ (t : Term). some (operands.Value t)) (numbered text) o e in
     let k = mapped (λ (n : ℕ). Constant (pos n)) (from_one (number_of 1000000000 text)) m.0 m.1 in
     let f = from_one_found (number_of 1000000000 text) k.0 k.1 in
     subst (λ (x : Option Operand). SpellsOperand kinds.Entity text x) (ap (λ (t : Term). some (operands.Value t)) k.2 ∙ m.2)
     (numbered_entity text k.0 (number_found 1000000000 text k.0 f.0) f.1)
+
+entity_is : (text : List ℕ) (name : Option (List ℕ)) (o : Option Operand) → name_of text ≡ name
+    → as_value (or_attribute (or_number name text) text) ≡ Some o → SpellsOperand kinds.Entity text o
+entity_is text (Some name) o is e =
+    subst (λ (x : Option Operand). SpellsOperand kinds.Entity text x) (some_is (some (operands.Value (Named name))) o e)
+    (named_entity text name is)
+entity_is text None o is e =
+    or_attribute_is kinds.Entity text (numbered text) o (λ class of s. attribute_entity text class of s)
+    (λ n. number_is text o n) e
 
 fraction_is : (text : List ℕ) (o : Option Operand)
     → as_value (option_map (λ (n : ℕ). Fraction n) (fraction_of text)) ≡ Some o → SpellsOperand kinds.Fraction text o
@@ -185,6 +205,15 @@ number_in_again (b ∷ bs) n d e h =
     let digit = subst (λ (c : ℕ). is_ascii_digit c ≡ true) (sym same) d.digit in
     rw (digit_first b bs digit, e, from_one_again n h) refl
 
+-- an attribute is read where neither a name nor a number is
+value_alone : (text : List ℕ) (t : Term) → Alone text t → operand_in kinds.Value text ≡ Some (Some (operands.Value t))
+value_alone [] t a = absurd (nothing_read t a.attribute)
+value_alone (b ∷ bs) t a = rw (a.name, a.value, a.attribute) refl
+
+entity_alone : (text : List ℕ) (t : Term) → Alone text t → operand_in kinds.Entity text ≡ Some (Some (operands.Value t))
+entity_alone [] t a = absurd (nothing_read t a.attribute)
+entity_alone (b ∷ bs) t a = rw (a.name, a.number, a.attribute) refl
+
 fraction_in_again : (text : List ℕ) (n : ℕ) → fraction_of text ≡ Some n
     → operand_in kinds.Fraction text ≡ Some (Some (operands.Value (Fraction n)))
 fraction_in_again [] n e = absurd cc
@@ -206,10 +235,12 @@ operand_again (absent kind) = refl
 operand_again (a_value text z v) = value_in_again v
 operand_again (a_constant text z v) = constant_in_again text z (value_again v)
 operand_again (named_value text name e) = number_name_again text name e
+operand_again (attribute_value text class of s) = value_alone text (Attribute class of) (attribute_again s)
 operand_again (a_whole most text n h from) = whole_in_again most text n (number_again most text n h) from
 operand_again a_key = refl
 operand_again (named_entity text name e) = name_in_again text name e
 operand_again (numbered_entity text n h from) = number_in_again text n (begins h.digits) (number_again 1000000000 text n h) from
+operand_again (attribute_entity text class of s) = entity_alone text (Attribute class of) (attribute_again s)
 operand_again (a_fraction text n f) = fraction_in_again text n (fraction_again f)
 operand_again (a_label text name e) = label_in_again text name e
 operand_again (a_definition text name e) = defined_in_again text name e

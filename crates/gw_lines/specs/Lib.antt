@@ -4,6 +4,7 @@ pub mod Classes
 pub mod Numbers
 pub mod Forms
 pub mod Parts
+pub mod Attributes
 pub mod Operands
 pub mod Bodies
 pub mod Lines

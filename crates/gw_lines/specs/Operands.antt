@@ -14,6 +14,7 @@ use Rattle.gw_lines.specs.declared.operand.Operand.TheVariants as operands
 use Rattle.gw_lines.specs.Reading.{◌>>=◌}
 use Rattle.gw_lines.specs.Classes.{is_blank}
 use Rattle.gw_lines.specs.Numbers.{number_of, value_of, from_one, fraction_of}
+use Rattle.gw_lines.specs.Attributes.{attribute_of}
 use Rattle.gw_lines.specs.Forms.{is_listed}
 use Rattle.gw_lines.specs.Parts.{split, goes_on, part_of, others_of, is_missing}
 
@@ -32,9 +33,14 @@ abbrev pub or_constant : Option (List ℕ) → List ℕ → Option Term
 or_constant None text = constant_of text
 or_constant (Some name) text = Some (Number name)
 
--- the value that a text is: a name that stands for a number, or a constant
+-- what was read of a text, or the attribute that it is
+abbrev pub or_attribute : Option Term → List ℕ → Option Term
+or_attribute None text = attribute_of text
+or_attribute (Some term) text = Some term
+
+-- the value that a text is: a name that stands for a number, a constant or an attribute
 abbrev pub given_value : List ℕ → Option Term
-given_value text = or_constant (name_of text) text
+given_value text = or_attribute (or_constant (name_of text) text) text
 
 -- the number from 1 that a text is
 abbrev pub numbered : List ℕ → Option Term
@@ -44,9 +50,9 @@ abbrev pub or_number : Option (List ℕ) → List ℕ → Option Term
 or_number None text = numbered text
 or_number (Some name) text = Some (Named name)
 
--- the entity that a text is: a name, or a number from 1
+-- the entity that a text is: a name, a number from 1, or an attribute
 abbrev pub entity_of : List ℕ → Option Term
-entity_of text = or_number (name_of text) text
+entity_of text = or_attribute (or_number (name_of text) text) text
 
 -- the label that a text is
 abbrev pub label_of : List ℕ → Option Term

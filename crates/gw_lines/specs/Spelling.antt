@@ -4,14 +4,18 @@ use Rattle.std.specs.Prelude.{ℕ, ◌+◌, ◌-◌, ◌*◌, ◌^◌, ◌≤◌
 use Rattle.std.specs.List.{list_all}
 use Rattle.std.specs.Char.{is_ascii_digit}
 use Rattle.gw_names.specs.declared.verb.Verb.{Verb}
-use Rattle.gw_names.specs.Words.{upper_of}
+use Rattle.gw_names.specs.Words.{upper_of, class_word}
 use Rattle.gw_names.specs.Names.{name_of}
+use Rattle.gw_names.specs.declared.class.Class as attributes
+use Rattle.gw_expr.specs.declared.attribute.Subject.{Subject}
+use Rattle.gw_expr.specs.declared.attribute.Subject.TheVariants as subjects
 use Rattle.gw_expr.specs.Term as terms
 use Rattle.gw_meaning.specs.declared.statement.Body.{Body}
 use Rattle.gw_meaning.specs.declared.statement.Statement.{Statement}
 use Rattle.gw_meaning.specs.Statements.{verb_of_body}
 use Rattle.gw_lines.specs.declared.class.Class.{Class}
 use Rattle.gw_lines.specs.declared.class.Class.TheVariants as class
+use Rattle.gw_lines.specs.declared.attribute.Scope.TheVariants as scopes
 use Rattle.gw_lines.specs.declared.form.Kind.{Kind}
 use Rattle.gw_lines.specs.declared.form.Kind.TheVariants as kinds
 use Rattle.gw_lines.specs.declared.form.Presence.TheVariants as presences
@@ -19,6 +23,7 @@ use Rattle.gw_lines.specs.declared.form.Form.{Form}
 use Rattle.gw_lines.specs.declared.operand.Operand.{Operand}
 use Rattle.gw_lines.specs.declared.operand.Operand.TheVariants as operands
 use Rattle.gw_lines.specs.Classes.{is_in, is_blank, are_plain}
+use Rattle.gw_lines.specs.Attributes.{scope_of}
 use Rattle.gw_lines.specs.Forms.{forms_of, fields_of, lacks, is_listed}
 use Rattle.gw_lines.specs.Parts.{parts_of, goes_on, part_of, is_given, others_of, is_missing}
 use Rattle.gw_lines.specs.Lines.{verb_in, is_command, needs_label, is_remark}
@@ -59,6 +64,19 @@ pub record Fraction (text : List ℕ) (millionths : ℕ) : Type 0 where
   pub value : millionths ≡ number * 10 ^ (6 - length decimals)
   pub small : millionths ≤ 1000000
 
+-- a numerical attribute: the word of its class alone, with a number behind it, or with `$` and a name
+pub data SpellsAttribute : List ℕ → attributes.Class → Subject → Type 0 where
+  alone : (class : attributes.Class) → scope_of class ≡ scopes.Alone
+      → SpellsAttribute (class_word class) class subjects.Own
+  numbered_one : (class : attributes.Class) (digits : List ℕ) (n : ℕ) → scope_of class ≡ scopes.Entity
+      → Number 1000000000 digits n → 1 ≤ n → SpellsAttribute (class_word class ++ digits) class (subjects.Number n)
+  named_one : (class : attributes.Class) (word name : List ℕ) → scope_of class ≡ scopes.Entity
+      → name_of word ≡ Some name → SpellsAttribute (class_word class ++ 36 ∷ word) class (subjects.Name name)
+  of_block : (class : attributes.Class) (word name : List ℕ) → scope_of class ≡ scopes.Block
+      → name_of word ≡ Some name → SpellsAttribute (class_word class ++ 36 ∷ word) class (subjects.Name name)
+  of_stream : (class : attributes.Class) (digits : List ℕ) (n : ℕ) → scope_of class ≡ scopes.Stream
+      → Number 7 digits n → 1 ≤ n → SpellsAttribute (class_word class ++ digits) class (subjects.Number n)
+
 -- a text of a kind, and the operand that it says: none where it is empty, nor for the key word that has no effect
 pub data SpellsOperand : Kind → List ℕ → Option Operand → Type 0 where
   absent : (kind : Kind) → SpellsOperand kind [] None
@@ -68,6 +86,8 @@ pub data SpellsOperand : Kind → List ℕ → Option Operand → Type 0 where
       → SpellsOperand kinds.Constant text (Some (operands.Value (terms.Constant z)))
   named_value : (text name : List ℕ) → name_of text ≡ Some name
       → SpellsOperand kinds.Value text (Some (operands.Value (terms.Number name)))
+  attribute_value : (text : List ℕ) (class : attributes.Class) (of : Subject) → SpellsAttribute text class of
+      → SpellsOperand kinds.Value text (Some (operands.Value (terms.Attribute class of)))
   a_whole : (most : ℕ) (text : List ℕ) (n : ℕ) → Number most text n → 1 ≤ n
       → SpellsOperand (kinds.Whole most) text (Some (operands.Whole n))
   a_key : SpellsOperand kinds.Quiet (codes "NP") None
@@ -75,6 +95,8 @@ pub data SpellsOperand : Kind → List ℕ → Option Operand → Type 0 where
       → SpellsOperand kinds.Entity text (Some (operands.Value (terms.Named name)))
   numbered_entity : (text : List ℕ) (n : ℕ) → Number 1000000000 text n → 1 ≤ n
       → SpellsOperand kinds.Entity text (Some (operands.Value (terms.Constant (pos n))))
+  attribute_entity : (text : List ℕ) (class : attributes.Class) (of : Subject) → SpellsAttribute text class of
+      → SpellsOperand kinds.Entity text (Some (operands.Value (terms.Attribute class of)))
   a_fraction : (text : List ℕ) (n : ℕ) → Fraction text n
       → SpellsOperand kinds.Fraction text (Some (operands.Value (terms.Fraction n)))
   a_label : (text name : List ℕ) → name_of text ≡ Some name

@@ -147,7 +147,7 @@ fn constant_of(value: &Expr) -> Option<Val>
 {
     match value.node() {
         Node::Constant(value) => Some(*value),
-        Node::Number(_) | Node::Named(_) | Node::Label(_) | Node::Fraction(_) | Node::Defined(_) =>
-            None,
+        Node::Number(_) | Node::Attribute(_, _) | Node::Named(_) => None,
+        Node::Label(_) | Node::Fraction(_) | Node::Defined(_) => None,
     }
 }

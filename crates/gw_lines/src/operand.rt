@@ -1,6 +1,7 @@
 ghost use Rattle.std.specs.Prelude.{◌≡◌, IfOk};
-ghost use Rattle.gw_lines.specs.Operands.{operand_in, given_in, as_value, constant_of, given_value, entity_of, numbered, label_of, defined_of};
+ghost use Rattle.gw_lines.specs.Operands.{operand_in, given_in, as_value, constant_of, given_value, or_attribute, entity_of, numbered, label_of, defined_of};
 
+use crate::attribute::read_attribute;
 use crate::form::Kind;
 use crate::number::{LIMIT, fraction, from_one, value};
 use gw_expr::Expr;
@@ -66,13 +67,23 @@ fn as_value(value: Option<Expr>) -> Option<Option<Operand>>
     }
 }
 
-// The value that a text is: a name that stands for a number, or a constant.
+// The value that a text is: a name that stands for a number, a constant or an attribute.
 fn given_value(alloc: Global, text: &[u8]) -> Result<Option<Expr>, AllocError>
     ensures { IfOk result (λ o. o ≡ given_value text.now) }
 {
     match Name::read(alloc, text)? {
         Some(name) => Ok(Some(Expr::number(name))),
-        None => Ok(constant(text)),
+        None => or_attribute(alloc, constant(text), text),
+    }
+}
+
+// What was read of a text, or the attribute that it is.
+fn or_attribute(alloc: Global, read: Option<Expr>, text: &[u8]) -> Result<Option<Expr>, AllocError>
+    ensures { IfOk result (λ o. o ≡ or_attribute read text.now) }
+{
+    match read {
+        Some(value) => Ok(Some(value)),
+        None => read_attribute(alloc, text),
     }
 }
 
@@ -83,13 +94,13 @@ fn constant(text: &[u8]) -> Option<Expr>
     Some(Expr::constant(value(text)?))
 }
 
-// The entity that a text is: a name, or a number from 1.
+// The entity that a text is: a name, a number from 1, or an attribute.
 fn entity(alloc: Global, text: &[u8]) -> Result<Option<Expr>, AllocError>
     ensures { IfOk result (λ o. o ≡ entity_of text.now) }
 {
     match Name::read(alloc, text)? {
         Some(name) => Ok(Some(Expr::named(name))),
-        None => Ok(numbered(text)),
+        None => or_attribute(alloc, numbered(text), text),
     }
 }
 

@@ -1,13 +1,17 @@
--- Values and draws. An evaluation goes from the streams before it to its result and the streams behind it, so draws
--- come in the order of evaluation. (Manual: operands, and a time of A plus or minus B. Our own: whole numbers, what a
--- draw stands for, and that the seed is asked for at a stream's first draw alone.)
-use Rattle.std.specs.Prelude.{ℕ, zero, suc, ◌+◌, ◌-◌, ◌*◌, ◌/◌, Bool, true, false, List, Option, Some, None, ℤ, pos, ◌+ℤ◌, ◌-ℤ◌, if◌then◌else◌}
+-- Values, attributes and draws. An evaluation goes from the streams before it to its result and the streams behind it,
+-- so draws come in the order of evaluation. (Manual: operands, numerical attributes, and a time of A plus or minus B. Our
+-- own: whole numbers, what a draw stands for, and that the seed is asked for at a stream's first draw alone.)
+use Rattle.std.specs.Prelude.{ℕ, zero, suc, ◌+◌, ◌-◌, ◌*◌, ◌/◌, Bool, true, false, not, ◌&&◌, nat_le, List, Option, Some, None, ℤ, pos, ◌+ℤ◌, ◌-ℤ◌, if◌then◌else◌}
 use Rattle.gw_nums.specs.Range.{is_value, is_negative, is_below, magnitude}
 use Rattle.gw_names.specs.declared.key.Key.{Key}
 use Rattle.gw_names.specs.declared.key.Key.TheVariants as keys
-use Rattle.gw_expr.specs.Term.{Term, Constant, Named, Number}
+use Rattle.gw_expr.specs.Term.{Term, Constant, Number, Attribute, Named}
 use Rattle.gw_expr.specs.declared.stop.Stop.{Stop}
-use Rattle.gw_expr.specs.declared.stop.Stop.TheVariants.{NegativeTime, Range, BadCount}
+use Rattle.gw_names.specs.declared.class.Class.{Class}
+use Rattle.gw_names.specs.declared.class.Class.TheVariants as class
+use Rattle.gw_expr.specs.declared.attribute.Subject.{Subject}
+use Rattle.gw_expr.specs.declared.attribute.Subject.TheVariants as subjects
+use Rattle.gw_expr.specs.declared.stop.Stop.TheVariants.{Range, BadCount, NoParameter}
 use Rattle.gw_streams.specs.declared.stream.Stream.{Stream}
 use Rattle.gw_streams.specs.declared.stream.Stream.TheVariants as streams
 use Rattle.gw_streams.specs.Draws.{next_of, start_of, stream_at, with_stream}
@@ -15,7 +19,9 @@ use Rattle.gw_meaning.specs.declared.item.Item.{Item}
 use Rattle.gw_meaning.specs.declared.item.Item.TheVariants as items
 use Rattle.gw_meaning.specs.declared.item.End.{End}
 use Rattle.gw_meaning.specs.declared.item.End.TheVariants as ends
-use Rattle.gw_meaning.specs.Machine.{Machine}
+use Rattle.gw_meaning.specs.declared.asker.Asker.{Asker}
+use Rattle.gw_meaning.specs.Entities.{facility_at, line_at, store_at}
+use Rattle.gw_meaning.specs.Machine.{Machine, count_at}
 use Rattle.gw_meaning.specs.Questions.{Answer, Prog, Gives, Ends, Asks, ◌>>=◌}
 
 -- an evaluation
@@ -51,50 +57,6 @@ number_of_draw (streams.At x) = Gives (next_of x)
 abbrev pub draw : ℕ → Eval ℕ
 draw j = λ before. number_of_draw (stream_at before j) >>= (λ x. Gives (x, with_stream before j (streams.At x)))
 
--- the number that a name stands for, which each version gives to a name that stands for a value
-abbrev pub number_given : Option ℤ → Eval ℤ
-number_given None = ends_with (ends.Error Range)
-number_given (Some n) = gives n
-
--- the value of an operand in a state: a constant, or the number that a name stands for; an entity, a label, a fraction
--- and a definition are none, and no form lets one stand for a value
-abbrev pub value_prog : Machine → Term → Eval ℤ
-value_prog s (Constant value) = gives value
-value_prog s (Number name) = asks (items.Name name) number_given
-value_prog s term = ends_with (ends.Error Range)
-
--- the value of an operand that is there: no form leaves it out
-abbrev pub value_there : Machine → Option Term → Eval ℤ
-value_there s None = ends_with (ends.Error Range)
-value_there s (Some term) = value_prog s term
-
--- the value of an operand that may be absent, which then counts as 0
-abbrev pub value_or_zero : Machine → Option Term → Eval ℤ
-value_or_zero s None = gives (pos 0)
-value_or_zero s (Some term) = value_prog s term
-
--- the entity with a number, from 1
-abbrev pub numbered : ℤ → Eval Key
-numbered n = stops_if (is_below n (pos 1)) Range (gives (keys.Num (magnitude n)))
-
--- the entity with a name, which may stand for a number
-abbrev pub named : List ℕ → Option ℤ → Eval Key
-named name None = gives (keys.Named name)
-named name (Some n) = numbered n
-
--- the entity that an operand names: by a name, or by its number from 1 (no form leaves it out)
-abbrev pub entity_prog : Machine → Option Term → Eval Key
-entity_prog s None = ends_with (ends.Error Range)
-entity_prog s (Some (Named name)) = asks (items.Name name) (named name)
-entity_prog s (Some (Constant n)) = numbered n
-entity_prog s (Some term) = ends_with (ends.Error Range)
-
--- how many units an operand says: from 1, and 1 where it is absent
-abbrev pub units_prog : Machine → Option Term → Eval ℕ
-units_prog s None = gives 1
-units_prog s (Some term) =
-    value_prog s term ~> (λ n. stops_if (is_below n (pos 1)) BadCount (gives (magnitude n)))
-
 -- where x, from 1 to 2,147,483,646, falls when these are spread evenly over the whole numbers from mean - range to
 -- mean + range
 abbrev pub spread : ℤ → ℕ → ℕ → ℤ
@@ -108,13 +70,165 @@ millionths x = (x - 1) * 1000000 / 2147483646
 abbrev pub in_range : ℤ → Eval ℤ
 in_range z = if is_value z then gives z else ends_with (ends.Error Range)
 
+-- the same x as a random number, from 0 to 999
+abbrev pub thousandth : ℕ → ℕ
+thousandth x = (x - 1) * 1000 / 2147483646
+
+-- ---- attributes
+
+-- a number of the state
+abbrev pub amount : ℕ → Eval ℤ
+amount n = in_range (pos n)
+
+-- what is evaluated for a transaction alone
+abbrev pub for_transaction : Asker → Eval ℤ → Eval ℤ
+for_transaction q p = stops_if (not q.is_transaction) NoParameter p
+
+-- of the run and of the transaction: the relative and the absolute clock, what is left of the termination count, the
+-- transit time since the mark, the number and the priority
+abbrev pub own_value : Machine → Asker → Class → Eval ℤ
+own_value s q class.C1 = amount (s.clock - s.since)
+own_value s q class.Ac1 = amount s.clock
+own_value s q class.Tg1 = amount q.remaining
+own_value s q class.M1 = for_transaction q (amount (s.clock - q.mark))
+own_value s q class.Xn1 = for_transaction q (amount q.number)
+own_value s q class.Pr = for_transaction q (gives q.priority)
+own_value s q class = ends_with (ends.Error Range)
+
+-- the entity with a number, from 1
+abbrev pub numbered : ℤ → Eval Key
+numbered n = stops_if (is_below n (pos 1)) Range (gives (keys.Num (magnitude n)))
+
+-- the entity with a name, which may stand for a number
+abbrev pub named : List ℕ → Option ℤ → Eval Key
+named name None = gives (keys.Named name)
+named name (Some n) = numbered n
+
+-- the facility or queue that an attribute is of
+abbrev pub subject_prog : Subject → Eval Key
+subject_prog subjects.Own = ends_with (ends.Error Range)
+subject_prog (subjects.Number n) = numbered (pos n)
+subject_prog (subjects.Name name) = asks (items.Name name) (named name)
+
+-- the storage that an attribute is of, which each version has
+abbrev pub storage_prog : Subject → (Key → Eval ℤ) → Eval ℤ
+storage_prog (subjects.Name name) f = f (keys.Defined name)
+storage_prog subject f = ends_with (ends.Error Range)
+
+-- the block that an attribute is of, which each version has
+abbrev pub counted : Option ℕ → (ℕ → Eval ℤ) → Eval ℤ
+counted None f = ends_with (ends.Error Range)
+counted (Some id) f = f id
+
+abbrev pub block_count : Subject → (ℕ → Eval ℤ) → Eval ℤ
+block_count (subjects.Name name) f = asks (items.Label name) (λ id. counted id f)
+block_count subject f = ends_with (ends.Error Range)
+
+-- a random number from the stream that an attribute is of, 1 to 7
+abbrev pub random_prog : Subject → Eval ℤ
+random_prog (subjects.Number j) = stops_if (not (nat_le 1 j && nat_le j 7)) Range
+    (draw j ~> (λ x. gives (pos (thousandth x))))
+random_prog subject = ends_with (ends.Error Range)
+
+-- 1 while a facility is owned, else 0
+abbrev pub owned : Option ℕ → ℕ
+owned None = 0
+owned (Some number) = 1
+
+-- of a facility: whether it is owned, and its captures; of a queue: its content, its entries, the greatest content and
+-- the zero entries. One that nothing touched yet reads 0.
+abbrev pub entity_value : Machine → Class → Key → Eval ℤ
+entity_value s class.F key = amount (owned (facility_at s.entities key).owner)
+entity_value s class.Fc key = amount (facility_at s.entities key).captures
+entity_value s class.Q key = amount (line_at s.entities key).level.content
+entity_value s class.Qc key = amount (line_at s.entities key).entries
+entity_value s class.Qm key = amount (line_at s.entities key).greatest
+entity_value s class.Qz key = amount (line_at s.entities key).zero_entries
+entity_value s class key = ends_with (ends.Error Range)
+
+-- of a storage: the units in use, the units that came, and the greatest content
+abbrev pub storage_value : Machine → Class → Key → Eval ℤ
+storage_value s class.S key = amount (store_at s.entities key).level.content
+storage_value s class.Sc key = amount (store_at s.entities key).entries
+storage_value s class.Sm key = amount (store_at s.entities key).greatest
+storage_value s class key = ends_with (ends.Error Range)
+
+-- of a block: its entries and its content
+abbrev pub block_value : Machine → Class → ℕ → Eval ℤ
+block_value s class.N id = amount (count_at s.counts id).entries
+block_value s class.W id = amount (count_at s.counts id).content
+block_value s class id = ends_with (ends.Error Range)
+
+-- the value of an attribute
+unfoldable pub attribute_prog : Machine → Asker → Class → Subject → Eval ℤ
+attribute_prog s q class.C1 of = own_value s q class.C1
+attribute_prog s q class.Ac1 of = own_value s q class.Ac1
+attribute_prog s q class.Tg1 of = own_value s q class.Tg1
+attribute_prog s q class.M1 of = own_value s q class.M1
+attribute_prog s q class.Xn1 of = own_value s q class.Xn1
+attribute_prog s q class.Pr of = own_value s q class.Pr
+attribute_prog s q class.F of = subject_prog of ~> (λ key. entity_value s class.F key)
+attribute_prog s q class.Fc of = subject_prog of ~> (λ key. entity_value s class.Fc key)
+attribute_prog s q class.Q of = subject_prog of ~> (λ key. entity_value s class.Q key)
+attribute_prog s q class.Qc of = subject_prog of ~> (λ key. entity_value s class.Qc key)
+attribute_prog s q class.Qm of = subject_prog of ~> (λ key. entity_value s class.Qm key)
+attribute_prog s q class.Qz of = subject_prog of ~> (λ key. entity_value s class.Qz key)
+attribute_prog s q class.S of = storage_prog of (λ key. storage_value s class.S key)
+attribute_prog s q class.Sc of = storage_prog of (λ key. storage_value s class.Sc key)
+attribute_prog s q class.Sm of = storage_prog of (λ key. storage_value s class.Sm key)
+attribute_prog s q class.N of = block_count of (λ id. block_value s class.N id)
+attribute_prog s q class.W of = block_count of (λ id. block_value s class.W id)
+attribute_prog s q class.Rn of = random_prog of
+attribute_prog s q class of = ends_with (ends.Error Range)
+
+-- ---- operands
+
+-- the number that a name stands for, which each version gives to a name that stands for a value
+abbrev pub number_given : Option ℤ → Eval ℤ
+number_given None = ends_with (ends.Error Range)
+number_given (Some n) = gives n
+
+-- the value of an operand in a state: a constant, the number that a name stands for, or an attribute; an entity, a
+-- label, a fraction and a definition are none, and no form lets one stand for a value
+unfoldable pub value_prog : Machine → Asker → Term → Eval ℤ
+value_prog s q (Constant value) = gives value
+value_prog s q (Number name) = asks (items.Name name) number_given
+value_prog s q (Attribute class of) = attribute_prog s q class of
+value_prog s q term = ends_with (ends.Error Range)
+
+-- the value of an operand that is there: no form leaves it out
+abbrev pub value_there : Machine → Asker → Option Term → Eval ℤ
+value_there s q None = ends_with (ends.Error Range)
+value_there s q (Some term) = value_prog s q term
+
+-- the value of an operand that may be absent, which then counts as 0
+abbrev pub value_or_zero : Machine → Asker → Option Term → Eval ℤ
+value_or_zero s q None = gives (pos 0)
+value_or_zero s q (Some term) = value_prog s q term
+
+-- the entity that an operand names: by a name, by its number from 1, or by an attribute whose value is its number (no
+-- form leaves it out)
+abbrev pub entity_prog : Machine → Asker → Option Term → Eval Key
+entity_prog s q None = ends_with (ends.Error Range)
+entity_prog s q (Some (Named name)) = asks (items.Name name) (named name)
+entity_prog s q (Some term) = value_prog s q term ~> numbered
+
+-- how many units an operand says: from 1, and 1 where it is absent
+abbrev pub units_prog : Machine → Asker → Option Term → Eval ℕ
+units_prog s q None = gives 1
+units_prog s q (Some term) =
+    value_prog s q term ~> (λ n. stops_if (is_below n (pos 1)) BadCount (gives (magnitude n)))
+
+-- ---- sampled times
+
 -- a time of mean plus or minus range, which is drawn from stream 1 where the range is above 0
 abbrev pub sample_within : ℤ → ℕ → Eval ℤ
 sample_within mean zero = gives mean
 sample_within mean (suc n) = draw 1 ~> (λ x. in_range (spread mean (suc n) x))
 
+-- where the range is below 0 there is no such time: it counts as one below 0, at which what is to come there stops
 abbrev pub sample : ℤ → ℤ → Eval ℤ
-sample mean range = stops_if (is_negative range) NegativeTime (sample_within mean (magnitude range))
+sample mean range = if is_negative range then gives range else sample_within mean (magnitude range)
 
-abbrev pub time_prog : Machine → Option Term → Option Term → Eval ℤ
-time_prog s mean range = value_or_zero s mean ~> (λ m. value_or_zero s range ~> (λ r. sample m r))
+abbrev pub time_prog : Machine → Asker → Option Term → Option Term → Eval ℤ
+time_prog s q mean range = value_or_zero s q mean ~> (λ m. value_or_zero s q range ~> (λ r. sample m r))

@@ -2,7 +2,7 @@
 -- argument. (Manual: the order of the scan. Our own: commands, priming and picking as steps of their own, and the order
 -- in which a GENERATE's operands are met, that a facility refuses its own owner, too, that units that
 -- fit go in, whoever waits, and that a PRIORITY leaves its transaction active.)
-use Rattle.std.specs.Prelude.{ℕ, zero, suc, ◌+◌, ◌-◌, Bool, true, false, ◌==◌, List, [], ◌∷◌, ◌++◌, Option, Some, None, Result, Ok, Err, ℤ, ◌&&◌, ◌||◌, if◌then◌else◌, nat_le, nat_lt, min, not, is_some}
+use Rattle.std.specs.Prelude.{ℕ, zero, suc, ◌+◌, ◌-◌, Bool, true, false, ◌==◌, List, [], ◌∷◌, ◌++◌, Option, Some, None, Result, Ok, Err, ℤ, pos, ◌&&◌, ◌||◌, if◌then◌else◌, nat_le, nat_lt, min, not, is_some}
 use Rattle.gw_nums.specs.Range.{is_negative, magnitude}
 use Rattle.gw_expr.specs.Term.{Term, Label, Fraction, Defined}
 use Rattle.gw_expr.specs.declared.stop.Stop.TheVariants.{NegativeTime, NotOwner, LeaveTooMany, DepartTooMany, NoNextBlock, TooManyTransactions, BadCount, TooManyUnits, Range}
@@ -17,6 +17,7 @@ use Rattle.gw_meaning.specs.declared.item.End.TheVariants as ends
 use Rattle.gw_meaning.specs.declared.statement.Block.{Block}
 use Rattle.gw_meaning.specs.declared.statement.Command.{Command}
 use Rattle.gw_meaning.specs.declared.statement.Command.TheVariants as commands
+use Rattle.gw_meaning.specs.declared.asker.Asker.{Asker}
 use Rattle.gw_meaning.specs.declared.transaction.Transaction.{Transaction}
 use Rattle.gw_meaning.specs.declared.transaction.Event.{Event}
 use Rattle.gw_streams.specs.declared.stream.Stream.{Stream}
@@ -46,57 +47,72 @@ arrival_at s id time priority =
     (stops_if (nat_le 100000 (live s)) TooManyTransactions
     (gives (Some (record { id = id; time = s.clock + magnitude time; priority = priority }))))
 
-abbrev pub arrival_in_time : Machine → ℕ → Option Term → Option Term → Option Term → Eval (Option Arrival)
-arrival_in_time s id mean range priority =
-    time_prog s mean range ~> (λ t. value_or_zero s priority ~> (λ p. arrival_at s id t p))
+abbrev pub arrival_in_time : Machine → Asker → ℕ → Option Term → Option Term → Option Term → Eval (Option Arrival)
+arrival_in_time s q id mean range priority =
+    time_prog s q mean range ~> (λ t. value_or_zero s q priority ~> (λ p. arrival_at s id t p))
 
 -- with a limit of n, of which some are made
-abbrev pub arrival_within : Machine → ℕ → ℕ → Option Term → Option Term → Option Term → ℤ → Eval (Option Arrival)
-arrival_within s id made mean range priority n =
+abbrev pub arrival_within :
+    Machine → Asker → ℕ → ℕ → Option Term → Option Term → Option Term → ℤ → Eval (Option Arrival)
+arrival_within s q id made mean range priority n =
     stops_if (is_negative n) BadCount (if nat_le (magnitude n) made then gives None
-    else arrival_in_time s id mean range priority)
+    else arrival_in_time s q id mean range priority)
 
 abbrev pub arrival_prog :
-    Machine → ℕ → ℕ → Option Term → Option Term → Option Term → Option Term → Eval (Option Arrival)
-arrival_prog s id made mean range None priority = arrival_in_time s id mean range priority
-arrival_prog s id made mean range (Some limit) priority =
-    value_prog s limit ~> (λ n. arrival_within s id made mean range priority n)
+    Machine → Asker → ℕ → ℕ → Option Term → Option Term → Option Term → Option Term → Eval (Option Arrival)
+arrival_prog s q id made mean range None priority = arrival_in_time s q id mean range priority
+arrival_prog s q id made mean range (Some limit) priority =
+    value_prog s q limit ~> (λ n. arrival_within s q id made mean range priority n)
 
 -- Priming: the first transactions of the GENERATEs, in order; each comes after the offset, where there is one, and else
--- as those after it do.
+-- as those after it do. They are evaluated for no transaction, with the count of the START that primes.
 abbrev pub first_of_generate :
-    Machine → ℕ → Option Term → Option Term → Option Term → Option Term → Option Term → Eval (Option Arrival)
-first_of_generate s id mean range None limit priority =
-    arrival_prog s id (count_at s.counts id).made mean range limit priority
-first_of_generate s id mean range (Some offset) limit priority =
-    arrival_prog s id (count_at s.counts id).made (Some offset) None limit priority
+    Machine → Asker → ℕ → Option Term → Option Term → Option Term → Option Term → Option Term → Eval (Option Arrival)
+first_of_generate s q id mean range None limit priority =
+    arrival_prog s q id (count_at s.counts id).made mean range limit priority
+first_of_generate s q id mean range (Some offset) limit priority =
+    arrival_prog s q id (count_at s.counts id).made (Some offset) None limit priority
 
-abbrev pub first_of : Machine → ℕ → Block → Bool → Eval (Option Arrival)
-first_of s id b true = first_of_generate s id (operand b A) (operand b B) (operand b C) (operand b D) (operand b E)
-first_of s id b false = gives None
+abbrev pub first_of : Machine → Asker → ℕ → Block → Bool → Eval (Option Arrival)
+first_of s q id b true = first_of_generate s q id (operand b A) (operand b B) (operand b C) (operand b D) (operand b E)
+first_of s q id b false = gives None
 
-abbrev pub first_arrival : Machine → ℕ → Option Block → Eval (Option Arrival)
-first_arrival s id None = gives None
-first_arrival s id (Some b) = first_of s id b (is_generate_verb b.verb)
+abbrev pub first_arrival : Machine → Asker → ℕ → Option Block → Eval (Option Arrival)
+first_arrival s q id None = gives None
+first_arrival s q id (Some b) = first_of s q id b (is_generate_verb b.verb)
 
 abbrev pub with_arrival : Option Arrival → List Arrival → List Arrival
 with_arrival None made = made
 with_arrival (Some a) made = made ++ a ∷ []
 
-abbrev pub prime_prog : Machine → ℕ → Eval (Option Arrival)
-prime_prog s id = asks (items.Block id) (first_arrival s id)
+abbrev pub prime_prog : Machine → Asker → ℕ → Eval (Option Arrival)
+prime_prog s q id = asks (items.Block id) (first_arrival s q id)
 
-abbrev pub arrivals_prog : Machine → List ℕ → List Arrival → Eval (List Arrival)
-arrivals_prog s [] made = gives made
-arrivals_prog s (id ∷ ids) made = prime_prog s id ~> (λ a. arrivals_prog s ids (with_arrival a made))
+abbrev pub arrivals_prog : Machine → Asker → List ℕ → List Arrival → Eval (List Arrival)
+arrivals_prog s q [] made = gives made
+arrivals_prog s q (id ∷ ids) made = prime_prog s q id ~> (λ a. arrivals_prog s q ids (with_arrival a made))
 
-abbrev pub first_arrivals_prog : Machine → Eval (List Arrival)
-first_arrivals_prog s = asks items.Generates (λ ids. arrivals_prog s ids [])
+-- for whom operands are evaluated: for no transaction, or for one
+abbrev pub for_none : ℕ → Asker
+for_none remaining =
+    record { is_transaction = false; number = 0; priority = pos 0; mark = 0; remaining = remaining }
+
+abbrev pub for_one : Machine → Transaction → Asker
+for_one s x = record {
+  is_transaction = true;
+  number = x.number;
+  priority = x.priority;
+  mark = x.mark;
+  remaining = s.remaining;
+}
+
+abbrev pub first_arrivals_prog : Machine → ℕ → Eval (List Arrival)
+first_arrivals_prog s count = asks items.Generates (λ ids. arrivals_prog s (for_none count) ids [])
 
 -- Command: where no START is under way. An RMULT sets streams, and does no more.
 abbrev pub start_prog : Machine → Bool → ℕ → Eval Move
 start_prog s true count = gives (moves.Start count [])
-start_prog s false count = first_arrivals_prog s ~> (λ first. gives (moves.Start count first))
+start_prog s false count = first_arrivals_prog s count ~> (λ first. gives (moves.Start count first))
 
 abbrev pub rmult_prog : List (Option ℕ) → Eval Move
 rmult_prog values = λ streams. Gives (moves.Command, all_set streams values)
@@ -111,21 +127,21 @@ abbrev pub generate_prog :
     Machine → Transaction → ℕ → Option Term → Option Term → Option Term → Option Term → Eval Move
 generate_prog s x id mean range limit priority =
     stops_if (not (x.current == 0)) NoNextBlock
-    (arrival_prog s id (count_at s.counts id).made mean range limit priority ~>
+    (arrival_prog s (for_none s.remaining) id (count_at s.counts id).made mean range limit priority ~>
     (λ next. gives (moves.Enter id (changes.Generate next) fates.Active)))
 
 abbrev pub delay_of : Machine → ℕ → Fate
 delay_of s zero = fates.Active
 delay_of s (suc n) = fates.Delayed (s.clock + suc n)
 
-abbrev pub advance_prog : Machine → ℕ → Option Term → Option Term → Eval Move
-advance_prog s id mean range =
-    time_prog s mean range ~> (λ t. stops_if (is_negative t) NegativeTime
+abbrev pub advance_prog : Machine → Asker → ℕ → Option Term → Option Term → Eval Move
+advance_prog s q id mean range =
+    time_prog s q mean range ~> (λ t. stops_if (is_negative t) NegativeTime
     (gives (moves.Enter id changes.Nothing (delay_of s (magnitude t)))))
 
-abbrev pub terminate_prog : Machine → ℕ → Option Term → Eval Move
-terminate_prog s id count =
-    value_or_zero s count ~> (λ n. stops_if (is_negative n) BadCount
+abbrev pub terminate_prog : Machine → Asker → ℕ → Option Term → Eval Move
+terminate_prog s q id count =
+    value_or_zero s q count ~> (λ n. stops_if (is_negative n) BadCount
     (gives (moves.Enter id changes.Nothing (fates.Destroyed (magnitude n)))))
 
 -- QUEUE and DEPART, of an entity and so many units. A content and a count of entries go to 1,000,000,000, and no more
@@ -138,9 +154,9 @@ queue_units id key line units =
     stops_if (is_too_many (line.entries + units) || is_too_many (line.level.content + units)) TooManyUnits
     (gives (moves.Enter id (changes.Entity (key, deeds.Queue units)) fates.Active))
 
-abbrev pub queue_prog : Machine → ℕ → Option Term → Option Term → Eval Move
-queue_prog s id entity units =
-    entity_prog s entity ~> (λ key. units_prog s units ~> (λ n. queue_units id key (line_at s.entities key) n))
+abbrev pub queue_prog : Machine → Asker → ℕ → Option Term → Option Term → Eval Move
+queue_prog s q id entity units =
+    entity_prog s q entity ~> (λ key. units_prog s q units ~> (λ n. queue_units id key (line_at s.entities key) n))
 
 abbrev pub depart_units : ℕ → Key → Line → Bool → ℕ → Eval Move
 depart_units id key line at_once units =
@@ -148,8 +164,8 @@ depart_units id key line at_once units =
     (stops_if (nat_lt line.level.content units) DepartTooMany
     (gives (moves.Enter id (changes.Entity (key, deeds.Depart units at_once)) fates.Active)))
 
-abbrev pub depart_prog : Machine → Transaction → ℕ → Option Term → Option Term → Eval Move
-depart_prog s x id entity units = entity_prog s entity ~> (λ key. units_prog s units ~>
+abbrev pub depart_prog : Machine → Asker → Transaction → ℕ → Option Term → Option Term → Eval Move
+depart_prog s q x id entity units = entity_prog s q entity ~> (λ key. units_prog s q units ~>
     (λ n. depart_units id key (line_at s.entities key) (came s.entities.comings key x.number) n))
 
 -- SEIZE, of a facility that may be owned; RELEASE, by its owner, for the first that waits.
@@ -157,9 +173,9 @@ abbrev pub seize_or_wait : ℕ → Key → Bool → Eval Move
 seize_or_wait id key true = gives (moves.Refuse id key 1)
 seize_or_wait id key false = gives (moves.Enter id (changes.Entity (key, deeds.Seize)) fates.Active)
 
-abbrev pub seize_prog : Machine → ℕ → Option Term → Eval Move
-seize_prog s id entity =
-    entity_prog s entity ~> (λ key. seize_or_wait id key (is_some (facility_at s.entities key).owner))
+abbrev pub seize_prog : Machine → Asker → ℕ → Option Term → Eval Move
+seize_prog s q id entity =
+    entity_prog s q entity ~> (λ key. seize_or_wait id key (is_some (facility_at s.entities key).owner))
 
 -- the number of the first transaction of a chain
 abbrev pub first_number : List Transaction → Option ℕ
@@ -175,8 +191,8 @@ abbrev pub release_to : ℕ → Key → Bool → Option ℕ → Eval Move
 release_to id key owns next =
     stops_if (not owns) NotOwner (gives (moves.Enter id (changes.Entity (key, deeds.Release next)) fates.Active))
 
-abbrev pub release_prog : Machine → Transaction → ℕ → Option Term → Eval Move
-release_prog s x id entity = entity_prog s entity ~> (λ key. release_to id key
+abbrev pub release_prog : Machine → Asker → Transaction → ℕ → Option Term → Eval Move
+release_prog s q x id entity = entity_prog s q entity ~> (λ key. release_to id key
     (is_owner (facility_at s.entities key).owner x.number) (first_number (delay_at s.delays key)))
 
 -- so many units beside those in use (a count of 64 bits stays at its greatest value)
@@ -196,10 +212,10 @@ enter_storage id name store units large =
     stops_if (not large) TooManyUnits
     (asks (items.Fits name (beside units store.level.content)) (enter_or_wait id (keys.Defined name) store units))
 
-abbrev pub enter_prog : Machine → ℕ → Option Term → Option Term → Eval Move
-enter_prog s id (Some (Defined name)) units =
-    units_prog s units ~> (λ n. asks (items.Fits name n) (enter_storage id name (store_at s.entities (keys.Defined name)) n))
-enter_prog s id storage units = ends_with (ends.Error Range)
+abbrev pub enter_prog : Machine → Asker → ℕ → Option Term → Option Term → Eval Move
+enter_prog s q id (Some (Defined name)) units = units_prog s q units ~>
+    (λ n. asks (items.Fits name n) (enter_storage id name (store_at s.entities (keys.Defined name)) n))
+enter_prog s q id storage units = ends_with (ends.Error Range)
 
 -- LEAVE, of no more units than are in use: then each of the delay chain, from the front, is let in where its units fit
 -- beside those that are in use by then.
@@ -231,13 +247,14 @@ leave_units s id name store units =
     (shares_prog name (store.level.content - units) [] (delay_at s.delays (keys.Defined name)) ~>
     (λ shares. leave_for id (keys.Defined name) store units shares))
 
-abbrev pub leave_prog : Machine → ℕ → Option Term → Option Term → Eval Move
-leave_prog s id (Some (Defined name)) units =
-    units_prog s units ~> (λ n. leave_units s id name (store_at s.entities (keys.Defined name)) n)
-leave_prog s id storage units = ends_with (ends.Error Range)
+abbrev pub leave_prog : Machine → Asker → ℕ → Option Term → Option Term → Eval Move
+leave_prog s q id (Some (Defined name)) units =
+    units_prog s q units ~> (λ n. leave_units s id name (store_at s.entities (keys.Defined name)) n)
+leave_prog s q id storage units = ends_with (ends.Error Range)
 
 -- TRANSFER: to the block with a label, which each version has, or to the next block where there is no label. With a
--- fraction it draws, and goes to the third operand's block where the number is below the fraction, else to the second's.
+-- fraction it draws, and goes to the third operand's block where the number is below the fraction, else to the
+-- second's.
 abbrev pub go_to : ℕ → Option ℕ → Eval Move
 go_to id None = ends_with (ends.Error NoNextBlock)
 go_to id (Some to) = gives (moves.Enter id (changes.Transaction (own.Transfer to)) fates.Active)
@@ -258,9 +275,9 @@ transfer_prog id fraction near far = lead_to id near
 abbrev pub mark_prog : ℕ → Eval Move
 mark_prog id = gives (moves.Enter id (changes.Transaction own.Mark) fates.Active)
 
-abbrev pub priority_prog : Machine → ℕ → Option Term → Eval Move
-priority_prog s id priority =
-    value_there s priority ~> (λ p. gives (moves.Enter id (changes.Transaction (own.Priority p)) fates.Active))
+abbrev pub priority_prog : Machine → Asker → ℕ → Option Term → Eval Move
+priority_prog s q id priority =
+    value_there s q priority ~> (λ p. gives (moves.Enter id (changes.Transaction (own.Priority p)) fates.Active))
 
 abbrev pub buffer_prog : ℕ → Eval Move
 buffer_prog id = gives (moves.Enter id changes.Nothing fates.Current)
@@ -269,17 +286,17 @@ buffer_prog id = gives (moves.Enter id changes.Nothing fates.Current)
 abbrev pub block_prog : Machine → Transaction → ℕ → Block → BlockVerb → Eval Move
 block_prog s x id b blocks.Generate =
     generate_prog s x id (operand b A) (operand b B) (operand b D) (operand b E)
-block_prog s x id b blocks.Advance = advance_prog s id (operand b A) (operand b B)
-block_prog s x id b blocks.Terminate = terminate_prog s id (operand b A)
-block_prog s x id b blocks.Queue = queue_prog s id (operand b A) (operand b B)
-block_prog s x id b blocks.Depart = depart_prog s x id (operand b A) (operand b B)
-block_prog s x id b blocks.Seize = seize_prog s id (operand b A)
-block_prog s x id b blocks.Release = release_prog s x id (operand b A)
-block_prog s x id b blocks.Enter = enter_prog s id (operand b A) (operand b B)
-block_prog s x id b blocks.Leave = leave_prog s id (operand b A) (operand b B)
+block_prog s x id b blocks.Advance = advance_prog s (for_one s x) id (operand b A) (operand b B)
+block_prog s x id b blocks.Terminate = terminate_prog s (for_one s x) id (operand b A)
+block_prog s x id b blocks.Queue = queue_prog s (for_one s x) id (operand b A) (operand b B)
+block_prog s x id b blocks.Depart = depart_prog s (for_one s x) x id (operand b A) (operand b B)
+block_prog s x id b blocks.Seize = seize_prog s (for_one s x) id (operand b A)
+block_prog s x id b blocks.Release = release_prog s (for_one s x) x id (operand b A)
+block_prog s x id b blocks.Enter = enter_prog s (for_one s x) id (operand b A) (operand b B)
+block_prog s x id b blocks.Leave = leave_prog s (for_one s x) id (operand b A) (operand b B)
 block_prog s x id b blocks.Transfer = transfer_prog id (operand b A) (operand b B) (operand b C)
 block_prog s x id b blocks.Mark = mark_prog id
-block_prog s x id b blocks.Priority = priority_prog s id (operand b A)
+block_prog s x id b blocks.Priority = priority_prog s (for_one s x) id (operand b A)
 block_prog s x id b blocks.Buffer = buffer_prog id
 block_prog s x id b verb = ends_with (ends.Error NoNextBlock)
 

@@ -6,6 +6,7 @@
 //! (where a report is taken). The types here are the plain data that they speak of.
 #![tactic(auto)]
 
+mod asker;
 mod destination;
 mod entity_change;
 mod item;
@@ -18,6 +19,7 @@ mod text;
 mod transaction;
 mod transaction_change;
 
+pub use asker::Asker;
 pub use destination::Destination;
 pub use entity_change::{Deed, EntityChange};
 pub use item::{End, Item, Outcome};

@@ -1,16 +1,19 @@
 -- what the scans for a label that no block has, for a definition that is not there, and for an EQU's that is named as a storage find
-use Rattle.std.proofs.Common.{◌≡◌, ℕ, zero, suc, List, [], ◌∷◌, refl, Bool, false, not, Option, Some, None, is_some, ap, subst, ◌∙◌}
+use Rattle.std.proofs.Common.{◌≡◌, ℕ, zero, suc, List, [], ◌∷◌, refl, Bool, false, not, Option, Some, None, is_some, ap, subst, ◌∙◌, true, ◌&&◌}
 use Rattle.std.specs.Prelude.{ℤ, get_or}
 use Rattle.std.specs.List.{list_any, slice_get}
 use Rattle.std.proofs.lemmas.Option.{get_or_from_slice_get}
-use Rattle.gw_expr.specs.Term.{Term, Defined, Label, Number}
+use Rattle.gw_expr.specs.Term.{Term, Defined, Label, Number, Attribute}
 use Rattle.gw_meaning.specs.Listing.{block_of, defined_in, labelled_in, number_of}
 use Rattle.gw_meaning.specs.Statements.{operand}
 use Rattle.gw_meaning.specs.declared.statement.Block.{Block}
 use Rattle.gw_meaning.specs.declared.statement.Definition.{Definition}
 use Rattle.gw_meaning.specs.declared.statement.Definition.TheVariants as definitions
 use Rattle.gw_meaning.specs.declared.statement.Numbered.{Numbered}
-use Rattle.gw_model.specs.Faults.{holds_of, block_operands, holds_in, is_unknown_label, has_unknown_label, is_undefined, has_unknown_definition, is_equ_named, has_equ_named}
+use Rattle.gw_names.specs.declared.class.Class.{Class}
+use Rattle.gw_expr.specs.declared.attribute.Subject.{Subject}
+use Rattle.gw_expr.specs.declared.attribute.Subject.TheVariants as subjects
+use Rattle.gw_model.specs.Faults.{is_of_block, is_of_storage, lacks_name, has_name, holds_of, block_operands, holds_in, is_unknown_label, has_unknown_label, is_undefined, has_unknown_definition, is_equ_named, has_equ_named}
 use Rattle.gw_model.proofs.Apart.{none_of, none_from}
 
 -- the labels of these lines
@@ -64,12 +67,41 @@ unfolding has_unknown_label
 labels_there lines h i place line block name e b o =
     there_is (labelled_in name lines) (no_operand (is_unknown_label (known lines)) lines h i place line block (Label name) e b o)
 
-pub labels_known : (lines : List Numbered) → LabelsThere lines → has_unknown_label lines ≡ false
+-- so is each label whose block an attribute counts
+abbrev pub CountsThere : List Numbered → Type 0
+CountsThere lines = (i place : ℕ) (line : Numbered) (block : Block) (class : Class) (of : Subject) → slice_get lines i ≡ Some line →
+    block_of line ≡ Some block → operand block place ≡ Some (Attribute class of) → is_of_block class ≡ true →
+    (name : List ℕ) × (of ≡ subjects.Name name) × (id : ℕ) × (labelled_in name lines ≡ Some id)
+
+both_hold : (a b : Bool) → a ≡ true → (a && b) ≡ false → b ≡ false
+both_hold true b is h = h
+both_hold false b is h = absurd cc
+
+label_named : (lines : List Numbered) (of : Subject) → lacks_name (known lines) of ≡ false →
+    (name : List ℕ) × (of ≡ subjects.Name name) × (id : ℕ) × (labelled_in name lines ≡ Some id)
+label_named lines subjects.Own h = absurd cc
+label_named lines (subjects.Number n) h = absurd cc
+label_named lines (subjects.Name name) h = let there = there_is (labelled_in name lines) h in (name, refl, there.0, there.1)
+
+pub counts_there : (lines : List Numbered) → has_unknown_label lines ≡ false → CountsThere lines
 unfolding has_unknown_label
-labels_known lines f = in_no_line (is_unknown_label (known lines)) lines go where
+counts_there lines h i place line block class of e b o is =
+    label_named lines of (both_hold (is_of_block class) _ is (no_operand (is_unknown_label (known lines)) lines h i place line block (Attribute class of) e b
+        o))
+
+-- an attribute of which a test fails where its class is none of those that are tested
+tested : (a b : Bool) → (a ≡ true → b ≡ false) → (a && b) ≡ false
+tested true b f = f refl
+tested false b f = refl
+
+pub labels_known : (lines : List Numbered) → LabelsThere lines → CountsThere lines → has_unknown_label lines ≡ false
+unfolding has_unknown_label
+labels_known lines f g = in_no_line (is_unknown_label (known lines)) lines go where
   go : (i place : ℕ) (line : Numbered) (block : Block) (term : Term) → slice_get lines i ≡ Some line → block_of line ≡ Some block →
       operand block place ≡ Some term → is_unknown_label (known lines) term ≡ false
   go i place line block (Label name) e b o = ap (λ (x : Option ℕ). not (is_some x)) (f i place line block name e b o).1
+  go i place line block (Attribute class of) e b o = tested (is_of_block class) (lacks_name (known lines) of)
+      (λ is. (let h = g i place line block class of e b o is in ap (lacks_name (known lines)) h.1 ∙ ap (λ (x : Option ℕ). not (is_some x)) h.3))
   go i place line block term e b o = refl
 
 -- the definitions of these lines
@@ -106,19 +138,50 @@ unfolding has_unknown_definition
 numbers_there lines h i place line block name e b o =
     equ_is (defined_in name lines) (no_operand (is_undefined (definition lines)) lines h i place line block (Number name) e b o)
 
-pub definitions_known : (lines : List Numbered) → StoragesThere lines → NumbersThere lines → has_unknown_definition lines ≡ false
+-- so is each storage whose content an attribute tells
+abbrev pub ContentsThere : List Numbered → Type 0
+ContentsThere lines = (i place : ℕ) (line : Numbered) (block : Block) (class : Class) (of : Subject) → slice_get lines i ≡ Some line →
+    block_of line ≡ Some block → operand block place ≡ Some (Attribute class of) → is_of_storage class ≡ true →
+    (name : List ℕ) × (of ≡ subjects.Name name) × (capacity : ℕ) × (defined_in name lines ≡ Some (definitions.Storage capacity))
+
+-- whether a name is defined, and by an EQU
+abbrev is_defined : List Numbered → List ℕ → Bool
+is_defined lines name = is_some (defined_in name lines)
+
+abbrev is_number : List Numbered → List ℕ → Bool
+is_number lines name = is_some (number_of (defined_in name lines))
+
+storage_named : (lines : List Numbered) (of : Subject) → lacks_name (is_defined lines) of ≡ false → has_name (is_number lines) of ≡ false →
+    (name : List ℕ) × (of ≡ subjects.Name name) × (capacity : ℕ) × (defined_in name lines ≡ Some (definitions.Storage capacity))
+storage_named lines subjects.Own h k = absurd cc
+storage_named lines (subjects.Number n) h k = absurd cc
+storage_named lines (subjects.Name name) h k = let there = storage_is (defined_in name lines) h k in (name, refl, there.0, there.1)
+
+pub contents_there : (lines : List Numbered) → has_unknown_definition lines ≡ false → has_equ_named lines ≡ false → ContentsThere lines
+unfolding has_unknown_definition has_equ_named
+contents_there lines h k i place line block class of e b o is =
+    storage_named lines of (both_hold (is_of_storage class) _ is (no_operand (is_undefined (definition lines)) lines h i place line block (Attribute class of)
+        e b o))
+    (both_hold (is_of_storage class) _ is (no_operand (is_equ_named (definition lines)) lines k i place line block (Attribute class of) e b o))
+
+pub definitions_known : (lines : List Numbered) → StoragesThere lines → NumbersThere lines → ContentsThere lines → has_unknown_definition lines ≡ false
 unfolding has_unknown_definition
-definitions_known lines f g = in_no_line (is_undefined (definition lines)) lines go where
+definitions_known lines f g w = in_no_line (is_undefined (definition lines)) lines go where
   go : (i place : ℕ) (line : Numbered) (block : Block) (term : Term) → slice_get lines i ≡ Some line → block_of line ≡ Some block →
       operand block place ≡ Some term → is_undefined (definition lines) term ≡ false
   go i place line block (Defined name) e b o = ap (λ (x : Option Definition). not (is_some x)) (f i place line block name e b o).1
   go i place line block (Number name) e b o = ap (λ (x : Option Definition). not (is_some (number_of x))) (g i place line block name e b o).1
+  go i place line block (Attribute class of) e b o = tested (is_of_storage class) (lacks_name (is_defined lines) of)
+      (λ is. (let h = w i place line block class of e b o is in ap (lacks_name (is_defined lines)) h.1 ∙ ap (λ (x : Option Definition). not (is_some x)) h.3))
   go i place line block term e b o = refl
 
-pub none_equ_named : (lines : List Numbered) → StoragesThere lines → has_equ_named lines ≡ false
+pub none_equ_named : (lines : List Numbered) → StoragesThere lines → ContentsThere lines → has_equ_named lines ≡ false
 unfolding has_equ_named
-none_equ_named lines f = in_no_line (is_equ_named (definition lines)) lines go where
+none_equ_named lines f w = in_no_line (is_equ_named (definition lines)) lines go where
   go : (i place : ℕ) (line : Numbered) (block : Block) (term : Term) → slice_get lines i ≡ Some line → block_of line ≡ Some block →
       operand block place ≡ Some term → is_equ_named (definition lines) term ≡ false
   go i place line block (Defined name) e b o = ap (λ (x : Option Definition). is_some (number_of x)) (f i place line block name e b o).1
+  go i place line block (Attribute class of) e b o = tested (is_of_storage class) (has_name (is_number lines) of)
+      (λ is. (let h = w i place line block class of e b o is in ap (has_name (is_number lines)) h.1 ∙
+      ap (λ (x : Option Definition). is_some (number_of x)) h.3))
   go i place line block term e b o = refl

@@ -1,8 +1,12 @@
 -- The first model fault of a version: the faults in their order, each by a scan of the version. (The codes M1 to M8 and
 -- the limits are the product's own.)
-use Rattle.std.specs.Prelude.{ℕ, Bool, false, not, ◌||◌, ◌==◌, ◌≡◌, List, [], ◌∷◌, Option, Some, None, is_some, if◌then◌else◌, length, nat_lt}
+use Rattle.std.specs.Prelude.{ℕ, Bool, true, false, not, ◌||◌, ◌&&◌, ◌==◌, ◌≡◌, List, [], ◌∷◌, Option, Some, None, is_some, if◌then◌else◌, length, nat_lt}
 use Rattle.std.specs.List.{list_any}
-use Rattle.gw_expr.specs.Term.{Term, Defined, Label, Number}
+use Rattle.gw_names.specs.declared.class.Class.{Class}
+use Rattle.gw_names.specs.declared.class.Class.TheVariants as class
+use Rattle.gw_expr.specs.declared.attribute.Subject.{Subject}
+use Rattle.gw_expr.specs.declared.attribute.Subject.TheVariants as subjects
+use Rattle.gw_expr.specs.Term.{Term, Attribute, Defined, Label, Number}
 use Rattle.gw_meaning.specs.Listing.{Listing, block_of, defined_in, has_label, labelled_in}
 use Rattle.gw_meaning.specs.Listing as listings
 use Rattle.gw_model.specs.Listed.{counted_label}
@@ -76,9 +80,31 @@ block_operands (Some block) = block.operands
 abbrev pub holds_in : (Term → Bool) → Numbered → Bool
 holds_in test line = list_any (holds_of test) (block_operands (block_of line))
 
+-- whether the attributes of a class are of a block, and of a storage
+abbrev pub is_of_block : Class → Bool
+is_of_block class.N = true
+is_of_block class.W = true
+is_of_block class = false
+
+abbrev pub is_of_storage : Class → Bool
+is_of_storage class.S = true
+is_of_storage class.Sc = true
+is_of_storage class.Sm = true
+is_of_storage class = false
+
+-- whether what an attribute is of has no name that is known, and whether it has a name of which a test holds
+abbrev pub lacks_name : (List ℕ → Bool) → Subject → Bool
+lacks_name known (subjects.Name name) = not (known name)
+lacks_name known subject = true
+
+abbrev pub has_name : (List ℕ → Bool) → Subject → Bool
+has_name test (subjects.Name name) = test name
+has_name test subject = false
+
 -- a label that is not among those that are known
 abbrev pub is_unknown_label : (List ℕ → Bool) → Term → Bool
 is_unknown_label known (Label name) = not (known name)
+is_unknown_label known (Attribute class of) = is_of_block class && lacks_name known of
 is_unknown_label known term = false
 
 -- whether an operand of a block is the label of no block
@@ -89,6 +115,8 @@ has_unknown_label lines = list_any (holds_in (is_unknown_label (λ name. is_some
 abbrev pub is_undefined : (List ℕ → Option Definition) → Term → Bool
 is_undefined definition (Defined name) = not (is_some (definition name))
 is_undefined definition (Number name) = not (is_some (listings.number_of (definition name)))
+is_undefined definition (Attribute class of) =
+    is_of_storage class && lacks_name (λ name. is_some (definition name)) of
 is_undefined definition term = false
 
 -- whether an operand of a block is such a name
@@ -98,6 +126,8 @@ has_unknown_definition lines = list_any (holds_in (is_undefined (λ name. define
 -- the name of a storage that is an EQU's
 abbrev pub is_equ_named : (List ℕ → Option Definition) → Term → Bool
 is_equ_named definition (Defined name) = is_some (listings.number_of (definition name))
+is_equ_named definition (Attribute class of) =
+    is_of_storage class && has_name (λ name. is_some (listings.number_of (definition name))) of
 is_equ_named definition term = false
 
 -- whether an operand of a block is such a name

@@ -1,9 +1,13 @@
 -- What a version may be, in the subject's own words. (Our own limits.)
-use Rattle.std.specs.Prelude.{ℕ, ℤ, ◌≤◌, ◌<◌, ◌≡◌, ◌≢◌, List, Some, length, slice_get}
-use Rattle.gw_expr.specs.Term.{Defined, Label, Number}
+use Rattle.std.specs.Prelude.{ℕ, ℤ, ◌≤◌, ◌<◌, ◌≡◌, ◌≢◌, true, List, Some, length, slice_get}
+use Rattle.gw_expr.specs.Term.{Attribute, Defined, Label, Number}
+use Rattle.gw_names.specs.declared.class.Class.{Class}
+use Rattle.gw_expr.specs.declared.attribute.Subject.{Subject}
+use Rattle.gw_expr.specs.declared.attribute.Subject.TheVariants as subjects
 use Rattle.gw_meaning.specs.Listing.{Listing, block_of, definition_at, label_at}
 use Rattle.gw_meaning.specs.Statements.{operand}
 use Rattle.gw_model.specs.Listed.{counted_label}
+use Rattle.gw_model.specs.Faults.{is_of_block, is_of_storage}
 use Rattle.gw_meaning.specs.declared.statement.Block.{Block}
 use Rattle.gw_meaning.specs.declared.statement.Definition.TheVariants as definitions
 use Rattle.gw_meaning.specs.declared.statement.Numbered.{Numbered}
@@ -34,6 +38,15 @@ pub record Well (t : Listing) : Type 0 where
   pub storages_there : (i place : ℕ) (line : Numbered) (block : Block) (name : List ℕ) →
       slice_get t.lines i ≡ Some line → block_of line ≡ Some block → operand block place ≡ Some (Defined name) →
       (capacity : ℕ) × (definition_at t name ≡ Some (definitions.Storage capacity))
-  pub numbers_there : (i place : ℕ) (line : Numbered) (block : Block) (name : List ℕ) → slice_get t.lines i ≡ Some line →
-      block_of line ≡ Some block → operand block place ≡ Some (Number name) →
+  pub numbers_there : (i place : ℕ) (line : Numbered) (block : Block) (name : List ℕ) →
+      slice_get t.lines i ≡ Some line → block_of line ≡ Some block → operand block place ≡ Some (Number name) →
       (value : ℤ) × (definition_at t name ≡ Some (definitions.Equ value))
+  pub counts_there : (i place : ℕ) (line : Numbered) (block : Block) (class : Class) (of : Subject) →
+      slice_get t.lines i ≡ Some line → block_of line ≡ Some block → operand block place ≡ Some (Attribute class of) →
+      is_of_block class ≡ true →
+      (name : List ℕ) × (of ≡ subjects.Name name) × (id : ℕ) × (label_at t name ≡ Some id)
+  pub contents_there : (i place : ℕ) (line : Numbered) (block : Block) (class : Class) (of : Subject) →
+      slice_get t.lines i ≡ Some line → block_of line ≡ Some block → operand block place ≡ Some (Attribute class of) →
+      is_of_storage class ≡ true →
+      (name : List ℕ) × (of ≡ subjects.Name name) × (capacity : ℕ) ×
+      (definition_at t name ≡ Some (definitions.Storage capacity))

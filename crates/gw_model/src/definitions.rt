@@ -3,11 +3,11 @@ ghost use Rattle.std.specs.BTreeMap as tree;
 ghost use Rattle.std.specs.Ordering.{nat_cmp};
 ghost use Rattle.std.specs.Cmp.Lexicographic.{slice_cmp};
 ghost use Rattle.gw_meaning.specs.Listing.{defined_in, number_of};
-ghost use Rattle.gw_model.specs.Faults.{has_unknown_definition, has_equ_named, holds_in, holds_of, is_undefined, is_equ_named};
+ghost use Rattle.gw_model.specs.Faults.{has_unknown_definition, has_equ_named, holds_in, holds_of, is_undefined, is_equ_named, is_of_storage, lacks_name, has_name};
 
-use gw_expr::{Expr, Node};
+use gw_expr::{Expr, Node, Subject};
 use gw_meaning::{Definition, Numbered};
-use gw_names::Name;
+use gw_names::{Class, Name};
 use std::collections::BTreeMap;
 
 /// Whether an operand of a block is a name without the definition that it needs.
@@ -64,6 +64,7 @@ fn is_undefined(definitions: &BTreeMap<Name, Definition>, operand: &Option<Expr>
     match expr.node() {
         Node::Defined(name) => definitions.get(name).is_none(),
         Node::Number(name) => !is_equ(definitions, name),
+        Node::Attribute(class, of) => is_of_storage(*class) && lacks_definition(definitions, of),
         Node::Constant(_) | Node::Named(_) | Node::Label(_) | Node::Fraction(_) => false,
     }
 }
@@ -75,6 +76,7 @@ fn is_equ_named(definitions: &BTreeMap<Name, Definition>, operand: &Option<Expr>
     let Some(expr) = operand else { return false };
     match expr.node() {
         Node::Defined(name) => is_equ(definitions, name),
+        Node::Attribute(class, of) => is_of_storage(*class) && has_equ(definitions, of),
         Node::Constant(_) | Node::Number(_) | Node::Named(_) | Node::Label(_) | Node::Fraction(_) =>
             false,
     }
@@ -87,5 +89,37 @@ fn is_equ(definitions: &BTreeMap<Name, Definition>, name: &Name) -> bool
     match definitions.get(name) {
         Some(Definition::Equ { .. }) => true,
         Some(Definition::Storage { .. }) | None => false,
+    }
+}
+
+// Whether the attributes of a class are of a storage.
+fn is_of_storage(class: Class) -> bool
+    ensures { result ≡ is_of_storage class }
+{
+    match class {
+        Class::S | Class::Sc | Class::Sm => true,
+        _ => false,
+    }
+}
+
+// Whether what an attribute is of has no name with a definition.
+fn lacks_definition(definitions: &BTreeMap<Name, Definition>, of: &Subject) -> bool
+    ensures { result ≡
+        lacks_name (λ name. is_some (tree.get (slice_cmp nat_cmp) definitions.now name)) of.now }
+{
+    match of {
+        Subject::Name(name) => definitions.get(name).is_none(),
+        Subject::Own | Subject::Number(_) => true,
+    }
+}
+
+// Whether what an attribute is of has a name that is an EQU's.
+fn has_equ(definitions: &BTreeMap<Name, Definition>, of: &Subject) -> bool
+    ensures { result ≡
+        has_name (λ name. is_some (number_of (tree.get (slice_cmp nat_cmp) definitions.now name))) of.now }
+{
+    match of {
+        Subject::Name(name) => is_equ(definitions, name),
+        Subject::Own | Subject::Number(_) => false,
     }
 }

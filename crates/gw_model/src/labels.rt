@@ -3,11 +3,11 @@ ghost use Rattle.std.specs.BTreeMap as tree;
 ghost use Rattle.std.specs.Ordering.{nat_cmp};
 ghost use Rattle.std.specs.Cmp.Lexicographic.{slice_cmp};
 ghost use Rattle.gw_meaning.specs.Listing.{labelled_in};
-ghost use Rattle.gw_model.specs.Faults.{has_unknown_label, holds_in, holds_of, is_unknown_label};
+ghost use Rattle.gw_model.specs.Faults.{has_unknown_label, holds_in, holds_of, is_unknown_label, is_of_block, lacks_name};
 
-use gw_expr::{Expr, Node};
+use gw_expr::{Expr, Node, Subject};
 use gw_meaning::{Numbered, StatementId};
-use gw_names::Name;
+use gw_names::{Class, Name};
 use std::collections::BTreeMap;
 
 /// Whether an operand of a block is the label of no block.
@@ -40,10 +40,31 @@ fn is_unknown(labels: &BTreeMap<Name, StatementId>, operand: &Option<Expr>) -> b
     let Some(expr) = operand else { return false };
     match expr.node() {
         Node::Label(name) => labels.get(name).is_none(),
+        Node::Attribute(class, of) => is_of_block(*class) && lacks_label(labels, of),
         Node::Constant(_)
         | Node::Number(_)
         | Node::Named(_)
         | Node::Fraction(_)
         | Node::Defined(_) => false,
+    }
+}
+
+// Whether the attributes of a class are of a block.
+fn is_of_block(class: Class) -> bool
+    ensures { result ≡ is_of_block class }
+{
+    match class {
+        Class::N | Class::W => true,
+        _ => false,
+    }
+}
+
+// Whether what an attribute is of has no label of a block.
+fn lacks_label(labels: &BTreeMap<Name, StatementId>, of: &Subject) -> bool
+    ensures { result ≡ lacks_name (λ name. is_some (tree.get (slice_cmp nat_cmp) labels.now name)) of.now }
+{
+    match of {
+        Subject::Name(name) => labels.get(name).is_none(),
+        Subject::Own | Subject::Number(_) => true,
     }
 }

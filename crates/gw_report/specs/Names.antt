@@ -4,7 +4,9 @@ use Rattle.std.specs.Prelude.{ℕ, ℤ, ◌+◌, not, List, [], ◌∷◌, ◌++
 use Rattle.std.specs.Prelude.{codes}
 use Rattle.std.specs.List.{flat_map}
 use Rattle.std.specs.Str.{bytes_eq}
-use Rattle.gw_expr.specs.Term.{Term, Constant, Number, Named, Label, Fraction, Defined}
+use Rattle.gw_expr.specs.declared.attribute.Subject.{Subject}
+use Rattle.gw_expr.specs.declared.attribute.Subject.TheVariants as subjects
+use Rattle.gw_expr.specs.Term.{Term, Constant, Number, Attribute, Named, Label, Fraction, Defined}
 use Rattle.gw_meaning.specs.Listing.{Listing, block_of, label_at, number_at}
 use Rattle.gw_meaning.specs.declared.statement.Block.{Block}
 use Rattle.gw_meaning.specs.declared.statement.Numbered.{Numbered}
@@ -17,10 +19,15 @@ abbrev pub name_columns : List Column
 name_columns = record { title = codes "NAME"; width = 10; side = Left } ∷
     record { title = codes "VALUE"; width = 10; side = Right } ∷ []
 
--- the names in an operand, and in a block, from left to right
+-- the names in what an attribute is of, in an operand, and in a block, from left to right
+abbrev pub names_in_subject : Subject → List (List ℕ)
+names_in_subject (subjects.Name name) = name ∷ []
+names_in_subject of = []
+
 abbrev pub names_in_term : Term → List (List ℕ)
 names_in_term (Constant value) = []
 names_in_term (Number name) = name ∷ []
+names_in_term (Attribute class of) = names_in_subject of
 names_in_term (Named name) = name ∷ []
 names_in_term (Label name) = name ∷ []
 names_in_term (Fraction part) = []

@@ -64,10 +64,19 @@ fn in_order_of_coming(alloc: Global, future: &FutureChain) -> Result<Vec<&Event>
 {
     let count = future.len();
     let mut events = Vec::with_capacity(alloc, count)?;
-    for index in 0..count {
-        if let Some(event) = future.get(index) {
-            events.push(event)?;
-        }
+    while events.len() < count {
+        let part = future.part(events.len());
+        push_part(&mut events, part)?;
     }
     Ok(events)
+}
+
+// Appends the events of a part of the chain.
+fn push_part<'a>(events: &mut Vec<&'a Event>, part: &'a [Event]) -> Result<(), AllocError>
+    ensures { OnOk result (map (λ e. e.now) events.new.items ≡ map (λ e. e.now) events.old.items ++ part.now) }
+{
+    for event in part {
+        events.push(event)?;
+    }
+    Ok(())
 }

@@ -11,7 +11,7 @@ ghost use Rattle.gw_report.specs.NameKeys.{as_keys, names_among};
 use crate::column::{Cell, Column, Side, put_row};
 use crate::position::position_of;
 use crate::section::put_section;
-use gw_expr::{Expr, Node};
+use gw_expr::{Expr, Node, Subject};
 use gw_meaning::Numbered;
 use gw_model::Version;
 use gw_names::{Key, Name};
@@ -80,7 +80,8 @@ fn add_operand(names: &mut IndexSet<Key>, operand: &Option<Expr>) -> Result<(), 
         return Ok(());
     };
     match expr.node() {
-        Node::Constant(_) | Node::Fraction(_) => Ok(()),
+        Node::Attribute(_, Subject::Name(name)) => add_name(names, name),
+        Node::Constant(_) | Node::Attribute(..) | Node::Fraction(_) => Ok(()),
         Node::Number(name) | Node::Named(name) | Node::Label(name) | Node::Defined(name) => {
             add_name(names, name)
         }

@@ -9,7 +9,7 @@ use crate::notes::Notes;
 use crate::state::State;
 use gw_expr::{Expr, Stop};
 use gw_meaning::operands::{A, B, C, D, E};
-use gw_meaning::{Arrival, Block, End, Row, StatementId};
+use gw_meaning::{Arrival, Asker, Block, End, Row, StatementId};
 use gw_nums::Val;
 use std::alloc::AllocError;
 
@@ -31,6 +31,7 @@ impl State {
     pub(crate) fn arrival(
         &self,
         case: Case,
+        asker: &Asker,
         notes: &mut Notes,
         id: StatementId,
         mean: Option<&Expr>,
@@ -39,12 +40,12 @@ impl State {
         priority: Option<&Expr>,
     ) -> Result<Option<Arrival>, Halt>
         ensures { Decides case.entry.version.now case.entry.seed
-            (arrival_prog self.now id (count_at self.now.counts id).made (option_copied mean.entry)
+            (arrival_prog self.now asker.now id (count_at self.now.counts id).made (option_copied mean.entry)
             (option_copied range.entry) (option_copied limit.entry) (option_copied priority.entry))
             result notes.old notes.new }
     {
         if let Some(limit) = limit {
-            let limit = self.value(case, notes, limit)?;
+            let limit = self.value(case, asker, notes, limit)?;
             if limit.is_negative() {
                 return Err(Halt::End(End::Error(Stop::BadCount)));
             }
@@ -52,13 +53,14 @@ impl State {
                 return Ok(None);
             }
         }
-        self.arrival_in_time(case, notes, id, mean, range, priority)
+        self.arrival_in_time(case, asker, notes, id, mean, range, priority)
     }
 
     #[inline(always)]
     fn arrival_in_time(
         &self,
         case: Case,
+        asker: &Asker,
         notes: &mut Notes,
         id: StatementId,
         mean: Option<&Expr>,
@@ -66,11 +68,11 @@ impl State {
         priority: Option<&Expr>,
     ) -> Result<Option<Arrival>, Halt>
         ensures { Decides case.entry.version.now case.entry.seed
-            (arrival_in_time self.now id (option_copied mean.entry) (option_copied range.entry)
+            (arrival_in_time self.now asker.now id (option_copied mean.entry) (option_copied range.entry)
             (option_copied priority.entry)) result notes.old notes.new }
     {
-        let time = self.time(case, notes, mean, range)?;
-        let priority = self.value_or_zero(case, notes, priority)?;
+        let time = self.time(case, asker, notes, mean, range)?;
+        let priority = self.value_or_zero(case, asker, notes, priority)?;
         self.arrival_at(id, time, priority)
     }
 
@@ -95,39 +97,48 @@ impl State {
     pub(crate) fn arrivals(
         &self,
         case: Case,
+        asker: &Asker,
         notes: &mut Notes,
         ids: &[StatementId],
     ) -> Result<Row<Arrival>, Halt>
-        ensures { Decides case.entry.version.now case.entry.seed (arrivals_prog self.now ids.now [])
+        ensures { Decides case.entry.version.now case.entry.seed (arrivals_prog self.now asker.now ids.now [])
             result notes.old notes.new }
     {
         let mut arrivals = Vec::new(case.alloc);
         for id in ids {
-            let arrival = self.prime(case, notes, *id)?;
+            let arrival = self.prime(case, asker, notes, *id)?;
             put_if(&mut arrivals, arrival)?;
         }
         Ok(Row::from_vec(arrivals))
     }
 
-    fn prime(&self, case: Case, notes: &mut Notes, id: StatementId) -> Result<Option<Arrival>, Halt>
-        ensures { Decides case.entry.version.now case.entry.seed (prime_prog self.now id) result notes.old notes.new }
+    fn prime(
+        &self,
+        case: Case,
+        asker: &Asker,
+        notes: &mut Notes,
+        id: StatementId,
+    ) -> Result<Option<Arrival>, Halt>
+        ensures { Decides case.entry.version.now case.entry.seed
+            (prime_prog self.now asker.now id) result notes.old notes.new }
     {
         let block = ask_block(case.version, notes, id)?;
-        self.first_arrival(case, notes, id, block)
+        self.first_arrival(case, asker, notes, id, block)
     }
 
     fn first_arrival(
         &self,
         case: Case,
+        asker: &Asker,
         notes: &mut Notes,
         id: StatementId,
         block: Option<&Block>,
     ) -> Result<Option<Arrival>, Halt>
         ensures { Decides case.entry.version.now case.entry.seed
-            (first_arrival self.now id (option_copied block.entry)) result notes.old notes.new }
+            (first_arrival self.now asker.now id (option_copied block.entry)) result notes.old notes.new }
     {
         match block {
-            Some(block) if block.is_generate() => self.first_of(case, notes, id, block),
+            Some(block) if block.is_generate() => self.first_of(case, asker, notes, id, block),
             _ => Ok(None),
         }
     }
@@ -136,11 +147,12 @@ impl State {
     fn first_of(
         &self,
         case: Case,
+        asker: &Asker,
         notes: &mut Notes,
         id: StatementId,
         block: &Block,
     ) -> Result<Option<Arrival>, Halt>
-        ensures { Decides case.entry.version.now case.entry.seed (first_of self.now id block.now true)
+        ensures { Decides case.entry.version.now case.entry.seed (first_of self.now asker.now id block.now true)
             result notes.old notes.new }
     {
         let (mean, range) = match block.operand(C) {
@@ -149,6 +161,7 @@ impl State {
         };
         self.arrival(
             case,
+            asker,
             notes,
             id,
             mean,

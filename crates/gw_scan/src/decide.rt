@@ -4,6 +4,7 @@ ghost use Rattle.gw_meaning.specs.Step.{move_prog, command_prog, start_prog, fir
 ghost use Rattle.gw_meaning.specs.Statements.{A, B, D, E, operand};
 ghost use Rattle.gw_scan.specs.Deciding.{Decides};
 
+use crate::attributes::for_none;
 use crate::case::{Case, Halt, ask_after, ask_block, ask_command, ask_generates, ask_within};
 use crate::notes::Notes;
 use crate::priorities::{buffer_of, mark_of};
@@ -11,7 +12,9 @@ use crate::state::State;
 use crate::transfer::transfer_of;
 use gw_expr::Stop;
 use gw_meaning::operands::{A, B, D, E};
-use gw_meaning::{Arrival, Block, Change, Command, End, Fate, Move, Row, StatementId, Transaction};
+use gw_meaning::{
+    Arrival, Asker, Block, Change, Command, End, Fate, Move, Row, StatementId, Transaction,
+};
 use gw_names::BlockVerb;
 
 impl State {
@@ -76,18 +79,23 @@ impl State {
                 arrivals: Row::from_vec(Vec::new(case.alloc)),
             });
         }
-        let arrivals = self.first_arrivals(case, notes)?;
+        let arrivals = self.first_arrivals(case, notes, count)?;
         Ok(Move::Start { count, arrivals })
     }
 
     #[cold]
     #[inline(never)]
-    fn first_arrivals(&self, case: Case, notes: &mut Notes) -> Result<Row<Arrival>, Halt>
-        ensures { Decides case.entry.version.now case.entry.seed (first_arrivals_prog self.now)
+    fn first_arrivals(
+        &self,
+        case: Case,
+        notes: &mut Notes,
+        count: u64,
+    ) -> Result<Row<Arrival>, Halt>
+        ensures { Decides case.entry.version.now case.entry.seed (first_arrivals_prog self.now count)
             result notes.old notes.new }
     {
         let ids = ask_generates(case.version, notes)?;
-        self.arrivals(case, notes, ids)
+        self.arrivals(case, &for_none(count), notes, ids)
     }
 
     // The active transaction x tries its next block.
@@ -144,19 +152,20 @@ impl State {
         let Some(block) = block else {
             return Err(Halt::End(End::Error(Stop::NoNextBlock)));
         };
+        let asker = &self.for_one(x);
         match block.verb {
             BlockVerb::Generate => self.generate_of(case, notes, x, id, block),
-            BlockVerb::Advance => self.advance_of(case, notes, id, block),
-            BlockVerb::Terminate => self.terminate_of(case, notes, id, block),
-            BlockVerb::Queue => self.queue_of(case, notes, id, block),
-            BlockVerb::Depart => self.depart_of(case, notes, x, id, block),
-            BlockVerb::Seize => self.seize_of(case, notes, id, block),
-            BlockVerb::Release => self.release_of(case, notes, x, id, block),
-            BlockVerb::Enter => self.enter_of(case, notes, id, block),
-            BlockVerb::Leave => self.leave_of(case, notes, id, block),
+            BlockVerb::Advance => self.advance_of(case, asker, notes, id, block),
+            BlockVerb::Terminate => self.terminate_of(case, asker, notes, id, block),
+            BlockVerb::Queue => self.queue_of(case, asker, notes, id, block),
+            BlockVerb::Depart => self.depart_of(case, asker, notes, x, id, block),
+            BlockVerb::Seize => self.seize_of(case, asker, notes, id, block),
+            BlockVerb::Release => self.release_of(case, asker, notes, x, id, block),
+            BlockVerb::Enter => self.enter_of(case, asker, notes, id, block),
+            BlockVerb::Leave => self.leave_of(case, asker, notes, id, block),
             BlockVerb::Transfer => transfer_of(case, notes, id, block),
             BlockVerb::Mark => mark_of(id),
-            BlockVerb::Priority => self.priority_of(case, notes, id, block),
+            BlockVerb::Priority => self.priority_of(case, asker, notes, id, block),
             BlockVerb::Buffer => buffer_of(id),
             _ => Err(Halt::End(End::Error(Stop::NoNextBlock))),
         }
@@ -180,6 +189,7 @@ impl State {
         }
         let next = self.arrival(
             case,
+            &for_none(self.progress.remaining()),
             notes,
             id,
             block.operand(A),
@@ -198,14 +208,15 @@ impl State {
     fn advance_of(
         &self,
         case: Case,
+        asker: &Asker,
         notes: &mut Notes,
         id: StatementId,
         block: &Block,
     ) -> Result<Move, Halt>
         ensures { Decides case.entry.version.now case.entry.seed
-            (advance_prog self.now id (operand block.now A) (operand block.now B)) result notes.old notes.new }
+            (advance_prog self.now asker.now id (operand block.now A) (operand block.now B)) result notes.old notes.new }
     {
-        let time = self.time(case, notes, block.operand(A), block.operand(B))?;
+        let time = self.time(case, asker, notes, block.operand(A), block.operand(B))?;
         if time.is_negative() {
             return Err(Halt::End(End::Error(Stop::NegativeTime)));
         }
@@ -233,14 +244,16 @@ impl State {
     fn terminate_of(
         &self,
         case: Case,
+        asker: &Asker,
         notes: &mut Notes,
         id: StatementId,
         block: &Block,
     ) -> Result<Move, Halt>
-        ensures { Decides case.entry.version.now case.entry.seed (terminate_prog self.now id (operand block.now A))
+        ensures { Decides case.entry.version.now case.entry.seed
+            (terminate_prog self.now asker.now id (operand block.now A))
             result notes.old notes.new }
     {
-        let count = self.value_or_zero(case, notes, block.operand(A))?;
+        let count = self.value_or_zero(case, asker, notes, block.operand(A))?;
         if count.is_negative() {
             return Err(Halt::End(End::Error(Stop::BadCount)));
         }

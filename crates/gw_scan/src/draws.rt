@@ -8,7 +8,7 @@ use crate::case::{Case, Halt};
 use crate::notes::Notes;
 use crate::state::State;
 use gw_expr::{Expr, Stop};
-use gw_meaning::{End, Item};
+use gw_meaning::{Asker, End, Item};
 use gw_nums::Val;
 
 // A draw from stream j, which reads the seed where it is the first one since the stream was set.
@@ -28,16 +28,18 @@ impl State {
     pub(crate) fn time(
         &self,
         case: Case,
+        asker: &Asker,
         notes: &mut Notes,
         mean: Option<&Expr>,
         range: Option<&Expr>,
     ) -> Result<Val, Halt>
-        ensures { Decides case.entry.version.now case.entry.seed (time_prog self.now (option_copied mean.entry)
+        ensures { Decides case.entry.version.now case.entry.seed
+            (time_prog self.now asker.now (option_copied mean.entry)
             (option_copied range.entry))
             result notes.old notes.new }
     {
-        let mean = self.value_or_zero(case, notes, mean)?;
-        let range = self.value_or_zero(case, notes, range)?;
+        let mean = self.value_or_zero(case, asker, notes, mean)?;
+        let range = self.value_or_zero(case, asker, notes, range)?;
         sample(case, notes, mean, range)
     }
 }
@@ -47,7 +49,7 @@ fn sample(case: Case, notes: &mut Notes, mean: Val, range: Val) -> Result<Val, H
     ensures { Decides case.entry.version.now case.entry.seed (sample mean range) result notes.old notes.new }
 {
     if range.is_negative() {
-        return Err(Halt::End(End::Error(Stop::NegativeTime)));
+        return Ok(range);
     }
     sample_within(case, notes, mean, range.magnitude())
 }

@@ -13,7 +13,9 @@ use crate::notes::Notes;
 use crate::state::State;
 use gw_expr::Stop;
 use gw_meaning::operands::A;
-use gw_meaning::{Block, Change, Deed, End, EntityChange, Fate, Move, StatementId, Transaction};
+use gw_meaning::{
+    Asker, Block, Change, Deed, End, EntityChange, Fate, Move, StatementId, Transaction,
+};
 use gw_names::Key;
 
 impl State {
@@ -22,14 +24,16 @@ impl State {
     pub(crate) fn seize_of(
         &self,
         case: Case,
+        asker: &Asker,
         notes: &mut Notes,
         id: StatementId,
         block: &Block,
     ) -> Result<Move, Halt>
-        ensures { Decides case.entry.version.now case.entry.seed (seize_prog self.now id (operand block.now A))
+        ensures { Decides case.entry.version.now case.entry.seed
+            (seize_prog self.now asker.now id (operand block.now A))
             result notes.old notes.new }
     {
-        let key = self.entity(case, notes, block.operand(A))?;
+        let key = self.entity(case, asker, notes, block.operand(A))?;
         self.seize_or_wait(id, key)
     }
 
@@ -51,15 +55,17 @@ impl State {
     pub(crate) fn release_of(
         &self,
         case: Case,
+        asker: &Asker,
         notes: &mut Notes,
         x: &Transaction,
         id: StatementId,
         block: &Block,
     ) -> Result<Move, Halt>
-        ensures { Decides case.entry.version.now case.entry.seed (release_prog self.now x.now id (operand block.now A))
+        ensures { Decides case.entry.version.now case.entry.seed
+            (release_prog self.now asker.now x.now id (operand block.now A))
             result notes.old notes.new }
     {
-        let key = self.entity(case, notes, block.operand(A))?;
+        let key = self.entity(case, asker, notes, block.operand(A))?;
         self.release(x, id, key)
     }
 

@@ -5,6 +5,7 @@
 #![tactic(auto)]
 
 mod arrival;
+mod attributes;
 mod case;
 mod chain;
 mod changes;

@@ -8,7 +8,7 @@ use crate::case::{Case, Halt};
 use crate::notes::Notes;
 use crate::state::State;
 use gw_meaning::operands::A;
-use gw_meaning::{Block, Change, Fate, Move, StatementId, TransactionChange};
+use gw_meaning::{Asker, Block, Change, Fate, Move, StatementId, TransactionChange};
 
 impl State {
     // The transaction gets the priority that the operand says, and stays active.
@@ -16,14 +16,15 @@ impl State {
     pub(crate) fn priority_of(
         &self,
         case: Case,
+        asker: &Asker,
         notes: &mut Notes,
         id: StatementId,
         block: &Block,
     ) -> Result<Move, Halt>
         ensures { Decides case.entry.version.now case.entry.seed
-            (priority_prog self.now id (operand block.now A)) result notes.old notes.new }
+            (priority_prog self.now asker.now id (operand block.now A)) result notes.old notes.new }
     {
-        let to = self.value_there(case, notes, block.operand(A))?;
+        let to = self.value_there(case, asker, notes, block.operand(A))?;
         Ok(Move::Enter {
             id,
             change: Change::Transaction(TransactionChange::Priority { to }),

@@ -13,7 +13,9 @@ use crate::state::State;
 use gw_entities::Queue;
 use gw_expr::{Expr, Stop};
 use gw_meaning::operands::{A, B};
-use gw_meaning::{Block, Change, Deed, End, EntityChange, Fate, Move, StatementId, Transaction};
+use gw_meaning::{
+    Asker, Block, Change, Deed, End, EntityChange, Fate, Move, StatementId, Transaction,
+};
 use gw_names::Key;
 
 impl State {
@@ -22,29 +24,32 @@ impl State {
     pub(crate) fn queue_of(
         &self,
         case: Case,
+        asker: &Asker,
         notes: &mut Notes,
         id: StatementId,
         block: &Block,
     ) -> Result<Move, Halt>
         ensures { Decides case.entry.version.now case.entry.seed
-            (queue_prog self.now id (operand block.now A) (operand block.now B)) result notes.old notes.new }
+            (queue_prog self.now asker.now id (operand block.now A) (operand block.now B)) result notes.old notes.new }
     {
-        let key = self.entity(case, notes, block.operand(A))?;
-        self.queue_at(case, notes, id, key, block.operand(B))
+        let key = self.entity(case, asker, notes, block.operand(A))?;
+        self.queue_at(case, asker, notes, id, key, block.operand(B))
     }
 
     fn queue_at(
         &self,
         case: Case,
+        asker: &Asker,
         notes: &mut Notes,
         id: StatementId,
         key: Key,
         units: Option<&Expr>,
     ) -> Result<Move, Halt>
-        ensures { Decides case.entry.version.now case.entry.seed (units_prog self.now (option_copied units.entry) ~>
+        ensures { Decides case.entry.version.now case.entry.seed
+            (units_prog self.now asker.now (option_copied units.entry) ~>
             (λ n. queue_units id key (line_at self.now.entities key) n)) result notes.old notes.new }
     {
-        let units = self.units(case, notes, units)?;
+        let units = self.units(case, asker, notes, units)?;
         let queue = self.entities.queue(&key);
         queue_units(id, key, queue, units)
     }
@@ -54,32 +59,35 @@ impl State {
     pub(crate) fn depart_of(
         &self,
         case: Case,
+        asker: &Asker,
         notes: &mut Notes,
         x: &Transaction,
         id: StatementId,
         block: &Block,
     ) -> Result<Move, Halt>
         ensures { Decides case.entry.version.now case.entry.seed
-            (depart_prog self.now x.now id (operand block.now A) (operand block.now B)) result notes.old notes.new }
+            (depart_prog self.now asker.now x.now id (operand block.now A) (operand block.now B)) result notes.old notes.new }
     {
-        let key = self.entity(case, notes, block.operand(A))?;
-        self.depart_at(case, notes, x, id, key, block.operand(B))
+        let key = self.entity(case, asker, notes, block.operand(A))?;
+        self.depart_at(case, asker, notes, x, id, key, block.operand(B))
     }
 
     fn depart_at(
         &self,
         case: Case,
+        asker: &Asker,
         notes: &mut Notes,
         x: &Transaction,
         id: StatementId,
         key: Key,
         units: Option<&Expr>,
     ) -> Result<Move, Halt>
-        ensures { Decides case.entry.version.now case.entry.seed (units_prog self.now (option_copied units.entry) ~>
+        ensures { Decides case.entry.version.now case.entry.seed
+            (units_prog self.now asker.now (option_copied units.entry) ~>
             (λ n. depart_units id key (line_at self.now.entities key)
             (came self.now.entities.comings key x.now.number) n)) result notes.old notes.new }
     {
-        let units = self.units(case, notes, units)?;
+        let units = self.units(case, asker, notes, units)?;
         self.depart(x, id, key, units)
     }
 

@@ -19,7 +19,7 @@ use crate::state::State;
 use gw_entities::Storage;
 use gw_expr::{Expr, Node, Stop};
 use gw_meaning::operands::{A, B};
-use gw_meaning::{Block, Change, Deed, End, EntityChange, Fate, Move, Row, StatementId};
+use gw_meaning::{Asker, Block, Change, Deed, End, EntityChange, Fate, Move, Row, StatementId};
 use gw_names::{Key, Name};
 
 impl State {
@@ -28,18 +28,26 @@ impl State {
     pub(crate) fn enter_of(
         &self,
         case: Case,
+        asker: &Asker,
         notes: &mut Notes,
         id: StatementId,
         block: &Block,
     ) -> Result<Move, Halt>
         ensures { Decides case.entry.version.now case.entry.seed
-            (enter_prog self.now id (operand block.now A) (operand block.now B)) result notes.old notes.new }
+            (enter_prog self.now asker.now id (operand block.now A) (operand block.now B)) result notes.old notes.new }
     {
         let Some(expr) = block.operand(A) else {
             return Err(Halt::End(End::Error(Stop::Range)));
         };
         match expr.node() {
-            Node::Defined(name) => self.enter_defined(case, notes, id, name, block.operand(B)),
+            Node::Defined(name) => self.enter_defined(
+                case,
+                asker,
+                notes,
+                id,
+                name,
+                block.operand(B),
+            ),
             _ => Err(Halt::End(End::Error(Stop::Range))),
         }
     }
@@ -48,16 +56,17 @@ impl State {
     fn enter_defined(
         &self,
         case: Case,
+        asker: &Asker,
         notes: &mut Notes,
         id: StatementId,
         name: &Name,
         units: Option<&Expr>,
     ) -> Result<Move, Halt>
         ensures { Decides case.entry.version.now case.entry.seed
-            (enter_prog self.now id (Some (Defined name.now)) (option_copied units.entry))
+            (enter_prog self.now asker.now id (Some (Defined name.now)) (option_copied units.entry))
             result notes.old notes.new }
     {
-        let units = self.units(case, notes, units)?;
+        let units = self.units(case, asker, notes, units)?;
         self.enter_units(case, notes, id, name, units)
     }
 
@@ -107,18 +116,26 @@ impl State {
     pub(crate) fn leave_of(
         &self,
         case: Case,
+        asker: &Asker,
         notes: &mut Notes,
         id: StatementId,
         block: &Block,
     ) -> Result<Move, Halt>
         ensures { Decides case.entry.version.now case.entry.seed
-            (leave_prog self.now id (operand block.now A) (operand block.now B)) result notes.old notes.new }
+            (leave_prog self.now asker.now id (operand block.now A) (operand block.now B)) result notes.old notes.new }
     {
         let Some(expr) = block.operand(A) else {
             return Err(Halt::End(End::Error(Stop::Range)));
         };
         match expr.node() {
-            Node::Defined(name) => self.leave_defined(case, notes, id, name, block.operand(B)),
+            Node::Defined(name) => self.leave_defined(
+                case,
+                asker,
+                notes,
+                id,
+                name,
+                block.operand(B),
+            ),
             _ => Err(Halt::End(End::Error(Stop::Range))),
         }
     }
@@ -127,16 +144,17 @@ impl State {
     fn leave_defined(
         &self,
         case: Case,
+        asker: &Asker,
         notes: &mut Notes,
         id: StatementId,
         name: &Name,
         units: Option<&Expr>,
     ) -> Result<Move, Halt>
         ensures { Decides case.entry.version.now case.entry.seed
-            (leave_prog self.now id (Some (Defined name.now)) (option_copied units.entry))
+            (leave_prog self.now asker.now id (Some (Defined name.now)) (option_copied units.entry))
             result notes.old notes.new }
     {
-        let units = self.units(case, notes, units)?;
+        let units = self.units(case, asker, notes, units)?;
         self.leave_units(case, notes, id, name, units)
     }
 

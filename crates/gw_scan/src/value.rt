@@ -1,20 +1,27 @@
 // What operands stand for: values, entities and units.
 ghost use Rattle.std.specs.Prelude.{◌≡◌, ◌++◌, option_copied};
-ghost use Rattle.gw_meaning.specs.Evaluation.{number_given, value_prog, value_or_zero, value_there, numbered, named, entity_prog, units_prog};
+ghost use Rattle.gw_meaning.specs.Evaluation.{number_given, value_prog, value_or_zero, value_there, numbered, named, entity_prog, units_prog, ◌~>◌};
 ghost use Rattle.gw_scan.specs.Deciding.{Decides, Comes};
 
 use crate::case::{Case, Halt, ask_name};
 use crate::notes::Notes;
 use crate::state::State;
 use gw_expr::{Expr, Node, Stop};
-use gw_meaning::End;
+use gw_meaning::{Asker, End};
 use gw_names::{Key, Name};
 use gw_nums::Val;
 
 impl State {
     // The value of an operand.
-    pub(crate) fn value(&self, case: Case, notes: &mut Notes, operand: &Expr) -> Result<Val, Halt>
-        ensures { Decides case.entry.version.now case.entry.seed (value_prog self.now operand.now)
+    #[tactic(auto, unfolding(gw_meaning::specs::Evaluation::value_prog))]
+    pub(crate) fn value(
+        &self,
+        case: Case,
+        asker: &Asker,
+        notes: &mut Notes,
+        operand: &Expr,
+    ) -> Result<Val, Halt>
+        ensures { Decides case.entry.version.now case.entry.seed (value_prog self.now asker.now operand.now)
             result notes.old notes.new }
     {
         match operand.node() {
@@ -23,6 +30,7 @@ impl State {
                 let value = ask_name(case.version, notes, name)?;
                 number_given(value)
             }
+            Node::Attribute(class, of) => self.attribute(case, asker, notes, *class, of),
             _ => Err(Halt::End(End::Error(Stop::Range))),
         }
     }
@@ -31,14 +39,16 @@ impl State {
     pub(crate) fn value_there(
         &self,
         case: Case,
+        asker: &Asker,
         notes: &mut Notes,
         operand: Option<&Expr>,
     ) -> Result<Val, Halt>
-        ensures { Decides case.entry.version.now case.entry.seed (value_there self.now (option_copied operand.entry))
+        ensures { Decides case.entry.version.now case.entry.seed
+            (value_there self.now asker.now (option_copied operand.entry))
             result notes.old notes.new }
     {
         match operand {
-            Some(expr) => self.value(case, notes, expr),
+            Some(expr) => self.value(case, asker, notes, expr),
             None => Err(Halt::End(End::Error(Stop::Range))),
         }
     }
@@ -47,14 +57,16 @@ impl State {
     pub(crate) fn value_or_zero(
         &self,
         case: Case,
+        asker: &Asker,
         notes: &mut Notes,
         operand: Option<&Expr>,
     ) -> Result<Val, Halt>
-        ensures { Decides case.entry.version.now case.entry.seed (value_or_zero self.now (option_copied operand.entry))
+        ensures { Decides case.entry.version.now case.entry.seed
+            (value_or_zero self.now asker.now (option_copied operand.entry))
             result notes.old notes.new }
     {
         match operand {
-            Some(expr) => self.value(case, notes, expr),
+            Some(expr) => self.value(case, asker, notes, expr),
             None => Ok(Val::ZERO),
         }
     }
@@ -63,10 +75,12 @@ impl State {
     pub(crate) fn entity(
         &self,
         case: Case,
+        asker: &Asker,
         notes: &mut Notes,
         operand: Option<&Expr>,
     ) -> Result<Key, Halt>
-        ensures { Decides case.entry.version.now case.entry.seed (entity_prog self.now (option_copied operand.entry))
+        ensures { Decides case.entry.version.now case.entry.seed
+            (entity_prog self.now asker.now (option_copied operand.entry))
             result notes.old notes.new }
     {
         let Some(expr) = operand else {
@@ -77,25 +91,41 @@ impl State {
                 let number = ask_name(case.version, notes, name)?;
                 named(name, number)
             }
-            Node::Constant(number) => numbered(*number),
-            _ => Err(Halt::End(End::Error(Stop::Range))),
+            _ => self.computed_entity(case, asker, notes, expr),
         }
+    }
+
+    // The entity whose number is the value of an operand.
+    fn computed_entity(
+        &self,
+        case: Case,
+        asker: &Asker,
+        notes: &mut Notes,
+        operand: &Expr,
+    ) -> Result<Key, Halt>
+        ensures { Decides case.entry.version.now case.entry.seed
+            (value_prog self.now asker.now operand.now ~> numbered) result notes.old notes.new }
+    {
+        let number = self.value(case, asker, notes, operand)?;
+        numbered(number)
     }
 
     // How many units an operand says, and 1 where it is absent.
     pub(crate) fn units(
         &self,
         case: Case,
+        asker: &Asker,
         notes: &mut Notes,
         operand: Option<&Expr>,
     ) -> Result<u64, Halt>
-        ensures { Decides case.entry.version.now case.entry.seed (units_prog self.now (option_copied operand.entry))
+        ensures { Decides case.entry.version.now case.entry.seed
+            (units_prog self.now asker.now (option_copied operand.entry))
             result notes.old notes.new }
     {
         let Some(expr) = operand else {
             return Ok(1);
         };
-        let units = self.value(case, notes, expr)?;
+        let units = self.value(case, asker, notes, expr)?;
         if units.get() < 1 {
             return Err(Halt::End(End::Error(Stop::BadCount)));
         }
@@ -114,7 +144,7 @@ fn number_given(number: Option<Val>) -> Result<Val, Halt>
 }
 
 // The entity with a name, or with the number that the name stands for.
-fn named(name: &Name, number: Option<Val>) -> Result<Key, Halt>
+pub fn named(name: &Name, number: Option<Val>) -> Result<Key, Halt>
     ensures { Comes (named name.now number) result }
 {
     match number {

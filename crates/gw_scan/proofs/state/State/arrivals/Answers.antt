@@ -16,10 +16,12 @@ returns-in_err-arrival c =
     let made = c.loop-id.arrivals.items in
     let id = c.id-item.result in
     let h : i < length ids = search rules in
-    let whole : arrivals_prog s (drop i ids) made ≡ (prime_prog s id ~> (λ a. arrivals_prog s (drop (i + 1) ids) (with_arrival a made))) =
-    ap (λ ps. arrivals_prog s ps made) (item_drop ids i id h c.id-item.is) in
-    c.loop-id.invariant c.from_residual.result _ (decides_exit c.args.case.version.now c.args.case.seed (prime_prog s id)
-    (λ a. arrivals_prog s (drop (i + 1) ids) (with_arrival a made)) _ _ _ c.in_err-arrival.field-0.0 _ _ whole p.1 p.2 c.in_err-arrival.ensures)
+    let whole : arrivals_prog s c.args.asker.now (drop i ids) made ≡
+    (prime_prog s c.args.asker.now id ~> (λ a. arrivals_prog s c.args.asker.now (drop (i + 1) ids) (with_arrival a made))) =
+    ap (λ ps. arrivals_prog s c.args.asker.now ps made) (item_drop ids i id h c.id-item.is) in
+    c.loop-id.invariant c.from_residual.result _ (decides_exit c.args.case.version.now c.args.case.seed (prime_prog s c.args.asker.now id)
+    (λ a. arrivals_prog s c.args.asker.now (drop (i + 1) ids) (with_arrival a made)) _ _ _ c.in_err-arrival.field-0.0 _ _ whole p.1 p.2
+    c.in_err-arrival.ensures)
 
 pub loop-id-preserved : goal.loop-id-preserved
 loop-id-preserved c = λ r all rest.
@@ -29,11 +31,12 @@ loop-id-preserved c = λ r all rest.
     let made = c.loop-id.arrivals.items in
     let id = c.id-item.result in
     let h : i < length ids = search rules in
-    let whole : arrivals_prog s (drop i ids) made ≡ (prime_prog s id ~> (λ a. arrivals_prog s (drop (i + 1) ids) (with_arrival a made))) =
-    ap (λ ps. arrivals_prog s ps made) (item_drop ids i id h c.id-item.is) in
+    let whole : arrivals_prog s c.args.asker.now (drop i ids) made ≡
+    (prime_prog s c.args.asker.now id ~> (λ a. arrivals_prog s c.args.asker.now (drop (i + 1) ids) (with_arrival a made))) =
+    ap (λ ps. arrivals_prog s c.args.asker.now ps made) (item_drop ids i id h c.id-item.is) in
     let put : with_arrival c.in_ok-arrival.arrival made ≡ c.put_if.new.arrivals.items = sym c.in_ok-put_if.ensures in
-    c.loop-id.invariant r all (decides_whole c.args.case.version.now c.args.case.seed (prime_prog s id)
-    (λ a. arrivals_prog s (drop (i + 1) ids) (with_arrival a made))
+    c.loop-id.invariant r all (decides_whole c.args.case.version.now c.args.case.seed (prime_prog s c.args.asker.now id)
+    (λ a. arrivals_prog s c.args.asker.now (drop (i + 1) ids) (with_arrival a made))
     _ c.in_ok-arrival.arrival r c.loop-id.notes c.prime.new.notes all whole c.in_ok-arrival.ensures (rw put rest))
 
 pub returns : goal.returns

@@ -6,5 +6,5 @@ use Rattle.gw_scan.proofs.state.State.prime.Goals as goal
 pub returns : goal.returns
 returns c =
     let case = c.args.case in
-    decides_asked case.version.now case.seed (items.Block c.args.id) (first_arrival c.args.self.now c.args.id) _ _ _ _ c.in_ok-block.ensures.ok
+    decides_asked case.version.now case.seed (items.Block c.args.id) (first_arrival c.args.self.now c.args.asker.now c.args.id) _ _ _ _ c.in_ok-block.ensures.ok
     (rw (← c.in_ok-block.ensures.answer) c.first_arrival.ensures)

@@ -1,0 +1,258 @@
+// The values of attributes: what a state says of itself, of the transaction that asks, of an entity or of a block.
+ghost use Rattle.std.specs.Prelude.{◌≡◌, pos};
+ghost use Rattle.gw_expr.specs.declared.attribute.Subject.TheVariants as subjects;
+ghost use Rattle.gw_meaning.specs.Evaluation.{amount, own_value, owned, subject_prog, entity_value, storage_prog, storage_value, block_count, counted, block_value, random_prog, thousandth, attribute_prog, draw, gives, ◌~>◌};
+ghost use Rattle.gw_meaning.specs.Step.{for_none, for_one};
+ghost use Rattle.gw_scan.specs.Deciding.{Decides, Comes};
+
+use crate::case::{Case, Halt, ask_label, ask_name};
+use crate::draws::draw;
+use crate::notes::Notes;
+use crate::state::State;
+use crate::value::named;
+use gw_expr::{Stop, Subject};
+use gw_meaning::{Asker, End, StatementId, Transaction};
+use gw_names::{Class, Key};
+use gw_nums::{Time, Val};
+
+impl State {
+    // Operands are evaluated for a transaction.
+    pub(crate) fn for_one(&self, x: &Transaction) -> Asker
+        ensures { result ≡ for_one self.now x.now }
+    {
+        Asker {
+            is_transaction: true,
+            number: x.number,
+            priority: x.priority,
+            mark: x.mark,
+            remaining: self.progress.remaining(),
+        }
+    }
+
+    // The value of an attribute.
+    #[inline(never)]
+    #[tactic(auto, unfolding(gw_meaning::specs::Evaluation::attribute_prog))]
+    pub(crate) fn attribute(
+        &self,
+        case: Case,
+        asker: &Asker,
+        notes: &mut Notes,
+        class: Class,
+        of: &Subject,
+    ) -> Result<Val, Halt>
+        ensures { Decides case.entry.version.now case.entry.seed
+            (attribute_prog self.now asker.now class of.now) result notes.old notes.new }
+    {
+        match class {
+            Class::C1 => self.own_value(asker, class),
+            Class::Ac1 => self.own_value(asker, class),
+            Class::Tg1 => self.own_value(asker, class),
+            Class::M1 | Class::Xn1 | Class::Pr => self.own_value(asker, class),
+            Class::F | Class::Fc => self.of_entity(case, notes, class, of),
+            Class::Q | Class::Qc => self.of_entity(case, notes, class, of),
+            Class::Qm | Class::Qz => self.of_entity(case, notes, class, of),
+            Class::S | Class::Sc | Class::Sm => self.of_storage(class, of),
+            Class::N | Class::W => self.of_block(case, notes, class, of),
+            Class::Rn => random(case, notes, of),
+            _ => Err(Halt::End(End::Error(Stop::Range))),
+        }
+    }
+
+    // Of the run, or of the transaction that asks.
+    fn own_value(&self, asker: &Asker, class: Class) -> Result<Val, Halt>
+        ensures { Comes (own_value self.now asker.now class) result }
+    {
+        let clock = self.clocks.clock().time().ticks();
+        match class {
+            Class::C1 => amount(clock.saturating_sub(self.clocks.since().time().ticks())),
+            Class::Ac1 => amount(clock),
+            Class::Tg1 => amount(asker.remaining),
+            Class::M1 | Class::Xn1 | Class::Pr if !asker.is_transaction => {
+                Err(Halt::End(End::Error(Stop::NoParameter)))
+            }
+            Class::M1 => amount(clock.saturating_sub(asker.mark.ticks())),
+            Class::Xn1 => amount(asker.number),
+            Class::Pr => Ok(asker.priority),
+            _ => Err(Halt::End(End::Error(Stop::Range))),
+        }
+    }
+
+    // Of a facility or a queue.
+    fn of_entity(
+        &self,
+        case: Case,
+        notes: &mut Notes,
+        class: Class,
+        of: &Subject,
+    ) -> Result<Val, Halt>
+        ensures { Decides case.entry.version.now case.entry.seed
+            (subject_prog of.now ~> (λ key. entity_value self.now class key)) result notes.old notes.new }
+    {
+        let key = subject(case, notes, of)?;
+        self.entity_value(class, &key)
+    }
+
+    fn entity_value(&self, class: Class, key: &Key) -> Result<Val, Halt>
+        ensures { Comes (entity_value self.now class key.now) result }
+    {
+        match class {
+            Class::F => amount(owned(self.entities.facility(key).owner())),
+            Class::Fc => amount(self.entities.facility(key).captures()),
+            Class::Q => amount(self.entities.queue(key).level().content()),
+            Class::Qc => amount(self.entities.queue(key).entries()),
+            Class::Qm => amount(self.entities.queue(key).greatest()),
+            Class::Qz => amount(self.entities.queue(key).zero_entries()),
+            _ => Err(Halt::End(End::Error(Stop::Range))),
+        }
+    }
+
+    // Of a storage.
+    fn of_storage(&self, class: Class, of: &Subject) -> Result<Val, Halt>
+        ensures { Comes (storage_prog of.now (λ key. storage_value self.now class key)) result }
+    {
+        match of {
+            Subject::Name(name) => self.storage_value(class, &Key::Defined(name.clone()?)),
+            _ => Err(Halt::End(End::Error(Stop::Range))),
+        }
+    }
+
+    fn storage_value(&self, class: Class, key: &Key) -> Result<Val, Halt>
+        ensures { Comes (storage_value self.now class key.now) result }
+    {
+        let storage = self.entities.storage(key);
+        match class {
+            Class::S => amount(storage.level().content()),
+            Class::Sc => amount(storage.entries()),
+            Class::Sm => amount(storage.greatest()),
+            _ => Err(Halt::End(End::Error(Stop::Range))),
+        }
+    }
+
+    // Of a block.
+    fn of_block(
+        &self,
+        case: Case,
+        notes: &mut Notes,
+        class: Class,
+        of: &Subject,
+    ) -> Result<Val, Halt>
+        ensures { Decides case.entry.version.now case.entry.seed
+            (block_count of.now (λ id. block_value self.now class id)) result notes.old notes.new }
+    {
+        match of {
+            Subject::Name(name) => {
+                let id = ask_label(case.version, notes, name)?;
+                self.counted(class, id)
+            }
+            _ => Err(Halt::End(End::Error(Stop::Range))),
+        }
+    }
+
+    fn counted(&self, class: Class, id: Option<StatementId>) -> Result<Val, Halt>
+        ensures { Comes (counted id (λ id. block_value self.now class id)) result }
+    {
+        match id {
+            Some(id) => self.block_value(class, id),
+            None => Err(Halt::End(End::Error(Stop::Range))),
+        }
+    }
+
+    fn block_value(&self, class: Class, id: StatementId) -> Result<Val, Halt>
+        ensures { Comes (block_value self.now class id) result }
+    {
+        match class {
+            Class::N => amount(self.count(id).entries),
+            Class::W => amount(self.count(id).content),
+            _ => Err(Halt::End(End::Error(Stop::Range))),
+        }
+    }
+}
+
+// Operands are evaluated for no transaction.
+pub fn for_none(remaining: u64) -> Asker
+    ensures { result ≡ for_none remaining }
+{
+    Asker {
+        is_transaction: false,
+        number: 0,
+        priority: Val::ZERO,
+        mark: Time::ZERO,
+        remaining,
+    }
+}
+
+// A number of the state as a value, where it is one.
+fn amount(number: u64) -> Result<Val, Halt>
+    ensures { Comes (amount number) result }
+{
+    if number > 1_000_000_000 {
+        return Err(Halt::End(End::Error(Stop::Range)));
+    }
+    match Val::new(number as i64) {
+        Some(value) => Ok(value),
+        None => Err(Halt::End(End::Error(Stop::Range))),
+    }
+}
+
+// 1 while a facility is owned, else 0.
+fn owned(owner: Option<u64>) -> u64
+    ensures { result ≡ owned owner }
+{
+    match owner {
+        Some(_) => 1,
+        None => 0,
+    }
+}
+
+// The facility or queue that an attribute is of.
+fn subject(case: Case, notes: &mut Notes, of: &Subject) -> Result<Key, Halt>
+    ensures { Decides case.entry.version.now case.entry.seed (subject_prog of.now) result notes.old notes.new }
+{
+    match of {
+        Subject::Own => Err(Halt::End(End::Error(Stop::Range))),
+        Subject::Number(number) => entity_of(*number),
+        Subject::Name(name) => {
+            let number = ask_name(case.version, notes, name)?;
+            named(name, number)
+        }
+    }
+}
+
+// The entity with a number, from 1.
+fn entity_of(number: u32) -> Result<Key, Halt>
+    ensures { Comes (subject_prog (subjects.Number number)) result }
+{
+    if number < 1 {
+        return Err(Halt::End(End::Error(Stop::Range)));
+    }
+    Ok(Key::Num(number))
+}
+
+// A random number, 0 to 999, from the stream that an attribute is of.
+fn random(case: Case, notes: &mut Notes, of: &Subject) -> Result<Val, Halt>
+    ensures { Decides case.entry.version.now case.entry.seed (random_prog of.now) result notes.old notes.new }
+{
+    match of {
+        Subject::Number(j) if 1 <= *j && *j <= 7 => random_number(case, notes, *j as usize),
+        _ => Err(Halt::End(End::Error(Stop::Range))),
+    }
+}
+
+fn random_number(case: Case, notes: &mut Notes, j: usize) -> Result<Val, Halt>
+    ensures { Decides case.entry.version.now case.entry.seed (draw j ~> (λ x. gives (pos (thousandth x))))
+        result notes.old notes.new }
+{
+    let number = draw(case, notes, j)?;
+    Ok(thousandth(number))
+}
+
+// A number that was drawn, as a random number from 0 to 999.
+fn thousandth(number: u32) -> Val
+    ensures { result ≡ pos (thousandth number) }
+{
+    let thousandth = u64::from(number.saturating_sub(1)) * 1_000 / 2_147_483_646;
+    match Val::new(thousandth as i64) {
+        Some(value) => value,
+        None => unreachable!(),
+    }
+}
