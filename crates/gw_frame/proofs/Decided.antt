@@ -275,7 +275,7 @@ module _ (t : Listing) (seed : ℕ) (s : Machine) where
   first_arrivals_decide count =
       let few = few_generates t.lines in
       keeps_asks items.Generates refl (λ numbered named. tt) (arrivals_decide (for_none count) (generates_in t.lines) [] (generates_there t.lines) tt (omega
-          arith))
+      arith))
 
   -- commands
   start_decides : (primed : Bool) (count : ℕ) → Decides (IsDecided t s) (start_prog s primed count)

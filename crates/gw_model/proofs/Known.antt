@@ -87,7 +87,7 @@ pub counts_there : (lines : List Numbered) → has_unknown_label lines ≡ false
 unfolding has_unknown_label
 counts_there lines h i place line block class of e b o is =
     label_named lines of (both_hold (is_of_block class) _ is (no_operand (is_unknown_label (known lines)) lines h i place line block (Attribute class of) e b
-        o))
+    o))
 
 -- an attribute of which a test fails where its class is none of those that are tested
 tested : (a b : Bool) → (a ≡ true → b ≡ false) → (a && b) ≡ false
@@ -161,7 +161,7 @@ pub contents_there : (lines : List Numbered) → has_unknown_definition lines �
 unfolding has_unknown_definition has_equ_named
 contents_there lines h k i place line block class of e b o is =
     storage_named lines of (both_hold (is_of_storage class) _ is (no_operand (is_undefined (definition lines)) lines h i place line block (Attribute class of)
-        e b o))
+    e b o))
     (both_hold (is_of_storage class) _ is (no_operand (is_equ_named (definition lines)) lines k i place line block (Attribute class of) e b o))
 
 pub definitions_known : (lines : List Numbered) → StoragesThere lines → NumbersThere lines → ContentsThere lines → has_unknown_definition lines ≡ false
