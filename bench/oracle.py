@@ -1,17 +1,12 @@
 """An independent reading of the language: sessions are answered by a plain interpreter that knows nothing of the program.
 
-It takes sessions whose statements have no fault in their operands, and none that meets a limit of the program. A report is a
-run from clock zero; what an edit leaves of a recorded run goes by the items that each step read."""
-import re
+It takes all sessions but those that end for want of memory or behind too many reads, and reads statements by statements.py. A
+report is a run from clock zero; what an edit leaves of a recorded run goes by the items that each step read."""
+import re, sys
 
-BLOCKS = "GENERATE ADVANCE TERMINATE QUEUE DEPART SEIZE RELEASE ENTER LEAVE TRANSFER MARK PRIORITY BUFFER".split()
-DEFINITIONS = "STORAGE EQU".split()
-COMMANDS = "START RMULT".split()
-# The operands that are values, counted from 0: a number, a name to which an EQU gives one, or an attribute.
-VALUES = {"GENERATE": [0, 1, 2, 3, 4], "ADVANCE": [0, 1], "TERMINATE": [0], "PRIORITY": [0]}
-VALUES |= {verb: [1] for verb in ("QUEUE", "DEPART", "ENTER", "LEAVE")}
-# An attribute: its class, and the number or the name of what it is of.
-ATTRIBUTE = re.compile(r"(C1|AC1|TG1|M1|XN1|PR)|(RN|F|FC|Q|QC|QM|QZ|S|SC|SM|N|W)(?:([0-9]+)|\$([A-Z]\w*))")
+from statements import BLOCKS, COMMANDS, DEFINITIONS, OF_BLOCKS, OF_STORAGES, OF_THE_MOMENT
+from statements import Fault, is_name, statement_of_edit, statements_of
+
 MODULUS = 2147483647
 
 
@@ -19,48 +14,8 @@ class End(Exception):
     """Why no step follows: COMMANDS, DRY, HORIZON, or the name of a stop."""
 
 
-class Statement:
-    def __init__(self, text):
-        words = re.sub(r",\s+", ",", text.split(";")[0]).split()
-        self.label = None if words[0].upper() in BLOCKS + DEFINITIONS + COMMANDS else words.pop(0).upper()
-        self.verb = words[0].upper()
-        self.listed = words[1].upper() if len(words) > 1 else ""
-        self.operands = self.listed.split(",") if self.listed else []
-        self.id = None
-
-    def operand(self, place):
-        return self.operands[place] if place < len(self.operands) and self.operands[place] else None
-
-    def number(self, place):
-        """The number of an operand that takes digits only."""
-        return int(self.operand(place))
-
-    def values(self):
-        """The names that stand for a number."""
-        words = [self.operand(place) for place in VALUES.get(self.verb, [])]
-        return [w for w in words if w and w[0].isalpha() and not attribute(w)]
-
-    def attributes(self):
-        """The class of each attribute, with the number or the name of what it is of."""
-        return [attribute(w) for w in self.operands if self.verb in BLOCKS and attribute(w)]
-
-    def text(self):
-        return " ".join(part for part in (self.label, self.verb, self.listed) if part)
-
-    def names(self):
-        """The names of the statement, the label first."""
-        words = [self.label] if self.label else []
-        own = [attribute(w)[1] if attribute(w) else w for w in self.operands if self.verb in BLOCKS]
-        return words + [w for w in own if isinstance(w, str) and re.match("[A-Z]", w)]
-
-
-def attribute(word):
-    """The class of an attribute, with the number or the name of what it is of; None where a word is no attribute."""
-    read = ATTRIBUTE.fullmatch(word)
-    if read is None:
-        return None
-    alone, of, number, name = read.groups()
-    return (alone, None) if alone else (of, int(number) if number else name)
+class Refused(Exception):
+    """Why a model is refused."""
 
 
 class Version:
@@ -87,23 +42,29 @@ class Version:
         return next((i + 1 for i, b in enumerate(self.blocks) if b.id == id), 0)
 
     def fault(self):
+        if len(self.statements) > 2000 or len(self.seeds) > 32:
+            return "M5"
+        if any(not (1 <= r <= 10**9 and 1 <= seed < MODULUS) for r, seed in self.seeds.items()):
+            return "M6"
         if not 1 <= self.horizon <= 10**12:
             return "M7"
         labels = [s.label for s in self.statements if s.label]
         if len(labels) > len(set(labels)):
             return "M1"
-        attributes = [a for b in self.blocks for a in b.attributes()]
-        wanted = [w for b in self.blocks if b.verb == "TRANSFER" for w in b.operands[1:] if w]
-        wanted += [name for of, name in attributes if of in ("N", "W")]
+        attributes = [(of, name) for _, of, name in self.named("attribute")]
+        wanted = [name for _, name in self.named("label")] + [name for of, name in attributes if of in OF_BLOCKS]
         if any(self.label(w) is None for w in wanted):
             return "M2"
-        storages = [b.operand(0) for b in self.blocks if b.verb in ("ENTER", "LEAVE")]
-        storages += [name for of, name in attributes if of in ("S", "SC", "SM")]
+        storages = [name for _, name in self.named("storage")] + [name for of, name in attributes if of in OF_STORAGES]
         if any(s not in self.capacities and s not in self.numbers for s in storages):
             return "M3"
-        if any(name not in self.numbers for b in self.blocks for name in b.values()):
+        if any(name not in self.numbers for _, name in self.named("name")):
             return "M3"
         return "M4" if any(s in self.numbers for s in storages) else None
+
+    def named(self, kind):
+        """What the operands of all statements have of a kind."""
+        return [leaf for s in self.statements for leaf in s.leaves(kind)]
 
 
 class Level:
@@ -165,27 +126,32 @@ class Run:
 
     # ---- values and draws; nothing of the run changes until all tests are passed
     def value(self, block, place, absent=0):
-        word = block.operand(place)
-        if word is None:
-            return absent
-        if not word[0].isalpha():
-            return int(word)
-        if attribute(word):
-            return self.attribute(block, *attribute(word))
-        self.items.append(("name", word))
-        return self.version.numbers[word]
+        tree = block.tree(place)
+        return absent if tree is None else self.evaluate(block, tree)
+
+    def evaluate(self, block, tree):
+        """The value of an operand, of a block: what stands on the left first."""
+        kind, *rest = tree
+        if kind == "number":
+            return rest[0]
+        if kind == "attribute":
+            return self.attribute(block, *rest)
+        if kind == "name":
+            self.items.append(("name", rest[0]))
+            return self.version.numbers[rest[0]]
+        return computed(kind, *[self.evaluate(block, part) for part in rest])
 
     def attribute(self, block, of, what):
         """The value of an attribute, of an operand of a block."""
-        if of in ("C1", "AC1", "TG1", "M1", "XN1", "PR"):
+        if of in OF_THE_MOMENT:
             return self.of_the_moment(block, of)
         if of == "RN":
             return (self.draw(what) - 1) * 1000 // 2147483646
-        if of in ("N", "W"):
+        if of in OF_BLOCKS:
             self.items.append(("label", what))
             count = self.counts.get(self.version.label(what), {"entries": 0, "content": 0})
             return count["entries" if of == "N" else "content"]
-        if of in ("S", "SC", "SM"):
+        if of in OF_STORAGES:
             storage = self.storages.get(what, Storage())
             return {"S": storage.content, "SC": storage.entries, "SM": storage.most}[of]
         key = what if isinstance(what, int) else self.named(what)
@@ -224,10 +190,7 @@ class Run:
             return spread
         if spread == 0:
             return mean
-        time = mean - spread + (self.draw() - 1) * (2 * spread + 1) // 2147483646
-        if abs(time) > 10**9:
-            raise End("X7")
-        return time
+        return within(mean - spread + (self.draw() - 1) * (2 * spread + 1) // 2147483646)
 
     def arrival(self, block, priming=False):
         """The next transaction of a GENERATE, if there is one: the limit is evaluated first, the priority last."""
@@ -251,12 +214,10 @@ class Run:
 
     def key(self, block):
         """The entity of the first operand."""
-        word = block.operand(0)
-        if word.isdigit():
-            return int(word)
-        if not attribute(word):
-            return self.named(word)
-        number = self.attribute(block, *attribute(word))
+        tree = block.tree(0)
+        if tree[0] == "entity":
+            return self.named(tree[1])
+        number = self.evaluate(block, tree)
         if number < 1:
             raise End("X7")
         return number
@@ -573,6 +534,24 @@ class Run:
         return go
 
 
+def computed(operator, a, b=None):
+    """What an operator makes of its values: `\\` goes towards zero, and `@` leaves what it leaves."""
+    if b is None:
+        return -a
+    if operator in "\\@":
+        if b == 0:
+            raise End("X6")
+        whole = abs(a) // abs(b) * (1 if (a < 0) == (b < 0) else -1)
+        return within(whole if operator == "\\" else a - whole * b)
+    return within(a * b if operator == "#" else a + b if operator == "+" else a - b)
+
+
+def within(value):
+    if abs(value) > 10**9:
+        raise End("X7")
+    return value
+
+
 def line_up(chain, x):
     """Behind its equals, in front of the first of lower priority."""
     place = next((i for i, y in enumerate(chain) if y.priority < x.priority), len(chain))
@@ -654,11 +633,13 @@ def titles(columns):
 
 
 class Session:
-    def __init__(self, lines, seed=1, horizon=10**9, every=1000, limit=10**6):
-        statements = [Statement(line) for line in lines]
-        for i, statement in enumerate(statements):
-            statement.id = i + 1
-        self.version = Version(statements, horizon, {1: seed}, limit)
+    def __init__(self, model, seed=1, horizon=10**9, every=1000, limit=10**6):
+        try:
+            self.version = Version(statements_of(model), horizon, {1: seed}, limit)
+        except Fault as fault:
+            raise Refused(str(fault)) from None
+        if self.version.fault():
+            raise Refused(self.version.fault())
         self.every, self.accepted, self.recorded = every, 0, {1: 0}
 
     def replay(self, r, steps):
@@ -747,7 +728,10 @@ class Session:
         if not 1 <= place <= len(statements) + (not goes):
             return "refused E1\n"
         old = statements[place - 1] if goes else None
-        new = Statement(text) if text else None
+        try:
+            new = None if text is None else statement_of_edit(text)
+        except Fault as fault:
+            return f"refused E2 {fault}\n"
         if new:
             new.id = old.id if old else max([s.id for s in statements], default=0) + 1
         if old and new and old.verb in BLOCKS and new.verb in BLOCKS:
@@ -765,42 +749,80 @@ class Session:
         behind = statements[: place - 1] + ([new] if new else []) + statements[place - 1 + goes :]
         return self.edit(lambda r, item: touched_by(items, item), self.with_statements(behind))
 
-    def line(self, text):
-        word, _, rest = text.partition(" ")
-        v = self.version
-        if word in ("report", "peek"):
-            return self.answer(*map(int, rest.split()), word == "peek")
-        if word == "all":
-            return f"all {len(v.seeds)}\n" + "".join(self.answer(r, int(rest), False) for r in v.seeds)
-        if word == "list":
-            return f"list {len(v.statements)}\n" + "".join(f"{i + 1} {s.text()}\n" for i, s in enumerate(v.statements))
-        if word == "delete":
-            return self.splice(int(rest), True, None)
+    def line(self, number, text):
+        """The answer to a line of the script."""
+        word, *rest = re.split("[ \t]", text)
+        if len(text) > 65536:
+            return f"? {number} long\n"
+        if not text.strip(" \t"):
+            return ""
+        if word not in LINES:
+            return f"? {number} command\n"
+        read = re.fullmatch(LINES[word], text[len(word) :])
+        if read is None or word == "capacity" and not is_name(rest[0].upper()):
+            return f"? {number} arguments\n"
+        if self.accepted == 4096 and word not in ("report", "peek", "all", "list"):
+            return "refused E8\n"
+        arguments = [int(part) if re.fullmatch("[0-9]{1,18}", part) else part for part in read.groups()]
         if word in ("insert", "change"):
-            place, _, statement = rest.partition(" ")
-            return self.splice(int(place), word == "change", statement)
-        if word == "capacity":
-            name, amount = rest.split()[0].upper(), int(rest.split()[1])
-            if name not in v.capacities:
-                return "refused E6\n"
-            if not 1 <= amount <= 10**9:
-                return "refused E2 L5 1\n"
-            place = next(i for i, s in enumerate(v.statements) if s.verb == "STORAGE" and s.label == name)
-            return self.splice(place + 1, True, f"{name} STORAGE {amount}")
-        numbers = [int(n) for n in rest.split()]
-        if word == "horizon":
-            least = min(v.horizon, numbers[0])
-            return self.edit(lambda r, item: item[0] == "clock" and item[1] > least,
-                             Version(v.statements, numbers[0], v.seeds, v.limit))
-        r, seeds = numbers[0], dict(v.seeds)
-        if word == "seed" and r in seeds:
-            other = seeds[r] != numbers[1]
-            seeds[r] = numbers[1]
-            return self.edit(lambda q, item: other and q == r and item == ("seed",), Version(v.statements, v.horizon, seeds, v.limit))
-        if word == "replicate" and r not in seeds or word == "drop" and r in seeds:
-            seeds.pop(r, None) if word == "drop" else seeds.update({r: numbers[1]})
-            return self.edit(lambda q, item: False, Version(v.statements, v.horizon, seeds, v.limit))
-        return "refused E5\n" if word == "replicate" else "refused E4\n"
+            return self.splice(arguments[0], word == "change", read[2])
+        return getattr(self, f"line_{word}")(*arguments)
+
+    def line_report(self, r, k):
+        return self.answer(r, k, False)
+
+    def line_peek(self, r, k):
+        return self.answer(r, k, True)
+
+    def line_all(self, k):
+        return f"all {len(self.version.seeds)}\n" + "".join(self.answer(r, k, False) for r in self.version.seeds)
+
+    def line_list(self):
+        lines = [f"{i} {s.text()}\n" for i, s in enumerate(self.version.statements, 1)]
+        return f"list {len(lines)}\n" + "".join(lines)
+
+    def line_delete(self, place):
+        return self.splice(place, True, None)
+
+    def line_capacity(self, name, amount):
+        name, v = str(name).upper(), self.version
+        if name not in v.capacities:
+            return "refused E6\n"
+        if not 1 <= amount <= 10**9:
+            return "refused E2 L5 1\n"
+        place = next(i for i, s in enumerate(v.statements) if s.verb == "STORAGE" and s.label == name)
+        return self.splice(place + 1, True, f"{name} STORAGE {amount}")
+
+    def line_horizon(self, t):
+        v, least = self.version, min(self.version.horizon, t)
+        return self.edit(lambda r, item: item[0] == "clock" and item[1] > least, Version(v.statements, t, v.seeds, v.limit))
+
+    def line_seed(self, r, seed):
+        if r not in self.version.seeds:
+            return "refused E4\n"
+        other = self.version.seeds[r] != seed
+        return self.with_seeds({**self.version.seeds, r: seed}, lambda q, item: other and q == r and item == ("seed",))
+
+    def line_replicate(self, r, seed):
+        if r in self.version.seeds:
+            return "refused E5\n"
+        return self.with_seeds({**self.version.seeds, r: seed}, lambda q, item: False)
+
+    def line_drop(self, r):
+        if r not in self.version.seeds:
+            return "refused E4\n"
+        return self.with_seeds({q: s for q, s in self.version.seeds.items() if q != r}, lambda q, item: False)
+
+    def with_seeds(self, seeds, touched):
+        v = self.version
+        return self.edit(touched, Version(v.statements, v.horizon, seeds, v.limit))
+
+
+# What stands behind the word of a line of the script.
+NUMBER = "[ \t]([0-9]{1,18})"
+LINES = {"report": NUMBER * 2, "peek": NUMBER * 2, "all": NUMBER, "list": "", "delete": NUMBER, "horizon": NUMBER}
+LINES |= {"insert": NUMBER + "[ \t](.*)", "change": NUMBER + "[ \t](.*)", "capacity": "[ \t]([^ \t]+)" + NUMBER}
+LINES |= {"seed": NUMBER * 2, "replicate": NUMBER * 2, "drop": NUMBER, "quit": ""}
 
 
 def touched_by(items, item):
@@ -812,14 +834,25 @@ def touched_by(items, item):
 
 
 def answers(text, words=()):
-    """What the program must write for a whole standard input."""
+    """What the program must write for a whole standard input, of which each letter is a byte."""
     options = dict(zip([w.lstrip("-") for w in words[::2]], map(int, words[1::2])))
-    lines = text.splitlines()
-    at = lines.index("end") if "end" in lines else len(lines)
-    session = Session([line for line in lines[:at] if line.strip() and line[0] != "*"], **options)
+    model, _, script = re.match(r"(?s)(.*?)(?:^(end)\r?(?:\n|\Z)(.*))?\Z", text, re.MULTILINE).groups()
+    session = Session(model, **options)
     out = ""
-    for line in lines[at + 1 :]:
+    for number, line in enumerate((script or "").replace("\r\n", "\n").split("\n"), 1):
         if line == "quit":
             return out + "bye\n"
-        out += session.line(line)
+        out += session.line(number, line)
     return out
+
+
+def main():
+    """Answers standard input as the program must; its words are pairs, as `--every 4`."""
+    try:
+        sys.stdout.buffer.write(answers(sys.stdin.buffer.read().decode("latin-1"), sys.argv[1:]).encode("latin-1"))
+    except Refused as refused:
+        sys.exit(f"model refused: {refused}")
+
+
+if __name__ == "__main__":
+    main()

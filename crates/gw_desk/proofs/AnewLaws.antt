@@ -1,23 +1,21 @@
 -- A version with its places renamed is answered alike, and so is the version made anew.
-use Rattle.std.proofs.Common.{◌&&◌, ◌≡◌, ℕ, zero, suc, ◌+◌, ◌||◌, nat_eq, nat_lt, Bool, true, false, cond, not, List, [], ◌∷◌, length, filter, Option, Some, None, Result, Ok, Err, refl, ap, ap₂, is_some, option_map, ◌∙◌, arith}
+use Rattle.std.proofs.Common.{◌≡◌, ℕ, zero, suc, ◌+◌, ◌||◌, nat_eq, nat_lt, Bool, true, false, cond, List, [], ◌∷◌, length, filter, Option, Some, None, Result, Ok, Err, refl, ap, ap₂, is_some, option_map, ◌∙◌, arith}
 use Rattle.std.specs.List.{list_any}
-use Rattle.gw_names.specs.declared.class.Class.{Class}
-use Rattle.gw_expr.specs.declared.attribute.Subject.{Subject}
-use Rattle.gw_expr.specs.declared.attribute.Subject.TheVariants as subjects
-use Rattle.gw_expr.specs.Term.{Term, Attribute, Label, Defined, Number}
+use Rattle.std.proofs.Math.Path.{fun_ext}
+use Rattle.gw_expr.specs.Term.{Term}
 use Rattle.gw_meaning.specs.declared.item.End.{End}
 use Rattle.gw_meaning.specs.declared.item.Outcome.{Outcome}
 use Rattle.gw_meaning.specs.declared.statement.Statement.{Statement}
 use Rattle.gw_meaning.specs.declared.statement.Definition.{Definition}
 use Rattle.gw_meaning.specs.declared.statement.Numbered.{Numbered}
-use Rattle.gw_meaning.specs.Listing.{Listing, block_of, block_of_body, labelled_in, is_start, starts, seed_at, seed_in, has_label, command_of_body, definition_of_body, definition_if, or_next, defined_in, number_of}
+use Rattle.gw_meaning.specs.Listing.{Listing, block_of_body, labelled_in, is_start, starts, seed_at, seed_in, has_label, command_of_body, definition_of_body, definition_if, or_next, defined_in}
 use Rattle.gw_meaning.specs.Machine.{Machine, zero_state}
 use Rattle.gw_meaning.specs.Step.{step}
 use Rattle.gw_meaning.specs.Point.{outcome_of}
 use Rattle.gw_model.specs.Listed.{numbered}
 use Rattle.gw_model.proofs.Numbers.{numbered_listed}
 use Rattle.gw_frame.specs.Moved.{IsMove, moved_machine, moved_result}
-use Rattle.gw_model.specs.Faults.{is_of_block, is_of_storage, lacks_name, has_name, is_labelled, has_label_twice, holds_of, block_operands, holds_in, is_unknown_label, has_unknown_label, is_undefined, has_unknown_definition, is_equ_named, has_equ_named}
+use Rattle.gw_model.specs.Faults.{is_labelled, has_label_twice, holds_of, block_operands, holds_in, is_unknown_label, has_unknown_label, is_undefined, has_unknown_definition, is_equ_named, has_equ_named}
 use Rattle.gw_model.specs.Listed.{counted_label}
 use Rattle.gw_frame.specs.Renamed.{statements_of, AreRenamed, IsSameModel, IsRenamed}
 use Rattle.gw_frame.proofs.Renaming.{commands_renamed, label_renamed}
@@ -136,48 +134,23 @@ twice_renamed move is (l ∷ ls) (m ∷ ms) r =
     let same : counted_label m ≡ counted_label l = ap label_of_statement r.1 in
     ap₂ (λ a b. a || b) (ap (λ label. is_labelled label ms) same ∙ labelled_renamed move (counted_label l) ls ms r.2) (twice_renamed move is ls ms r.2)
 
--- the operands of equal statements, of which two tests hold alike
-operand_alike : (test test' : Term → Bool) → ((term : Term) → test' term ≡ test term) → (o : Option Term) → holds_of test' o ≡ holds_of test o
-operand_alike test test' same None = refl
-operand_alike test test' same (Some term) = same term
-
-operands_alike : (test test' : Term → Bool) → ((term : Term) → test' term ≡ test term) → (os : List (Option Term)) →
-    list_any (holds_of test') os ≡ list_any (holds_of test) os
-operands_alike test test' same [] = refl
-operands_alike test test' same (o ∷ os) = ap₂ (λ a b. a || b) (operand_alike test test' same o) (operands_alike test test' same os)
-
-lines_alike : (test test' : Term → Bool) → ((term : Term) → test' term ≡ test term) → (move : ℕ → ℕ) (ls ms : List Numbered) →
-    AreRenamed move ls ms → list_any (holds_in test') ms ≡ list_any (holds_in test) ls
-lines_alike test test' same move [] [] r = refl
-lines_alike test test' same move [] (m ∷ ms) r = absurd r
-lines_alike test test' same move (l ∷ ls) [] r = absurd r
-lines_alike test test' same move (l ∷ ls) (m ∷ ms) r =
-    let line : holds_in test' m ≡ holds_in test l =
-    ap (λ (s : Statement). list_any (holds_of test') (block_operands (block_of_body s.body))) r.1 ∙
-    operands_alike test test' same (block_operands (block_of l)) in
-    ap₂ (λ a b. a || b) line (lines_alike test test' same move ls ms r.2)
-
-lacks_alike : (known known' : List ℕ → Bool) → ((name : List ℕ) → known' name ≡ known name) → (of : Subject) → lacks_name known' of ≡ lacks_name known of
-lacks_alike known known' same (subjects.Name name) = ap not (same name)
-lacks_alike known known' same of = refl
-
-named_alike : (test test' : List ℕ → Bool) → ((name : List ℕ) → test' name ≡ test name) → (of : Subject) → has_name test' of ≡ has_name test of
-named_alike test test' same (subjects.Name name) = same name
-named_alike test test' same of = refl
-
--- where the same labels are known
-unknown_alike : (known known' : List ℕ → Bool) → ((name : List ℕ) → known' name ≡ known name) → (term : Term) →
-    is_unknown_label known' term ≡ is_unknown_label known term
-unknown_alike known known' same (Label name) = ap not (same name)
-unknown_alike known known' same (Attribute class of) = ap (λ b. is_of_block class && b) (lacks_alike known known' same of)
-unknown_alike known known' same term = refl
+-- a test holds of an operand in a renamed model as it did
+lines_alike : (test : Term → Bool) (move : ℕ → ℕ) (ls ms : List Numbered) → AreRenamed move ls ms →
+    list_any (holds_in test) ms ≡ list_any (holds_in test) ls
+lines_alike test move [] [] r = refl
+lines_alike test move [] (m ∷ ms) r = absurd r
+lines_alike test move (l ∷ ls) [] r = absurd r
+lines_alike test move (l ∷ ls) (m ∷ ms) r =
+    ap₂ (λ a b. a || b) (ap (λ (s : Statement). list_any (holds_of test) (block_operands (block_of_body s.body))) r.1)
+    (lines_alike test move ls ms r.2)
 
 unknown_renamed : (move : ℕ → ℕ) → IsMove move → (ls ms : List Numbered) → AreRenamed move ls ms → has_unknown_label ms ≡ has_unknown_label ls
 unfolding has_unknown_label
 unknown_renamed move is ls ms r =
     let known : List ℕ → Bool = λ name. is_some (labelled_in name ls) in
     let known' : List ℕ → Bool = λ name. is_some (labelled_in name ms) in
-    lines_alike (is_unknown_label known) (is_unknown_label known') (unknown_alike known known' (known_renamed move is ls ms r)) move ls ms r
+    let same : known' ≡ known = fun_ext (known_renamed move is ls ms r) in
+    ap (λ test. list_any (holds_in (is_unknown_label test)) ms) same ∙ lines_alike (is_unknown_label known) move ls ms r
 
 -- the same of definitions
 defined_renamed : (move : ℕ → ℕ) (name : List ℕ) (ls ms : List Numbered) → AreRenamed move ls ms → defined_in name ms ≡ defined_in name ls
@@ -187,36 +160,24 @@ defined_renamed move name (l ∷ ls) [] r = absurd r
 defined_renamed move name (l ∷ ls) (m ∷ ms) r = ap₂ or_next
     (ap (λ (s : Statement). definition_if (has_label name s.label) (definition_of_body s.body)) r.1) (defined_renamed move name ls ms r.2)
 
-undefined_alike : (old new : List ℕ → Option Definition) → ((name : List ℕ) → new name ≡ old name) → (term : Term) →
-    is_undefined new term ≡ is_undefined old term
-undefined_alike old new same (Defined name) = ap (λ o. not (is_some o)) (same name)
-undefined_alike old new same (Number name) = ap (λ o. not (is_some (number_of o))) (same name)
-undefined_alike old new same (Attribute class of) = ap (λ b. is_of_storage class && b)
-    (lacks_alike (λ name. is_some (old name)) (λ name. is_some (new name)) (λ name. ap is_some (same name)) of)
-undefined_alike old new same term = refl
-
-equ_alike : (old new : List ℕ → Option Definition) → ((name : List ℕ) → new name ≡ old name) → (term : Term) →
-    is_equ_named new term ≡ is_equ_named old term
-equ_alike old new same (Defined name) = ap (λ o. is_some (number_of o)) (same name)
-equ_alike old new same (Attribute class of) = ap (λ b. is_of_storage class && b)
-    (named_alike (λ name. is_some (number_of (old name))) (λ name. is_some (number_of (new name))) (λ name. ap (λ o. is_some (number_of o)) (same name)) of)
-equ_alike old new same term = refl
-
 -- the definitions of these lines
 abbrev definition : List Numbered → List ℕ → Option Definition
 definition lines name = defined_in name lines
 
+definitions_renamed : (move : ℕ → ℕ) (ls ms : List Numbered) → AreRenamed move ls ms → definition ms ≡ definition ls
+definitions_renamed move ls ms r = fun_ext (λ name. defined_renamed move name ls ms r)
+
 missing_renamed : (move : ℕ → ℕ) (ls ms : List Numbered) → AreRenamed move ls ms → has_unknown_definition ms ≡ has_unknown_definition ls
 unfolding has_unknown_definition
 missing_renamed move ls ms r =
-    lines_alike (is_undefined (definition ls)) (is_undefined (definition ms))
-    (undefined_alike (definition ls) (definition ms) (λ name. defined_renamed move name ls ms r)) move ls ms r
+    ap (λ test. list_any (holds_in (is_undefined test)) ms) (definitions_renamed move ls ms r) ∙
+    lines_alike (is_undefined (definition ls)) move ls ms r
 
 equ_renamed : (move : ℕ → ℕ) (ls ms : List Numbered) → AreRenamed move ls ms → has_equ_named ms ≡ has_equ_named ls
 unfolding has_equ_named
 equ_renamed move ls ms r =
-    lines_alike (is_equ_named (definition ls)) (is_equ_named (definition ms))
-    (equ_alike (definition ls) (definition ms) (λ name. defined_renamed move name ls ms r)) move ls ms r
+    ap (λ test. list_any (holds_in (is_equ_named test)) ms) (definitions_renamed move ls ms r) ∙
+    lines_alike (is_equ_named (definition ls)) move ls ms r
 
 length_renamed : (move : ℕ → ℕ) (ls ms : List Numbered) → AreRenamed move ls ms → length ms ≡ length ls
 length_renamed move [] [] r = refl

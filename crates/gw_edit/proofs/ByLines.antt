@@ -15,7 +15,7 @@ use Rattle.gw_meaning.specs.declared.statement.Body.{Body}
 use Rattle.gw_meaning.specs.declared.statement.Body.TheVariants as bodies
 use Rattle.gw_meaning.specs.declared.statement.Statement.{Statement}
 use Rattle.gw_meaning.specs.declared.statement.Numbered.{Numbered}
-use Rattle.gw_meaning.specs.Listing.{Listing, block_of_body, is_block, is_generate, is_generate_body, has_label, labelled_in, generates_in, capacity_in, command_of, command_of_body, defines, definition_if, definition_of, definition_of_body, first_said, is_command, number_of, or_next, units_of}
+use Rattle.gw_meaning.specs.Listing.{Listing, block_of_body, is_block, is_generate, is_generate_body, has_label, labelled_in, generates_in, capacity_in, command_of_body, defines, definition_if, definition_of, definition_of_body, first_said, is_command, number_of, or_next, units_of}
 use Rattle.gw_meaning.specs.Questions.{Answer, ask}
 use Rattle.gw_meaning.specs.Reads.{is_use}
 use Rattle.gw_edit.specs.Same.{same_statement, same_label}

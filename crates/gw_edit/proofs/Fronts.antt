@@ -1,5 +1,5 @@
 -- Lines behind the same lines in front: what they are asked, they answer alike as far as their rests do.
-use Rattle.std.proofs.Common.{◌≡◌, ℕ, zero, suc, ◌+◌, ◌<◌, Bool, true, false, cond, not, List, [], ◌∷◌, ◌++◌, Option, Some, None, is_some, option_and_then, ◌==◌, length, filter, nat_le, refl, ap, sym, subst, ◌∙◌, arith, ⊎_elim}
+use Rattle.std.proofs.Common.{◌≡◌, ℕ, zero, suc, ◌+◌, ◌<◌, Bool, true, false, cond, List, [], ◌∷◌, ◌++◌, Option, Some, None, is_some, option_and_then, ◌==◌, length, filter, nat_le, refl, ap, sym, subst, ◌∙◌, arith, ⊎_elim}
 use Rattle.std.specs.List.{filter_map, cons_option, slice_get}
 use Rattle.std.proofs.lemmas.Bool.{cases_Bool, leb-false}
 use Rattle.std.proofs.lemmas.List.Elements.{filter_map-append}
@@ -8,7 +8,7 @@ use Rattle.gw_meaning.specs.declared.statement.Body.TheVariants as bodies
 use Rattle.gw_meaning.specs.declared.statement.Block.{Block}
 use Rattle.gw_meaning.specs.declared.statement.Command.{Command}
 use Rattle.gw_meaning.specs.declared.statement.Numbered.{Numbered}
-use Rattle.gw_meaning.specs.Listing.{line_in, block_of, block_of_body, is_block, command_of, command_of_body, first_block, after_in, nth, is_command}
+use Rattle.gw_meaning.specs.Listing.{line_in, block_of, is_block, command_of, command_of_body, first_block, after_in, nth, is_command}
 use Rattle.gw_edit.specs.Touching.{last_block}
 
 -- whether a number is this one

@@ -1,5 +1,5 @@
 -- The first step of a recorded run that read something touched. (Our own.)
-use Rattle.std.specs.Prelude.{ℕ, List, Option, Some, None, min}
+use Rattle.std.specs.Prelude.{ℕ, List, Option}
 use Rattle.gw_meaning.specs.Listing.{Listing}
 use Rattle.gw_meaning.specs.Reads.{first_reading}
 use Rattle.gw_record.specs.Tape.{Tape}

@@ -1,10 +1,10 @@
-ghost use Rattle.std.specs.Prelude.{◌≡◌};
-ghost use Rattle.gw_edit.specs.Same.{same_term, same_operand, same_operands, same_verb, same_block, same_body, same_statement, same_label, same_class, kind_of, class_of, number_of, bytes_of};
+ghost use Rattle.std.specs.Prelude.{◌≡◌, option_copied};
+ghost use Rattle.gw_edit.specs.Same.{same_term, same_operand, same_operands, same_verb, same_block, same_body, same_statement, same_label, same_atom, same_value, same_part, same_parts, kind_of, atom_of, parts_of, number_of, bytes_of};
 ghost use Rattle.gw_expr.specs.Term.{term_of};
 
-use gw_expr::{Expr, Node, Subject};
+use gw_expr::{Atom, Expr, Node, Token};
 use gw_meaning::{Block, Body, Statement};
-use gw_names::{BlockVerb, Class, Name};
+use gw_names::{BlockVerb, Name};
 
 /// Whether both are blocks with the same verb and operands. Labels do not count.
 pub fn same_statement(old: &Statement, new: &Statement) -> bool
@@ -62,51 +62,49 @@ fn same_term(old: &Expr, new: &Expr) -> bool
 {
     let (old, new) = (old.node(), new.node());
     kind(old) == kind(new)
-        && same_class(class(old), class(new))
+        && same_value(atom(old), atom(new))
+        && same_parts(parts(old), parts(new))
         && number(old) == number(new)
         && bytes(old) == bytes(new)
 }
 
-#[tactic(auto, unfolding(crate::specs::Same::same_class))]
-fn same_class(old: Class, new: Class) -> bool
-    ensures { result ≡ same_class old new }
-{
-    old == new
-}
-
-// What tells an operand from all others: its kind, its class, its number and its bytes.
+// What tells an operand from all others: its kind, its value, its parts, its number and its bytes.
 fn kind(node: &Node) -> u8
     ensures { result ≡ kind_of (term_of node.now) }
 {
     match node {
-        Node::Constant(_) => 0,
-        Node::Named(_) => 1,
-        Node::Label(_) => 2,
-        Node::Fraction(_) => 3,
-        Node::Defined(_) => 4,
-        Node::Number(_) => 5,
-        Node::Attribute(_, Subject::Own) => 6,
-        Node::Attribute(_, Subject::Number(_)) => 7,
-        Node::Attribute(_, Subject::Name(_)) => 8,
+        Node::Value(_) => 0,
+        Node::Computed(_) => 1,
+        Node::Named(_) => 2,
+        Node::Label(_) => 3,
+        Node::Fraction(_) => 4,
+        Node::Defined(_) => 5,
     }
 }
 
-fn class(node: &Node) -> Class
-    ensures { result ≡ class_of (term_of node.now) }
+fn atom(node: &Node) -> Option<&Atom>
+    ensures { option_copied result ≡ atom_of (term_of node.now) }
 {
     match node {
-        Node::Attribute(class, _) => *class,
-        _ => Class::C1,
+        Node::Value(atom) => Some(atom),
+        _ => None,
     }
 }
 
-fn number(node: &Node) -> i64
+fn parts(node: &Node) -> &[Token]
+    ensures { result.now ≡ parts_of (term_of node.now) }
+{
+    match node {
+        Node::Computed(tokens) => tokens,
+        _ => &[],
+    }
+}
+
+fn number(node: &Node) -> u32
     ensures { result ≡ number_of (term_of node.now) }
 {
     match node {
-        Node::Constant(value) => value.get(),
-        Node::Fraction(part) => i64::from(*part),
-        Node::Attribute(_, Subject::Number(number)) => i64::from(*number),
+        Node::Fraction(part) => *part,
         _ => 0,
     }
 }
@@ -115,12 +113,45 @@ fn bytes(node: &Node) -> &[u8]
     ensures { result.now ≡ bytes_of (term_of node.now) }
 {
     match node {
-        Node::Number(name) | Node::Named(name) | Node::Label(name) | Node::Defined(name) => {
-            name.as_bytes()
-        }
-        Node::Attribute(_, Subject::Name(name)) => name.as_bytes(),
+        Node::Named(name) | Node::Label(name) | Node::Defined(name) => name.as_bytes(),
         _ => b"",
     }
+}
+
+fn same_value(old: Option<&Atom>, new: Option<&Atom>) -> bool
+    ensures { result ≡ same_value (option_copied old.entry) (option_copied new.entry) }
+{
+    match (old, new) {
+        (None, None) => true,
+        (Some(old), Some(new)) => same_atom(old, new),
+        _ => false,
+    }
+}
+
+#[tactic(auto, unfolding(crate::specs::Same::same_atom))]
+fn same_atom(old: &Atom, new: &Atom) -> bool
+    ensures { result ≡ same_atom old.now new.now }
+{
+    old == new
+}
+
+#[tactic(auto, using(crate::proofs::SameBlocks::more_parts_than_none))]
+fn same_parts(old: &[Token], new: &[Token]) -> bool
+    ensures { result ≡ same_parts old.now new.now }
+{
+    match (old, new) {
+        ([], []) => true,
+        ([], [_, ..]) => false,
+        ([_, ..], []) => false,
+        ([a, others @ ..], [b, rest @ ..]) => same_part(a, b) && same_parts(others, rest),
+    }
+}
+
+#[tactic(auto, unfolding(crate::specs::Same::same_part))]
+fn same_part(old: &Token, new: &Token) -> bool
+    ensures { result ≡ same_part old.now new.now }
+{
+    old == new
 }
 
 /// Whether two labels are one, or neither is there.

@@ -1,2 +1,4 @@
+pub mod Arithmetic
+pub mod Expressions
 pub mod Term
 pub mod Stops

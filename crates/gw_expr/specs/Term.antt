@@ -1,17 +1,18 @@
--- What an operand says, without where it lies in memory. (Manual; so far the constants, the names of numbers and of
--- entities, the numerical attributes, the labels, the fractions and the names of definitions of the profile.)
-use Rattle.std.specs.Prelude.{ℕ, ℤ, List}
-use Rattle.gw_names.specs.declared.class.Class.{Class}
-use Rattle.gw_expr.specs.declared.attribute.Subject.{Subject}
+-- What an operand says, without where it lies in memory. (Manual; so far the values, the names of entities, the labels,
+-- the fractions and the names of definitions of the profile.)
+use Rattle.std.specs.Prelude.{ℕ, ◌≡◌, Bool, false, List, Some}
+use Rattle.std.specs.List.{list_any, slice_get}
+use Rattle.gw_expr.specs.declared.atom.Atom.{Atom}
+use Rattle.gw_expr.specs.declared.token.Token.{Token}
+use Rattle.gw_expr.specs.declared.token.Token.TheVariants as tokens
 use Rattle.gw_expr.specs.declared.expr.Node.{Node}
 use Rattle.gw_expr.specs.declared.expr.Node.TheVariants as node
 
--- an operand: a constant, a name that stands for a number, an attribute of a class, the name of an entity, a block's
--- label, a fraction in millionths, or the name of a storage's definition; names and labels are in upper case
+-- an operand: a value without parentheses, an expression in parentheses, the name of an entity, a block's label, a
+-- fraction in millionths, or the name of a storage's definition; names and labels are in upper case
 pub data Term : Type 0 where
-  Constant : ℤ → Term
-  Number : List ℕ → Term
-  Attribute : Class → Subject → Term
+  Value : Atom → Term
+  Computed : List Token → Term
   Named : List ℕ → Term
   Label : List ℕ → Term
   Fraction : ℕ → Term
@@ -19,10 +20,25 @@ pub data Term : Type 0 where
 
 -- what a node says
 abbrev pub term_of : Node → Term
-term_of (node.Constant value) = Constant value
-term_of (node.Number name) = Number name
-term_of (node.Attribute class of) = Attribute class of
+term_of (node.Value atom) = Value atom
+term_of (node.Computed tokens) = Computed tokens.items
 term_of (node.Named name) = Named name
 term_of (node.Label name) = Label name
 term_of (node.Fraction millionths) = Fraction millionths
 term_of (node.Defined name) = Defined name
+
+-- whether a test holds of a value in an operand, in parentheses or without
+abbrev pub holds_of_token : (Atom → Bool) → Token → Bool
+holds_of_token test (tokens.Value atom) = test atom
+holds_of_token test token = false
+
+abbrev pub holds_of_atom : (Atom → Bool) → Term → Bool
+holds_of_atom test (Value atom) = test atom
+holds_of_atom test (Computed ts) = list_any (holds_of_token test) ts
+holds_of_atom test term = false
+
+-- the operand has the value, in parentheses or without
+abbrev pub HasAtom : Term → Atom → Type 0
+HasAtom (Value other) atom = other ≡ atom
+HasAtom (Computed ts) atom = (i : ℕ) × (slice_get ts i ≡ Some (tokens.Value atom))
+HasAtom term atom = ⊥

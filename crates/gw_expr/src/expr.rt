@@ -1,10 +1,13 @@
 ghost use Rattle.std.specs.Prelude.{◌≡◌, IfOk};
-ghost use Rattle.gw_expr.specs.Term.{Attribute, Constant, Defined, Fraction, Label, Named, Number, term_of};
+ghost use Rattle.gw_expr.specs.Term.{Computed, Defined, Fraction, Label, Named, Value, term_of};
+ghost use Rattle.gw_expr.specs.declared.atom.Atom.TheVariants as atoms;
 
+use crate::atom::Atom;
 use crate::attribute::Subject;
+use crate::token::Token;
 use gw_names::{Class, Name};
 use gw_nums::Val;
-use std::alloc::{AllocError, Global};
+use std::alloc::AllocError;
 use std::marker::Model;
 
 /// An operand: one that stands for a value, a name, a block's label, a fraction or the name of a definition.
@@ -16,12 +19,10 @@ pub struct Expr {
 /// What an operand is.
 #[derive(Debug, Drop)]
 pub enum Node {
-    /// A whole number.
-    Constant(Val),
-    /// A name that stands for a number.
-    Number(Name),
-    /// A numerical attribute of a class, and what it is of.
-    Attribute(Class, Subject),
+    /// A value without parentheses.
+    Value(Atom),
+    /// An expression in parentheses, in postfix order.
+    Computed(Vec<Token>),
     /// The name of an entity.
     Named(Name),
     /// A block's label.
@@ -43,28 +44,46 @@ impl Model for Expr {
 impl Expr {
     /// The operand that is a whole number.
     pub fn constant(value: Val) -> Expr
-        ensures { result ≡ Constant value }
+        ensures { result ≡ Value (atoms.Constant value) }
     {
         Expr {
-            node: Node::Constant(value),
+            node: Node::Value(Atom::Constant(value)),
         }
     }
 
     /// The operand that is the number for which a name stands.
     pub fn number(name: Name) -> Expr
-        ensures { result ≡ Number name }
+        ensures { result ≡ Value (atoms.Number name) }
     {
         Expr {
-            node: Node::Number(name),
+            node: Node::Value(Atom::Number(name)),
         }
     }
 
     /// The operand that is a numerical attribute.
     pub fn attribute(class: Class, of: Subject) -> Expr
-        ensures { result ≡ Attribute class of }
+        ensures { result ≡ Value (atoms.Attribute class of) }
     {
         Expr {
-            node: Node::Attribute(class, of),
+            node: Node::Value(Atom::Attribute(class, of)),
+        }
+    }
+
+    /// The operand that is a value without parentheses.
+    pub fn value(atom: Atom) -> Expr
+        ensures { result ≡ Value atom }
+    {
+        Expr {
+            node: Node::Value(atom),
+        }
+    }
+
+    /// The operand that is an expression in parentheses, in postfix order.
+    pub fn computed(tokens: Vec<Token>) -> Expr
+        ensures { result ≡ Computed tokens.items }
+    {
+        Expr {
+            node: Node::Computed(tokens),
         }
     }
 
@@ -112,13 +131,12 @@ impl Expr {
     }
 
     /// An equal operand.
-    pub fn copy(&self, alloc: Global) -> Result<Expr, AllocError>
+    pub fn copy(&self) -> Result<Expr, AllocError>
         ensures { IfOk result (λ e. e ≡ self.now) }
     {
         match &self.node {
-            Node::Constant(value) => Ok(Expr::constant(*value)),
-            Node::Number(name) => Ok(Expr::number(name.clone()?)),
-            Node::Attribute(class, of) => Ok(Expr::attribute(*class, of.copy(alloc)?)),
+            Node::Value(atom) => Ok(Expr::value(atom.clone()?)),
+            Node::Computed(tokens) => Ok(Expr::computed(tokens.clone()?)),
             Node::Named(name) => Ok(Expr::named(name.clone()?)),
             Node::Label(name) => Ok(Expr::label(name.clone()?)),
             Node::Fraction(millionths) => Ok(Expr::fraction(*millionths)),

@@ -1,19 +1,13 @@
 -- Each evaluation decides a move of which what is said in Known holds, and reads items that name no ids but those of
 -- blocks: one line for each choice, and no law asks further.
-use Rattle.std.proofs.Common.{◌≡◌, ℕ, zero, suc, ◌+◌, ◌<◌, ◌≤◌, nat_eq, nat_le, nat_lt, Bool, true, false, cond, not, ◌&&◌, ◌||◌, List, [], ◌∷◌, length, Option, Some, None, is_some, inr, ℤ, ◌-◌, ◌++◌, append_assoc, pos, refl, ap, sym, subst, ◌∙◌, append-nil, arith}
+use Rattle.std.proofs.Common.{◌≡◌, ℕ, zero, suc, ◌+◌, ◌≤◌, nat_eq, nat_le, nat_lt, Bool, true, false, cond, not, ◌&&◌, ◌||◌, List, [], ◌∷◌, length, Option, Some, None, is_some, inr, ℤ, ◌-◌, ◌++◌, append_assoc, refl, ap, sym, subst, ◌∙◌, append-nil, arith}
 use Rattle.std.specs.List.{AllByRecursion}
 use Rattle.std.proofs.lemmas.Bool.{cond_both, or_parts}
 use Rattle.std.proofs.lemmas.Bool.Decides.{nat_tests}
 use Rattle.std.proofs.lemmas.List.{length-append}
-use Rattle.gw_nums.specs.Range.{is_value, is_negative, is_below, magnitude}
-use Rattle.gw_expr.specs.Term.{Term, Constant, Number, Attribute, Named, Label, Fraction, Defined}
+use Rattle.gw_nums.specs.Range.{is_negative, magnitude}
+use Rattle.gw_expr.specs.Term.{Term, Label, Fraction, Defined}
 use Rattle.gw_streams.specs.declared.stream.Stream.{Stream}
-use Rattle.gw_streams.specs.declared.stream.Stream.TheVariants as streams
-use Rattle.gw_streams.specs.Draws.{is_set, stream_at}
-use Rattle.gw_names.specs.declared.class.Class.{Class}
-use Rattle.gw_names.specs.declared.class.Class.TheVariants as class
-use Rattle.gw_expr.specs.declared.attribute.Subject.{Subject}
-use Rattle.gw_expr.specs.declared.attribute.Subject.TheVariants as subjects
 use Rattle.gw_meaning.specs.declared.asker.Asker.{Asker}
 use Rattle.gw_meaning.specs.declared.item.Item.{Item}
 use Rattle.gw_meaning.specs.declared.item.Item.TheVariants as items
@@ -32,20 +26,20 @@ use Rattle.gw_meaning.specs.Numbers.{AreNumbered}
 use Rattle.gw_names.specs.declared.key.Key.{Key}
 use Rattle.gw_entities.specs.Comings.{came}
 use Rattle.gw_meaning.specs.Entities.{facility_at, line_at}
-use Rattle.gw_meaning.specs.Machine.{Machine, raised, live, count_at, delay_at}
+use Rattle.gw_meaning.specs.Machine.{Machine, raised, live, delay_at}
 use Rattle.gw_meaning.specs.Questions.{ask, result_of}
-use Rattle.gw_meaning.specs.Evaluation.{Eval, asks, number_of_draw, draw, amount, numbered, named, subject_prog, storage_prog, counted, block_count, random_prog, own_value, entity_value, storage_value, block_value, owned, attribute_prog, number_given, value_prog, value_there, value_or_zero, entity_prog, units_prog, in_range, spread, millionths, sample_within, time_prog}
+use Rattle.gw_meaning.specs.Evaluation.{Eval, asks, named, owned, millionths}
 use Rattle.gw_meaning.specs.Step.{for_none, for_one, arrival_at, arrival_in_time, arrival_prog, first_of_generate, first_of, first_arrival, with_arrival, prime_prog, arrivals_prog, first_arrivals_prog, start_prog, command_prog, generate_prog, delay_of, advance_prog, terminate_prog, is_too_many, queue_units, queue_prog, depart_units, depart_prog, seize_or_wait, seize_prog, first_number, is_owner, release_to, release_prog, go_to, lead_to, transfer_prog, priority_prog, block_prog, meet_prog, try_prog, attempt_prog, least_time, within_prog, clock_prog, pick_prog, scan_prog, move_prog, step_prog}
 use Rattle.gw_frame.specs.BlockIds.{IsBlockId, ActiveNames, TransactionNames}
 use Rattle.gw_frame.proofs.Generates.{IsBlockIn, generates_there}
 use Rattle.gw_frame.proofs.Labels.{label_there}
-use Rattle.gw_frame.proofs.Seeds.{uses_seed, ReadsSeed, one_drew, set_first}
-use Rattle.gw_frame.proofs.Keeps.{ProgKeeps, Keeps, all_with, prog_gives, prog_ends, prog_bind, keeps_gives, keeps_ends, keeps_asks, keeps_cond, keeps_stops, keeps_unless, keeps_bind}
+use Rattle.gw_frame.proofs.Seeds.{ReadsSeed, set_first}
+use Rattle.gw_frame.proofs.Keeps.{ProgKeeps, all_with, prog_gives, prog_ends, prog_bind, keeps_gives, keeps_ends, keeps_asks, keeps_cond, keeps_stops, keeps_unless, keeps_bind}
 use Rattle.gw_names.specs.declared.key.Key.TheVariants as keys
-use Rattle.gw_meaning.specs.Listing.{number_at}
 use Rattle.gw_meaning.specs.Entities.{store_at}
 use Rattle.gw_meaning.specs.Step.{beside, in_use, share_of, all_shares, enter_or_wait, enter_storage, enter_prog, shares_prog, leave_for, leave_units, leave_prog}
-use Rattle.gw_frame.proofs.Known.{IsComing, IsComingIfAny, AreFirst, within_limit, leaves, does_fit, shares_of, is_storage, IsDecidedFate, IsRefused, IsDecided, IsRead, IsAfter}
+use Rattle.gw_frame.proofs.DecidedValues.{Decides, IsNoStorage, draw_decides, value_decides, value_there_decides, value_or_zero_decides, entity_decides, units_decides, time_decides}
+use Rattle.gw_frame.proofs.Known.{IsComing, IsComingIfAny, AreFirst, within_limit, leaves, does_fit, shares_of, IsDecidedFate, IsRefused, IsDecided, IsRead, IsAfter}
 
 -- there are no more GENERATEs than statements
 few_generates : (lines : List Numbered) → length (generates_in lines) ≤ length lines
@@ -58,194 +52,36 @@ few_generates (line ∷ lines) =
 not_over : (content units : ℕ) → nat_lt content units ≡ false → units ≤ content
 not_over content units h = grind (arith, nat_tests)
 
-a_stream : (i : ℕ) → not (nat_le 1 (suc i) && nat_le (suc i) 7) ≡ false → i < 7
-a_stream i h = grind (arith, nat_tests)
-
--- of a value nothing is wanted
-abbrev Whatever : {A : Type 0} → A → Type 0
-Whatever a = Unit {0}
-
 module _ (t : Listing) (seed : ℕ) (s : Machine) where
-  -- what an evaluation gives is decided, and what it reads is read, in this state
-  abbrev Decides : {A : Type 0} → (A → Type 0) → Eval A → Type 0
-  Decides Q p = Keeps t seed (IsRead t s) Q p
-
-  -- values and draws
-  number_decides : (stream : Stream) →
-      ProgKeeps t seed (λ x is. AllByRecursion (IsRead t s) is × (uses_seed is ≡ is_set stream)) (number_of_draw stream)
-  number_decides (streams.Set value) = record { runs = λ x there. (((λ numbered named. tt), tt), refl) }
-  number_decides (streams.At x) = prog_gives (tt, refl)
-
-  draw_decides : (i : ℕ) → i < 7 → Decides Whatever (draw (suc i))
-  draw_decides i kept = record {
-    from = λ before. prog_bind (number_decides (stream_at before (suc i)))
-        (λ x is h. prog_gives (tt, rw append-nil h.0, rw append-nil (one_drew before i x is kept h.1)));
-  }
-
-  in_range_decides : (z : ℤ) → Decides Whatever (in_range z)
-  in_range_decides z = keeps_cond (is_value z) (keeps_gives tt) keeps_ends
-
-  -- attributes
-  amount_decides : (n : ℕ) → Decides Whatever (amount n)
-  amount_decides n = in_range_decides (pos n)
-
-  -- an entity, which is no storage
-  abbrev IsNoStorage : Key → Type 0
-  IsNoStorage key = is_storage key ≡ false
-
-  numbered_decides : (n : ℤ) → Decides IsNoStorage (numbered n)
-  numbered_decides n = keeps_stops (is_below n (pos 1)) _ (keeps_gives refl)
-
-  named_decides : (name : List ℕ) (number : Option ℤ) → Decides IsNoStorage (named name number)
-  named_decides name None = keeps_gives refl
-  named_decides name (Some n) = numbered_decides n
-
-  subject_decides : (of : Subject) → Decides IsNoStorage (subject_prog of)
-  subject_decides subjects.Own = keeps_ends
-  subject_decides (subjects.Number n) = numbered_decides (pos n)
-  subject_decides (subjects.Name name) = keeps_asks (items.Name name) refl (λ numbered named. tt) (named_decides name (number_at t name))
-
-  storage_decides : (of : Subject) (f : Key → Eval ℤ) → ((key : Key) → Decides Whatever (f key)) → Decides Whatever (storage_prog of f)
-  storage_decides subjects.Own f each = keeps_ends
-  storage_decides (subjects.Number n) f each = keeps_ends
-  storage_decides (subjects.Name name) f each = each (keys.Defined name)
-
-  counted_decides : (o : Option ℕ) (f : ℕ → Eval ℤ) → ((id : ℕ) → Decides Whatever (f id)) → Decides Whatever (counted o f)
-  counted_decides None f each = keeps_ends
-  counted_decides (Some id) f each = each id
-
-  block_count_decides : (of : Subject) (f : ℕ → Eval ℤ) → ((id : ℕ) → Decides Whatever (f id)) → Decides Whatever (block_count of f)
-  block_count_decides subjects.Own f each = keeps_ends
-  block_count_decides (subjects.Number n) f each = keeps_ends
-  block_count_decides (subjects.Name name) f each =
-      keeps_asks (items.Label name) refl (λ numbered named. tt) (counted_decides (label_at t name) f each)
-
-  random_decides : (of : Subject) → Decides Whatever (random_prog of)
-  random_decides subjects.Own = keeps_ends
-  random_decides (subjects.Number zero) = keeps_ends
-  random_decides (subjects.Number (suc i)) =
-      keeps_unless (not (nat_le 1 (suc i) && nat_le (suc i) 7)) _
-      (λ h. keeps_bind (draw_decides i (a_stream i h)) (λ x k. keeps_gives tt))
-  random_decides (subjects.Name name) = keeps_ends
-
-  own_decides : (q : Asker) (class : Class) → Decides Whatever (own_value s q class)
-  own_decides q class.C1 = amount_decides (s.clock - s.since)
-  own_decides q class.Ac1 = amount_decides s.clock
-  own_decides q class.Tg1 = amount_decides q.remaining
-  own_decides q class.M1 = keeps_stops (not q.is_transaction) _ (amount_decides (s.clock - q.mark))
-  own_decides q class.Xn1 = keeps_stops (not q.is_transaction) _ (amount_decides q.number)
-  own_decides q class.Pr = keeps_stops (not q.is_transaction) _ (keeps_gives tt)
-  own_decides q class = keeps_ends
-
-  entity_value_decides : (class : Class) (key : Key) → Decides Whatever (entity_value s class key)
-  entity_value_decides class.F key = amount_decides (owned (facility_at s.entities key).owner)
-  entity_value_decides class.Fc key = amount_decides (facility_at s.entities key).captures
-  entity_value_decides class.Q key = amount_decides (line_at s.entities key).level.content
-  entity_value_decides class.Qc key = amount_decides (line_at s.entities key).entries
-  entity_value_decides class.Qm key = amount_decides (line_at s.entities key).greatest
-  entity_value_decides class.Qz key = amount_decides (line_at s.entities key).zero_entries
-  entity_value_decides class key = keeps_ends
-
-  storage_value_decides : (class : Class) (key : Key) → Decides Whatever (storage_value s class key)
-  storage_value_decides class.S key = amount_decides (store_at s.entities key).level.content
-  storage_value_decides class.Sc key = amount_decides (store_at s.entities key).entries
-  storage_value_decides class.Sm key = amount_decides (store_at s.entities key).greatest
-  storage_value_decides class key = keeps_ends
-
-  block_value_decides : (class : Class) (id : ℕ) → Decides Whatever (block_value s class id)
-  block_value_decides class.N id = amount_decides (count_at s.counts id).entries
-  block_value_decides class.W id = amount_decides (count_at s.counts id).content
-  block_value_decides class id = keeps_ends
-
-  attribute_decides : (q : Asker) (class : Class) (of : Subject) → Decides Whatever (attribute_prog s q class of)
-  unfolding attribute_prog
-  attribute_decides q class.C1 of = own_decides q class.C1
-  attribute_decides q class.Ac1 of = own_decides q class.Ac1
-  attribute_decides q class.Tg1 of = own_decides q class.Tg1
-  attribute_decides q class.M1 of = own_decides q class.M1
-  attribute_decides q class.Xn1 of = own_decides q class.Xn1
-  attribute_decides q class.Pr of = own_decides q class.Pr
-  attribute_decides q class.F of = keeps_bind (subject_decides of) (λ key h. entity_value_decides class.F key)
-  attribute_decides q class.Fc of = keeps_bind (subject_decides of) (λ key h. entity_value_decides class.Fc key)
-  attribute_decides q class.Q of = keeps_bind (subject_decides of) (λ key h. entity_value_decides class.Q key)
-  attribute_decides q class.Qc of = keeps_bind (subject_decides of) (λ key h. entity_value_decides class.Qc key)
-  attribute_decides q class.Qm of = keeps_bind (subject_decides of) (λ key h. entity_value_decides class.Qm key)
-  attribute_decides q class.Qz of = keeps_bind (subject_decides of) (λ key h. entity_value_decides class.Qz key)
-  attribute_decides q class.S of = storage_decides of _ (storage_value_decides class.S)
-  attribute_decides q class.Sc of = storage_decides of _ (storage_value_decides class.Sc)
-  attribute_decides q class.Sm of = storage_decides of _ (storage_value_decides class.Sm)
-  attribute_decides q class.N of = block_count_decides of _ (block_value_decides class.N)
-  attribute_decides q class.W of = block_count_decides of _ (block_value_decides class.W)
-  attribute_decides q class.Rn of = random_decides of
-  attribute_decides q class of = keeps_ends
-
-  -- operands
-  number_given_decides : (number : Option ℤ) → Decides Whatever (number_given number)
-  number_given_decides None = keeps_ends
-  number_given_decides (Some n) = keeps_gives tt
-
-  value_decides : (q : Asker) (term : Term) → Decides Whatever (value_prog s q term)
-  unfolding value_prog
-  value_decides q (Constant value) = keeps_gives tt
-  value_decides q (Number name) = keeps_asks (items.Name name) refl (λ numbered named. tt) (number_given_decides (number_at t name))
-  value_decides q (Attribute class of) = attribute_decides q class of
-  value_decides q term = keeps_ends
-
-  value_there_decides : (q : Asker) (term : Option Term) → Decides Whatever (value_there s q term)
-  value_there_decides q None = keeps_ends
-  value_there_decides q (Some term) = value_decides q term
-
-  value_or_zero_decides : (q : Asker) (term : Option Term) → Decides Whatever (value_or_zero s q term)
-  value_or_zero_decides q None = keeps_gives tt
-  value_or_zero_decides q (Some term) = value_decides q term
-
-  entity_decides : (q : Asker) (term : Option Term) → Decides IsNoStorage (entity_prog s q term)
-  entity_decides q None = keeps_ends
-  entity_decides q (Some (Named name)) = keeps_asks (items.Name name) refl (λ numbered named. tt) (named_decides name (number_at t name))
-  entity_decides q (Some term) = keeps_bind (value_decides q term) (λ n h. numbered_decides n)
-
-  units_decides : (q : Asker) (term : Option Term) → Decides Whatever (units_prog s q term)
-  units_decides q None = keeps_gives tt
-  units_decides q (Some term) = keeps_bind (value_decides q term) (λ n h. keeps_stops (is_below n (pos 1)) _ (keeps_gives tt))
-
-  sample_within_decides : (mean : ℤ) (range : ℕ) → Decides Whatever (sample_within mean range)
-  sample_within_decides mean zero = keeps_gives tt
-  sample_within_decides mean (suc n) =
-      keeps_bind (draw_decides 0 (omega arith)) (λ x h. in_range_decides (spread mean (suc n) x))
-
-  time_decides : (q : Asker) (mean range : Option Term) → Decides Whatever (time_prog s q mean range)
-  time_decides q mean range = keeps_bind (value_or_zero_decides q mean)
-      (λ m h. keeps_bind (value_or_zero_decides q range) (λ r k. keeps_cond (is_negative r) (keeps_gives tt) (sample_within_decides m (magnitude r))))
-
   -- the next transaction of a GENERATE
-  arrival_at_decides : (id : ℕ) (time priority : ℤ) → IsBlockId t id → Decides (IsComingIfAny t s) (arrival_at s id time priority)
+  arrival_at_decides : (id : ℕ) (time priority : ℤ) → IsBlockId t id → Decides t seed s (IsComingIfAny t s) (arrival_at s id time priority)
   arrival_at_decides id time priority named =
       keeps_stops (is_negative time) _ (keeps_stops (nat_le 100000 (live s)) _ (keeps_gives (record { ahead = omega arith; id = named })))
 
   arrival_in_time_decides : (q : Asker) (id : ℕ) (mean range priority : Option Term) → IsBlockId t id →
-      Decides (IsComingIfAny t s) (arrival_in_time s q id mean range priority)
+      Decides t seed s (IsComingIfAny t s) (arrival_in_time s q id mean range priority)
   arrival_in_time_decides q id mean range priority named =
-      keeps_bind (time_decides q mean range) (λ v h. keeps_bind (value_or_zero_decides q priority) (λ p k. arrival_at_decides id v p named))
+      keeps_bind (time_decides t seed s q mean range) (λ v h. keeps_bind (value_or_zero_decides t seed s q priority) (λ p k. arrival_at_decides id v p named))
 
   arrival_decides : (q : Asker) (id made : ℕ) (mean range limit priority : Option Term) → IsBlockId t id →
-      Decides (IsComingIfAny t s) (arrival_prog s q id made mean range limit priority)
+      Decides t seed s (IsComingIfAny t s) (arrival_prog s q id made mean range limit priority)
   arrival_decides q id made mean range None priority named = arrival_in_time_decides q id mean range priority named
   arrival_decides q id made mean range (Some limit) priority named =
-      keeps_bind (value_decides q limit)
+      keeps_bind (value_decides t seed s q limit)
       (λ n h. keeps_stops (is_negative n) _
       (keeps_cond (nat_le (magnitude n) made) (keeps_gives tt) (arrival_in_time_decides q id mean range priority named)))
 
   -- priming
   first_of_generate_decides : (q : Asker) (id : ℕ) (mean range offset limit priority : Option Term) → IsBlockId t id →
-      Decides (IsComingIfAny t s) (first_of_generate s q id mean range offset limit priority)
+      Decides t seed s (IsComingIfAny t s) (first_of_generate s q id mean range offset limit priority)
   first_of_generate_decides q id mean range None limit priority named = arrival_decides q id _ mean range limit priority named
   first_of_generate_decides q id mean range (Some offset) limit priority named = arrival_decides q id _ (Some offset) None limit priority named
 
-  first_of_decides : (q : Asker) (id : ℕ) (b : Block) (generates : Bool) → IsBlockId t id → Decides (IsComingIfAny t s) (first_of s q id b generates)
+  first_of_decides : (q : Asker) (id : ℕ) (b : Block) (generates : Bool) → IsBlockId t id → Decides t seed s (IsComingIfAny t s) (first_of s q id b generates)
   first_of_decides q id b true named = first_of_generate_decides q id (operand b A) (operand b B) (operand b C) (operand b D) (operand b E) named
   first_of_decides q id b false named = keeps_gives tt
 
-  first_arrival_decides : (q : Asker) (id : ℕ) (block : Option Block) → block_at t id ≡ block → Decides (IsComingIfAny t s) (first_arrival s q id block)
+  first_arrival_decides : (q : Asker) (id : ℕ) (block : Option Block) → block_at t id ≡ block → Decides t seed s (IsComingIfAny t s) (first_arrival s q id block)
   first_arrival_decides q id None is = keeps_gives tt
   first_arrival_decides q id (Some b) is = first_of_decides q id b (is_generate_verb b.verb) (inr (b, is))
 
@@ -259,7 +95,7 @@ module _ (t : Listing) (seed : ℕ) (s : Machine) where
   with_arrival_few (Some a) made = let longer = length-append made (a ∷ []) in omega arith
 
   arrivals_decide : (q : Asker) (ids : List ℕ) (made : List Arrival) → (AreNumbered t.lines → AllByRecursion (IsBlockIn t.lines) ids) →
-      AllByRecursion (IsComing t s) made → length made + length ids ≤ length t.lines → Decides (AreFirst t s) (arrivals_prog s q ids made)
+      AllByRecursion (IsComing t s) made → length made + length ids ≤ length t.lines → Decides t seed s (AreFirst t s) (arrivals_prog s q ids made)
   arrivals_decide q [] made named all few = keeps_gives (record { coming = all; few = omega arith })
   arrivals_decide q (id ∷ ids) made named all few =
       keeps_bind (prime_decides q id (λ numbered. (named numbered).0))
@@ -267,18 +103,18 @@ module _ (t : Listing) (seed : ℕ) (s : Machine) where
       let one = with_arrival_few a made in
       arrivals_decide q ids (with_arrival a made) (λ numbered. (named numbered).1) (with_arrival_coming a made here all) (omega arith))
     where
-      prime_decides : (q : Asker) (id : ℕ) → (AreNumbered t.lines → IsBlockIn t.lines id) → Decides (IsComingIfAny t s) (prime_prog s q id)
+      prime_decides : (q : Asker) (id : ℕ) → (AreNumbered t.lines → IsBlockIn t.lines id) → Decides t seed s (IsComingIfAny t s) (prime_prog s q id)
       prime_decides q id there =
           keeps_asks (items.Block id) refl (λ numbered named. inr (there numbered)) (first_arrival_decides q id (block_at t id) refl)
 
-  first_arrivals_decide : (count : ℕ) → Decides (AreFirst t s) (first_arrivals_prog s count)
+  first_arrivals_decide : (count : ℕ) → Decides t seed s (AreFirst t s) (first_arrivals_prog s count)
   first_arrivals_decide count =
       let few = few_generates t.lines in
       keeps_asks items.Generates refl (λ numbered named. tt) (arrivals_decide (for_none count) (generates_in t.lines) [] (generates_there t.lines) tt (omega
       arith))
 
   -- commands
-  start_decides : (primed : Bool) (count : ℕ) → Decides (IsDecided t s) (start_prog s primed count)
+  start_decides : (primed : Bool) (count : ℕ) → Decides t seed s (IsDecided t s) (start_prog s primed count)
   start_decides true count = keeps_gives (record { coming = tt; few = omega arith })
   start_decides false count = keeps_bind (first_arrivals_decide count) (λ first h. keeps_gives h)
 
@@ -286,7 +122,7 @@ module _ (t : Listing) (seed : ℕ) (s : Machine) where
   abbrev IsStepped : List Stream → Move × List Stream → List Item → Type 0
   IsStepped before r is = IsDecided t s r.0 × AllByRecursion (IsRead t s) is × ReadsSeed before r.1 is
 
-  steps : (before : List Stream) (p : Eval Move) → Decides (IsDecided t s) p → ProgKeeps t seed (IsStepped before) (p before)
+  steps : (before : List Stream) (p : Eval Move) → Decides t seed s (IsDecided t s) p → ProgKeeps t seed (IsStepped before) (p before)
   steps before p decides = record {
     runs = λ r is.
         (let h = (decides.from before).runs r is in (h.0, h.1, λ seven. (let k = h.2 seven in (k.seven, k.seed))));
@@ -300,7 +136,7 @@ module _ (t : Listing) (seed : ℕ) (s : Machine) where
 
   -- blocks
   generate_decides : (x : Transaction) (id : ℕ) (mean range limit priority : Option Term) → IsBlockId t id →
-      Decides (IsDecided t s) (generate_prog s x id mean range limit priority)
+      Decides t seed s (IsDecided t s) (generate_prog s x id mean range limit priority)
   generate_decides x id mean range limit priority named =
       keeps_stops (not (nat_eq x.current 0)) _
       (keeps_bind (arrival_decides (for_none s.remaining) id _ mean range limit priority named) (λ next h. keeps_gives (named, h, tt)))
@@ -309,133 +145,133 @@ module _ (t : Listing) (seed : ℕ) (s : Machine) where
   delay_decided zero = tt
   delay_decided (suc n) = omega arith
 
-  advance_decides : (q : Asker) (id : ℕ) (mean range : Option Term) → IsBlockId t id → Decides (IsDecided t s) (advance_prog s q id mean range)
+  advance_decides : (q : Asker) (id : ℕ) (mean range : Option Term) → IsBlockId t id → Decides t seed s (IsDecided t s) (advance_prog s q id mean range)
   advance_decides q id mean range named =
-      keeps_bind (time_decides q mean range) (λ v h. keeps_stops (is_negative v) _ (keeps_gives (named, tt, delay_decided (magnitude v))))
+      keeps_bind (time_decides t seed s q mean range) (λ v h. keeps_stops (is_negative v) _ (keeps_gives (named, tt, delay_decided (magnitude v))))
 
-  terminate_decides : (q : Asker) (id : ℕ) (count : Option Term) → IsBlockId t id → Decides (IsDecided t s) (terminate_prog s q id count)
+  terminate_decides : (q : Asker) (id : ℕ) (count : Option Term) → IsBlockId t id → Decides t seed s (IsDecided t s) (terminate_prog s q id count)
   terminate_decides q id count named =
-      keeps_bind (value_or_zero_decides q count) (λ n h. keeps_stops (is_negative n) _ (keeps_gives (named, tt, tt)))
+      keeps_bind (value_or_zero_decides t seed s q count) (λ n h. keeps_stops (is_negative n) _ (keeps_gives (named, tt, tt)))
 
-  queue_units_decides : (id : ℕ) (key : Key) (units : ℕ) → IsBlockId t id → Decides (IsDecided t s) (queue_units id key (line_at s.entities key) units)
+  queue_units_decides : (id : ℕ) (key : Key) (units : ℕ) → IsBlockId t id → Decides t seed s (IsDecided t s) (queue_units id key (line_at s.entities key) units)
   queue_units_decides id key units named =
       let line = line_at s.entities key in
       keeps_unless (is_too_many (line.entries + units) || is_too_many (line.level.content + units)) _ (λ h.
       (let both = or_parts (is_too_many (line.entries + units)) (is_too_many (line.level.content + units)) h in
       keeps_gives (named, record { entries = within_limit _ both.0; content = within_limit _ both.1 }, tt)))
 
-  queue_decides : (q : Asker) (id : ℕ) (entity units : Option Term) → IsBlockId t id → Decides (IsDecided t s) (queue_prog s q id entity units)
-  queue_decides q id entity units named = keeps_bind (entity_decides q entity)
-      (λ key h. keeps_bind (units_decides q units) (λ n k. queue_units_decides id key n named))
+  queue_decides : (q : Asker) (id : ℕ) (entity units : Option Term) → IsBlockId t id → Decides t seed s (IsDecided t s) (queue_prog s q id entity units)
+  queue_decides q id entity units named = keeps_bind (entity_decides t seed s q entity)
+      (λ key h. keeps_bind (units_decides t seed s q units) (λ n k. queue_units_decides id key n named))
 
   depart_units_decides : (id : ℕ) (key : Key) (at_once : Bool) (units : ℕ) → IsBlockId t id →
-      Decides (IsDecided t s) (depart_units id key (line_at s.entities key) at_once units)
+      Decides t seed s (IsDecided t s) (depart_units id key (line_at s.entities key) at_once units)
   depart_units_decides id key at_once units named =
       let line = line_at s.entities key in
       keeps_unless (at_once && is_too_many (line.zero_entries + units)) _
       (λ h. keeps_stops (nat_lt line.level.content units) _ (keeps_gives (named, leaves line units at_once h, tt)))
 
   depart_decides : (q : Asker) (x : Transaction) (id : ℕ) (entity units : Option Term) → IsBlockId t id →
-      Decides (IsDecided t s) (depart_prog s q x id entity units)
-  depart_decides q x id entity units named = keeps_bind (entity_decides q entity) (λ key h. keeps_bind (units_decides q units)
+      Decides t seed s (IsDecided t s) (depart_prog s q x id entity units)
+  depart_decides q x id entity units named = keeps_bind (entity_decides t seed s q entity) (λ key h. keeps_bind (units_decides t seed s q units)
       (λ n k. depart_units_decides id key (came s.entities.comings key x.number) n named))
 
-  refused_by_owner : (key : Key) → IsNoStorage key → is_some (facility_at s.entities key).owner ≡ true → IsRefused t s key 1
+  refused_by_owner : (key : Key) → IsNoStorage t seed s key → is_some (facility_at s.entities key).owner ≡ true → IsRefused t s key 1
   refused_by_owner (keys.Num number) none owned = owned
   refused_by_owner (keys.Named name) none owned = owned
   refused_by_owner (keys.Defined name) none owned = absurd cc
 
-  seize_or_wait_decides : (id : ℕ) (key : Key) (owned : Bool) → IsNoStorage key → is_some (facility_at s.entities key).owner ≡ owned → IsBlockId t id →
-      Decides (IsDecided t s) (seize_or_wait id key owned)
+  seize_or_wait_decides : (id : ℕ) (key : Key) (owned : Bool) → IsNoStorage t seed s key → is_some (facility_at s.entities key).owner ≡ owned → IsBlockId t id →
+      Decides t seed s (IsDecided t s) (seize_or_wait id key owned)
   seize_or_wait_decides id key true none is named = keeps_gives (named, refused_by_owner key none is)
   seize_or_wait_decides id key false none is named = keeps_gives (named, (none, is), tt)
 
-  seize_decides : (q : Asker) (id : ℕ) (entity : Option Term) → IsBlockId t id → Decides (IsDecided t s) (seize_prog s q id entity)
-  seize_decides q id entity named = keeps_bind (entity_decides q entity)
+  seize_decides : (q : Asker) (id : ℕ) (entity : Option Term) → IsBlockId t id → Decides t seed s (IsDecided t s) (seize_prog s q id entity)
+  seize_decides q id entity named = keeps_bind (entity_decides t seed s q entity)
       (λ key h. seize_or_wait_decides id key (is_some (facility_at s.entities key).owner) h refl named)
 
-  release_to_decides : (id : ℕ) (key : Key) (owns : Bool) → IsNoStorage key → IsBlockId t id →
-      Decides (IsDecided t s) (release_to id key owns (first_number (delay_at s.delays key)))
+  release_to_decides : (id : ℕ) (key : Key) (owns : Bool) → IsNoStorage t seed s key → IsBlockId t id →
+      Decides t seed s (IsDecided t s) (release_to id key owns (first_number (delay_at s.delays key)))
   release_to_decides id key owns none named = keeps_stops (not owns) _ (keeps_gives (named, (none, refl), tt))
 
-  release_decides : (q : Asker) (x : Transaction) (id : ℕ) (entity : Option Term) → IsBlockId t id → Decides (IsDecided t s) (release_prog s q x id entity)
-  release_decides q x id entity named = keeps_bind (entity_decides q entity)
+  release_decides : (q : Asker) (x : Transaction) (id : ℕ) (entity : Option Term) → IsBlockId t id → Decides t seed s (IsDecided t s) (release_prog s q x id entity)
+  release_decides q x id entity named = keeps_bind (entity_decides t seed s q entity)
       (λ key h. release_to_decides id key (is_owner (facility_at s.entities key).owner x.number) h named)
 
   -- ENTER and LEAVE
   enter_or_wait_decides : (id : ℕ) (name : List ℕ) (units : ℕ) (fits : Bool) →
       does_fit t name (beside units (store_at s.entities (keys.Defined name)).level.content) ≡ fits → IsBlockId t id →
-      Decides (IsDecided t s) (enter_or_wait id (keys.Defined name) (store_at s.entities (keys.Defined name)) units fits)
+      Decides t seed s (IsDecided t s) (enter_or_wait id (keys.Defined name) (store_at s.entities (keys.Defined name)) units fits)
   enter_or_wait_decides id name units true is named =
       keeps_unless (is_too_many ((store_at s.entities (keys.Defined name)).entries + units)) _
       (λ h. keeps_gives (named, record { name = name; named = refl; fits = is; entries = within_limit _ h }, tt))
   enter_or_wait_decides id name units false is named = keeps_gives (named, is)
 
   enter_storage_decides : (id : ℕ) (name : List ℕ) (units : ℕ) (large : Bool) → IsBlockId t id →
-      Decides (IsDecided t s) (enter_storage id name (store_at s.entities (keys.Defined name)) units large)
+      Decides t seed s (IsDecided t s) (enter_storage id name (store_at s.entities (keys.Defined name)) units large)
   enter_storage_decides id name units large named =
       keeps_stops (not large) _
       (keeps_asks (items.Fits name (beside units (store_at s.entities (keys.Defined name)).level.content)) refl (λ numbered there. tt)
       (enter_or_wait_decides id name units _ refl named))
 
-  enter_decides : (q : Asker) (id : ℕ) (storage units : Option Term) → IsBlockId t id → Decides (IsDecided t s) (enter_prog s q id storage units)
-  enter_decides q id (Some (Defined name)) units named = keeps_bind (units_decides q units)
+  enter_decides : (q : Asker) (id : ℕ) (storage units : Option Term) → IsBlockId t id → Decides t seed s (IsDecided t s) (enter_prog s q id storage units)
+  enter_decides q id (Some (Defined name)) units named = keeps_bind (units_decides t seed s q units)
       (λ n h. keeps_asks (items.Fits name n) refl (λ numbered there. tt) (enter_storage_decides id name n _ named))
   enter_decides q id (Some term) units named = keeps_ends
   enter_decides q id None units named = keeps_ends
 
   shares_decide : (name : List ℕ) (content : ℕ) (before : List (Option ℕ)) (chain : List Transaction) →
-      Decides (λ shares. shares ≡ before ++ shares_of t name content chain) (shares_prog name content before chain)
+      Decides t seed s (λ shares. shares ≡ before ++ shares_of t name content chain) (shares_prog name content before chain)
   shares_decide name content before [] = keeps_gives (sym (append-nil before))
   shares_decide name content before (x ∷ xs) =
       let fits = does_fit t name (beside x.asked content) in
       let rest = shares_of t name (in_use content x.asked fits) xs in
       keeps_asks (items.Fits name (beside x.asked content)) refl (λ numbered there. tt)
-      (subst (λ ys. Decides (λ shares. shares ≡ ys) (shares_prog name (in_use content x.asked fits) (before ++ share_of x.asked fits ∷ []) xs))
+      (subst (λ ys. Decides t seed s (λ shares. shares ≡ ys) (shares_prog name (in_use content x.asked fits) (before ++ share_of x.asked fits ∷ []) xs))
       (append_assoc before (share_of x.asked fits ∷ []) rest)
       (shares_decide name (in_use content x.asked fits) (before ++ share_of x.asked fits ∷ []) xs))
 
   leave_for_decides : (id : ℕ) (name : List ℕ) (units : ℕ) (shares : List (Option ℕ)) → units ≤ (store_at s.entities (keys.Defined name)).level.content →
       shares ≡ shares_of t name ((store_at s.entities (keys.Defined name)).level.content - units) (delay_at s.delays (keys.Defined name)) → IsBlockId t id →
-      Decides (IsDecided t s) (leave_for id (keys.Defined name) (store_at s.entities (keys.Defined name)) units shares)
+      Decides t seed s (IsDecided t s) (leave_for id (keys.Defined name) (store_at s.entities (keys.Defined name)) units shares)
   leave_for_decides id name units shares some shared named =
       keeps_unless (is_too_many ((store_at s.entities (keys.Defined name)).entries + all_shares shares)) _
       (λ h. keeps_gives (named, record { name = name; named = refl; in_use = some; shared = shared; entries = within_limit _ h }, tt))
 
   leave_units_decides : (id : ℕ) (name : List ℕ) (units : ℕ) → IsBlockId t id →
-      Decides (IsDecided t s) (leave_units s id name (store_at s.entities (keys.Defined name)) units)
+      Decides t seed s (IsDecided t s) (leave_units s id name (store_at s.entities (keys.Defined name)) units)
   leave_units_decides id name units named =
       let content = (store_at s.entities (keys.Defined name)).level.content in
       keeps_unless (nat_lt content units) _
       (λ h. keeps_bind (shares_decide name (content - units) [] (delay_at s.delays (keys.Defined name)))
       (λ shares is. leave_for_decides id name units shares (not_over content units h) is named))
 
-  leave_decides : (q : Asker) (id : ℕ) (storage units : Option Term) → IsBlockId t id → Decides (IsDecided t s) (leave_prog s q id storage units)
-  leave_decides q id (Some (Defined name)) units named = keeps_bind (units_decides q units) (λ n h. leave_units_decides id name n named)
+  leave_decides : (q : Asker) (id : ℕ) (storage units : Option Term) → IsBlockId t id → Decides t seed s (IsDecided t s) (leave_prog s q id storage units)
+  leave_decides q id (Some (Defined name)) units named = keeps_bind (units_decides t seed s q units) (λ n h. leave_units_decides id name n named)
   leave_decides q id (Some term) units named = keeps_ends
   leave_decides q id None units named = keeps_ends
 
-  go_to_decides : (id : ℕ) (name : List ℕ) (to : Option ℕ) → label_at t name ≡ to → IsBlockId t id → Decides (IsDecided t s) (go_to id to)
+  go_to_decides : (id : ℕ) (name : List ℕ) (to : Option ℕ) → label_at t name ≡ to → IsBlockId t id → Decides t seed s (IsDecided t s) (go_to id to)
   go_to_decides id name None is named = keeps_ends
   go_to_decides id name (Some to) is named = keeps_gives (named, (λ numbered. inr (label_there t.lines name to numbered is)), tt)
 
-  lead_to_decides : (id : ℕ) (label : Option Term) → IsBlockId t id → Decides (IsDecided t s) (lead_to id label)
+  lead_to_decides : (id : ℕ) (label : Option Term) → IsBlockId t id → Decides t seed s (IsDecided t s) (lead_to id label)
   lead_to_decides id (Some (Label name)) named =
       keeps_asks (items.Label name) refl (λ numbered there. tt) (go_to_decides id name (label_at t name) refl named)
   lead_to_decides id (Some term) named = keeps_gives (named, tt, tt)
   lead_to_decides id None named = keeps_gives (named, tt, tt)
 
-  transfer_decides : (id : ℕ) (fraction near far : Option Term) → IsBlockId t id → Decides (IsDecided t s) (transfer_prog id fraction near far)
-  transfer_decides id (Some (Fraction part)) near far named = keeps_bind (draw_decides 0 (omega arith))
+  transfer_decides : (id : ℕ) (fraction near far : Option Term) → IsBlockId t id → Decides t seed s (IsDecided t s) (transfer_prog id fraction near far)
+  transfer_decides id (Some (Fraction part)) near far named = keeps_bind (draw_decides t seed s 0 (omega arith))
       (λ x h. lead_to_decides id (cond (nat_lt (millionths x) part) far near) named)
   transfer_decides id (Some term) near far named = lead_to_decides id near named
   transfer_decides id None near far named = lead_to_decides id near named
 
   -- PRIORITY
-  priority_decides : (q : Asker) (id : ℕ) (priority : Option Term) → IsBlockId t id → Decides (IsDecided t s) (priority_prog s q id priority)
-  priority_decides q id priority named = keeps_bind (value_there_decides q priority) (λ p h. keeps_gives (named, tt, tt))
+  priority_decides : (q : Asker) (id : ℕ) (priority : Option Term) → IsBlockId t id → Decides t seed s (IsDecided t s) (priority_prog s q id priority)
+  priority_decides q id priority named = keeps_bind (value_there_decides t seed s q priority) (λ p h. keeps_gives (named, tt, tt))
 
-  block_decides : (x : Transaction) (id : ℕ) (b : Block) (verb : BlockVerb) → IsBlockId t id → Decides (IsDecided t s) (block_prog s x id b verb)
+  block_decides : (x : Transaction) (id : ℕ) (b : Block) (verb : BlockVerb) → IsBlockId t id → Decides t seed s (IsDecided t s) (block_prog s x id b verb)
   block_decides x id b blocks.Generate named = generate_decides x id (operand b A) (operand b B) (operand b D) (operand b E) named
   block_decides x id b blocks.Advance named = advance_decides (for_one s x) id (operand b A) (operand b B) named
   block_decides x id b blocks.Terminate named = terminate_decides (for_one s x) id (operand b A) named
@@ -453,19 +289,19 @@ module _ (t : Listing) (seed : ℕ) (s : Machine) where
 
   -- attempts: an id that is no block ends the run
   try_block : (x : Transaction) (id : ℕ) (block : Option Block) → block_at t id ≡ block →
-      Decides (IsDecided t s) (asks (items.Block id) (meet_prog s x id))
+      Decides t seed s (IsDecided t s) (asks (items.Block id) (meet_prog s x id))
   try_block x id None is =
       record { from = λ streams. record { runs = λ d there. absurd (let ends = ap (λ o. result_of t seed (meet_prog s x id o streams)) is in cc) } }
   try_block x id (Some block) is =
       let there : IsBlockId t id = inr (block, is) in
       keeps_asks (items.Block id) refl (λ numbered named. there)
-      (subst (λ o. Decides (IsDecided t s) (meet_prog s x id o)) (sym is) (block_decides x id block block.verb there))
+      (subst (λ o. Decides t seed s (IsDecided t s) (meet_prog s x id o)) (sym is) (block_decides x id block block.verb there))
 
-  try_decides : (x : Transaction) (id : Option ℕ) → Decides (IsDecided t s) (try_prog s x id)
+  try_decides : (x : Transaction) (id : Option ℕ) → Decides t seed s (IsDecided t s) (try_prog s x id)
   try_decides x None = keeps_ends
   try_decides x (Some id) = try_block x id (block_at t id) refl
 
-  attempt_decides : (x : Transaction) (destination : Option ℕ) → s.active ≡ Some x → Decides (IsDecided t s) (attempt_prog s x destination)
+  attempt_decides : (x : Transaction) (destination : Option ℕ) → s.active ≡ Some x → Decides t seed s (IsDecided t s) (attempt_prog s x destination)
   attempt_decides x None is =
       keeps_asks (items.After x.current) refl
       (λ numbered named. (let here : TransactionNames t x = subst (λ o. ActiveNames t o) is named in here.current)) (try_decides x _)
@@ -473,21 +309,21 @@ module _ (t : Listing) (seed : ℕ) (s : Machine) where
 
   -- the clock
   within_decides : (time : ℕ) (within : Bool) → nat_le time t.horizon ≡ within → least_time s.future ≡ Some time →
-      Decides (IsDecided t s) (within_prog time within)
+      Decides t seed s (IsDecided t s) (within_prog time within)
   within_decides time true is least = keeps_gives (least, is)
   within_decides time false is least = keeps_ends
 
-  clock_decides : (time : Option ℕ) → least_time s.future ≡ time → Decides (IsDecided t s) (clock_prog time)
+  clock_decides : (time : Option ℕ) → least_time s.future ≡ time → Decides t seed s (IsDecided t s) (clock_prog time)
   clock_decides None least = keeps_ends
   clock_decides (Some time) least =
       keeps_asks (items.Within time) refl (λ numbered named. tt) (within_decides time (nat_le time t.horizon) refl least)
 
   -- the scan
-  pick_decides : (chain : List Transaction) → s.active ≡ None → Decides (IsDecided t s) (pick_prog s chain)
+  pick_decides : (chain : List Transaction) → s.active ≡ None → Decides t seed s (IsDecided t s) (pick_prog s chain)
   pick_decides [] none = clock_decides (least_time s.future) refl
   pick_decides (x ∷ xs) none = keeps_gives none
 
-  scan_decides : (active : Option Transaction) → s.active ≡ active → Decides (IsDecided t s) (scan_prog s active)
+  scan_decides : (active : Option Transaction) → s.active ≡ active → Decides t seed s (IsDecided t s) (scan_prog s active)
   scan_decides None is = pick_decides s.current is
   scan_decides (Some x) is = attempt_decides x x.destination is
 

@@ -4,6 +4,7 @@ pub mod Follows
 pub mod MovedLists
 pub mod Delays
 pub mod MovedChanges
+pub mod MovedValues
 pub mod MovedSteps
 pub mod Renaming
 pub mod Renumbering
@@ -13,6 +14,7 @@ pub mod Keeps
 pub mod Generates
 pub mod Labels
 pub mod Known
+pub mod DecidedValues
 pub mod Decided
 pub mod Moves
 pub mod Running

@@ -2,7 +2,8 @@
 use Rattle.std.proofs.Common.{[], ◌∷◌, Option, Some, None, pos, false, refl}
 use Rattle.gw_names.specs.declared.verb.BlockVerb.TheVariants as blocks
 use Rattle.gw_names.specs.declared.key.Key.TheVariants as keys
-use Rattle.gw_expr.specs.Term.{Term, Constant, Named, Defined}
+use Rattle.gw_expr.specs.Term.{Term, Value, Named, Defined}
+use Rattle.gw_expr.specs.declared.atom.Atom.TheVariants as atoms
 use Rattle.gw_entities.specs.Records.{never_owned, seized, queued, no_line, never_used, entered}
 use Rattle.gw_meaning.specs.declared.statement.Definition.TheVariants as definitions
 use Rattle.gw_meaning.specs.declared.statement.Body.TheVariants as bodies
@@ -12,7 +13,7 @@ use Rattle.gw_meaning.specs.declared.moves.Change.TheVariants as changes
 use Rattle.gw_meaning.specs.declared.transaction_change.TransactionChange.TheVariants as own
 use Rattle.gw_meaning.specs.declared.moves.Fate.TheVariants as fates
 use Rattle.gw_meaning.specs.Listing.{Listing}
-use Rattle.gw_meaning.specs.Evaluation.{value_prog}
+use Rattle.gw_meaning.specs.Evaluation.{value_prog, atom_prog}
 use Rattle.gw_meaning.specs.Machine.{Machine, zero_state}
 use Rattle.gw_laws.specs.Verbs.{EachVerbIsEvaluated}
 
@@ -57,7 +58,7 @@ in_use = record zero_state {
 }
 
 pub each_verb_is_evaluated : EachVerbIsEvaluated
-unfolding value_prog
+unfolding value_prog atom_prog
 each_verb_is_evaluated blocks.Generate given forms is = record {
   version = version;
   block = record { verb = blocks.Generate; operands = [] };
@@ -170,7 +171,7 @@ each_verb_is_evaluated blocks.Mark given forms is = record {
 }
 each_verb_is_evaluated blocks.Priority given forms is = record {
   version = version;
-  block = record { verb = blocks.Priority; operands = Some (Constant (pos 1)) ∷ [] };
+  block = record { verb = blocks.Priority; operands = Some (Value (atoms.Constant (pos 1))) ∷ [] };
   state = zero_state;
   transaction = first;
   change = (changes.Transaction (own.Priority (pos 1)));

@@ -14,11 +14,12 @@ use Rattle.gw_names.specs.Words.{class_word, classes, is_class, upper_of, verb_o
 use Rattle.gw_names.specs.Names.{name_of, is_name_byte, is_name_text}
 use Rattle.gw_expr.specs.declared.attribute.Subject.{Subject}
 use Rattle.gw_expr.specs.declared.attribute.Subject.TheVariants as subjects
-use Rattle.gw_expr.specs.Term.{Term, Attribute}
+use Rattle.gw_expr.specs.declared.atom.Atom.{Atom}
+use Rattle.gw_expr.specs.declared.atom.Atom.TheVariants as atoms
 use Rattle.gw_lines.specs.declared.attribute.Scope.{Scope}
 use Rattle.gw_lines.specs.declared.attribute.Scope.TheVariants as scopes
 use Rattle.gw_lines.specs.Numbers.{number_of, value_of, from_one}
-use Rattle.gw_lines.specs.Attributes.{scope_of, own_in, number_in, name_in, or_name, subject_of, of_class, or_term, attribute_in, attribute_of}
+use Rattle.gw_lines.specs.Attributes.{scope_of, own_in, number_in, name_in, or_name, subject_of, of_class, or_atom, attribute_in, attribute_of}
 use Rattle.gw_lines.specs.Spelling.{Digits, Number, first_digit, next_digit, SpellsAttribute, alone, numbered_one, named_one, of_block, of_stream}
 use Rattle.gw_lines.proofs.Results.{some_is}
 use Rattle.gw_lines.proofs.Fronts.{and_false}
@@ -29,7 +30,7 @@ use Rattle.gw_lines.proofs.Digits.{mapped, number_found, number_again, from_one_
 -- what stands behind the word of a class: the class alone decides how it is read, and digits make it no name
 record Behind (class : Class) (rest : List ℕ) : Type 0 where
   read : (of : Subject) → subject_of (scope_of class) rest ≡ Some of
-      → attribute_in classes (class_word class ++ rest) ≡ Some (Attribute class of)
+      → attribute_in classes (class_word class ++ rest) ≡ Some (atoms.Attribute class of)
   barred : list_all is_ascii_digit (upper_of rest) ≡ true → is_class (upper_of (class_word class ++ rest)) ≡ true
   value : value_of (class_word class ++ rest) ≡ None
   number : number_of 1000000000 (class_word class ++ rest) ≡ None
@@ -129,47 +130,47 @@ subject_found class scopes.Stream rest of s e = stream_found class rest of s e
 subject_found class scopes.Later rest of s e = absurd cc
 
 -- an attribute that a text spells
-abbrev pub Spelled : List ℕ → Term → Type 0
-Spelled text t = (class : Class) × (of : Subject) × SpellsAttribute text class of × (Attribute class of ≡ t)
+abbrev pub Spelled : List ℕ → Atom → Type 0
+Spelled text t = (class : Class) × (of : Subject) × SpellsAttribute text class of × (atoms.Attribute class of ≡ t)
 
-class_found : (class : Class) (text : List ℕ) (t : Term) → of_class class text ≡ Some t → Spelled text t
+class_found : (class : Class) (text : List ℕ) (t : Atom) → of_class class text ≡ Some t → Spelled text t
 class_found class text t e =
     elim (cases_Bool (starts_with nat_eq text (class_word class))) [
       | inr other ↦ absurd (let f = rw other at e in cc)
       | inl holds ↦
           let rest = drop (length (class_word class)) text in
-          let m = mapped (λ of. Attribute class of) (subject_of (scope_of class) rest) t (rw holds at e) in
+          let m = mapped (λ of. atoms.Attribute class of) (subject_of (scope_of class) rest) t (rw holds at e) in
           let is : text ≡ class_word class ++ rest = (starts_is Decides-eqb text (class_word class) _ refl).0 holds in
           let s = subject_found class (scope_of class) rest m.0 refl m.1 in
           (class, m.0, subst (λ (x : List ℕ). SpellsAttribute x class m.0) (sym is) s, m.2)
     ]
 
-found_by : (class : Class) (others : List Class) (text : List ℕ) (t : Term) (read : Option Term)
-    → of_class class text ≡ read → or_term read (attribute_in others text) ≡ Some t
+found_by : (class : Class) (others : List Class) (text : List ℕ) (t : Atom) (read : Option Atom)
+    → of_class class text ≡ read → or_atom read (attribute_in others text) ≡ Some t
     → (attribute_in others text ≡ Some t → Spelled text t) → Spelled text t
 found_by class others text t (Some other) is e later = class_found class text t (is ∙ e)
 found_by class others text t None is e later = later e
 
-found_in : (cs : List Class) (text : List ℕ) (t : Term) → attribute_in cs text ≡ Some t → Spelled text t
+found_in : (cs : List Class) (text : List ℕ) (t : Atom) → attribute_in cs text ≡ Some t → Spelled text t
 found_in [] text t e = absurd cc
 found_in (class ∷ others) text t e =
     found_by class others text t (of_class class text) refl e (λ later. found_in others text t later)
 
-pub attribute_found : (text : List ℕ) (t : Term) → attribute_of text ≡ Some t → Spelled text t
+pub attribute_found : (text : List ℕ) (t : Atom) → attribute_of text ≡ Some t → Spelled text t
 unfolding attribute_of
 attribute_found text t e = found_in classes text t e
 
 -- ---- what is spelled so is read, and is nothing else
 
 -- a text that is an attribute, and neither a name nor a number
-pub record Alone (text : List ℕ) (t : Term) : Type 0 where
+pub record Alone (text : List ℕ) (t : Atom) : Type 0 where
   pub attribute : attribute_of text ≡ Some t
   pub name : name_of text ≡ None
   pub value : value_of text ≡ None
   pub number : number_of 1000000000 text ≡ None
 
 -- nothing is no attribute
-pub nothing_read : (t : Term) → attribute_of [] ≡ Some t → ⊥
+pub nothing_read : (t : Atom) → attribute_of [] ≡ Some t → ⊥
 unfolding attribute_of
 nothing_read t e = cc
 
@@ -211,7 +212,7 @@ upper_digits (next_digit text n b d h) =
     (and_from (is_ascii_digit (to_ascii_uppercase b)) true (upper_digit b h) refl)
 
 so_read : (class : Class) (rest : List ℕ) (of : Subject) → subject_of (scope_of class) rest ≡ Some of
-    → name_of (class_word class ++ rest) ≡ None → Alone (class_word class ++ rest) (Attribute class of)
+    → name_of (class_word class ++ rest) ≡ None → Alone (class_word class ++ rest) (atoms.Attribute class of)
 unfolding attribute_of
 so_read class rest of e name =
     let b = behind class rest in
@@ -229,10 +230,10 @@ digits_barred class {digits} d =
     let b = behind class digits in barred_first (class_word class ++ digits) (b.barred (upper_digits d))
 
 pub attribute_again : {text : List ℕ} {class : Class} {of : Subject} → SpellsAttribute text class of
-    → Alone text (Attribute class of)
+    → Alone text (atoms.Attribute class of)
 attribute_again (alone class s) =
     let b = behind class [] in
-    subst (λ (t : List ℕ). Alone t (Attribute class subjects.Own)) (append-nil (class_word class))
+    subst (λ (t : List ℕ). Alone t (atoms.Attribute class subjects.Own)) (append-nil (class_word class))
     (so_read class [] subjects.Own (rw s refl) (barred_first (class_word class ++ []) (b.barred refl)))
 attribute_again (numbered_one class digits n s h from) =
     so_read class digits (subjects.Number n) (rw (s, number_in_again 1000000000 digits n h from) refl)

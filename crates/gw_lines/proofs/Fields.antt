@@ -2,7 +2,9 @@
 use Rattle.std.proofs.Common.{◌≡◌, ℕ, ◌&&◌, Bool, true, false, List, [], ◌∷◌, Option, Some, None, refl, ◌∙◌, ◌⊎◌, inl, inr}
 use Rattle.std.specs.Prelude.{ℤ, map, option_map, pos}
 use Rattle.std.proofs.lemmas.Bool.{and_parts}
-use Rattle.gw_expr.specs.Term.{Term, Attribute, Constant, Defined, Fraction, Label, Named, Number}
+use Rattle.gw_expr.specs.declared.atom.Atom.TheVariants as atoms
+use Rattle.gw_expr.specs.Expressions.{postfix}
+use Rattle.gw_expr.specs.Term.{Term, Value, Computed, Defined, Fraction, Label, Named}
 use Rattle.gw_lines.specs.declared.form.Kind.{Kind}
 use Rattle.gw_lines.specs.declared.form.Kind.TheVariants as kinds
 use Rattle.gw_lines.specs.declared.form.Presence.{Presence}
@@ -12,7 +14,7 @@ use Rattle.gw_lines.specs.declared.operand.Operand.{Operand}
 use Rattle.gw_lines.specs.declared.operand.Operand.TheVariants as operands
 use Rattle.gw_lines.specs.Forms.{value, whole}
 use Rattle.gw_lines.specs.Parts.{part_of, is_missing}
-use Rattle.gw_lines.specs.Spelling.{SpellsOperand, absent, a_value, a_constant, named_value, attribute_value, a_whole, a_key, named_entity, numbered_entity, attribute_entity, a_fraction, a_label, a_definition, SpellsAll, no_form, stands, unwritten}
+use Rattle.gw_lines.specs.Spelling.{SpellsOperand, absent, a_value, a_constant, named_value, attribute_value, computed_value, a_whole, a_key, named_entity, numbered_entity, attribute_entity, computed_entity, a_fraction, a_label, a_definition, SpellsAll, no_form, stands, unwritten}
 
 abbrev pub Data : Kind → Type 0
 Data kinds.Value = Term
@@ -26,7 +28,7 @@ Data kinds.Defined = Term
 
 abbrev pub data_operand : (kind : Kind) → Data kind → Option Operand
 data_operand kinds.Value t = Some (operands.Value t)
-data_operand kinds.Constant z = Some (operands.Value (Constant z))
+data_operand kinds.Constant z = Some (operands.Value (Value (atoms.Constant z)))
 data_operand (kinds.Whole most) n = Some (operands.Whole n)
 data_operand kinds.Quiet u = None
 data_operand kinds.Entity t = Some (operands.Value t)
@@ -41,7 +43,7 @@ Field presence kind = Option (Data kind)
 -- an operand that may be absent; a key word leaves no trace
 abbrev pub maybe : (kind : Kind) → Option (Data kind) → Option Operand
 maybe kinds.Value d = value d
-maybe kinds.Constant d = value (option_map (λ z. Constant z) d)
+maybe kinds.Constant d = value (option_map (λ z. Value (atoms.Constant z)) d)
 maybe (kinds.Whole most) d = whole d
 maybe kinds.Quiet d = None
 maybe kinds.Entity d = value d
@@ -77,15 +79,17 @@ field_operand presences.Written kind d = maybe kind d
 data_of : {kind : Kind} {text : List ℕ} {o : Option Operand} → SpellsOperand kind text o
     → ((d : Data kind) × (data_operand kind d ≡ o)) ⊎ ((text ≡ []) × (None ≡ o))
 data_of (absent kind) = inr (refl, refl)
-data_of (a_value text z v) = inl (Constant z, refl)
+data_of (a_value text z v) = inl (Value (atoms.Constant z), refl)
 data_of (a_constant text z v) = inl (z, refl)
-data_of (named_value text name e) = inl (Number name, refl)
-data_of (attribute_value text class of s) = inl (Attribute class of, refl)
+data_of (named_value text name e) = inl (Value (atoms.Number name), refl)
+data_of (attribute_value text class of s) = inl (Value (atoms.Attribute class of), refl)
+data_of (computed_value text e s) = inl (Computed (postfix e), refl)
 data_of (a_whole most text n h from) = inl (n, refl)
 data_of a_key = inl (tt, refl)
 data_of (named_entity text name e) = inl (Named name, refl)
-data_of (numbered_entity text n h from) = inl (Constant (pos n), refl)
-data_of (attribute_entity text class of s) = inl (Attribute class of, refl)
+data_of (numbered_entity text n h from) = inl (Value (atoms.Constant (pos n)), refl)
+data_of (attribute_entity text class of s) = inl (Value (atoms.Attribute class of), refl)
+data_of (computed_entity text e s) = inl (Computed (postfix e), refl)
 data_of (a_fraction text n f) = inl (Fraction n, refl)
 data_of (a_label text name e) = inl (Label name, refl)
 data_of (a_definition text name e) = inl (Defined name, refl)
@@ -172,15 +176,17 @@ is_value kind = false
 one_value : {kind : Kind} {text : List ℕ} {o : Option Operand} → is_value kind ≡ true → SpellsOperand kind text o
     → (v : Option Term) × (value v ≡ o)
 one_value w (absent kind) = (None, refl)
-one_value w (a_value text z v) = (Some (Constant z), refl)
-one_value w (a_constant text z v) = (Some (Constant z), refl)
-one_value w (named_value text name e) = (Some (Number name), refl)
-one_value w (attribute_value text class of s) = (Some (Attribute class of), refl)
+one_value w (a_value text z v) = (Some (Value (atoms.Constant z)), refl)
+one_value w (a_constant text z v) = (Some (Value (atoms.Constant z)), refl)
+one_value w (named_value text name e) = (Some (Value (atoms.Number name)), refl)
+one_value w (attribute_value text class of s) = (Some (Value (atoms.Attribute class of)), refl)
+one_value w (computed_value text e s) = (Some (Computed (postfix e)), refl)
 one_value w (a_whole most text n h from) = absurd cc
 one_value w a_key = absurd cc
 one_value w (named_entity text name e) = (Some (Named name), refl)
-one_value w (numbered_entity text n h from) = (Some (Constant (pos n)), refl)
-one_value w (attribute_entity text class of s) = (Some (Attribute class of), refl)
+one_value w (numbered_entity text n h from) = (Some (Value (atoms.Constant (pos n))), refl)
+one_value w (attribute_entity text class of s) = (Some (Value (atoms.Attribute class of)), refl)
+one_value w (computed_entity text e s) = (Some (Computed (postfix e)), refl)
 one_value w (a_fraction text n f) = (Some (Fraction n), refl)
 one_value w (a_label text name e) = (Some (Label name), refl)
 one_value w (a_definition text name e) = (Some (Defined name), refl)
@@ -200,11 +206,13 @@ one_whole w (a_value text z v) = absurd cc
 one_whole w (a_constant text z v) = absurd cc
 one_whole w (named_value text name e) = absurd cc
 one_whole w (attribute_value text class of s) = absurd cc
+one_whole w (computed_value text e s) = absurd cc
 one_whole w (a_whole most text n h from) = (Some n, refl)
 one_whole w a_key = absurd cc
 one_whole w (named_entity text name e) = absurd cc
 one_whole w (numbered_entity text n h from) = absurd cc
 one_whole w (attribute_entity text class of s) = absurd cc
+one_whole w (computed_entity text e s) = absurd cc
 one_whole w (a_fraction text n f) = absurd cc
 one_whole w (a_label text name e) = absurd cc
 one_whole w (a_definition text name e) = absurd cc

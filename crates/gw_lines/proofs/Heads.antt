@@ -14,7 +14,7 @@ use Rattle.gw_lines.specs.declared.class.Class.TheVariants as class
 use Rattle.gw_lines.specs.declared.fault.LineFault.{LineFault}
 use Rattle.gw_lines.specs.Reading.{◌>>=◌}
 use Rattle.gw_lines.specs.Classes.{is_in, is_blank, front_of, rest_of, is_nothing, is_plain, are_plain}
-use Rattle.gw_lines.specs.Operands.{listed_of}
+use Rattle.gw_lines.specs.Listed.{listed_of}
 use Rattle.gw_lines.specs.Bodies.{body_of}
 use Rattle.gw_lines.specs.Lines.{word_of, behind_word, verb_in, is_command, needs_label, or_bad_label, label_of, no_label_of, plain_of, operands_of, unlabelled_of, labelled_of, by_first, by_second, coded_of, behind_number}
 use Rattle.gw_lines.specs.Spelling.{AreIn, Stops, Behind, Head, first_word, second_word, Label, no_label, named, ArePlain, Numbering, unnumbered, numbered, Coded}
@@ -118,19 +118,19 @@ pub both_stop : (text : List ℕ) → Stops class.Mark text → Stops class.Blan
 both_stop [] m s = refl
 both_stop (b ∷ bs) m s = absurd (both_ways (is_blank b) s (not_false (is_blank b) m))
 
-behind_all : (bytes : List ℕ) → Stops class.Mark bytes → Behind bytes (listed_of true (rest_of class.Blank bytes))
+behind_all : (bytes : List ℕ) → Stops class.Mark bytes → Behind bytes (listed_of true 0 (rest_of class.Blank bytes))
 behind_all bytes m =
     let e = parts class.Blank bytes in
     let b = behind_of (front_of class.Blank bytes) (rest_of class.Blank bytes) (front_all class.Blank bytes) (subst (λ (t : List ℕ). Stops class.Mark t) e m)
     (rest_stops class.Blank bytes) in
-    subst (λ (t : List ℕ). Behind t (listed_of true (rest_of class.Blank bytes))) (sym e) b
+    subst (λ (t : List ℕ). Behind t (listed_of true 0 (rest_of class.Blank bytes))) (sym e) b
 
-pub head_first : (words : List ℕ) (verb : Verb) → verb_in (word_of words) ≡ Some verb → Head words None verb (listed_of true (behind_word words))
+pub head_first : (words : List ℕ) (verb : Verb) → verb_in (word_of words) ≡ Some verb → Head words None verb (listed_of true 0 (behind_word words))
 head_first words verb v =
     let rest = rest_of class.Mark words in
-    let h = first_word (word_of words) rest verb (listed_of true (behind_word words)) (front_all class.Mark words) v
+    let h = first_word (word_of words) rest verb (listed_of true 0 (behind_word words)) (front_all class.Mark words) v
     (behind_all rest (rest_stops class.Mark words)) in
-    subst (λ (t : List ℕ). Head t None verb (listed_of true (behind_word words))) (sym (parts class.Mark words)) h
+    subst (λ (t : List ℕ). Head t None verb (listed_of true 0 (behind_word words))) (sym (parts class.Mark words)) h
 
 pub no_word : verb_in [] ≡ None
 unfolding verb_of
@@ -153,7 +153,7 @@ two_are words =
     ∙ ap (λ (t : List ℕ). front_of class.Blank rest ++ t) (parts class.Mark (behind_word words)))
 
 pub head_second : (words : List ℕ) (verb : Verb) → verb_in (word_of words) ≡ None → verb_in (word_of (behind_word words)) ≡ Some verb
-    → Head words (Some (word_of words)) verb (listed_of true (behind_word (behind_word words)))
+    → Head words (Some (word_of words)) verb (listed_of true 0 (behind_word (behind_word words)))
 head_second words verb n v =
     let rest = rest_of class.Mark words in
     let blanks = front_of class.Blank rest in
@@ -162,9 +162,9 @@ head_second words verb n v =
     let some : blanks ≢ [] = blanks_before words (λ (nothing : second ≡ []).
     (let f : None ≡ Some verb = sym no_word ∙ ap (λ (t : List ℕ). verb_in (word_of t)) (sym nothing) ∙ v in
     absurd cc)) in
-    let h = second_word (word_of words) blanks (word_of second) behind verb (listed_of true (behind_word second)) (front_all class.Mark words) n
+    let h = second_word (word_of words) blanks (word_of second) behind verb (listed_of true 0 (behind_word second)) (front_all class.Mark words) n
     (front_all class.Blank rest) some (front_all class.Mark second) v (behind_all behind (rest_stops class.Mark second)) in
-    subst (λ (t : List ℕ). Head t (Some (word_of words)) verb (listed_of true (behind_word second))) (sym (two_are words)) h
+    subst (λ (t : List ℕ). Head t (Some (word_of words)) verb (listed_of true 0 (behind_word second))) (sym (two_are words)) h
 
 -- ---- found
 
@@ -238,7 +238,7 @@ unlabelled_found : (words : List ℕ) (verb : Verb) (s : Statement) → verb_in 
     → Coded words s
 unfolding unlabelled_of operands_of
 unlabelled_found words verb s v e =
-    let kept = listed_of true (behind_word words) in
+    let kept = listed_of true 0 (behind_word words) in
     let m = unlabelled_steps (plain_of (upper_of kept)) (no_label_of verb) (body_of verb) s e in
     let p = plain_found (upper_of kept) s.operands m.made.a_is in
     record {
@@ -256,7 +256,7 @@ labelled_found : (words : List ℕ) (verb : Verb) (s : Statement) → verb_in (w
     → labelled_of (word_of words) verb (behind_word (behind_word words)) ≡ Ok s → Coded words s
 unfolding labelled_of operands_of
 labelled_found words verb s n v e =
-    let kept = listed_of true (behind_word (behind_word words)) in
+    let kept = listed_of true 0 (behind_word (behind_word words)) in
     let word = word_of words in
     let m = labelled_steps (plain_of word) (plain_of (upper_of kept)) (label_of verb word) (body_of verb) s e in
     let w = plain_found word m.word m.p_is in
@@ -310,10 +310,10 @@ abbrev pub at_head : Option (List ℕ) → Verb → List ℕ → Result Statemen
 at_head None verb kept = at_head_first verb kept
 at_head (Some word) verb kept = at_head_second word verb kept
 
-behind_is : {behind kept : List ℕ} → Behind behind kept → listed_of true (rest_of class.Blank behind) ≡ kept
+behind_is : {behind kept : List ℕ} → Behind behind kept → listed_of true 0 (rest_of class.Blank behind) ≡ kept
 behind_is b =
     let p = parted_of b in
-    ap (λ (t : List ℕ). listed_of true (rest_of class.Blank t)) p.is ∙ ap (listed_of true) (rest_again class.Blank p.blanks p.text p.are_blanks p.begins)
+    ap (λ (t : List ℕ). listed_of true 0 (rest_of class.Blank t)) p.is ∙ ap (listed_of true 0) (rest_again class.Blank p.blanks p.text p.are_blanks p.begins)
     ∙ p.keeps
 
 mark_no_blank : (word behind : List ℕ) → AreIn class.Mark word → word ≢ [] → Stops class.Blank (word ++ behind)
@@ -341,7 +341,7 @@ head_is (first_word word behind verb kept m v b) =
     let first : word_of (word ++ behind) ≡ word = front_again class.Mark word behind m s in
     let rest : behind_word (word ++ behind) ≡ rest_of class.Blank behind = ap (rest_of class.Blank) (rest_again class.Mark word behind m s) in
     let is : verb_in (word_of (word ++ behind)) ≡ Some verb = ap verb_in first ∙ v in
-    let k : listed_of true (behind_word (word ++ behind)) ≡ kept = ap (listed_of true) rest ∙ behind_is b in
+    let k : listed_of true 0 (behind_word (word ++ behind)) ≡ kept = ap (listed_of true 0) rest ∙ behind_is b in
     ap (λ (o : Option Verb). by_first o (word ++ behind)) is ∙ ap (λ (t : List ℕ). at_head_first verb t) k
 head_is (second_word label blanks word behind verb kept m n k some w v b) =
     let words = label ++ (blanks ++ (word ++ behind)) in
@@ -354,9 +354,9 @@ head_is (second_word label blanks word behind verb kept m n k some w v b) =
     ∙ ap verb_in (front_again class.Mark word behind w s) ∙ v in
     let rest : behind_word (behind_word words) ≡ rest_of class.Blank behind = ap behind_word second
     ∙ ap (rest_of class.Blank) (rest_again class.Mark word behind w s) in
-    let keeps : listed_of true (behind_word (behind_word words)) ≡ kept = ap (listed_of true) rest ∙ behind_is b in
+    let keeps : listed_of true 0 (behind_word (behind_word words)) ≡ kept = ap (listed_of true 0) rest ∙ behind_is b in
     ap (λ (o : Option Verb). by_first o words) none ∙ ap (λ (o : Option Verb). by_second o words) is
-    ∙ ap (λ (x : List ℕ). at_head_second x verb (listed_of true (behind_word (behind_word words)))) first
+    ∙ ap (λ (x : List ℕ). at_head_second x verb (listed_of true 0 (behind_word (behind_word words)))) first
     ∙ ap (λ (x : List ℕ). at_head_second label verb x) keeps
 
 pub plain_again : (text : List ℕ) → are_plain text ≡ true → plain_of text ≡ Ok text

@@ -1,70 +1,115 @@
 -- The operand list as it is written and as it is kept.
-use Rattle.std.proofs.Common.{◌≡◌, ℕ, ◌==◌, not, Bool, true, false, List, [], ◌∷◌, ◌++◌, refl, sym, ap, subst, ◌∙◌, append_assoc, inl, inr}
+use Rattle.std.proofs.Common.{◌≡◌, ℕ, zero, suc, ◌==◌, ◌&&◌, not, true, false, List, [], ◌∷◌, ◌++◌, refl, sym, ap, subst, ◌∙◌, inl, inr}
 use Rattle.std.specs.List.{list_all}
 use Rattle.std.proofs.lemmas.Bool.{and_from, and_parts, both_ways, cases_Bool, eqb-true}
 use Rattle.std.proofs.lemmas.List.{append-nil}
 use Rattle.gw_lines.specs.declared.class.Class.TheVariants as class
 use Rattle.gw_lines.specs.Classes.{is_in, is_blank}
-use Rattle.gw_lines.specs.Operands.{listed_of}
-use Rattle.gw_lines.specs.Spelling.{AreIn, Stops, is_part, Written, none_written, last_written, more_written, Behind, verb_alone, verb_operands}
+use Rattle.gw_lines.specs.Listed.{listed_of}
+use Rattle.gw_lines.specs.Spelling.{AreIn, Stops, is_part, Part, nothing, mark, opening, closing, stray, inner_comma, inner_blank, Written, none_written, last_written, never_closed, more_written, Behind, verb_alone, verb_operands}
 use Rattle.gw_lines.proofs.Fronts.{not_true, not_false, blank_no_mark}
 
 -- ---- one byte
 
-blank_skipped : (b : ℕ) (bs : List ℕ) → is_blank b ≡ true → listed_of true (b ∷ bs) ≡ listed_of true bs
+blank_skipped : (b : ℕ) (bs : List ℕ) → is_blank b ≡ true → listed_of true 0 (b ∷ bs) ≡ listed_of true 0 bs
 blank_skipped b bs h = rw h refl
 
-blank_ends : (b : ℕ) (bs : List ℕ) → is_blank b ≡ true → listed_of false (b ∷ bs) ≡ []
+blank_ends : (b : ℕ) (bs : List ℕ) → is_blank b ≡ true → listed_of false 0 (b ∷ bs) ≡ []
 blank_ends b bs h = rw h refl
 
-comma_kept : (skips : Bool) (bs : List ℕ) → listed_of skips (44 ∷ bs) ≡ 44 ∷ listed_of true bs
-comma_kept skips bs = refl
+blank_inside : (depth b : ℕ) (bs : List ℕ) → is_blank b ≡ true
+    → listed_of false (suc depth) (b ∷ bs) ≡ listed_of false (suc depth) bs
+blank_inside depth b bs h = rw h refl
 
-part_kept : (skips : Bool) (b : ℕ) (bs : List ℕ) → is_part b ≡ true → listed_of skips (b ∷ bs) ≡ b ∷ listed_of false bs
-part_kept skips b bs h =
-    let a = and_parts (not (is_blank b)) (not (b == 44)) h in
-    rw (not_true (is_blank b) a.0, not_true (b == 44) a.1) refl
+-- a byte that is no blank is kept, whether or not blanks are skipped before it
+mark_first : (b : ℕ) (bs : List ℕ) → is_blank b ≡ false → listed_of true 0 (b ∷ bs) ≡ listed_of false 0 (b ∷ bs)
+mark_first b bs h = rw h refl
+
+record IsPart (b : ℕ) : Type 0 where
+  blank : is_blank b ≡ false
+  comma : (b == 44) ≡ false
+  opens : (b == 40) ≡ false
+  closes : (b == 41) ≡ false
+
+part_is : (b : ℕ) → is_part b ≡ true → IsPart b
+part_is b h =
+    let a = and_parts (not (is_blank b)) (not (b == 44) && (not (b == 40) && not (b == 41))) h in
+    let c = and_parts (not (b == 44)) (not (b == 40) && not (b == 41)) a.1 in
+    let d = and_parts (not (b == 40)) (not (b == 41)) c.1 in
+    record {
+      blank = not_true (is_blank b) a.0;
+      comma = not_true (b == 44) c.0;
+      opens = not_true (b == 40) d.0;
+      closes = not_true (b == 41) d.1;
+    }
+
+part_kept : (depth b : ℕ) (bs : List ℕ) → is_part b ≡ true → listed_of false depth (b ∷ bs) ≡ b ∷ listed_of false depth bs
+part_kept depth b bs h = let i = part_is b h in rw (i.blank, i.comma, i.opens, i.closes) refl
 
 -- ---- what is written so is kept so
 
-blanks_skipped : (blanks text : List ℕ) → AreIn class.Blank blanks → listed_of true (blanks ++ text) ≡ listed_of true text
+blanks_skipped : (blanks text : List ℕ) → AreIn class.Blank blanks → listed_of true 0 (blanks ++ text) ≡ listed_of true 0 text
 blanks_skipped [] text h = refl
 blanks_skipped (b ∷ bs) text h =
     let a = and_parts (is_blank b) (list_all (is_in class.Blank) bs) h in
     blank_skipped b (bs ++ text) a.0 ∙ blanks_skipped bs text a.1
 
-ends : (comment : List ℕ) → Stops class.Mark comment → listed_of false comment ≡ []
+ends : (comment : List ℕ) → Stops class.Mark comment → listed_of false 0 comment ≡ []
 ends [] h = refl
 ends (b ∷ bs) h = blank_ends b bs (not_false (is_blank b) h)
 
-parts_then_end : (text comment : List ℕ) → list_all is_part text ≡ true → Stops class.Mark comment → listed_of false (text ++ comment) ≡ text
-parts_then_end [] comment h s = ends comment s
-parts_then_end (b ∷ bs) comment h s =
-    let a = and_parts (is_part b) (list_all is_part bs) h in
-    part_kept false b (bs ++ comment) a.0 ∙ ap (λ (t : List ℕ). b ∷ t) (parts_then_end bs comment a.1 s)
+-- a part is kept as it is, and what follows it is kept behind it
+then_kept : {depth end : ℕ} {text kept : List ℕ} → Part depth text kept end → (rest : List ℕ)
+    → listed_of false depth (text ++ rest) ≡ kept ++ listed_of false end rest
+then_kept (nothing depth) rest = refl
+then_kept (mark depth b text kept end h p) rest =
+    part_kept depth b (text ++ rest) h ∙ ap (λ (t : List ℕ). b ∷ t) (then_kept p rest)
+then_kept (opening depth text kept end p) rest = ap (λ (t : List ℕ). 40 ∷ t) (then_kept p rest)
+then_kept (closing depth text kept end p) rest = ap (λ (t : List ℕ). 41 ∷ t) (then_kept p rest)
+then_kept (stray text kept end p) rest = ap (λ (t : List ℕ). 41 ∷ t) (then_kept p rest)
+then_kept (inner_comma depth text kept end p) rest = ap (λ (t : List ℕ). 44 ∷ t) (then_kept p rest)
+then_kept (inner_blank depth b text kept end h p) rest = blank_inside depth b (text ++ rest) h ∙ then_kept p rest
 
-parts_then_comma : (skips : Bool) (text rest : List ℕ) → list_all is_part text ≡ true → listed_of skips (text ++ 44 ∷ rest) ≡ text ++ 44 ∷ listed_of true rest
-parts_then_comma skips [] rest h = comma_kept skips rest
-parts_then_comma skips (b ∷ bs) rest h =
-    let a = and_parts (is_part b) (list_all is_part bs) h in
-    part_kept skips b (bs ++ 44 ∷ rest) a.0 ∙ ap (λ (t : List ℕ). b ∷ t) (parts_then_comma false bs rest a.1)
+-- what begins with a part begins with no blank
+part_begins : {b end : ℕ} {bs kept : List ℕ} → Part 0 (b ∷ bs) kept end → is_blank b ≡ false
+part_begins (mark depth b text kept end h p) = let i = part_is b h in i.blank
+part_begins (opening depth text kept end p) = refl
+part_begins (stray text kept end p) = refl
 
-written_kept : {text kept : List ℕ} → Written text kept → listed_of true text ≡ kept
+begin_kept : {end : ℕ} {text kept : List ℕ} → Part 0 text kept end → (rest : List ℕ) → Stops class.Blank (text ++ rest)
+    → listed_of true 0 (text ++ rest) ≡ kept ++ listed_of false end rest
+begin_kept {end} {text} {kept} p rest s = unskipped (text ++ rest) s ∙ then_kept p rest
+  where
+    unskipped : (all : List ℕ) → Stops class.Blank all → listed_of true 0 all ≡ listed_of false 0 all
+    unskipped [] s = refl
+    unskipped (b ∷ bs) s = mark_first b bs s
+
+part_stops : {end : ℕ} {text kept : List ℕ} → Part 0 text kept end → (rest : List ℕ) → Stops class.Blank rest
+    → Stops class.Blank (text ++ rest)
+part_stops {text = []} p rest s = s
+part_stops {text = b ∷ bs} p rest s = part_begins p
+
+no_more : {depth : ℕ} {text kept : List ℕ} → Part 0 text kept (suc depth) → Stops class.Blank text
+no_more {text = []} p = tt
+no_more {text = b ∷ bs} p = part_begins p
+
+written_kept : {text kept : List ℕ} → Written text kept → listed_of true 0 text ≡ kept
 written_kept none_written = refl
-written_kept (last_written b bs comment h s) =
-    let a = and_parts (is_part b) (list_all is_part bs) h in
-    part_kept true b (bs ++ comment) a.0 ∙ ap (λ (t : List ℕ). b ∷ t) (parts_then_end bs comment a.1 s)
-written_kept (more_written operand blanks text kept h k w) =
-    parts_then_comma true operand (blanks ++ text) h ∙ ap (λ (t : List ℕ). operand ++ 44 ∷ t) (blanks_skipped blanks text k ∙ written_kept w)
+written_kept (last_written b bs kept comment p s) =
+    begin_kept p comment (part_begins p) ∙ ap (λ (t : List ℕ). kept ++ t) (ends comment s) ∙ append-nil kept
+written_kept (never_closed text kept depth p) =
+    ap (listed_of true 0) (sym (append-nil text))
+    ∙ begin_kept p [] (subst (λ (t : List ℕ). Stops class.Blank t) (sym (append-nil text)) (no_more p)) ∙ append-nil kept
+written_kept (more_written operand part blanks text kept p k w) =
+    begin_kept p (44 ∷ (blanks ++ text)) (part_stops p (44 ∷ (blanks ++ text)) refl)
+    ∙ ap (λ (t : List ℕ). part ++ 44 ∷ t) (blanks_skipped blanks text k ∙ written_kept w)
 
 -- what Written text says of the text's beginning: no blank
 written_begins : {text kept : List ℕ} → Written text kept → Stops class.Blank text
 written_begins none_written = tt
-written_begins (last_written b bs comment h s) =
-    not_true (is_blank b) (and_parts (not (is_blank b)) (not (b == 44)) (and_parts (is_part b) (list_all is_part bs) h).0).0
-written_begins (more_written [] blanks text kept h k w) = refl
-written_begins (more_written (b ∷ bs) blanks text kept h k w) =
-    not_true (is_blank b) (and_parts (not (is_blank b)) (not (b == 44)) (and_parts (is_part b) (list_all is_part bs) h).0).0
+written_begins (last_written b bs kept comment p s) = part_begins p
+written_begins (never_closed text kept depth p) = no_more p
+written_begins (more_written operand part blanks text kept p k w) = part_stops p (44 ∷ (blanks ++ text)) refl
 
 -- what a verb's blanks and operands are, with the blanks apart
 pub record Parted (behind kept : List ℕ) : Type 0 where
@@ -73,7 +118,7 @@ pub record Parted (behind kept : List ℕ) : Type 0 where
   pub is : behind ≡ blanks ++ text
   pub are_blanks : AreIn class.Blank blanks
   pub begins : Stops class.Blank text
-  pub keeps : listed_of true text ≡ kept
+  pub keeps : listed_of true 0 text ≡ kept
   pub parted : Stops class.Mark behind
 
 pub parted_of : {behind kept : List ℕ} → Behind behind kept → Parted behind kept
@@ -92,9 +137,13 @@ parted_of (verb_operands blanks text kept h some w) =
 
 -- ---- what is kept so is written so
 
--- inside an operand: what is left of it, and what follows
-record Inside (text kept : List ℕ) : Type 0 where
-  pub on : (b : ℕ) (bs : List ℕ) → list_all is_part (b ∷ bs) ≡ true → Written (b ∷ bs ++ text) (b ∷ bs ++ kept)
+-- behind some open parentheses: what is left of the operand, and what follows
+data Inside : ℕ → List ℕ → List ℕ → Type 0 where
+  last : (depth : ℕ) (text kept comment : List ℕ) → Part depth text kept 0 → Stops class.Mark comment
+      → Inside depth (text ++ comment) kept
+  open_to_the_end : (depth : ℕ) (text kept : List ℕ) (end : ℕ) → Part depth text kept (suc end) → Inside depth text kept
+  goes_on : (depth : ℕ) (text part blanks others kept : List ℕ) → Part depth text part 0 → AreIn class.Blank blanks
+      → Written others kept → Inside depth (text ++ 44 ∷ (blanks ++ others)) (part ++ 44 ∷ kept)
 
 -- at the beginning of an operand, with blanks before it that are skipped
 record Open (text kept : List ℕ) : Type 0 where
@@ -104,46 +153,47 @@ record Open (text kept : List ℕ) : Type 0 where
   pub are_blanks : AreIn class.Blank blanks
   pub written : Written rest kept
 
-longer_parts : (bs : List ℕ) (b : ℕ) → list_all is_part bs ≡ true → is_part b ≡ true → list_all is_part (bs ++ b ∷ []) ≡ true
-longer_parts [] b h k = and_from (is_part b) true k refl
-longer_parts (c ∷ cs) b h k =
-    let a = and_parts (is_part c) (list_all is_part cs) h in
-    and_from (is_part c) (list_all is_part (cs ++ b ∷ [])) a.0 (longer_parts cs b a.1 k)
+-- a byte before what stands inside, from what it is before a part
+with_byte : {behind : ℕ} (depth b : ℕ) {text kept : List ℕ}
+    → ((t k : List ℕ) (end : ℕ) → Part behind t k end → Part depth (b ∷ t) (b ∷ k) end)
+    → Inside behind text kept → Inside depth (b ∷ text) (b ∷ kept)
+with_byte depth b on (last behind text kept comment p s) = last depth (b ∷ text) (b ∷ kept) comment (on text kept 0 p) s
+with_byte depth b on (open_to_the_end behind text kept end p) =
+    open_to_the_end depth (b ∷ text) (b ∷ kept) end (on text kept (suc end) p)
+with_byte depth b on (goes_on behind text part blanks others kept p h w) =
+    goes_on depth (b ∷ text) (b ∷ part) blanks others kept (on text part 0 p) h w
 
-is_part_of : (b : ℕ) → is_blank b ≡ false → (b == 44) ≡ false → is_part b ≡ true
-is_part_of b h k = rw (h, k) refl
+with_blank : (depth b : ℕ) {text kept : List ℕ} → is_blank b ≡ true → Inside (suc depth) text kept
+    → Inside (suc depth) (b ∷ text) kept
+with_blank depth b k (last behind text kept comment p s) =
+    last (suc depth) (b ∷ text) kept comment (inner_blank depth b text kept 0 k p) s
+with_blank depth b k (open_to_the_end behind text kept end p) =
+    open_to_the_end (suc depth) (b ∷ text) kept end (inner_blank depth b text kept (suc end) k p)
+with_blank depth b k (goes_on behind text part blanks others kept p h w) =
+    goes_on (suc depth) (b ∷ text) part blanks others kept (inner_blank depth b text part 0 k p) h w
 
-comma_inside : (text kept : List ℕ) → Open text kept → Inside (44 ∷ text) (44 ∷ kept)
-comma_inside text kept o = record {
-  on = λ b bs h. subst (λ (t : List ℕ). Written (b ∷ bs ++ 44 ∷ t) (b ∷ bs ++ 44 ∷ kept)) (sym o.is)
-      (more_written (b ∷ bs) o.blanks o.rest kept h o.are_blanks o.written);
-}
+-- the same where the byte begins an operand
+begun : {behind : ℕ} (b : ℕ) {text kept : List ℕ}
+    → ((t k : List ℕ) (end : ℕ) → Part behind t k end → Part 0 (b ∷ t) (b ∷ k) end)
+    → Inside behind text kept → Written (b ∷ text) (b ∷ kept)
+begun b on (last behind text kept comment p s) = last_written b text (b ∷ kept) comment (on text kept 0 p) s
+begun b on (open_to_the_end behind text kept end p) = never_closed (b ∷ text) (b ∷ kept) end (on text kept (suc end) p)
+begun b on (goes_on behind text part blanks others kept p h w) =
+    more_written (b ∷ text) (b ∷ part) blanks others kept (on text part 0 p) h w
 
-part_inside : (c : ℕ) (text kept : List ℕ) → is_part c ≡ true → Inside text kept → Inside (c ∷ text) (c ∷ kept)
-part_inside c text kept k i = record {
-  on = λ b bs h.
-      let a = and_parts (is_part b) (list_all is_part bs) h in
-      let w = i.on b (bs ++ c ∷ []) (and_from (is_part b) (list_all is_part (bs ++ c ∷ [])) a.0 (longer_parts bs c a.1 k)) in
-      subst (λ (t : List ℕ). Written (b ∷ t) (b ∷ bs ++ c ∷ kept)) (append_assoc bs (c ∷ []) text)
-      (subst (λ (t : List ℕ). Written (b ∷ ((bs ++ c ∷ []) ++ text)) (b ∷ t)) (append_assoc bs (c ∷ []) kept) w);
-}
-
-end_inside : (text : List ℕ) → Stops class.Mark text → Inside text []
-end_inside text s = record {
-  on = λ b bs h. subst (λ (t : List ℕ). Written (b ∷ bs ++ text) (b ∷ t)) (sym (append-nil bs)) (last_written b bs text h s);
-}
-
-part_open : (c : ℕ) (text kept : List ℕ) → is_part c ≡ true → Inside text kept → Open (c ∷ text) (c ∷ kept)
-part_open c text kept k i = record { blanks = []; rest = c ∷ text; is = refl; are_blanks = refl; written = i.on c [] (and_from (is_part c) true k refl) }
+begins_open : (text kept : List ℕ) → Written text kept → Open text kept
+begins_open text kept w = record { blanks = []; rest = text; is = refl; are_blanks = refl; written = w }
 
 comma_open : (text kept : List ℕ) → Open text kept → Open (44 ∷ text) (44 ∷ kept)
-comma_open text kept o = record {
-  blanks = [];
-  rest = 44 ∷ text;
-  is = refl;
-  are_blanks = refl;
-  written = subst (λ (t : List ℕ). Written (44 ∷ t) (44 ∷ kept)) (sym o.is) (more_written [] o.blanks o.rest kept refl o.are_blanks o.written);
-}
+comma_open text kept o =
+    begins_open (44 ∷ text) (44 ∷ kept)
+    (subst (λ (t : List ℕ). Written (44 ∷ t) (44 ∷ kept)) (sym o.is)
+    (more_written [] [] o.blanks o.rest kept (nothing 0) o.are_blanks o.written))
+
+comma_ends : (text kept : List ℕ) → Open text kept → Inside 0 (44 ∷ text) (44 ∷ kept)
+comma_ends text kept o =
+    subst (λ (t : List ℕ). Inside 0 (44 ∷ t) (44 ∷ kept)) (sym o.is)
+    (goes_on 0 [] [] o.blanks o.rest kept (nothing 0) o.are_blanks o.written)
 
 blank_open : (b : ℕ) (text kept : List ℕ) → is_blank b ≡ true → Open text kept → Open (b ∷ text) kept
 blank_open b text kept k o = record {
@@ -155,29 +205,74 @@ blank_open b text kept k o = record {
 }
 
 record Both (text : List ℕ) : Type 0 where
-  pub inside : Inside text (listed_of false text)
-  pub open_ : Open text (listed_of true text)
+  pub inside : (depth : ℕ) → Inside depth text (listed_of false depth text)
+  pub open_ : Open text (listed_of true 0 text)
+
+at_end : (depth : ℕ) → Inside depth [] []
+at_end zero = last 0 [] [] [] (nothing 0) tt
+at_end (suc depth) = open_to_the_end (suc depth) [] [] depth (nothing (suc depth))
+
+at_blank : (b : ℕ) (bs : List ℕ) → is_blank b ≡ true → Both bs → Both (b ∷ bs)
+at_blank b bs k ih = record {
+  inside = inside;
+  open_ = subst (λ (t : List ℕ). Open (b ∷ bs) t) (sym (blank_skipped b bs k)) (blank_open b bs (listed_of true 0 bs) k ih.open_);
+}
+  where
+    inside : (depth : ℕ) → Inside depth (b ∷ bs) (listed_of false depth (b ∷ bs))
+    inside zero = subst (λ (t : List ℕ). Inside 0 (b ∷ bs) t) (sym (blank_ends b bs k)) (last 0 [] [] (b ∷ bs) (nothing 0) (ap not k))
+    inside (suc depth) =
+        subst (λ (t : List ℕ). Inside (suc depth) (b ∷ bs) t) (sym (blank_inside depth b bs k)) (with_blank depth b k (ih.inside (suc depth)))
+
+at_comma : (bs : List ℕ) → Both bs → Both (44 ∷ bs)
+at_comma bs ih = record { inside = inside; open_ = comma_open bs (listed_of true 0 bs) ih.open_ }
+  where
+    inside : (depth : ℕ) → Inside depth (44 ∷ bs) (listed_of false depth (44 ∷ bs))
+    inside zero = comma_ends bs (listed_of true 0 bs) ih.open_
+    inside (suc depth) = with_byte (suc depth) 44 (λ t k end p. inner_comma depth t k end p) (ih.inside (suc depth))
+
+at_opening : (bs : List ℕ) → Both bs → Both (40 ∷ bs)
+at_opening bs ih = record {
+  inside = λ depth. with_byte depth 40 (λ t k end p. opening depth t k end p) (ih.inside (suc depth));
+  open_ = begins_open (40 ∷ bs) (40 ∷ listed_of false 1 bs) (begun 40 (λ t k end p. opening 0 t k end p) (ih.inside 1));
+}
+
+at_closing : (bs : List ℕ) → Both bs → Both (41 ∷ bs)
+at_closing bs ih = record {
+  inside = inside;
+  open_ = begins_open (41 ∷ bs) (41 ∷ listed_of false 0 bs) (begun 41 (λ t k end p. stray t k end p) (ih.inside 0));
+}
+  where
+    inside : (depth : ℕ) → Inside depth (41 ∷ bs) (listed_of false depth (41 ∷ bs))
+    inside zero = with_byte 0 41 (λ t k end p. stray t k end p) (ih.inside 0)
+    inside (suc depth) = with_byte (suc depth) 41 (λ t k end p. closing depth t k end p) (ih.inside depth)
+
+at_mark : (b : ℕ) (bs : List ℕ) → is_part b ≡ true → Both bs → Both (b ∷ bs)
+at_mark b bs h ih = record {
+  inside = λ depth. subst (λ (t : List ℕ). Inside depth (b ∷ bs) t) (sym (part_kept depth b bs h))
+      (with_byte depth b (λ t k end p. mark depth b t k end h p) (ih.inside depth));
+  open_ = begins_open (b ∷ bs) (listed_of true 0 (b ∷ bs)) (subst (λ (t : List ℕ). Written (b ∷ bs) t)
+      (sym (let i = part_is b h in mark_first b bs i.blank ∙ part_kept 0 b bs h))
+      (begun b (λ t k end p. mark 0 b t k end h p) (ih.inside 0)));
+}
+
+is_part_of : (b : ℕ) → is_blank b ≡ false → (b == 44) ≡ false → (b == 40) ≡ false → (b == 41) ≡ false → is_part b ≡ true
+is_part_of b h k o c = rw (h, k, o, c) refl
 
 kept_so : (text : List ℕ) → Both text
-kept_so [] = record { inside = end_inside [] tt; open_ = record { blanks = []; rest = []; is = refl; are_blanks = refl; written = none_written } }
+kept_so [] = record { inside = at_end; open_ = begins_open [] [] none_written }
 kept_so (b ∷ bs) =
     let ih = kept_so bs in
     elim (cases_Bool (is_blank b)) [
-      | inl blank ↦ record {
-        inside = subst (λ (t : List ℕ). Inside (b ∷ bs) t) (sym (blank_ends b bs blank)) (end_inside (b ∷ bs) (ap not blank));
-        open_ = subst (λ (t : List ℕ). Open (b ∷ bs) t) (sym (blank_skipped b bs blank)) (blank_open b bs (listed_of true bs) blank ih.open_);
-      }
-      | inr mark ↦ elim (cases_Bool (b == 44)) [
-        | inl comma ↦ subst (λ (c : ℕ). Both (c ∷ bs)) (sym (eqb-true b 44 comma)) (record {
-          inside = comma_inside bs (listed_of true bs) ih.open_;
-          open_ = comma_open bs (listed_of true bs) ih.open_;
-        })
-        | inr other ↦
-            let k = is_part_of b mark other in
-            record {
-              inside = subst (λ (t : List ℕ). Inside (b ∷ bs) t) (sym (part_kept false b bs k)) (part_inside b bs (listed_of false bs) k ih.inside);
-              open_ = subst (λ (t : List ℕ). Open (b ∷ bs) t) (sym (part_kept true b bs k)) (part_open b bs (listed_of false bs) k ih.inside);
-            }
+      | inl blank ↦ at_blank b bs blank ih
+      | inr printed ↦ elim (cases_Bool (b == 44)) [
+        | inl comma ↦ subst (λ (c : ℕ). Both (c ∷ bs)) (sym (eqb-true b 44 comma)) (at_comma bs ih)
+        | inr other ↦ elim (cases_Bool (b == 40)) [
+          | inl opens ↦ subst (λ (c : ℕ). Both (c ∷ bs)) (sym (eqb-true b 40 opens)) (at_opening bs ih)
+          | inr outside ↦ elim (cases_Bool (b == 41)) [
+            | inl closes ↦ subst (λ (c : ℕ). Both (c ∷ bs)) (sym (eqb-true b 41 closes)) (at_closing bs ih)
+            | inr neither ↦ at_mark b bs (is_part_of b printed other outside neither) ih
+          ]
+        ]
       ]
     ]
 
@@ -192,12 +287,12 @@ written_from (c ∷ cs) (b ∷ bs) rest kept e h s w =
     let fails : is_blank b ≡ false = subst (λ (x : ℕ). is_blank x ≡ false) same s in
     absurd (both_ways (is_blank b) fails holds)
 
-pub written_of : (text : List ℕ) → Stops class.Blank text → Written text (listed_of true text)
-written_of text s = let o = (kept_so text).open_ in written_from text o.blanks o.rest (listed_of true text) o.is o.are_blanks s o.written
+pub written_of : (text : List ℕ) → Stops class.Blank text → Written text (listed_of true 0 text)
+written_of text s = let o = (kept_so text).open_ in written_from text o.blanks o.rest (listed_of true 0 text) o.is o.are_blanks s o.written
 
 -- what follows a verb, from its blanks and what is left behind them
 pub behind_of : (blanks text : List ℕ) → AreIn class.Blank blanks → Stops class.Mark (blanks ++ text) → Stops class.Blank text
-    → Behind (blanks ++ text) (listed_of true text)
+    → Behind (blanks ++ text) (listed_of true 0 text)
 behind_of [] [] h m s = verb_alone
 behind_of [] (b ∷ bs) h m s = absurd (both_ways (is_blank b) s (not_false (is_blank b) m))
-behind_of (b ∷ bs) text h m s = verb_operands (b ∷ bs) text (listed_of true text) h (λ e. absurd cc) (written_of text s)
+behind_of (b ∷ bs) text h m s = verb_operands (b ∷ bs) text (listed_of true 0 text) h (λ e. absurd cc) (written_of text s)

@@ -4,8 +4,14 @@ pub mod Models
 pub mod Digits
 pub mod Fractions
 pub mod Kept
+pub mod Closing
 pub mod Parts
 pub mod Attributes
+pub mod Values
+pub mod Symbols
+pub mod Computed
+pub mod Waiting
+pub mod Stated
 pub mod Spelled
 pub mod Fields
 pub mod Rows

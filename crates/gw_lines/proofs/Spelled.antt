@@ -1,16 +1,13 @@
 -- Operands by their forms: each list of parts spells operands or has a first fault, and what it spells, or its fault, is what
 -- reading gives.
 use Rattle.std.proofs.Common.{◌≡◌, ℕ, ◌+◌, ◌≤◌, ◌<◌, true, false, List, [], ◌∷◌, ◌++◌, length, Option, Some, None, Ok, Err, refl, sym, ap, subst, ◌∙◌, ◌⊎◌, inl, inr, arith}
-use Rattle.std.specs.Prelude.{ℤ, pos, option_map, codes}
-use Rattle.std.specs.Char.{is_ascii_alphabetic, is_ascii_digit}
+use Rattle.std.specs.Prelude.{option_map, codes}
 use Rattle.std.specs.Str.{bytes_eq}
 use Rattle.std.proofs.lemmas.Bool.{cases_Bool}
-use Rattle.std.proofs.lemmas.Bool.Decides.{nat_tests}
 use Rattle.std.proofs.lemmas.Slice.Eq.{bytes_eq-Decides}
 use Rattle.gw_names.specs.Names.{name_of}
-use Rattle.gw_names.specs.declared.class.Class.{Class}
-use Rattle.gw_expr.specs.declared.attribute.Subject.{Subject}
-use Rattle.gw_expr.specs.Term.{Term, Attribute, Constant, Defined, Fraction, Label, Named, Number}
+use Rattle.gw_expr.specs.declared.atom.Atom.TheVariants as atoms
+use Rattle.gw_expr.specs.Term.{Term, Defined, Fraction, Label}
 use Rattle.gw_lines.specs.declared.fault.LineFault.{LineFault}
 use Rattle.gw_lines.specs.declared.fault.LineFault.TheVariants as faults
 use Rattle.gw_lines.specs.declared.form.Kind.{Kind}
@@ -20,58 +17,19 @@ use Rattle.gw_lines.specs.declared.form.Presence.TheVariants as presences
 use Rattle.gw_lines.specs.declared.form.Form.{Form}
 use Rattle.gw_lines.specs.declared.operand.Operand.{Operand}
 use Rattle.gw_lines.specs.declared.operand.Operand.TheVariants as operands
-use Rattle.gw_lines.specs.Numbers.{number_of, value_of, from_one, fraction_of}
-use Rattle.gw_lines.specs.Attributes.{attribute_of}
+use Rattle.gw_lines.specs.Numbers.{number_of, from_one, fraction_of}
 use Rattle.gw_lines.specs.Forms.{is_listed}
-use Rattle.gw_lines.specs.Operands.{constant_of, or_constant, or_attribute, numbered, or_number, label_of, defined_of, as_value, operand_in, listed_here, each_of, missing_of, has_more, operands_of}
+use Rattle.gw_lines.specs.Operands.{label_of, defined_of, as_value, operand_in, listed_here, each_of, missing_of, has_more, operands_of}
 use Rattle.gw_lines.specs.Parts.{goes_on, part_of, others_of, is_missing}
-use Rattle.gw_lines.specs.Spelling.{SpellsOperand, absent, a_value, a_constant, named_value, attribute_value, Value, without_sign, with_sign, a_whole, a_key, named_entity, numbered_entity, attribute_entity, SpellsAttribute, a_fraction, a_label, a_definition, SpellsAll, no_form, stands, unwritten}
+use Rattle.gw_lines.specs.Spelling.{SpellsOperand, absent, a_value, a_constant, named_value, attribute_value, computed_value, a_whole, a_key, named_entity, numbered_entity, attribute_entity, computed_entity, a_fraction, a_label, a_definition, SpellsAll, no_form, stands, unwritten}
 use Rattle.gw_lines.specs.Faulty.{Lawful, FirstBad, bad_here, bad_later, AllLawful, FirstMissing, missing_here, missing_later, FaultOfAll, bad_operand, extra_operand, missing_operand}
 use Rattle.gw_lines.proofs.Results.{some, some_is}
-use Rattle.gw_lines.proofs.Digits.{Begins, begins, number_found, number_again, value_found, value_again, mapped, from_one_found, from_one_again}
-use Rattle.gw_lines.proofs.Attributes.{Alone, nothing_read, attribute_found, attribute_again}
+use Rattle.gw_lines.proofs.Digits.{number_found, number_again, mapped, from_one_found, from_one_again}
+use Rattle.gw_lines.proofs.Values.{signed, called, of_attribute, no_name}
+use Rattle.gw_lines.proofs.Stated.{value_is, constant_is, entity_is, value_again, computed_value_again, constant_again, name_again, numbered_again, attribute_in_again, computed_entity_again}
 use Rattle.gw_lines.proofs.Fractions.{fraction_found, fraction_again}
 
 -- ---- one operand: what a further kind adds
-
--- what a constant that is read spells, for each kind that lets a constant stand
-constant_is : (kind : Kind) (text : List ℕ) (o : Option Operand)
-    → ((z : ℤ) → Value text z → SpellsOperand kind text (Some (operands.Value (Constant z))))
-    → as_value (constant_of text) ≡ Some o → SpellsOperand kind text o
-constant_is kind text o spells e =
-    let m = mapped (λ (t : Term). some (operands.Value t)) (constant_of text) o e in
-    let k = mapped (λ (z : ℤ). Constant z) (value_of text) m.0 m.1 in
-    subst (λ (x : Option Operand). SpellsOperand kind text x) (ap (λ (t : Term). some (operands.Value t)) k.2 ∙ m.2)
-    (spells k.0 (value_found text k.0 k.1))
-
--- an attribute that is read, for each kind that lets one stand
-attribute_is : (kind : Kind) (text : List ℕ) (o : Option Operand)
-    → ((class : Class) (of : Subject) → SpellsAttribute text class of
-    → SpellsOperand kind text (Some (operands.Value (Attribute class of))))
-    → as_value (attribute_of text) ≡ Some o → SpellsOperand kind text o
-attribute_is kind text o spells e =
-    let m = mapped (λ (t : Term). some (operands.Value t)) (attribute_of text) o e in
-    let f = attribute_found text m.0 m.1 in
-    subst (λ (x : Option Operand). SpellsOperand kind text x) (ap (λ (t : Term). some (operands.Value t)) f.3 ∙ m.2)
-    (spells f.0 f.1 f.2)
-
--- what is read where neither a name nor an attribute is read, or the attribute
-or_attribute_is : (kind : Kind) (text : List ℕ) (read : Option Term) (o : Option Operand)
-    → ((class : Class) (of : Subject) → SpellsAttribute text class of
-    → SpellsOperand kind text (Some (operands.Value (Attribute class of))))
-    → (as_value read ≡ Some o → SpellsOperand kind text o) → as_value (or_attribute read text) ≡ Some o
-    → SpellsOperand kind text o
-or_attribute_is kind text None o spells other e = attribute_is kind text o spells e
-or_attribute_is kind text (Some t) o spells other e = other e
-
-value_is : (text : List ℕ) (name : Option (List ℕ)) (o : Option Operand) → name_of text ≡ name
-    → as_value (or_attribute (or_constant name text) text) ≡ Some o → SpellsOperand kinds.Value text o
-value_is text (Some name) o is e =
-    subst (λ (x : Option Operand). SpellsOperand kinds.Value text x) (some_is (some (operands.Value (Number name))) o e)
-    (named_value text name is)
-value_is text None o is e =
-    or_attribute_is kinds.Value text (constant_of text) o (λ class of s. attribute_value text class of s)
-    (λ c. constant_is kinds.Value text o (λ z v. a_value text z v) c) e
 
 whole_is : (most : ℕ) (text : List ℕ) (o : Option Operand)
     → option_map (λ n. some (operands.Whole n)) (from_one (number_of most text)) ≡ Some o
@@ -90,23 +48,6 @@ key_is : (text : List ℕ) (o : Option Operand) → bytes_eq text (codes "NP") �
 key_is text o h e =
     subst (λ (t : List ℕ). SpellsOperand kinds.Quiet t o) (sym ((bytes_eq-Decides text (codes "NP")).0 h))
     (subst (λ (x : Option Operand). SpellsOperand kinds.Quiet (codes "NP") x) (some_is none o e) a_key)
-
-number_is : (text : List ℕ) (o : Option Operand) → as_value (numbered text) ≡ Some o → SpellsOperand kinds.Entity text o
-number_is text o e =
-    let m = mapped (λ (t : Term). some (operands.Value t)) (numbered text) o e in
-    let k = mapped (λ (n : ℕ). Constant (pos n)) (from_one (number_of 1000000000 text)) m.0 m.1 in
-    let f = from_one_found (number_of 1000000000 text) k.0 k.1 in
-    subst (λ (x : Option Operand). SpellsOperand kinds.Entity text x) (ap (λ (t : Term). some (operands.Value t)) k.2 ∙ m.2)
-    (numbered_entity text k.0 (number_found 1000000000 text k.0 f.0) f.1)
-
-entity_is : (text : List ℕ) (name : Option (List ℕ)) (o : Option Operand) → name_of text ≡ name
-    → as_value (or_attribute (or_number name text) text) ≡ Some o → SpellsOperand kinds.Entity text o
-entity_is text (Some name) o is e =
-    subst (λ (x : Option Operand). SpellsOperand kinds.Entity text x) (some_is (some (operands.Value (Named name))) o e)
-    (named_entity text name is)
-entity_is text None o is e =
-    or_attribute_is kinds.Entity text (numbered text) o (λ class of s. attribute_entity text class of s)
-    (λ n. number_is text o n) e
 
 fraction_is : (text : List ℕ) (o : Option Operand)
     → as_value (option_map (λ (n : ℕ). Fraction n) (fraction_of text)) ≡ Some o → SpellsOperand kinds.Fraction text o
@@ -133,86 +74,23 @@ defined_is text o e =
 operand_found : (kind : Kind) (text : List ℕ) (o : Option Operand) → operand_in kind text ≡ Some o
     → SpellsOperand kind text o
 operand_found kind [] o e = subst (λ (x : Option Operand). SpellsOperand kind [] x) (some_is none o e) (absent kind)
-operand_found kinds.Value (b ∷ bs) o e = value_is (b ∷ bs) (name_of (b ∷ bs)) o refl e
-operand_found kinds.Constant (b ∷ bs) o e = constant_is kinds.Constant (b ∷ bs) o (λ z v. a_constant (b ∷ bs) z v) e
+operand_found kinds.Value (b ∷ bs) o e = value_is (b ∷ bs) o e
+operand_found kinds.Constant (b ∷ bs) o e = constant_is (b ∷ bs) o e
 operand_found (kinds.Whole most) (b ∷ bs) o e = whole_is most (b ∷ bs) o e
 operand_found kinds.Quiet (b ∷ bs) o e =
     elim (cases_Bool (bytes_eq (b ∷ bs) (codes "NP"))) [
       | inl holds ↦ key_is (b ∷ bs) o holds (rw holds at e)
       | inr fails ↦ absurd (let f = rw fails at e in cc)
     ]
-operand_found kinds.Entity (b ∷ bs) o e = entity_is (b ∷ bs) (name_of (b ∷ bs)) o refl e
+operand_found kinds.Entity (b ∷ bs) o e = entity_is (b ∷ bs) o e
 operand_found kinds.Fraction (b ∷ bs) o e = fraction_is (b ∷ bs) o e
 operand_found kinds.Label (b ∷ bs) o e = label_is (b ∷ bs) o e
 operand_found kinds.Defined (b ∷ bs) o e = defined_is (b ∷ bs) o e
-
-constant_in_again : (text : List ℕ) (z : ℤ) → value_of text ≡ Some z
-    → operand_in kinds.Constant text ≡ Some (Some (operands.Value (Constant z)))
-constant_in_again [] z e = absurd cc
-constant_in_again (b ∷ bs) z e = rw e refl
 
 whole_in_again : (most : ℕ) (text : List ℕ) (n : ℕ) → number_of most text ≡ Some n → 1 ≤ n
     → operand_in (kinds.Whole most) text ≡ Some (Some (operands.Whole n))
 whole_in_again most [] n e h = absurd cc
 whole_in_again most (b ∷ bs) n e h = rw (e, from_one_again n h) refl
-
-no_name : (name : List ℕ) → name_of [] ≡ Some name → ⊥
-unfolding name_of
-no_name name e = cc
-
-name_in_again : (text name : List ℕ) → name_of text ≡ Some name
-    → operand_in kinds.Entity text ≡ Some (Some (operands.Value (Named name)))
-name_in_again [] name e = absurd (no_name name e)
-name_in_again (b ∷ bs) name e = rw e refl
-
-no_letter : (b : ℕ) → is_ascii_digit b ≡ true → is_ascii_alphabetic b ≡ false
-no_letter b h = grind (arith, nat_tests)
-
--- a name does not begin with a digit
-digit_first : (b : ℕ) (bs : List ℕ) → is_ascii_digit b ≡ true → name_of (b ∷ bs) ≡ None
-unfolding name_of
-digit_first b bs h = rw (no_letter b h) refl
-
--- nor with a sign
-sign_first : (bs : List ℕ) → name_of (45 ∷ bs) ≡ None
-unfolding name_of
-sign_first bs = refl
-
-value_in_again : {text : List ℕ} {z : ℤ} → Value text z
-    → operand_in kinds.Value text ≡ Some (Some (operands.Value (Constant z)))
-value_in_again {z = z} (with_sign text n h) =
-    let read = value_again (with_sign text n h) in rw (sign_first text, read) refl
-value_in_again (without_sign text n h) = plain_in_again text n (begins h.digits) (value_again (without_sign text n h))
-  where
-    plain_in_again : (text : List ℕ) (n : ℕ) → Begins text → value_of text ≡ Some (pos n)
-        → operand_in kinds.Value text ≡ Some (Some (operands.Value (Constant (pos n))))
-    plain_in_again [] n d e = absurd cc
-    plain_in_again (b ∷ bs) n d e =
-        let same : b ≡ d.first = let i = d.is in cc in
-        let digit = subst (λ (c : ℕ). is_ascii_digit c ≡ true) (sym same) d.digit in
-        rw (digit_first b bs digit, e) refl
-
-number_name_again : (text name : List ℕ) → name_of text ≡ Some name
-    → operand_in kinds.Value text ≡ Some (Some (operands.Value (Number name)))
-number_name_again [] name e = absurd (no_name name e)
-number_name_again (b ∷ bs) name e = rw e refl
-
-number_in_again : (text : List ℕ) (n : ℕ) → Begins text → number_of 1000000000 text ≡ Some n → 1 ≤ n
-    → operand_in kinds.Entity text ≡ Some (Some (operands.Value (Constant (pos n))))
-number_in_again [] n d e h = absurd cc
-number_in_again (b ∷ bs) n d e h =
-    let same : b ≡ d.first = let i = d.is in cc in
-    let digit = subst (λ (c : ℕ). is_ascii_digit c ≡ true) (sym same) d.digit in
-    rw (digit_first b bs digit, e, from_one_again n h) refl
-
--- an attribute is read where neither a name nor a number is
-value_alone : (text : List ℕ) (t : Term) → Alone text t → operand_in kinds.Value text ≡ Some (Some (operands.Value t))
-value_alone [] t a = absurd (nothing_read t a.attribute)
-value_alone (b ∷ bs) t a = rw (a.name, a.value, a.attribute) refl
-
-entity_alone : (text : List ℕ) (t : Term) → Alone text t → operand_in kinds.Entity text ≡ Some (Some (operands.Value t))
-entity_alone [] t a = absurd (nothing_read t a.attribute)
-entity_alone (b ∷ bs) t a = rw (a.name, a.number, a.attribute) refl
 
 fraction_in_again : (text : List ℕ) (n : ℕ) → fraction_of text ≡ Some n
     → operand_in kinds.Fraction text ≡ Some (Some (operands.Value (Fraction n)))
@@ -232,15 +110,17 @@ defined_in_again (b ∷ bs) name e = rw e refl
 operand_again : {kind : Kind} {text : List ℕ} {o : Option Operand} → SpellsOperand kind text o
     → operand_in kind text ≡ Some o
 operand_again (absent kind) = refl
-operand_again (a_value text z v) = value_in_again v
-operand_again (a_constant text z v) = constant_in_again text z (value_again v)
-operand_again (named_value text name e) = number_name_again text name e
-operand_again (attribute_value text class of s) = value_alone text (Attribute class of) (attribute_again s)
+operand_again (a_value text z v) = value_again text (atoms.Constant z) (signed text z v)
+operand_again (a_constant text z v) = constant_again text z v
+operand_again (named_value text name e) = value_again text (atoms.Number name) (called text name e)
+operand_again (attribute_value text class of s) = value_again text (atoms.Attribute class of) (of_attribute text class of s)
+operand_again (computed_value text e s) = computed_value_again text e s
 operand_again (a_whole most text n h from) = whole_in_again most text n (number_again most text n h) from
 operand_again a_key = refl
-operand_again (named_entity text name e) = name_in_again text name e
-operand_again (numbered_entity text n h from) = number_in_again text n (begins h.digits) (number_again 1000000000 text n h) from
-operand_again (attribute_entity text class of s) = entity_alone text (Attribute class of) (attribute_again s)
+operand_again (named_entity text name e) = name_again text name e
+operand_again (numbered_entity text n h from) = numbered_again text n h from
+operand_again (attribute_entity text class of s) = attribute_in_again text class of s
+operand_again (computed_entity text e s) = computed_entity_again text e s
 operand_again (a_fraction text n f) = fraction_in_again text n (fraction_again f)
 operand_again (a_label text name e) = label_in_again text name e
 operand_again (a_definition text name e) = defined_in_again text name e

@@ -8,7 +8,8 @@ use Rattle.gw_names.specs.Words.{class_word, classes}
 use Rattle.gw_names.specs.Names.{name_of}
 use Rattle.gw_expr.specs.declared.attribute.Subject.{Subject}
 use Rattle.gw_expr.specs.declared.attribute.Subject.TheVariants as subjects
-use Rattle.gw_expr.specs.Term.{Term, Attribute}
+use Rattle.gw_expr.specs.declared.atom.Atom.{Atom}
+use Rattle.gw_expr.specs.declared.atom.Atom.TheVariants as atoms
 use Rattle.gw_lines.specs.declared.attribute.Scope.{Scope}
 use Rattle.gw_lines.specs.declared.attribute.Scope.TheVariants as scopes
 use Rattle.gw_lines.specs.Numbers.{number_of, from_one}
@@ -71,22 +72,23 @@ subject_of scopes.Stream text = number_in 7 text
 subject_of scopes.Later text = None
 
 -- the attribute of a class that a text is
-abbrev pub of_class : Class → List ℕ → Option Term
+abbrev pub of_class : Class → List ℕ → Option Atom
 of_class class text =
     if starts_with nat_eq text (class_word class)
-    then option_map (λ of. Attribute class of) (subject_of (scope_of class) (drop (length (class_word class)) text))
+    then option_map (λ of. atoms.Attribute class of)
+    (subject_of (scope_of class) (drop (length (class_word class)) text))
     else None
 
 -- what was read first, or else the other
-abbrev pub or_term : Option Term → Option Term → Option Term
-or_term None other = other
-or_term (Some term) other = Some term
+abbrev pub or_atom : Option Atom → Option Atom → Option Atom
+or_atom None other = other
+or_atom (Some atom) other = Some atom
 
 -- the attribute of the first of these classes that a text is one of
-abbrev pub attribute_in : List Class → List ℕ → Option Term
+abbrev pub attribute_in : List Class → List ℕ → Option Atom
 attribute_in [] text = None
-attribute_in (class ∷ others) text = or_term (of_class class text) (attribute_in others text)
+attribute_in (class ∷ others) text = or_atom (of_class class text) (attribute_in others text)
 
 -- the attribute that a text is
-unfoldable pub attribute_of : List ℕ → Option Term
+unfoldable pub attribute_of : List ℕ → Option Atom
 attribute_of text = attribute_in classes text

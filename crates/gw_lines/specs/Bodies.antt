@@ -6,7 +6,8 @@ use Rattle.gw_names.specs.declared.verb.CommandVerb.{CommandVerb}
 use Rattle.gw_names.specs.declared.verb.CommandVerb.TheVariants as command_verbs
 use Rattle.gw_names.specs.declared.verb.Verb.{Verb}
 use Rattle.gw_names.specs.declared.verb.Verb.TheVariants as verbs
-use Rattle.gw_expr.specs.Term.{Term, Constant}
+use Rattle.gw_expr.specs.declared.atom.Atom.TheVariants as atoms
+use Rattle.gw_expr.specs.Term.{Term, Value}
 use Rattle.gw_meaning.specs.declared.statement.Definition.TheVariants as definitions
 use Rattle.gw_meaning.specs.declared.statement.Command.TheVariants as commands
 use Rattle.gw_meaning.specs.declared.statement.Body.{Body}
@@ -33,7 +34,7 @@ whole_in operand = None
 
 -- an operand as a constant
 abbrev pub constant_of : Term → Option ℤ
-constant_of (Constant z) = Some z
+constant_of (Value (atoms.Constant z)) = Some z
 constant_of term = None
 
 abbrev pub constant_in : Option Operand → Option ℤ

@@ -9,7 +9,8 @@ use Rattle.gw_names.specs.declared.verb.CommandVerb.{CommandVerb}
 use Rattle.gw_names.specs.declared.verb.CommandVerb.TheVariants as command_verbs
 use Rattle.gw_names.specs.declared.verb.Verb.{Verb}
 use Rattle.gw_names.specs.declared.verb.Verb.TheVariants as verbs
-use Rattle.gw_expr.specs.Term.{Term, Constant}
+use Rattle.gw_expr.specs.declared.atom.Atom.TheVariants as atoms
+use Rattle.gw_expr.specs.Term.{Term, Value}
 use Rattle.gw_meaning.specs.declared.statement.Definition.{Definition}
 use Rattle.gw_meaning.specs.declared.statement.Definition.TheVariants as definitions
 use Rattle.gw_meaning.specs.declared.statement.Command.{Command}
@@ -117,7 +118,7 @@ whole v = option_map (λ n. operands.Whole n) v
 -- the operands that a definition has
 abbrev pub fields_of_definition : Definition → List (Option Operand)
 fields_of_definition (definitions.Storage capacity) = Some (operands.Whole capacity) ∷ []
-fields_of_definition (definitions.Equ z) = Some (operands.Value (Constant z)) ∷ []
+fields_of_definition (definitions.Equ z) = Some (operands.Value (Value (atoms.Constant z))) ∷ []
 
 -- the operands that a command has: `NP` leaves no trace
 abbrev pub fields_of_command : Command → List (Option Operand)

@@ -5,7 +5,10 @@ pub mod Numbers
 pub mod Forms
 pub mod Parts
 pub mod Attributes
+pub mod Atoms
 pub mod Operands
+pub mod Listed
+pub mod Expressions
 pub mod Bodies
 pub mod Lines
 pub mod Models

@@ -12,7 +12,7 @@ use Rattle.gw_lines.specs.declared.fault.LineFault.TheVariants as faults
 use Rattle.gw_lines.specs.Reading.{◌>>=◌}
 use Rattle.gw_lines.specs.Classes.{front_of, rest_of, is_nothing, are_plain}
 use Rattle.gw_lines.specs.Forms.{forms_of_definition}
-use Rattle.gw_lines.specs.Operands.{listed_of}
+use Rattle.gw_lines.specs.Listed.{listed_of}
 use Rattle.gw_lines.specs.Bodies.{body_of}
 
 -- the word at the front, and what follows it and its blanks
@@ -54,7 +54,7 @@ plain_of text = if are_plain text then Ok text else Err faults.BadByte
 
 -- the operand list behind a verb, in upper case
 unfoldable pub operands_of : List ℕ → Result (List ℕ) LineFault
-operands_of bytes = plain_of (upper_of (listed_of true bytes))
+operands_of bytes = plain_of (upper_of (listed_of true 0 bytes))
 
 -- a statement that begins with its verb: the verb, and what follows its blanks
 unfoldable pub unlabelled_of : Verb → List ℕ → Result Statement LineFault

@@ -1,9 +1,11 @@
--- Operands as they are read: the list as it stands behind a verb, and each of its parts by its form. (Manual; the forms
+-- Operands as they are read: each part of a list by its form. (Manual; the forms
 -- of the profile.)
-use Rattle.std.specs.Prelude.{ℕ, pos, ◌+◌, ◌==◌, Bool, true, List, [], ◌∷◌, ◌++◌, length, Option, Some, None, Result, Ok, Err, option_map, if◌then◌else◌, codes}
+use Rattle.std.specs.Prelude.{ℕ, pos, ◌+◌, Bool, List, [], ◌∷◌, ◌++◌, length, Option, Some, None, Result, Ok, Err, option_map, if◌then◌else◌, codes}
 use Rattle.std.specs.Str.{bytes_eq}
 use Rattle.gw_names.specs.Names.{name_of}
-use Rattle.gw_expr.specs.Term.{Term, Constant, Defined, Fraction, Label, Named, Number}
+use Rattle.gw_expr.specs.declared.atom.Atom.{Atom}
+use Rattle.gw_expr.specs.declared.atom.Atom.TheVariants as atoms
+use Rattle.gw_expr.specs.Term.{Term, Value, Defined, Fraction, Label, Named}
 use Rattle.gw_lines.specs.declared.fault.LineFault.{LineFault}
 use Rattle.gw_lines.specs.declared.fault.LineFault.TheVariants as faults
 use Rattle.gw_lines.specs.declared.form.Kind.{Kind}
@@ -12,47 +14,39 @@ use Rattle.gw_lines.specs.declared.form.Form.{Form}
 use Rattle.gw_lines.specs.declared.operand.Operand.{Operand}
 use Rattle.gw_lines.specs.declared.operand.Operand.TheVariants as operands
 use Rattle.gw_lines.specs.Reading.{◌>>=◌}
-use Rattle.gw_lines.specs.Classes.{is_blank}
-use Rattle.gw_lines.specs.Numbers.{number_of, value_of, from_one, fraction_of}
-use Rattle.gw_lines.specs.Attributes.{attribute_of}
+use Rattle.gw_lines.specs.Numbers.{number_of, from_one, fraction_of}
+use Rattle.gw_lines.specs.Attributes.{or_atom, attribute_of}
+use Rattle.gw_lines.specs.Atoms.{constant_of, atom_of}
+use Rattle.gw_lines.specs.Expressions.{computed_of}
 use Rattle.gw_lines.specs.Forms.{is_listed}
 use Rattle.gw_lines.specs.Parts.{split, goes_on, part_of, others_of, is_missing}
 
--- the operand list that stands here, without the blanks that are skipped: skips says that blanks are
-abbrev pub listed_of : Bool → List ℕ → List ℕ
-listed_of skips [] = []
-listed_of skips (b ∷ bs) = if is_blank b then (if skips then listed_of true bs else []) else b ∷ listed_of (b == 44) bs
-
 -- ---- one operand
 
--- the constant that a text is
-abbrev pub constant_of : List ℕ → Option Term
-constant_of text = option_map (λ z. Constant z) (value_of text)
+-- what was read first, or else the other
+abbrev pub or_term : Option Term → Option Term → Option Term
+or_term None other = other
+or_term (Some term) other = Some term
 
-abbrev pub or_constant : Option (List ℕ) → List ℕ → Option Term
-or_constant None text = constant_of text
-or_constant (Some name) text = Some (Number name)
+abbrev pub atomic : Option Atom → Option Term
+atomic read = option_map (λ atom. Value atom) read
 
--- what was read of a text, or the attribute that it is
-abbrev pub or_attribute : Option Term → List ℕ → Option Term
-or_attribute None text = attribute_of text
-or_attribute (Some term) text = Some term
-
--- the value that a text is: a name that stands for a number, a constant or an attribute
+-- the value that a text is: one without parentheses, or an expression in parentheses
 abbrev pub given_value : List ℕ → Option Term
-given_value text = or_attribute (or_constant (name_of text) text) text
+given_value text = or_term (atomic (atom_of text)) (computed_of text)
 
 -- the number from 1 that a text is
-abbrev pub numbered : List ℕ → Option Term
-numbered text = option_map (λ n. Constant (pos n)) (from_one (number_of 1000000000 text))
+abbrev pub numbered : List ℕ → Option Atom
+numbered text = option_map (λ n. atoms.Constant (pos n)) (from_one (number_of 1000000000 text))
 
+-- the entity that a text is, where it is no name: a number from 1, an attribute or an expression in parentheses
 abbrev pub or_number : Option (List ℕ) → List ℕ → Option Term
-or_number None text = numbered text
+or_number None text = or_term (atomic (or_atom (numbered text) (attribute_of text))) (computed_of text)
 or_number (Some name) text = Some (Named name)
 
--- the entity that a text is: a name, a number from 1, or an attribute
+-- the entity that a text is: a name, a number from 1, an attribute or an expression in parentheses
 abbrev pub entity_of : List ℕ → Option Term
-entity_of text = or_attribute (or_number (name_of text) text) text
+entity_of text = or_number (name_of text) text
 
 -- the label that a text is
 abbrev pub label_of : List ℕ → Option Term
@@ -68,7 +62,7 @@ as_value value = option_map (λ t. Some (operands.Value t)) value
 -- what a text that is not empty is, if it is lawful: `NP` says nothing
 abbrev pub given_in : Kind → List ℕ → Option (Option Operand)
 given_in kinds.Value text = as_value (given_value text)
-given_in kinds.Constant text = as_value (constant_of text)
+given_in kinds.Constant text = as_value (atomic (constant_of text))
 given_in (kinds.Whole most) text = option_map (λ n. Some (operands.Whole n)) (from_one (number_of most text))
 given_in kinds.Quiet text = if bytes_eq text (codes "NP") then Some None else None
 given_in kinds.Entity text = as_value (entity_of text)

@@ -1,6 +1,6 @@
 -- What a line spells: a relation by cases on the text, apart from how it is read. (Manual: the statement format. Our
 -- own: the length, the greatest numbers, `NP`.)
-use Rattle.std.specs.Prelude.{ℕ, ◌+◌, ◌-◌, ◌*◌, ◌^◌, ◌≤◌, ◌≡◌, ◌≢◌, ◌==◌, ◌&&◌, not, ℤ, pos, neg_ℤ, Bool, true, false, List, [], ◌∷◌, ◌++◌, length, Option, Some, None, IfSome, codes}
+use Rattle.std.specs.Prelude.{ℕ, suc, ◌+◌, ◌-◌, ◌*◌, ◌^◌, ◌≤◌, ◌≡◌, ◌≢◌, ◌==◌, ◌&&◌, not, ℤ, pos, neg_ℤ, Bool, true, false, List, [], ◌∷◌, ◌++◌, length, Option, Some, None, IfSome, codes}
 use Rattle.std.specs.List.{list_all}
 use Rattle.std.specs.Char.{is_ascii_digit}
 use Rattle.gw_names.specs.declared.verb.Verb.{Verb}
@@ -9,6 +9,11 @@ use Rattle.gw_names.specs.Names.{name_of}
 use Rattle.gw_names.specs.declared.class.Class as attributes
 use Rattle.gw_expr.specs.declared.attribute.Subject.{Subject}
 use Rattle.gw_expr.specs.declared.attribute.Subject.TheVariants as subjects
+use Rattle.gw_expr.specs.declared.atom.Atom.{Atom}
+use Rattle.gw_expr.specs.declared.atom.Atom.TheVariants as atoms
+use Rattle.gw_expr.specs.declared.token.Operator.{Operator}
+use Rattle.gw_expr.specs.declared.token.Operator.TheVariants as operators
+use Rattle.gw_expr.specs.Expressions.{Expression, Single, Opposite, Both, postfix}
 use Rattle.gw_expr.specs.Term as terms
 use Rattle.gw_meaning.specs.declared.statement.Body.{Body}
 use Rattle.gw_meaning.specs.declared.statement.Statement.{Statement}
@@ -77,26 +82,73 @@ pub data SpellsAttribute : List ℕ → attributes.Class → Subject → Type 0 
   of_stream : (class : attributes.Class) (digits : List ℕ) (n : ℕ) → scope_of class ≡ scopes.Stream
       → Number 7 digits n → 1 ≤ n → SpellsAttribute (class_word class ++ digits) class (subjects.Number n)
 
+-- a value in an expression: a number without a sign, a name that stands for a number, or an attribute
+pub data SpellsAtom : List ℕ → Atom → Type 0 where
+  plain_number : (text : List ℕ) (n : ℕ) → Number 1000000000 text n → SpellsAtom text (atoms.Constant (pos n))
+  plain_name : (text name : List ℕ) → name_of text ≡ Some name → SpellsAtom text (atoms.Number name)
+  plain_attribute : (text : List ℕ) (class : attributes.Class) (of : Subject) → SpellsAttribute text class of
+      → SpellsAtom text (atoms.Attribute class of)
+
+-- the operators of a product: `#`, `\` and `@`
+pub data Multiplies : ℕ → Operator → Type 0 where
+  times : Multiplies 35 operators.Times
+  quotient : Multiplies 92 operators.Quotient
+  remainder : Multiplies 64 operators.Remainder
+
+-- the operators of a sum
+pub data Adds : ℕ → Operator → Type 0 where
+  plus : Adds 43 operators.Plus
+  minus : Adds 45 operators.Minus
+
+-- what a text may be in an expression: each may be the one behind it
+pub data Rank : Type 0 where
+  Factor : Rank
+  Product : Rank
+  Sum : Rank
+
+-- a text in parentheses, in which so many further ones may be open at once: a factor is a value, a factor with a sign or
+-- a sum in parentheses; a product is a factor, or a product and a factor; a sum is a product, or a sum and a product
+pub data SpellsExpression : Rank → ℕ → List ℕ → Expression → Type 0 where
+  a_single : (room : ℕ) (text : List ℕ) (a : Atom) → SpellsAtom text a → SpellsExpression Factor room text (Single a)
+  with_minus : (room : ℕ) (text : List ℕ) (e : Expression) → SpellsExpression Factor room text e
+      → SpellsExpression Factor room (45 ∷ text) (Opposite e)
+  in_parentheses : (room : ℕ) (text : List ℕ) (e : Expression) → SpellsExpression Sum room text e
+      → SpellsExpression Factor (suc room) (40 ∷ (text ++ 41 ∷ [])) e
+  a_factor : (room : ℕ) (text : List ℕ) (e : Expression) → SpellsExpression Factor room text e
+      → SpellsExpression Product room text e
+  multiplied : (room : ℕ) (left : List ℕ) (e : Expression) (b : ℕ) (o : Operator) (right : List ℕ) (f : Expression)
+      → SpellsExpression Product room left e → Multiplies b o → SpellsExpression Factor room right f
+      → SpellsExpression Product room (left ++ b ∷ right) (Both o e f)
+  a_product : (room : ℕ) (text : List ℕ) (e : Expression) → SpellsExpression Product room text e
+      → SpellsExpression Sum room text e
+  summed : (room : ℕ) (left : List ℕ) (e : Expression) (b : ℕ) (o : Operator) (right : List ℕ) (f : Expression)
+      → SpellsExpression Sum room left e → Adds b o → SpellsExpression Product room right f
+      → SpellsExpression Sum room (left ++ b ∷ right) (Both o e f)
+
 -- a text of a kind, and the operand that it says: none where it is empty, nor for the key word that has no effect
 pub data SpellsOperand : Kind → List ℕ → Option Operand → Type 0 where
   absent : (kind : Kind) → SpellsOperand kind [] None
   a_value : (text : List ℕ) (z : ℤ) → Value text z
-      → SpellsOperand kinds.Value text (Some (operands.Value (terms.Constant z)))
+      → SpellsOperand kinds.Value text (Some (operands.Value (terms.Value (atoms.Constant z))))
   a_constant : (text : List ℕ) (z : ℤ) → Value text z
-      → SpellsOperand kinds.Constant text (Some (operands.Value (terms.Constant z)))
+      → SpellsOperand kinds.Constant text (Some (operands.Value (terms.Value (atoms.Constant z))))
   named_value : (text name : List ℕ) → name_of text ≡ Some name
-      → SpellsOperand kinds.Value text (Some (operands.Value (terms.Number name)))
+      → SpellsOperand kinds.Value text (Some (operands.Value (terms.Value (atoms.Number name))))
   attribute_value : (text : List ℕ) (class : attributes.Class) (of : Subject) → SpellsAttribute text class of
-      → SpellsOperand kinds.Value text (Some (operands.Value (terms.Attribute class of)))
+      → SpellsOperand kinds.Value text (Some (operands.Value (terms.Value (atoms.Attribute class of))))
   a_whole : (most : ℕ) (text : List ℕ) (n : ℕ) → Number most text n → 1 ≤ n
       → SpellsOperand (kinds.Whole most) text (Some (operands.Whole n))
   a_key : SpellsOperand kinds.Quiet (codes "NP") None
   named_entity : (text name : List ℕ) → name_of text ≡ Some name
       → SpellsOperand kinds.Entity text (Some (operands.Value (terms.Named name)))
   numbered_entity : (text : List ℕ) (n : ℕ) → Number 1000000000 text n → 1 ≤ n
-      → SpellsOperand kinds.Entity text (Some (operands.Value (terms.Constant (pos n))))
+      → SpellsOperand kinds.Entity text (Some (operands.Value (terms.Value (atoms.Constant (pos n)))))
   attribute_entity : (text : List ℕ) (class : attributes.Class) (of : Subject) → SpellsAttribute text class of
-      → SpellsOperand kinds.Entity text (Some (operands.Value (terms.Attribute class of)))
+      → SpellsOperand kinds.Entity text (Some (operands.Value (terms.Value (atoms.Attribute class of))))
+  computed_value : (text : List ℕ) (e : Expression) → SpellsExpression Sum 31 text e
+      → SpellsOperand kinds.Value (40 ∷ (text ++ 41 ∷ [])) (Some (operands.Value (terms.Computed (postfix e))))
+  computed_entity : (text : List ℕ) (e : Expression) → SpellsExpression Sum 31 text e
+      → SpellsOperand kinds.Entity (40 ∷ (text ++ 41 ∷ [])) (Some (operands.Value (terms.Computed (postfix e))))
   a_fraction : (text : List ℕ) (n : ℕ) → Fraction text n
       → SpellsOperand kinds.Fraction text (Some (operands.Value (terms.Fraction n)))
   a_label : (text name : List ℕ) → name_of text ≡ Some name
@@ -122,17 +174,35 @@ pub record Says (verb : Verb) (parts : List (List ℕ)) (body : Body) : Type 0 w
   pub operands : SpellsAll forms parts (fields_of body)
   pub enough : lacks verb (fields_of body) ≡ false
 
--- a byte of an operand where it is written: neither a blank nor a comma
+-- a byte of an operand that stands for itself: neither a blank nor a comma nor a parenthesis
 abbrev pub is_part : ℕ → Bool
-is_part b = not (is_blank b) && not (b == 44)
+is_part b = not (is_blank b) && (not (b == 44) && (not (b == 40) && not (b == 41)))
 
--- an operand list as it is written, with the comment behind it, and as it is kept, without the blanks behind commas
+-- a piece of an operand as it is written and as it is kept, from so many open parentheses to so many: a blank in
+-- parentheses is not kept, and a comma in them parts no operands
+pub data Part : ℕ → List ℕ → List ℕ → ℕ → Type 0 where
+  nothing : (depth : ℕ) → Part depth [] [] depth
+  mark : (depth b : ℕ) (text kept : List ℕ) (end : ℕ) → is_part b ≡ true → Part depth text kept end
+      → Part depth (b ∷ text) (b ∷ kept) end
+  opening : (depth : ℕ) (text kept : List ℕ) (end : ℕ) → Part (suc depth) text kept end
+      → Part depth (40 ∷ text) (40 ∷ kept) end
+  closing : (depth : ℕ) (text kept : List ℕ) (end : ℕ) → Part depth text kept end
+      → Part (suc depth) (41 ∷ text) (41 ∷ kept) end
+  stray : (text kept : List ℕ) (end : ℕ) → Part 0 text kept end → Part 0 (41 ∷ text) (41 ∷ kept) end
+  inner_comma : (depth : ℕ) (text kept : List ℕ) (end : ℕ) → Part (suc depth) text kept end
+      → Part (suc depth) (44 ∷ text) (44 ∷ kept) end
+  inner_blank : (depth b : ℕ) (text kept : List ℕ) (end : ℕ) → is_blank b ≡ true → Part (suc depth) text kept end
+      → Part (suc depth) (b ∷ text) kept end
+
+-- an operand list as it is written, with the comment behind it, and as it is kept, without the blanks behind commas and
+-- in parentheses; one that is never closed has all that follows
 pub data Written : List ℕ → List ℕ → Type 0 where
   none_written : Written [] []
-  last_written : (b : ℕ) (bs comment : List ℕ) → list_all is_part (b ∷ bs) ≡ true → Stops class.Mark comment
-      → Written (b ∷ bs ++ comment) (b ∷ bs)
-  more_written : (operand blanks text kept : List ℕ) → list_all is_part operand ≡ true → AreIn class.Blank blanks
-      → Written text kept → Written (operand ++ 44 ∷ (blanks ++ text)) (operand ++ 44 ∷ kept)
+  last_written : (b : ℕ) (bs kept comment : List ℕ) → Part 0 (b ∷ bs) kept 0 → Stops class.Mark comment
+      → Written (b ∷ bs ++ comment) kept
+  never_closed : (text kept : List ℕ) (depth : ℕ) → Part 0 text kept (suc depth) → Written text kept
+  more_written : (operand part blanks text kept : List ℕ) → Part 0 operand part 0 → AreIn class.Blank blanks
+      → Written text kept → Written (operand ++ 44 ∷ (blanks ++ text)) (part ++ 44 ∷ kept)
 
 -- what follows a verb: nothing, or blanks and operands
 pub data Behind : List ℕ → List ℕ → Type 0 where

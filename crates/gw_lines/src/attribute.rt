@@ -2,7 +2,7 @@ ghost use Rattle.std.specs.Prelude.{◌≡◌, IfOk};
 ghost use Rattle.gw_lines.specs.Attributes.{scope_of, own_in, number_in, name_in, subject_of, of_class, attribute_in, attribute_of};
 
 use crate::number::{LIMIT, from_one};
-use gw_expr::{Expr, Subject};
+use gw_expr::{Atom, Subject};
 use gw_names::{CLASSES, Class, Name};
 use std::alloc::{AllocError, Global};
 
@@ -26,14 +26,14 @@ pub enum Scope {
 
 /// The attribute that a text in upper case is.
 #[tactic(auto, unfolding(crate::specs::Attributes::attribute_of))]
-pub fn read_attribute(alloc: Global, text: &[u8]) -> Result<Option<Expr>, AllocError>
+pub fn read_attribute(alloc: Global, text: &[u8]) -> Result<Option<Atom>, AllocError>
     ensures { IfOk result (λ o. o ≡ attribute_of text.now) }
 {
     attribute_in(alloc, &CLASSES, text)
 }
 
 // The attribute of the first of these classes that a text is one of.
-fn attribute_in(alloc: Global, classes: &[Class], text: &[u8]) -> Result<Option<Expr>, AllocError>
+fn attribute_in(alloc: Global, classes: &[Class], text: &[u8]) -> Result<Option<Atom>, AllocError>
     ensures { IfOk result (λ o. o ≡ attribute_in classes.now text.now) }
 {
     for class in classes {
@@ -45,7 +45,7 @@ fn attribute_in(alloc: Global, classes: &[Class], text: &[u8]) -> Result<Option<
 }
 
 // The attribute of a class that a text is.
-fn of_class(alloc: Global, class: Class, text: &[u8]) -> Result<Option<Expr>, AllocError>
+fn of_class(alloc: Global, class: Class, text: &[u8]) -> Result<Option<Atom>, AllocError>
     ensures { IfOk result (λ o. o ≡ of_class class text.now) }
 {
     let word = class.word();
@@ -53,7 +53,7 @@ fn of_class(alloc: Global, class: Class, text: &[u8]) -> Result<Option<Expr>, Al
         return Ok(None);
     }
     match subject(alloc, scope_of(class), &text[word.len()..])? {
-        Some(of) => Ok(Some(Expr::attribute(class, of))),
+        Some(of) => Ok(Some(Atom::Attribute(class, of))),
         None => Ok(None),
     }
 }

@@ -7,7 +7,7 @@ use crate::fault::LineFault;
 use crate::form::{Form, forms_of, lacks};
 use crate::operand::Operand;
 use crate::operands::{is_given, read_operands};
-use gw_expr::{Expr, Node};
+use gw_expr::{Atom, Expr, Node};
 use gw_meaning::{Block, Body, Command, Definition, Row};
 use gw_names::{CommandVerb, DefinitionVerb, Verb};
 use gw_nums::Val;
@@ -146,8 +146,8 @@ fn constant_of(value: &Expr) -> Option<Val>
     ensures { result ≡ constant_of value.now }
 {
     match value.node() {
-        Node::Constant(value) => Some(*value),
-        Node::Number(_) | Node::Attribute(_, _) | Node::Named(_) => None,
+        Node::Value(Atom::Constant(value)) => Some(*value),
+        Node::Value(_) | Node::Computed(_) | Node::Named(_) => None,
         Node::Label(_) | Node::Fraction(_) | Node::Defined(_) => None,
     }
 }

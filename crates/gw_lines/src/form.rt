@@ -8,7 +8,7 @@ use gw_names::{BlockVerb, CommandVerb, DefinitionVerb, Verb};
 /// What an operand may be.
 #[derive(Clone, Copy, Debug, PartialEq, Eq)]
 pub enum Kind {
-    /// A value: a name that stands for a number, or a constant.
+    /// A value: a name that stands for a number, a constant, an attribute or an expression in parentheses.
     Value,
     /// A constant: digits, with one `-` before them or none.
     Constant,
@@ -16,7 +16,7 @@ pub enum Kind {
     Whole { most: u32 },
     /// The key word `NP`, which has no effect.
     Quiet,
-    /// An entity: a name, or a whole number from 1 to 1,000,000,000.
+    /// An entity: a name, a whole number from 1 to 1,000,000,000, an attribute or an expression in parentheses.
     Entity,
     /// A fraction: digits with a point, six of them at most behind it, from 0 to 1.
     Fraction,

@@ -4,16 +4,18 @@
 //! [`read_statement`] reads one line, [`read_model`] all lines, and [`read_edit`] the text of an edit, in which `|`
 //! ends a line. A line is cut into words (words), and its operand list is copied without the blanks that are skipped
 //! (listed). What the operands of a verb may be is a list of forms (form). The list is split once, each part is read by
-//! its form (operands, operand, number, attribute), and the statement is made of what was read (body). What is read is
-//! a [`Statement`], which [`Statement::put_text`] lists.
+//! its form (operands, operand, number, atom, attribute, expression), and the statement is made of what was read
+//! (body). What is read is a [`Statement`], which [`Statement::put_text`] lists.
 //!
 //! All goes by the forms of a verb's operands. Where a further verb or kind of operand goes: docs/contributing.md.
 #![tactic(auto)]
 
+mod atom;
 mod attribute;
 mod body;
 mod class;
 mod edit;
+mod expression;
 mod fault;
 mod form;
 mod laws;

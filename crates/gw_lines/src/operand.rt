@@ -1,10 +1,12 @@
 ghost use Rattle.std.specs.Prelude.{◌≡◌, IfOk};
-ghost use Rattle.gw_lines.specs.Operands.{operand_in, given_in, as_value, constant_of, given_value, or_attribute, entity_of, numbered, label_of, defined_of};
+ghost use Rattle.gw_lines.specs.Operands.{operand_in, given_in, as_value, atomic, given_value, or_term, entity_of, numbered, label_of, defined_of};
+ghost use Rattle.gw_lines.specs.Expressions.{computed_of};
 
-use crate::attribute::read_attribute;
+use crate::atom::{atom_of, constant, or_attribute};
+use crate::expression::read_expression;
 use crate::form::Kind;
-use crate::number::{LIMIT, fraction, from_one, value};
-use gw_expr::Expr;
+use crate::number::{LIMIT, fraction, from_one};
+use gw_expr::{Atom, Expr};
 use gw_names::Name;
 use gw_nums::Val;
 use std::alloc::{AllocError, Global};
@@ -36,7 +38,7 @@ fn given(alloc: Global, kind: Kind, text: &[u8]) -> Result<Option<Option<Operand
 {
     match kind {
         Kind::Value => Ok(as_value(given_value(alloc, text)?)),
-        Kind::Constant => Ok(as_value(constant(text))),
+        Kind::Constant => Ok(as_value(atomic(constant(text)))),
         Kind::Whole { most } => match from_one(most, text) {
             Some(n) => Ok(Some(Some(Operand::Whole(n)))),
             None => Ok(None),
@@ -67,48 +69,48 @@ fn as_value(value: Option<Expr>) -> Option<Option<Operand>>
     }
 }
 
-// The value that a text is: a name that stands for a number, a constant or an attribute.
+// The value that a text is: one without parentheses, or an expression in parentheses.
 fn given_value(alloc: Global, text: &[u8]) -> Result<Option<Expr>, AllocError>
     ensures { IfOk result (λ o. o ≡ given_value text.now) }
 {
-    match Name::read(alloc, text)? {
-        Some(name) => Ok(Some(Expr::number(name))),
-        None => or_attribute(alloc, constant(text), text),
-    }
+    or_computed(alloc, atomic(atom_of(alloc, text)?), text)
 }
 
-// What was read of a text, or the attribute that it is.
-fn or_attribute(alloc: Global, read: Option<Expr>, text: &[u8]) -> Result<Option<Expr>, AllocError>
-    ensures { IfOk result (λ o. o ≡ or_attribute read text.now) }
+// What was read of a text, or the expression in parentheses that it is.
+fn or_computed(alloc: Global, read: Option<Expr>, text: &[u8]) -> Result<Option<Expr>, AllocError>
+    ensures { IfOk result (λ o. o ≡ or_term read (computed_of text.now)) }
 {
     match read {
         Some(value) => Ok(Some(value)),
-        None => read_attribute(alloc, text),
+        None => read_expression(alloc, text),
     }
 }
 
-// The constant that a text is.
-fn constant(text: &[u8]) -> Option<Expr>
-    ensures { result ≡ constant_of text.now }
+fn atomic(read: Option<Atom>) -> Option<Expr>
+    ensures { result ≡ atomic read }
 {
-    Some(Expr::constant(value(text)?))
+    Some(Expr::value(read?))
 }
 
-// The entity that a text is: a name, a number from 1, or an attribute.
+// The entity that a text is: a name, a number from 1, an attribute or an expression in parentheses.
 fn entity(alloc: Global, text: &[u8]) -> Result<Option<Expr>, AllocError>
     ensures { IfOk result (λ o. o ≡ entity_of text.now) }
 {
     match Name::read(alloc, text)? {
         Some(name) => Ok(Some(Expr::named(name))),
-        None => or_attribute(alloc, numbered(text), text),
+        None => or_computed(
+            alloc,
+            atomic(or_attribute(alloc, numbered(text), text)?),
+            text,
+        ),
     }
 }
 
-fn numbered(text: &[u8]) -> Option<Expr>
+fn numbered(text: &[u8]) -> Option<Atom>
     ensures { result ≡ numbered text.now }
 {
     let number = from_one(LIMIT, text)?;
-    Some(Expr::constant(Val::new(i64::from(number))?))
+    Some(Atom::Constant(Val::new(i64::from(number))?))
 }
 
 // The label that a text is.

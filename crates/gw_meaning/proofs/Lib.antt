@@ -1,3 +1,5 @@
 pub mod Chains
+mod Constants
+mod Expressions
 pub mod Programs
 pub mod Texts

@@ -1,17 +1,26 @@
 -- Values, attributes and draws. An evaluation goes from the streams before it to its result and the streams behind it,
 -- so draws come in the order of evaluation. (Manual: operands, numerical attributes, and a time of A plus or minus B. Our
 -- own: whole numbers, what a draw stands for, and that the seed is asked for at a stream's first draw alone.)
-use Rattle.std.specs.Prelude.{ℕ, zero, suc, ◌+◌, ◌-◌, ◌*◌, ◌/◌, Bool, true, false, not, ◌&&◌, nat_le, List, Option, Some, None, ℤ, pos, ◌+ℤ◌, ◌-ℤ◌, if◌then◌else◌}
-use Rattle.gw_nums.specs.Range.{is_value, is_negative, is_below, magnitude}
+use Rattle.std.specs.Prelude.{ℕ, zero, suc, ◌+◌, ◌-◌, ◌*◌, ◌/◌, Bool, true, false, not, ◌&&◌, nat_le, List, [], ◌∷◌, Option, Some, None, Result, Ok, Err, ℤ, pos, ◌+ℤ◌, ◌-ℤ◌, if◌then◌else◌}
+use Rattle.gw_nums.specs.declared.val.ArithmeticFault.{ArithmeticFault}
+use Rattle.gw_nums.specs.declared.val.ArithmeticFault.TheVariants as arithmetic_faults
+use Rattle.gw_nums.specs.Range.{is_value, is_negative, is_below, magnitude, negated}
 use Rattle.gw_names.specs.declared.key.Key.{Key}
 use Rattle.gw_names.specs.declared.key.Key.TheVariants as keys
-use Rattle.gw_expr.specs.Term.{Term, Constant, Number, Attribute, Named}
+use Rattle.gw_expr.specs.Term.{Term, Value, Computed, Named}
+use Rattle.gw_expr.specs.Arithmetic.{applied}
+use Rattle.gw_expr.specs.Expressions.{Expression, Single, Opposite, Both}
+use Rattle.gw_expr.specs.declared.atom.Atom.{Atom}
+use Rattle.gw_expr.specs.declared.atom.Atom.TheVariants as atoms
+use Rattle.gw_expr.specs.declared.token.Operator.{Operator}
+use Rattle.gw_expr.specs.declared.token.Token.{Token}
+use Rattle.gw_expr.specs.declared.token.Token.TheVariants as tokens
 use Rattle.gw_expr.specs.declared.stop.Stop.{Stop}
 use Rattle.gw_names.specs.declared.class.Class.{Class}
 use Rattle.gw_names.specs.declared.class.Class.TheVariants as class
 use Rattle.gw_expr.specs.declared.attribute.Subject.{Subject}
 use Rattle.gw_expr.specs.declared.attribute.Subject.TheVariants as subjects
-use Rattle.gw_expr.specs.declared.stop.Stop.TheVariants.{Range, BadCount, NoParameter}
+use Rattle.gw_expr.specs.declared.stop.Stop.TheVariants.{Range, BadCount, NoParameter, ZeroDivisor}
 use Rattle.gw_streams.specs.declared.stream.Stream.{Stream}
 use Rattle.gw_streams.specs.declared.stream.Stream.TheVariants as streams
 use Rattle.gw_streams.specs.Draws.{next_of, start_of, stream_at, with_stream}
@@ -181,19 +190,67 @@ attribute_prog s q class.W of = block_count of (λ id. block_value s class.W id)
 attribute_prog s q class.Rn of = random_prog of
 attribute_prog s q class of = ends_with (ends.Error Range)
 
--- ---- operands
+-- ---- expressions
 
 -- the number that a name stands for, which each version gives to a name that stands for a value
 abbrev pub number_given : Option ℤ → Eval ℤ
 number_given None = ends_with (ends.Error Range)
 number_given (Some n) = gives n
 
--- the value of an operand in a state: a constant, the number that a name stands for, or an attribute; an entity, a
--- label, a fraction and a definition are none, and no form lets one stand for a value
+-- the value of a constant, of a name that stands for a number, or of an attribute
+unfoldable pub atom_prog : Machine → Asker → Atom → Eval ℤ
+atom_prog s q (atoms.Constant value) = gives value
+atom_prog s q (atoms.Number name) = asks (items.Name name) number_given
+atom_prog s q (atoms.Attribute class of) = attribute_prog s q class of
+
+-- what an operator comes to: a value, or the stop that says why there is none
+abbrev pub arithmetic : Result ℤ ArithmeticFault → Eval ℤ
+arithmetic (Ok z) = gives z
+arithmetic (Err arithmetic_faults.Range) = ends_with (ends.Error Range)
+arithmetic (Err arithmetic_faults.ZeroDivisor) = ends_with (ends.Error ZeroDivisor)
+
+-- the value of an expression: of two operands the left one comes first
+abbrev pub expression_prog : Machine → Asker → Expression → Eval ℤ
+expression_prog s q (Single atom) = atom_prog s q atom
+expression_prog s q (Opposite e) = expression_prog s q e ~> (λ v. gives (negated v))
+expression_prog s q (Both operator left right) =
+    expression_prog s q left ~> (λ a. expression_prog s q right ~> (λ b. arithmetic (applied operator a b)))
+
+-- An expression is kept in postfix order, and evaluated by the values that wait for their operator, the last one first:
+-- this comes to the value of the expression.
+
+-- the last value with the other sign, and what an operator makes of the last two; no expression lacks them
+abbrev pub negated_last : List ℤ → Eval (List ℤ)
+negated_last [] = ends_with (ends.Error Range)
+negated_last (v ∷ values) = gives (negated v ∷ values)
+
+abbrev pub applied_last : Operator → List ℤ → Eval (List ℤ)
+applied_last operator [] = ends_with (ends.Error Range)
+applied_last operator (b ∷ []) = ends_with (ends.Error Range)
+applied_last operator (b ∷ a ∷ values) = arithmetic (applied operator a b) ~> (λ v. gives (v ∷ values))
+
+-- what a part of an expression makes of the values that wait
+abbrev pub token_prog : Machine → Asker → Token → List ℤ → Eval (List ℤ)
+token_prog s q (tokens.Value atom) values = atom_prog s q atom ~> (λ v. gives (v ∷ values))
+token_prog s q tokens.Negated values = negated_last values
+token_prog s q (tokens.Applied operator) values = applied_last operator values
+
+abbrev pub tokens_prog : Machine → Asker → List Token → List ℤ → Eval (List ℤ)
+tokens_prog s q [] values = gives values
+tokens_prog s q (t ∷ ts) values = token_prog s q t values ~> (λ more. tokens_prog s q ts more)
+
+-- the value that is left
+abbrev pub last_value : List ℤ → Eval ℤ
+last_value [] = ends_with (ends.Error Range)
+last_value (v ∷ values) = gives v
+
+-- ---- operands
+
+-- the value of an operand in a state; an entity, a label, a fraction and a definition have none, and no form lets one
+-- stand for a value
 unfoldable pub value_prog : Machine → Asker → Term → Eval ℤ
-value_prog s q (Constant value) = gives value
-value_prog s q (Number name) = asks (items.Name name) number_given
-value_prog s q (Attribute class of) = attribute_prog s q class of
+value_prog s q (Value atom) = atom_prog s q atom
+value_prog s q (Computed ts) = tokens_prog s q ts [] ~> last_value
 value_prog s q term = ends_with (ends.Error Range)
 
 -- the value of an operand that is there: no form leaves it out

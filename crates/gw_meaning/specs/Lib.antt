@@ -7,6 +7,7 @@ pub mod Entities
 pub mod Machine
 pub mod Questions
 pub mod Evaluation
+pub mod Laws
 pub mod Changes
 pub mod Step
 pub mod Reads
@@ -14,6 +15,8 @@ pub mod Point
 pub use Rattle.gw_nums.specs.Range
 pub use Rattle.gw_streams.specs.Draws
 pub use Rattle.gw_expr.specs.Term
+pub use Rattle.gw_expr.specs.Arithmetic
+pub use Rattle.gw_expr.specs.Expressions
 pub use Rattle.gw_expr.specs.Stops
 pub use Rattle.gw_names.specs.Words
 pub use Rattle.gw_names.specs.Names

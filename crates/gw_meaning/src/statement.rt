@@ -92,7 +92,7 @@ impl Block {
     {
         let mut operands = Vec::new(alloc);
         for operand in self.operands.as_slice() {
-            operands.push(copy_operand(alloc, operand)?)?;
+            operands.push(copy_operand(operand)?)?;
         }
         Ok(Block {
             verb: self.verb,
@@ -236,11 +236,11 @@ impl Numbered {
     }
 }
 
-fn copy_operand(alloc: Global, operand: &Option<Expr>) -> Result<Option<Expr>, AllocError>
+fn copy_operand(operand: &Option<Expr>) -> Result<Option<Expr>, AllocError>
     ensures { IfOk result (λ o. o ≡ operand.now) }
 {
     match operand {
-        Some(expr) => Ok(Some(expr.copy(alloc)?)),
+        Some(expr) => Ok(Some(expr.copy()?)),
         None => Ok(None),
     }
 }

@@ -1,9 +1,13 @@
 -- what the scans for a label that no block has, for a definition that is not there, and for an EQU's that is named as a storage find
-use Rattle.std.proofs.Common.{◌≡◌, ℕ, zero, suc, List, [], ◌∷◌, refl, Bool, false, not, Option, Some, None, is_some, ap, subst, ◌∙◌, true, ◌&&◌}
+use Rattle.std.proofs.Common.{◌≡◌, ℕ, zero, suc, List, [], ◌∷◌, refl, Bool, false, not, Option, Some, None, is_some, ap, subst, ◌∙◌, true, ◌&&◌, sym}
 use Rattle.std.specs.Prelude.{ℤ, get_or}
 use Rattle.std.specs.List.{list_any, slice_get}
 use Rattle.std.proofs.lemmas.Option.{get_or_from_slice_get}
-use Rattle.gw_expr.specs.Term.{Term, Defined, Label, Number, Attribute}
+use Rattle.gw_expr.specs.Term.{Term, Value, Computed, Named, Defined, Label, Fraction, HasAtom, holds_of_atom, holds_of_token}
+use Rattle.gw_expr.specs.declared.atom.Atom.{Atom}
+use Rattle.gw_expr.specs.declared.atom.Atom.TheVariants as atoms
+use Rattle.gw_expr.specs.declared.token.Token.{Token}
+use Rattle.gw_expr.specs.declared.token.Token.TheVariants as tokens
 use Rattle.gw_meaning.specs.Listing.{block_of, defined_in, labelled_in, number_of}
 use Rattle.gw_meaning.specs.Statements.{operand}
 use Rattle.gw_meaning.specs.declared.statement.Block.{Block}
@@ -13,7 +17,7 @@ use Rattle.gw_meaning.specs.declared.statement.Numbered.{Numbered}
 use Rattle.gw_names.specs.declared.class.Class.{Class}
 use Rattle.gw_expr.specs.declared.attribute.Subject.{Subject}
 use Rattle.gw_expr.specs.declared.attribute.Subject.TheVariants as subjects
-use Rattle.gw_model.specs.Faults.{is_of_block, is_of_storage, lacks_name, has_name, holds_of, block_operands, holds_in, is_unknown_label, has_unknown_label, is_undefined, has_unknown_definition, is_equ_named, has_equ_named}
+use Rattle.gw_model.specs.Faults.{is_of_block, is_of_storage, lacks_name, has_name, holds_of, block_operands, holds_in, counts_unknown, has_no_value, is_of_equ, is_unknown_label, has_unknown_label, is_undefined, has_unknown_definition, is_equ_named, has_equ_named}
 use Rattle.gw_model.proofs.Apart.{none_of, none_from}
 
 -- the labels of these lines
@@ -57,20 +61,44 @@ in_no_line : (test : Term → Bool) (lines : List Numbered)
 in_no_line test lines f =
     none_from (holds_in test) lines (λ i line e. in_no_block test (block_of line) (λ block place term b o. f i place line block term e b o))
 
+-- what a scan of the values of an operand finds: where a test of operands is one of their values, and fails, it fails of each value
+no_atom : (test : Term → Bool) (p : Atom → Bool) → ((a : Atom) → test (Value a) ≡ p a) → ((ts : List Token) → test (Computed ts) ≡
+    list_any (holds_of_token p) ts) → (term : Term) (atom : Atom) → test term ≡ false → HasAtom term atom → p atom ≡ false
+no_atom test p one many (Value a) atom h has = ap p (sym has) ∙ (sym (one a) ∙ h)
+no_atom test p one many (Computed ts) atom h (i, has) = none_of (holds_of_token p) ts (sym (many ts) ∙ h) i (tokens.Value atom) has
+no_atom test p one many (Named name) atom h has = absurd has
+no_atom test p one many (Label name) atom h has = absurd has
+no_atom test p one many (Fraction n) atom h has = absurd has
+no_atom test p one many (Defined name) atom h has = absurd has
+
+in_no_token : (p : Atom → Bool) (ts : List Token) (i : ℕ) (token : Token) → slice_get ts i ≡ Some token →
+    ((atom : Atom) → HasAtom (Computed ts) atom → p atom ≡ false) → holds_of_token p token ≡ false
+in_no_token p ts i (tokens.Value atom) e f = f atom (i, e)
+in_no_token p ts i tokens.Negated e f = refl
+in_no_token p ts i (tokens.Applied operator) e f = refl
+
+in_no_atom : (p : Atom → Bool) (term : Term) → ((atom : Atom) → HasAtom term atom → p atom ≡ false) → holds_of_atom p term ≡ false
+in_no_atom p (Value a) f = f a refl
+in_no_atom p (Computed ts) f = none_from (holds_of_token p) ts (λ i token e. in_no_token p ts i token e f)
+in_no_atom p (Named name) f = refl
+in_no_atom p (Label name) f = refl
+in_no_atom p (Fraction n) f = refl
+in_no_atom p (Defined name) f = refl
+
 -- each label that an operand names is that of a block
 abbrev pub LabelsThere : List Numbered → Type 0
 LabelsThere lines = (i place : ℕ) (line : Numbered) (block : Block) (name : List ℕ) → slice_get lines i ≡ Some line →
     block_of line ≡ Some block → operand block place ≡ Some (Label name) → (id : ℕ) × (labelled_in name lines ≡ Some id)
 
 pub labels_there : (lines : List Numbered) → has_unknown_label lines ≡ false → LabelsThere lines
-unfolding has_unknown_label
+unfolding has_unknown_label is_unknown_label
 labels_there lines h i place line block name e b o =
     there_is (labelled_in name lines) (no_operand (is_unknown_label (known lines)) lines h i place line block (Label name) e b o)
 
 -- so is each label whose block an attribute counts
 abbrev pub CountsThere : List Numbered → Type 0
-CountsThere lines = (i place : ℕ) (line : Numbered) (block : Block) (class : Class) (of : Subject) → slice_get lines i ≡ Some line →
-    block_of line ≡ Some block → operand block place ≡ Some (Attribute class of) → is_of_block class ≡ true →
+CountsThere lines = (i place : ℕ) (line : Numbered) (block : Block) (term : Term) (class : Class) (of : Subject) → slice_get lines i ≡ Some line →
+    block_of line ≡ Some block → operand block place ≡ Some term → HasAtom term (atoms.Attribute class of) → is_of_block class ≡ true →
     (name : List ℕ) × (of ≡ subjects.Name name) × (id : ℕ) × (labelled_in name lines ≡ Some id)
 
 both_hold : (a b : Bool) → a ≡ true → (a && b) ≡ false → b ≡ false
@@ -84,10 +112,11 @@ label_named lines (subjects.Number n) h = absurd cc
 label_named lines (subjects.Name name) h = let there = there_is (labelled_in name lines) h in (name, refl, there.0, there.1)
 
 pub counts_there : (lines : List Numbered) → has_unknown_label lines ≡ false → CountsThere lines
-unfolding has_unknown_label
-counts_there lines h i place line block class of e b o is =
-    label_named lines of (both_hold (is_of_block class) _ is (no_operand (is_unknown_label (known lines)) lines h i place line block (Attribute class of) e b
-    o))
+unfolding has_unknown_label is_unknown_label
+counts_there lines h i place line block term class of e b o has is =
+    let none = no_operand (is_unknown_label (known lines)) lines h i place line block term e b o in
+    label_named lines of (both_hold (is_of_block class) _ is
+    (no_atom (is_unknown_label (known lines)) (counts_unknown (known lines)) (λ a. refl) (λ ts. refl) term (atoms.Attribute class of) none has))
 
 -- an attribute of which a test fails where its class is none of those that are tested
 tested : (a b : Bool) → (a ≡ true → b ≡ false) → (a && b) ≡ false
@@ -95,13 +124,20 @@ tested true b f = f refl
 tested false b f = refl
 
 pub labels_known : (lines : List Numbered) → LabelsThere lines → CountsThere lines → has_unknown_label lines ≡ false
-unfolding has_unknown_label
+unfolding has_unknown_label is_unknown_label
 labels_known lines f g = in_no_line (is_unknown_label (known lines)) lines go where
+  each : (i place : ℕ) (line : Numbered) (block : Block) (term : Term) → slice_get lines i ≡ Some line → block_of line ≡ Some block →
+      operand block place ≡ Some term → (atom : Atom) → HasAtom term atom → counts_unknown (known lines) atom ≡ false
+  each i place line block term e b o (atoms.Attribute class of) has = tested (is_of_block class) (lacks_name (known lines) of)
+      (λ is. (let h = g i place line block term class of e b o has is in
+      ap (lacks_name (known lines)) h.1 ∙ ap (λ (x : Option ℕ). not (is_some x)) h.3))
+  each i place line block term e b o atom has = refl
+
   go : (i place : ℕ) (line : Numbered) (block : Block) (term : Term) → slice_get lines i ≡ Some line → block_of line ≡ Some block →
       operand block place ≡ Some term → is_unknown_label (known lines) term ≡ false
   go i place line block (Label name) e b o = ap (λ (x : Option ℕ). not (is_some x)) (f i place line block name e b o).1
-  go i place line block (Attribute class of) e b o = tested (is_of_block class) (lacks_name (known lines) of)
-      (λ is. (let h = g i place line block class of e b o is in ap (lacks_name (known lines)) h.1 ∙ ap (λ (x : Option ℕ). not (is_some x)) h.3))
+  go i place line block (Value a) e b o = in_no_atom _ (Value a) (each i place line block (Value a) e b o)
+  go i place line block (Computed ts) e b o = in_no_atom _ (Computed ts) (each i place line block (Computed ts) e b o)
   go i place line block term e b o = refl
 
 -- the definitions of these lines
@@ -114,8 +150,8 @@ StoragesThere lines = (i place : ℕ) (line : Numbered) (block : Block) (name : 
     block_of line ≡ Some block → operand block place ≡ Some (Defined name) → (capacity : ℕ) × (defined_in name lines ≡ Some (definitions.Storage capacity))
 
 abbrev pub NumbersThere : List Numbered → Type 0
-NumbersThere lines = (i place : ℕ) (line : Numbered) (block : Block) (name : List ℕ) → slice_get lines i ≡ Some line →
-    block_of line ≡ Some block → operand block place ≡ Some (Number name) → (value : ℤ) × (defined_in name lines ≡ Some (definitions.Equ value))
+NumbersThere lines = (i place : ℕ) (line : Numbered) (block : Block) (term : Term) (name : List ℕ) → slice_get lines i ≡ Some line →
+    block_of line ≡ Some block → operand block place ≡ Some term → HasAtom term (atoms.Number name) → (value : ℤ) × (defined_in name lines ≡ Some (definitions.Equ value))
 
 storage_is : (o : Option Definition) → not (is_some o) ≡ false → is_some (number_of o) ≡ false → (capacity : ℕ) × (o ≡ Some (definitions.Storage capacity))
 storage_is None h k = absurd cc
@@ -128,20 +164,22 @@ equ_is (Some (definitions.Storage capacity)) h = absurd cc
 equ_is (Some (definitions.Equ value)) h = (value, refl)
 
 pub storages_there : (lines : List Numbered) → has_unknown_definition lines ≡ false → has_equ_named lines ≡ false → StoragesThere lines
-unfolding has_unknown_definition has_equ_named
+unfolding has_unknown_definition has_equ_named is_undefined is_equ_named
 storages_there lines h k i place line block name e b o =
     storage_is (defined_in name lines) (no_operand (is_undefined (definition lines)) lines h i place line block (Defined name) e b o)
     (no_operand (is_equ_named (definition lines)) lines k i place line block (Defined name) e b o)
 
 pub numbers_there : (lines : List Numbered) → has_unknown_definition lines ≡ false → NumbersThere lines
-unfolding has_unknown_definition
-numbers_there lines h i place line block name e b o =
-    equ_is (defined_in name lines) (no_operand (is_undefined (definition lines)) lines h i place line block (Number name) e b o)
+unfolding has_unknown_definition is_undefined
+numbers_there lines h i place line block term name e b o has =
+    let none = no_operand (is_undefined (definition lines)) lines h i place line block term e b o in
+    equ_is (defined_in name lines)
+    (no_atom (is_undefined (definition lines)) (has_no_value (definition lines)) (λ a. refl) (λ ts. refl) term (atoms.Number name) none has)
 
 -- so is each storage whose content an attribute tells
 abbrev pub ContentsThere : List Numbered → Type 0
-ContentsThere lines = (i place : ℕ) (line : Numbered) (block : Block) (class : Class) (of : Subject) → slice_get lines i ≡ Some line →
-    block_of line ≡ Some block → operand block place ≡ Some (Attribute class of) → is_of_storage class ≡ true →
+ContentsThere lines = (i place : ℕ) (line : Numbered) (block : Block) (term : Term) (class : Class) (of : Subject) → slice_get lines i ≡ Some line →
+    block_of line ≡ Some block → operand block place ≡ Some term → HasAtom term (atoms.Attribute class of) → is_of_storage class ≡ true →
     (name : List ℕ) × (of ≡ subjects.Name name) × (capacity : ℕ) × (defined_in name lines ≡ Some (definitions.Storage capacity))
 
 -- whether a name is defined, and by an EQU
@@ -158,30 +196,48 @@ storage_named lines (subjects.Number n) h k = absurd cc
 storage_named lines (subjects.Name name) h k = let there = storage_is (defined_in name lines) h k in (name, refl, there.0, there.1)
 
 pub contents_there : (lines : List Numbered) → has_unknown_definition lines ≡ false → has_equ_named lines ≡ false → ContentsThere lines
-unfolding has_unknown_definition has_equ_named
-contents_there lines h k i place line block class of e b o is =
-    storage_named lines of (both_hold (is_of_storage class) _ is (no_operand (is_undefined (definition lines)) lines h i place line block (Attribute class of)
-    e b o))
-    (both_hold (is_of_storage class) _ is (no_operand (is_equ_named (definition lines)) lines k i place line block (Attribute class of) e b o))
+unfolding has_unknown_definition has_equ_named is_undefined is_equ_named
+contents_there lines h k i place line block term class of e b o has is =
+    let none = no_operand (is_undefined (definition lines)) lines h i place line block term e b o in
+    let no_equ = no_operand (is_equ_named (definition lines)) lines k i place line block term e b o in
+    storage_named lines of
+    (both_hold (is_of_storage class) _ is
+    (no_atom (is_undefined (definition lines)) (has_no_value (definition lines)) (λ a. refl) (λ ts. refl) term (atoms.Attribute class of) none has))
+    (both_hold (is_of_storage class) _ is
+    (no_atom (is_equ_named (definition lines)) (is_of_equ (definition lines)) (λ a. refl) (λ ts. refl) term (atoms.Attribute class of) no_equ has))
 
 pub definitions_known : (lines : List Numbered) → StoragesThere lines → NumbersThere lines → ContentsThere lines → has_unknown_definition lines ≡ false
-unfolding has_unknown_definition
+unfolding has_unknown_definition is_undefined
 definitions_known lines f g w = in_no_line (is_undefined (definition lines)) lines go where
+  each : (i place : ℕ) (line : Numbered) (block : Block) (term : Term) → slice_get lines i ≡ Some line → block_of line ≡ Some block →
+      operand block place ≡ Some term → (atom : Atom) → HasAtom term atom → has_no_value (definition lines) atom ≡ false
+  each i place line block term e b o (atoms.Constant value) has = refl
+  each i place line block term e b o (atoms.Number name) has =
+      ap (λ (x : Option Definition). not (is_some (number_of x))) (g i place line block term name e b o has).1
+  each i place line block term e b o (atoms.Attribute class of) has = tested (is_of_storage class) (lacks_name (is_defined lines) of)
+      (λ is. (let h = w i place line block term class of e b o has is in
+      ap (lacks_name (is_defined lines)) h.1 ∙ ap (λ (x : Option Definition). not (is_some x)) h.3))
+
   go : (i place : ℕ) (line : Numbered) (block : Block) (term : Term) → slice_get lines i ≡ Some line → block_of line ≡ Some block →
       operand block place ≡ Some term → is_undefined (definition lines) term ≡ false
   go i place line block (Defined name) e b o = ap (λ (x : Option Definition). not (is_some x)) (f i place line block name e b o).1
-  go i place line block (Number name) e b o = ap (λ (x : Option Definition). not (is_some (number_of x))) (g i place line block name e b o).1
-  go i place line block (Attribute class of) e b o = tested (is_of_storage class) (lacks_name (is_defined lines) of)
-      (λ is. (let h = w i place line block class of e b o is in ap (lacks_name (is_defined lines)) h.1 ∙ ap (λ (x : Option Definition). not (is_some x)) h.3))
+  go i place line block (Value a) e b o = in_no_atom _ (Value a) (each i place line block (Value a) e b o)
+  go i place line block (Computed ts) e b o = in_no_atom _ (Computed ts) (each i place line block (Computed ts) e b o)
   go i place line block term e b o = refl
 
 pub none_equ_named : (lines : List Numbered) → StoragesThere lines → ContentsThere lines → has_equ_named lines ≡ false
-unfolding has_equ_named
+unfolding has_equ_named is_equ_named
 none_equ_named lines f w = in_no_line (is_equ_named (definition lines)) lines go where
+  each : (i place : ℕ) (line : Numbered) (block : Block) (term : Term) → slice_get lines i ≡ Some line → block_of line ≡ Some block →
+      operand block place ≡ Some term → (atom : Atom) → HasAtom term atom → is_of_equ (definition lines) atom ≡ false
+  each i place line block term e b o (atoms.Attribute class of) has = tested (is_of_storage class) (has_name (is_number lines) of)
+      (λ is. (let h = w i place line block term class of e b o has is in
+      ap (has_name (is_number lines)) h.1 ∙ ap (λ (x : Option Definition). is_some (number_of x)) h.3))
+  each i place line block term e b o atom has = refl
+
   go : (i place : ℕ) (line : Numbered) (block : Block) (term : Term) → slice_get lines i ≡ Some line → block_of line ≡ Some block →
       operand block place ≡ Some term → is_equ_named (definition lines) term ≡ false
   go i place line block (Defined name) e b o = ap (λ (x : Option Definition). is_some (number_of x)) (f i place line block name e b o).1
-  go i place line block (Attribute class of) e b o = tested (is_of_storage class) (has_name (is_number lines) of)
-      (λ is. (let h = w i place line block class of e b o is in ap (has_name (is_number lines)) h.1 ∙
-      ap (λ (x : Option Definition). is_some (number_of x)) h.3))
+  go i place line block (Value a) e b o = in_no_atom _ (Value a) (each i place line block (Value a) e b o)
+  go i place line block (Computed ts) e b o = in_no_atom _ (Computed ts) (each i place line block (Computed ts) e b o)
   go i place line block term e b o = refl

@@ -6,7 +6,9 @@ use Rattle.gw_names.specs.declared.class.Class.{Class}
 use Rattle.gw_names.specs.declared.class.Class.TheVariants as class
 use Rattle.gw_expr.specs.declared.attribute.Subject.{Subject}
 use Rattle.gw_expr.specs.declared.attribute.Subject.TheVariants as subjects
-use Rattle.gw_expr.specs.Term.{Term, Attribute, Defined, Label, Number}
+use Rattle.gw_expr.specs.Term.{Term, Defined, Label, holds_of_atom}
+use Rattle.gw_expr.specs.declared.atom.Atom.{Atom}
+use Rattle.gw_expr.specs.declared.atom.Atom.TheVariants as atoms
 use Rattle.gw_meaning.specs.Listing.{Listing, block_of, defined_in, has_label, labelled_in}
 use Rattle.gw_meaning.specs.Listing as listings
 use Rattle.gw_model.specs.Listed.{counted_label}
@@ -101,34 +103,43 @@ abbrev pub has_name : (List ℕ → Bool) → Subject → Bool
 has_name test (subjects.Name name) = test name
 has_name test subject = false
 
--- a label that is not among those that are known
-abbrev pub is_unknown_label : (List ℕ → Bool) → Term → Bool
+-- a label that is not among those that are known, of a block that an attribute counts or of one to go to
+abbrev pub counts_unknown : (List ℕ → Bool) → Atom → Bool
+counts_unknown known (atoms.Attribute class of) = is_of_block class && lacks_name known of
+counts_unknown known atom = false
+
+unfoldable pub is_unknown_label : (List ℕ → Bool) → Term → Bool
 is_unknown_label known (Label name) = not (known name)
-is_unknown_label known (Attribute class of) = is_of_block class && lacks_name known of
-is_unknown_label known term = false
+is_unknown_label known term = holds_of_atom (counts_unknown known) term
 
 -- whether an operand of a block is the label of no block
 unfoldable pub has_unknown_label : List Numbered → Bool
 has_unknown_label lines = list_any (holds_in (is_unknown_label (λ name. is_some (labelled_in name lines)))) lines
 
 -- a name without the definition that it needs: that of a storage has none, or what stands for a number has no EQU
-abbrev pub is_undefined : (List ℕ → Option Definition) → Term → Bool
-is_undefined definition (Defined name) = not (is_some (definition name))
-is_undefined definition (Number name) = not (is_some (listings.number_of (definition name)))
-is_undefined definition (Attribute class of) =
+abbrev pub has_no_value : (List ℕ → Option Definition) → Atom → Bool
+has_no_value definition (atoms.Constant value) = false
+has_no_value definition (atoms.Number name) = not (is_some (listings.number_of (definition name)))
+has_no_value definition (atoms.Attribute class of) =
     is_of_storage class && lacks_name (λ name. is_some (definition name)) of
-is_undefined definition term = false
+
+unfoldable pub is_undefined : (List ℕ → Option Definition) → Term → Bool
+is_undefined definition (Defined name) = not (is_some (definition name))
+is_undefined definition term = holds_of_atom (has_no_value definition) term
 
 -- whether an operand of a block is such a name
 unfoldable pub has_unknown_definition : List Numbered → Bool
 has_unknown_definition lines = list_any (holds_in (is_undefined (λ name. defined_in name lines))) lines
 
 -- the name of a storage that is an EQU's
-abbrev pub is_equ_named : (List ℕ → Option Definition) → Term → Bool
-is_equ_named definition (Defined name) = is_some (listings.number_of (definition name))
-is_equ_named definition (Attribute class of) =
+abbrev pub is_of_equ : (List ℕ → Option Definition) → Atom → Bool
+is_of_equ definition (atoms.Attribute class of) =
     is_of_storage class && has_name (λ name. is_some (listings.number_of (definition name))) of
-is_equ_named definition term = false
+is_of_equ definition atom = false
+
+unfoldable pub is_equ_named : (List ℕ → Option Definition) → Term → Bool
+is_equ_named definition (Defined name) = is_some (listings.number_of (definition name))
+is_equ_named definition term = holds_of_atom (is_of_equ definition) term
 
 -- whether an operand of a block is such a name
 unfoldable pub has_equ_named : List Numbered → Bool

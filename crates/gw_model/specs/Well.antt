@@ -1,6 +1,7 @@
 -- What a version may be, in the subject's own words. (Our own limits.)
 use Rattle.std.specs.Prelude.{ℕ, ℤ, ◌≤◌, ◌<◌, ◌≡◌, ◌≢◌, true, List, Some, length, slice_get}
-use Rattle.gw_expr.specs.Term.{Attribute, Defined, Label, Number}
+use Rattle.gw_expr.specs.Term.{Term, Defined, Label, HasAtom}
+use Rattle.gw_expr.specs.declared.atom.Atom.TheVariants as atoms
 use Rattle.gw_names.specs.declared.class.Class.{Class}
 use Rattle.gw_expr.specs.declared.attribute.Subject.{Subject}
 use Rattle.gw_expr.specs.declared.attribute.Subject.TheVariants as subjects
@@ -38,15 +39,19 @@ pub record Well (t : Listing) : Type 0 where
   pub storages_there : (i place : ℕ) (line : Numbered) (block : Block) (name : List ℕ) →
       slice_get t.lines i ≡ Some line → block_of line ≡ Some block → operand block place ≡ Some (Defined name) →
       (capacity : ℕ) × (definition_at t name ≡ Some (definitions.Storage capacity))
-  pub numbers_there : (i place : ℕ) (line : Numbered) (block : Block) (name : List ℕ) →
-      slice_get t.lines i ≡ Some line → block_of line ≡ Some block → operand block place ≡ Some (Number name) →
-      (value : ℤ) × (definition_at t name ≡ Some (definitions.Equ value))
-  pub counts_there : (i place : ℕ) (line : Numbered) (block : Block) (class : Class) (of : Subject) →
-      slice_get t.lines i ≡ Some line → block_of line ≡ Some block → operand block place ≡ Some (Attribute class of) →
+  pub numbers_there : (i place : ℕ) (line : Numbered) (block : Block) (term : Term) (name : List ℕ) →
+      slice_get t.lines i ≡ Some line → block_of line ≡ Some block → operand block place ≡ Some term →
+      HasAtom term (atoms.Number name) → (value : ℤ) × (definition_at t name ≡ Some (definitions.Equ value))
+  pub counts_there :
+      (i place : ℕ) (line : Numbered) (block : Block) (term : Term) (class : Class) (of : Subject) →
+      slice_get t.lines i ≡ Some line → block_of line ≡ Some block → operand block place ≡ Some term →
+      HasAtom term (atoms.Attribute class of) →
       is_of_block class ≡ true →
       (name : List ℕ) × (of ≡ subjects.Name name) × (id : ℕ) × (label_at t name ≡ Some id)
-  pub contents_there : (i place : ℕ) (line : Numbered) (block : Block) (class : Class) (of : Subject) →
-      slice_get t.lines i ≡ Some line → block_of line ≡ Some block → operand block place ≡ Some (Attribute class of) →
+  pub contents_there :
+      (i place : ℕ) (line : Numbered) (block : Block) (term : Term) (class : Class) (of : Subject) →
+      slice_get t.lines i ≡ Some line → block_of line ≡ Some block → operand block place ≡ Some term →
+      HasAtom term (atoms.Attribute class of) →
       is_of_storage class ≡ true →
       (name : List ℕ) × (of ≡ subjects.Name name) × (capacity : ℕ) ×
       (definition_at t name ≡ Some (definitions.Storage capacity))

@@ -3,9 +3,11 @@ ghost use Rattle.std.specs.BTreeMap as tree;
 ghost use Rattle.std.specs.Ordering.{nat_cmp};
 ghost use Rattle.std.specs.Cmp.Lexicographic.{slice_cmp};
 ghost use Rattle.gw_meaning.specs.Listing.{defined_in, number_of};
-ghost use Rattle.gw_model.specs.Faults.{has_unknown_definition, has_equ_named, holds_in, holds_of, is_undefined, is_equ_named, is_of_storage, lacks_name, has_name};
+ghost use Rattle.std.specs.List.{list_any};
+ghost use Rattle.gw_expr.specs.Term.{holds_of_token};
+ghost use Rattle.gw_model.specs.Faults.{has_no_value, is_of_equ, has_unknown_definition, has_equ_named, holds_in, holds_of, is_undefined, is_equ_named, is_of_storage, lacks_name, has_name};
 
-use gw_expr::{Expr, Node, Subject};
+use gw_expr::{Atom, Expr, Node, Subject, Token};
 use gw_meaning::{Definition, Numbered};
 use gw_names::{Class, Name};
 use std::collections::BTreeMap;
@@ -56,6 +58,7 @@ fn names_equ(definitions: &BTreeMap<Name, Definition>, line: &Numbered) -> bool
     }
 }
 
+#[tactic(auto, unfolding(crate::specs::Faults::is_undefined))]
 fn is_undefined(definitions: &BTreeMap<Name, Definition>, operand: &Option<Expr>) -> bool
     ensures { result ≡
         holds_of (is_undefined (λ name. tree.get (slice_cmp nat_cmp) definitions.now name)) operand.now }
@@ -63,12 +66,41 @@ fn is_undefined(definitions: &BTreeMap<Name, Definition>, operand: &Option<Expr>
     let Some(expr) = operand else { return false };
     match expr.node() {
         Node::Defined(name) => definitions.get(name).is_none(),
-        Node::Number(name) => !is_equ(definitions, name),
-        Node::Attribute(class, of) => is_of_storage(*class) && lacks_definition(definitions, of),
-        Node::Constant(_) | Node::Named(_) | Node::Label(_) | Node::Fraction(_) => false,
+        Node::Value(atom) => has_no_value(definitions, atom),
+        Node::Computed(tokens) => any_lacks_a_value(definitions, tokens),
+        Node::Named(_) | Node::Label(_) | Node::Fraction(_) => false,
     }
 }
 
+fn any_lacks_a_value(definitions: &BTreeMap<Name, Definition>, tokens: &[Token]) -> bool
+    ensures { result ≡ list_any
+        (holds_of_token (has_no_value (λ name. tree.get (slice_cmp nat_cmp) definitions.now name))) tokens.now }
+{
+    tokens.iter().any(|token| lacks_a_value(definitions, token))
+}
+
+fn lacks_a_value(definitions: &BTreeMap<Name, Definition>, token: &Token) -> bool
+    ensures { result ≡
+        holds_of_token (has_no_value (λ name. tree.get (slice_cmp nat_cmp) definitions.now name)) token.now }
+{
+    match token {
+        Token::Value(atom) => has_no_value(definitions, atom),
+        Token::Negated | Token::Applied(_) => false,
+    }
+}
+
+fn has_no_value(definitions: &BTreeMap<Name, Definition>, atom: &Atom) -> bool
+    ensures { result ≡
+        has_no_value (λ name. tree.get (slice_cmp nat_cmp) definitions.now name) atom.now }
+{
+    match atom {
+        Atom::Constant(_) => false,
+        Atom::Number(name) => !is_equ(definitions, name),
+        Atom::Attribute(class, of) => is_of_storage(*class) && lacks_definition(definitions, of),
+    }
+}
+
+#[tactic(auto, unfolding(crate::specs::Faults::is_equ_named))]
 fn is_equ_named(definitions: &BTreeMap<Name, Definition>, operand: &Option<Expr>) -> bool
     ensures { result ≡
         holds_of (is_equ_named (λ name. tree.get (slice_cmp nat_cmp) definitions.now name)) operand.now }
@@ -76,9 +108,35 @@ fn is_equ_named(definitions: &BTreeMap<Name, Definition>, operand: &Option<Expr>
     let Some(expr) = operand else { return false };
     match expr.node() {
         Node::Defined(name) => is_equ(definitions, name),
-        Node::Attribute(class, of) => is_of_storage(*class) && has_equ(definitions, of),
-        Node::Constant(_) | Node::Number(_) | Node::Named(_) | Node::Label(_) | Node::Fraction(_) =>
-            false,
+        Node::Value(atom) => is_of_equ(definitions, atom),
+        Node::Computed(tokens) => any_is_of_equ(definitions, tokens),
+        Node::Named(_) | Node::Label(_) | Node::Fraction(_) => false,
+    }
+}
+
+fn any_is_of_equ(definitions: &BTreeMap<Name, Definition>, tokens: &[Token]) -> bool
+    ensures { result ≡ list_any
+        (holds_of_token (is_of_equ (λ name. tree.get (slice_cmp nat_cmp) definitions.now name))) tokens.now }
+{
+    tokens.iter().any(|token| is_equ_token(definitions, token))
+}
+
+fn is_equ_token(definitions: &BTreeMap<Name, Definition>, token: &Token) -> bool
+    ensures { result ≡
+        holds_of_token (is_of_equ (λ name. tree.get (slice_cmp nat_cmp) definitions.now name)) token.now }
+{
+    match token {
+        Token::Value(atom) => is_of_equ(definitions, atom),
+        Token::Negated | Token::Applied(_) => false,
+    }
+}
+
+fn is_of_equ(definitions: &BTreeMap<Name, Definition>, atom: &Atom) -> bool
+    ensures { result ≡ is_of_equ (λ name. tree.get (slice_cmp nat_cmp) definitions.now name) atom.now }
+{
+    match atom {
+        Atom::Attribute(class, of) => is_of_storage(*class) && has_equ(definitions, of),
+        Atom::Constant(_) | Atom::Number(_) => false,
     }
 }
 

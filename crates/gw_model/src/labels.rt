@@ -3,9 +3,11 @@ ghost use Rattle.std.specs.BTreeMap as tree;
 ghost use Rattle.std.specs.Ordering.{nat_cmp};
 ghost use Rattle.std.specs.Cmp.Lexicographic.{slice_cmp};
 ghost use Rattle.gw_meaning.specs.Listing.{labelled_in};
-ghost use Rattle.gw_model.specs.Faults.{has_unknown_label, holds_in, holds_of, is_unknown_label, is_of_block, lacks_name};
+ghost use Rattle.std.specs.List.{list_any};
+ghost use Rattle.gw_expr.specs.Term.{holds_of_token};
+ghost use Rattle.gw_model.specs.Faults.{counts_unknown, has_unknown_label, holds_in, holds_of, is_unknown_label, is_of_block, lacks_name};
 
-use gw_expr::{Expr, Node, Subject};
+use gw_expr::{Atom, Expr, Node, Subject, Token};
 use gw_meaning::{Numbered, StatementId};
 use gw_names::{Class, Name};
 use std::collections::BTreeMap;
@@ -33,6 +35,7 @@ fn names_unknown(labels: &BTreeMap<Name, StatementId>, line: &Numbered) -> bool
     }
 }
 
+#[tactic(auto, unfolding(crate::specs::Faults::is_unknown_label))]
 fn is_unknown(labels: &BTreeMap<Name, StatementId>, operand: &Option<Expr>) -> bool
     ensures { result ≡
         holds_of (is_unknown_label (λ name. is_some (tree.get (slice_cmp nat_cmp) labels.now name))) operand.now }
@@ -40,12 +43,37 @@ fn is_unknown(labels: &BTreeMap<Name, StatementId>, operand: &Option<Expr>) -> b
     let Some(expr) = operand else { return false };
     match expr.node() {
         Node::Label(name) => labels.get(name).is_none(),
-        Node::Attribute(class, of) => is_of_block(*class) && lacks_label(labels, of),
-        Node::Constant(_)
-        | Node::Number(_)
-        | Node::Named(_)
-        | Node::Fraction(_)
-        | Node::Defined(_) => false,
+        Node::Value(atom) => counts_unknown(labels, atom),
+        Node::Computed(tokens) => any_unknown(labels, tokens),
+        Node::Named(_) | Node::Fraction(_) | Node::Defined(_) => false,
+    }
+}
+
+fn any_unknown(labels: &BTreeMap<Name, StatementId>, tokens: &[Token]) -> bool
+    ensures { result ≡ list_any
+        (holds_of_token (counts_unknown (λ name. is_some (tree.get (slice_cmp nat_cmp) labels.now name)))) tokens.now }
+{
+    tokens.iter().any(|token| is_unknown_token(labels, token))
+}
+
+fn is_unknown_token(labels: &BTreeMap<Name, StatementId>, token: &Token) -> bool
+    ensures { result ≡
+        holds_of_token (counts_unknown (λ name. is_some (tree.get (slice_cmp nat_cmp) labels.now name))) token.now }
+{
+    match token {
+        Token::Value(atom) => counts_unknown(labels, atom),
+        Token::Negated | Token::Applied(_) => false,
+    }
+}
+
+// Whether a value counts a block that has no such label.
+fn counts_unknown(labels: &BTreeMap<Name, StatementId>, atom: &Atom) -> bool
+    ensures { result ≡
+        counts_unknown (λ name. is_some (tree.get (slice_cmp nat_cmp) labels.now name)) atom.now }
+{
+    match atom {
+        Atom::Attribute(class, of) => is_of_block(*class) && lacks_label(labels, of),
+        Atom::Constant(_) | Atom::Number(_) => false,
     }
 }
 

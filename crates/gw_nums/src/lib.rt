@@ -14,4 +14,4 @@ mod val;
 pub use decimal::put_decimal;
 pub use ratio::thousandths;
 pub use time::{Clock, LAST_CLOCK, LAST_TIME, Time};
-pub use val::{ArithmeticFault, GREATEST, Val, add};
+pub use val::{ArithmeticFault, GREATEST, Val, add, div, mul, rem, sub};

@@ -1,5 +1,5 @@
 ghost use Rattle.std.specs.Prelude.{◌≡◌, ◌≤◌, ◌↔◌, IsTrue, IsSome, IfSome};
-ghost use Rattle.gw_nums.specs.Range.{is_value, sum_of, magnitude, is_negative, is_below};
+ghost use Rattle.gw_nums.specs.Range.{is_value, sum_of, difference_of, product_of, quotient_of, remainder_of, negated, signed, magnitude, is_negative, is_below};
 
 use std::marker::Model;
 use thiserror::Error;
@@ -8,7 +8,7 @@ use thiserror::Error;
 pub const GREATEST: i64 = 1_000_000_000;
 
 /// A value of the language: a whole number in -1,000,000,000 to 1,000,000,000.
-#[derive(Clone, Copy, Debug, PartialEq, Eq, PartialOrd, Ord, Hash)]
+#[derive(Clone, Copy, Debug, Default, PartialEq, Eq, PartialOrd, Ord, Hash)]
 pub struct Val {
     value: i64,
 }
@@ -26,12 +26,15 @@ impl Model for Val {
     ghost inverse = { λ z. record { value = z } };
 }
 
-/// Why a sum of two values has no value.
+/// Why two values come to none.
 #[derive(Clone, Copy, Debug, PartialEq, Eq, Error)]
 pub enum ArithmeticFault {
     /// The result leaves the range of values.
     #[error("the result is outside -1000000000 to 1000000000")]
     Range,
+    /// The divisor is 0.
+    #[error("the divisor is 0")]
+    ZeroDivisor,
 }
 
 impl Val {
@@ -73,6 +76,13 @@ impl Val {
         self.value < 0
     }
 
+    /// The number with the other sign.
+    pub fn negated(self) -> Val
+        ensures { result ≡ negated self }
+    {
+        Val { value: -self.value }
+    }
+
     /// Whether the value is below the other.
     pub fn is_below(self, other: Val) -> bool
         ensures { result ≡ is_below self other }
@@ -86,4 +96,52 @@ pub fn add(a: Val, b: Val) -> Result<Val, ArithmeticFault>
     ensures { result ≡ sum_of a b }
 {
     Val::new(a.value + b.value).ok_or(ArithmeticFault::Range)
+}
+
+/// The difference, where it is a value.
+pub fn sub(a: Val, b: Val) -> Result<Val, ArithmeticFault>
+    ensures { result ≡ difference_of a b }
+{
+    Val::new(a.value - b.value).ok_or(ArithmeticFault::Range)
+}
+
+/// The product, where it is a value.
+pub fn mul(a: Val, b: Val) -> Result<Val, ArithmeticFault>
+    ensures { result ≡ product_of a b }
+{
+    Val::new(a.value * b.value).ok_or(ArithmeticFault::Range)
+}
+
+/// The whole quotient, cut off towards zero.
+pub fn div(a: Val, b: Val) -> Result<Val, ArithmeticFault>
+    ensures { result ≡ quotient_of a b }
+{
+    if b.value == 0 {
+        return Err(ArithmeticFault::ZeroDivisor);
+    }
+    Ok(signed(
+        a.is_negative() != b.is_negative(),
+        a.magnitude() / b.magnitude(),
+    ))
+}
+
+/// The remainder of the quotient that is cut off towards zero: its sign is the dividend's.
+pub fn rem(a: Val, b: Val) -> Result<Val, ArithmeticFault>
+    ensures { result ≡ remainder_of a b }
+{
+    if b.value == 0 {
+        return Err(ArithmeticFault::ZeroDivisor);
+    }
+    Ok(signed(a.is_negative(), a.magnitude() % b.magnitude()))
+}
+
+// The number with this magnitude, below 0 where it is negative.
+fn signed(is_negative: bool, magnitude: u64) -> Val
+    requires { magnitude ≤ 1000000000 }
+    ensures { result ≡ signed is_negative magnitude }
+{
+    let value = magnitude as i64;
+    Val {
+        value: if is_negative { -value } else { value },
+    }
 }

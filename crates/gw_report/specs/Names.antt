@@ -6,7 +6,11 @@ use Rattle.std.specs.List.{flat_map}
 use Rattle.std.specs.Str.{bytes_eq}
 use Rattle.gw_expr.specs.declared.attribute.Subject.{Subject}
 use Rattle.gw_expr.specs.declared.attribute.Subject.TheVariants as subjects
-use Rattle.gw_expr.specs.Term.{Term, Constant, Number, Attribute, Named, Label, Fraction, Defined}
+use Rattle.gw_expr.specs.declared.atom.Atom.{Atom}
+use Rattle.gw_expr.specs.declared.atom.Atom.TheVariants as atoms
+use Rattle.gw_expr.specs.declared.token.Token.{Token}
+use Rattle.gw_expr.specs.declared.token.Token.TheVariants as tokens
+use Rattle.gw_expr.specs.Term.{Term, Value, Computed, Named, Label, Fraction, Defined}
 use Rattle.gw_meaning.specs.Listing.{Listing, block_of, label_at, number_at}
 use Rattle.gw_meaning.specs.declared.statement.Block.{Block}
 use Rattle.gw_meaning.specs.declared.statement.Numbered.{Numbered}
@@ -19,15 +23,23 @@ abbrev pub name_columns : List Column
 name_columns = record { title = codes "NAME"; width = 10; side = Left } ∷
     record { title = codes "VALUE"; width = 10; side = Right } ∷ []
 
--- the names in what an attribute is of, in an operand, and in a block, from left to right
+-- the names in what an attribute is of, in a value, in an operand, and in a block, from left to right
 abbrev pub names_in_subject : Subject → List (List ℕ)
 names_in_subject (subjects.Name name) = name ∷ []
 names_in_subject of = []
 
+abbrev pub names_in_atom : Atom → List (List ℕ)
+names_in_atom (atoms.Constant value) = []
+names_in_atom (atoms.Number name) = name ∷ []
+names_in_atom (atoms.Attribute class of) = names_in_subject of
+
+abbrev pub names_in_token : Token → List (List ℕ)
+names_in_token (tokens.Value atom) = names_in_atom atom
+names_in_token token = []
+
 abbrev pub names_in_term : Term → List (List ℕ)
-names_in_term (Constant value) = []
-names_in_term (Number name) = name ∷ []
-names_in_term (Attribute class of) = names_in_subject of
+names_in_term (Value atom) = names_in_atom atom
+names_in_term (Computed ts) = flat_map names_in_token ts
 names_in_term (Named name) = name ∷ []
 names_in_term (Label name) = name ∷ []
 names_in_term (Fraction part) = []

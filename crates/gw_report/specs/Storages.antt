@@ -1,6 +1,6 @@
 -- The lines of storages: how many units each has, how many are in use and came into use, its averages, and how many wait
 -- for it. (Manual; AVL. is 1 and RETRY is 0 so far.)
-use Rattle.std.specs.Prelude.{ℕ, ◌-◌, ◌*◌, List, [], ◌∷◌, map, length, decimal, codes, unwrap_or}
+use Rattle.std.specs.Prelude.{ℕ, ◌-◌, ◌*◌, List, [], ◌∷◌, map, length, decimal, codes}
 use Rattle.gw_names.specs.declared.key.Key.{Key}
 use Rattle.gw_entities.specs.Levels.{sum_up_to}
 use Rattle.gw_entities.specs.Records.{Store}

@@ -5,13 +5,13 @@ ghost use Rattle.gw_names.specs.Keys.{key_eq};
 ghost use Rattle.gw_meaning.specs.Listing.{label_at, number_at};
 ghost use Rattle.gw_report.specs.Layout.{row_of, rows_of};
 ghost use Rattle.gw_report.specs.Names.{name_columns, name_line, name_lines, names_in, names_of, names_text};
-ghost use Rattle.gw_report.specs.Names.{names_in_operand, next_behind};
+ghost use Rattle.gw_report.specs.Names.{names_in_atom, names_in_operand, names_in_token, next_behind};
 ghost use Rattle.gw_report.specs.NameKeys.{as_keys, names_among};
 
 use crate::column::{Cell, Column, Side, put_row};
 use crate::position::position_of;
 use crate::section::put_section;
-use gw_expr::{Expr, Node, Subject};
+use gw_expr::{Atom, Expr, Node, Subject, Token};
 use gw_meaning::Numbered;
 use gw_model::Version;
 use gw_names::{Key, Name};
@@ -80,11 +80,41 @@ fn add_operand(names: &mut IndexSet<Key>, operand: &Option<Expr>) -> Result<(), 
         return Ok(());
     };
     match expr.node() {
-        Node::Attribute(_, Subject::Name(name)) => add_name(names, name),
-        Node::Constant(_) | Node::Attribute(..) | Node::Fraction(_) => Ok(()),
-        Node::Number(name) | Node::Named(name) | Node::Label(name) | Node::Defined(name) => {
-            add_name(names, name)
-        }
+        Node::Value(atom) => add_atom(names, atom),
+        Node::Computed(tokens) => add_tokens(names, tokens),
+        Node::Named(name) | Node::Label(name) | Node::Defined(name) => add_name(names, name),
+        Node::Fraction(_) => Ok(()),
+    }
+}
+
+// Adds what an expression names, from left to right.
+fn add_tokens(names: &mut IndexSet<Key>, tokens: &[Token]) -> Result<(), AllocError>
+    ensures { OnOk result (names.new.keys ≡
+        insert_all key_eq names.old.keys (as_keys (flat_map names_in_token tokens.now))) }
+{
+    for token in tokens {
+        add_token(names, token)?;
+    }
+    Ok(())
+}
+
+fn add_token(names: &mut IndexSet<Key>, token: &Token) -> Result<(), AllocError>
+    ensures { OnOk result (names.new.keys ≡
+        insert_all key_eq names.old.keys (as_keys (names_in_token token.now))) }
+{
+    match token {
+        Token::Value(atom) => add_atom(names, atom),
+        Token::Negated | Token::Applied(_) => Ok(()),
+    }
+}
+
+// Adds what a value names.
+fn add_atom(names: &mut IndexSet<Key>, atom: &Atom) -> Result<(), AllocError>
+    ensures { OnOk result (names.new.keys ≡ insert_all key_eq names.old.keys (as_keys (names_in_atom atom.now))) }
+{
+    match atom {
+        Atom::Number(name) | Atom::Attribute(_, Subject::Name(name)) => add_name(names, name),
+        Atom::Constant(_) | Atom::Attribute(..) => Ok(()),
     }
 }
 

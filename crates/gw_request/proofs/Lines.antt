@@ -1,5 +1,5 @@
 -- A line is read as a request of a command exactly where it asks for that.
-use Rattle.std.proofs.Common.{◌≡◌, ◌≤◌, ◌<◌, ℕ, ◌+◌, ◌==◌, ◌&&◌, ◌||◌, not, Bool, true, false, cond, List, [], ◌∷◌, ◌++◌, length, Option, Some, None, option_and_then, unwrap_or, refl, ap, sym, subst, ◌∙◌, ◌⊎◌, inl, inr, arith}
+use Rattle.std.proofs.Common.{◌≡◌, ◌≤◌, ℕ, ◌==◌, ◌&&◌, ◌||◌, not, Bool, true, false, cond, List, [], ◌∷◌, ◌++◌, length, Option, Some, None, option_and_then, unwrap_or, refl, ap, sym, subst, ◌∙◌, ◌⊎◌, inl, inr, arith}
 use Rattle.std.specs.Prelude.{find, nat_lt, nat_le}
 use Rattle.std.specs.List.{list_all}
 use Rattle.std.specs.Str.{bytes_eq}
@@ -7,8 +7,7 @@ use Rattle.std.specs.Char.{is_ascii_digit, is_ascii_alphabetic}
 use Rattle.std.proofs.lemmas.Bool.{cases_Bool}
 use Rattle.std.proofs.lemmas.Bool.Decides.{nat_tests}
 use Rattle.std.proofs.lemmas.Slice.Eq.{bytes_eq-Decides}
-use Rattle.gw_names.specs.Names.{name_of, is_name_text, is_name_byte, is_barred}
-use Rattle.gw_names.specs.Words.{upper_of}
+use Rattle.gw_names.specs.Names.{name_of, is_name_text, is_name_byte}
 use Rattle.gw_request.specs.declared.command.Command.{Command}
 use Rattle.gw_request.specs.declared.command.Command.TheVariants.{Bare, Single, Pair, Text, Capacity}
 use Rattle.gw_request.specs.declared.command.Bare.TheVariants as bares

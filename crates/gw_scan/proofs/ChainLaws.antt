@@ -58,7 +58,7 @@ swap_below es k i e less h is =
     (take-set-le (k + 1) (set es k (get_or es i e)) i (get_or es k e) up ∙
     (take_more_set es k (get_or es i e) low ∙ ap (λ z. take k es ++ z ∷ []) (sym is)))
 
-swap_kept : (es : List Event) (k i : ℕ) (e : Event) → k ≤ i → i < length es → e ≡ get_or es i e → take (k + 1) (swap es k i) ≡ take k es ++ e ∷ []
+pub swap_kept : (es : List Event) (k i : ℕ) (e : Event) → k ≤ i → i < length es → e ≡ get_or es i e → take (k + 1) (swap es k i) ≡ take k es ++ e ∷ []
 swap_kept es k i e below h is = go (nat_lt k i) refl where
   go : (b : Bool) → nat_lt k i ≡ b → take (k + 1) (swap es k i) ≡ take k es ++ e ∷ []
   go true t = swap_below es k i e (grind (arith, nat_tests)) h is

@@ -1,5 +1,6 @@
 -- Laws of the future chain in segments: what goes for two lists one after the other, and for a segment with none due.
 use Rattle.std.proofs.Common.{◌≡◌, ℕ, suc, ◌-◌, ◌+◌, ◌<◌, ◌≤◌, Bool, nat_eq, arith, true, false, not, List, [], ◌∷◌, Option, None, Some, ◌++◌, length, refl, sym, ap, ◌∙◌, filter, append_assoc, append-nil, min, take, drop, get_or, set, length-set}
+use Rattle.std.specs.List.{swap}
 use Rattle.std.proofs.lemmas.Bool.{cond_both}
 use Rattle.std.proofs.lemmas.Bool.Decides.{nat_tests}
 use Rattle.std.proofs.lemmas.List.{drop_more, take_more, take_more_set, drop-set-lt}
@@ -11,7 +12,7 @@ use Rattle.gw_meaning.specs.declared.transaction.Event.{Event}
 use Rattle.gw_meaning.specs.Changes.{lined_up, all_lined_up, due, is_due}
 use Rattle.gw_meaning.specs.Step.{least_time, sooner}
 use Rattle.gw_scan.specs.Parts.{Chain}
-use Rattle.gw_scan.proofs.ChainLaws.{item_drop}
+use Rattle.gw_scan.proofs.ChainLaws.{item_drop, swap_kept}
 use Rattle.gw_scan.specs.Segments.{all_items, soonest, is_in_use, is_later}
 
 -- the least time
@@ -27,6 +28,11 @@ sooner_both a (Some b) (Some c) = let e : min a (min b c) ≡ min (min a b) c = 
 pub least_put : (es : List Event) (e : Event) → least_time (es ++ e ∷ []) ≡ sooner e.time (least_time es)
 least_put [] e = refl
 least_put (x ∷ xs) e = ap (sooner x.time) (least_put xs e) ∙ sooner_swap x.time e.time (least_time xs)
+
+-- one more of those gone over is kept
+pub kept_least : (es : List Event) (k i : ℕ) (e : Event) → k ≤ i → i < length es → e ≡ get_or es i e →
+    least_time (take (k + 1) (swap es k i)) ≡ sooner e.time (least_time (take k es))
+kept_least es k i e few within is = ap least_time (swap_kept es k i e few within is) ∙ least_put (take k es) e
 
 pub least_append : (xs ys : List Event) → least_time (xs ++ ys) ≡ soonest (least_time xs) (least_time ys)
 least_append [] ys = refl
@@ -135,17 +141,10 @@ taken_one t S C i s u segments current h is kept k =
           (ap (λ xs. all_lined_up xs current) (sym (ap (due t) split ∙ due_append t s.items (all_items (drop (i + 1) S)))) ∙ k.current_is);
     }
 
--- from a place of xs on there is what there is from a place of ys on
-pub record SameFrom (xs : List Event) (i : ℕ) (ys : List Event) (j : ℕ) : Type 0 where
-  pub far : length xs + j ≡ length ys + i
-  pub same : (d : Event) → get_or xs i d ≡ get_or ys j d
-
 -- the least time from a segment on
-pub least_next : (ss : List (Chain Event)) (last : List Event) (k : ℕ) (s : Chain Event) → k < length ss → s ≡ get_or ss k s →
-    least_time (all_items (drop k ss) ++ last) ≡ soonest (least_time s.items) (least_time (all_items (drop (k + 1) ss) ++ last))
-least_next ss last k s h is =
-    ap (λ rs. least_time (all_items rs ++ last)) (item_drop ss k s h is) ∙
-    (ap least_time (append_assoc s.items (all_items (drop (k + 1) ss)) last) ∙ least_append s.items (all_items (drop (k + 1) ss) ++ last))
+pub least_next : (ss : List (Chain Event)) (k : ℕ) (s : Chain Event) → k < length ss → s ≡ get_or ss k s →
+    least_time (all_items (drop k ss)) ≡ soonest (least_time s.items) (least_time (all_items (drop (k + 1) ss)))
+least_next ss k s h is = ap (λ rs. least_time (all_items rs)) (item_drop ss k s h is) ∙ least_append s.items (all_items (drop (k + 1) ss))
 
 -- one more is copied
 pub copied_segment : (ss copies : List (Chain Event)) (k : ℕ) (s u : Chain Event) → k < length ss → s ≡ get_or ss k s → u.items ≡ s.items →
@@ -162,6 +161,12 @@ closed_is ss full fresh none =
     ap (λ es. all_items (ss ++ full ∷ []) ++ es) none ∙ (append-nil (all_items (ss ++ full ∷ [])) ∙
     (all_items_append ss (full ∷ []) ∙ ap (λ es. all_items ss ++ es) (append-nil full.items)))
 
+pub closed_least : (ss : List (Chain Event)) (full : Chain Event) →
+    soonest (least_time (all_items ss)) (least_time full.items) ≡ least_time (all_items (ss ++ full ∷ []))
+closed_least ss full =
+    sym (ap least_time (all_items_append ss (full ∷ []) ∙ ap (λ es. all_items ss ++ es) (append-nil full.items)) ∙
+    least_append (all_items ss) full.items)
+
 -- those that are due are taken from the closed segments and then from the last
 module _ (t : ℕ) (closed : List (Chain Event)) (last : List Event) where
   pub chain_taken : (C mid new : List Transaction) → mid ≡ all_lined_up (due t (all_items closed)) C → new ≡ all_lined_up (due t last) mid →
@@ -170,13 +175,11 @@ module _ (t : ℕ) (closed : List (Chain Event)) (last : List Event) where
       then ∙ (ap (all_lined_up (due t last)) first ∙ sym (ap (λ xs. all_lined_up xs C) (due_append t (all_items closed) last) ∙
       all_lined_append (due t (all_items closed)) (due t last) C))
 
-  pub chain_kept : (mid used : List (Chain Event)) (rest : List Event) → all_items mid ≡ filter (λ e. not (is_due t e)) (all_items closed) →
-      used ≡ filter is_in_use mid → rest ≡ filter (λ e. not (is_due t e)) last →
-      all_items used ++ rest ≡ filter (λ e. not (is_due t e)) (all_items closed ++ last)
-  chain_kept mid used rest first some then =
+  pub chain_kept : (used : List (Chain Event)) (rest : List Event) → all_items used ≡ filter (λ e. not (is_due t e)) (all_items closed) →
+      rest ≡ filter (λ e. not (is_due t e)) last → all_items used ++ rest ≡ filter (λ e. not (is_due t e)) (all_items closed ++ last)
+  chain_kept used rest first then =
       let p : Event → Bool = λ e. not (is_due t e) in
-      ap (λ es. es ++ rest) (ap all_items some ∙ (all_items_in_use mid ∙ first)) ∙
-      (ap (λ es. filter p (all_items closed) ++ es) then ∙ sym (filter-append p (all_items closed) last))
+      ap (λ es. es ++ rest) first ∙ (ap (λ es. filter p (all_items closed) ++ es) then ∙ sym (filter-append p (all_items closed) last))
 
   pub chain_counts : (C new : List Transaction) → new ≡ all_lined_up (due t (all_items closed ++ last)) C →
       length new + length (filter (λ e. not (is_due t e)) (all_items closed ++ last)) ≡ length C + length (all_items closed ++ last)

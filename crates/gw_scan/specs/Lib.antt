@@ -8,5 +8,6 @@ pub use Rattle.gw_meaning.specs.Point
 pub mod Parts
 pub mod Segments
 pub mod Noted
+pub mod WaitingValues
 pub mod Deciding
 pub mod Stepping

@@ -66,12 +66,18 @@ impl PriorityChain {
         self.transactions.get(index)
     }
 
-    // Makes room for so many more.
+    // Makes room for so many more, and for twice as many where it has to grow: each clock step makes room for all of the
+    // future chain, which may have grown by one, and an empty chain would grow by no more than that.
+    #[inline]
     pub(crate) fn reserve(&mut self, count: usize) -> Result<(), AllocError>
         ensures ok { OnOk result (count ≤ self.new.room) }
         ensures items { self.new.items ≡ self.old.items }
     {
-        self.transactions.reserve(count)
+        let room = self.transactions.capacity() - self.transactions.len();
+        if count <= room {
+            return Ok(());
+        }
+        self.transactions.reserve(count.saturating_mul(2))
     }
 
     // Puts a transaction on it: behind its equals, in front of the first of lower priority.

@@ -1,11 +1,10 @@
 ghost use Rattle.std.specs.Prelude.{◌≡◌, ◌+◌, ◌++◌, ◌∷◌, ◌≤◌, ◌<◌, [], length, take, drop, filter, not, IfOk, OnOk, ◌^◌};
-ghost use Rattle.std.specs.Slice.{IsItemAt};
 ghost use Rattle.gw_meaning.specs.Changes.{all_lined_up, due, is_due};
 ghost use Rattle.gw_meaning.specs.Step.{least_time};
 ghost use Rattle.gw_scan.specs.Segments.{all_items, is_in_use};
 
 use crate::chain::PriorityChain;
-use crate::segment::{Segment, soonest};
+use crate::segment::{Segment, is_later, soonest};
 use gw_meaning::Event;
 use gw_nums::Time;
 use std::alloc::{AllocError, Global};
@@ -24,6 +23,8 @@ const LIMIT: usize = 9_223_372_036_854_775_807;
 #[derive(Drop)]
 pub struct FutureChain {
     closed: Vec<Segment>,
+    // The least time on the closed segments: a clock step before it passes over them.
+    least: Option<Time>,
     last: Segment,
     len: usize,
 }
@@ -32,6 +33,7 @@ impl Model for FutureChain {
     ghost use Rattle.std.specs.Prelude.{◌≡◌, ◌-◌, ◌<◌, ◌^◌, ◌++◌, length, min};
     ghost use Rattle.gw_meaning.specs.declared.transaction.Event.{Event};
     ghost use Rattle.gw_scan.specs.Parts.{Chain};
+    ghost use Rattle.gw_meaning.specs.Step.{least_time};
     ghost use Rattle.gw_scan.specs.Segments.{all_items};
 
     ghost Value = { Chain Event };
@@ -41,7 +43,8 @@ impl Model for FutureChain {
       room = min c.last.room (2 ^ 63 - 1 - c.len);
     } };
 
-    ghost invariant = { λ c. (c.len ≡ length (all_items c.closed.items ++ c.last.items)) × (c.len < 2 ^ 63) };
+    ghost invariant = { λ c. (c.len ≡ length (all_items c.closed.items ++ c.last.items)) × (c.len < 2 ^ 63)
+        × (c.least ≡ least_time (all_items c.closed.items)) };
 }
 
 impl FutureChain {
@@ -51,6 +54,7 @@ impl FutureChain {
     {
         FutureChain {
             closed: Vec::new(alloc),
+            least: None,
             last: Segment::new(alloc),
             len: 0,
         }
@@ -62,21 +66,6 @@ impl FutureChain {
         ensures bound { result < 2 ^ 63 }
     {
         self.len
-    }
-
-    /// The transaction at an index, with its time.
-    pub fn get(&self, index: usize) -> Option<&Event>
-        ensures { IsItemAt self.now.items index result }
-    {
-        let mut left = index;
-        for i in 0..self.closed.len() {
-            let len = self.closed[i].len();
-            if left < len {
-                return self.closed[i].get(left);
-            }
-            left -= len;
-        }
-        self.last.get(left)
     }
 
     /// The transactions from an index on, up to the end of their segment. Who goes over the chain by parts, each at the
@@ -105,9 +94,24 @@ impl FutureChain {
             return Err(AllocError);
         }
         if self.last.len() >= MOST {
-            close(&mut self.closed, &mut self.last, count)?;
+            self.close(count)?;
         }
         self.last.reserve(count)
+    }
+
+    // Closes the last segment: a new one, with room for so many, stands behind it.
+    #[cold]
+    #[inline(never)]
+    fn close(&mut self, count: usize) -> Result<(), AllocError>
+        ensures { self.new.items ≡ self.old.items }
+    {
+        self.closed.reserve(1)?;
+        let mut fresh = Segment::new(*self.closed.allocator());
+        fresh.reserve(count)?;
+        let full = mem::replace(&mut self.last, fresh);
+        self.least = soonest(self.least, full.least_time());
+        self.closed.push_reserved(full);
+        Ok(())
     }
 
     // Puts a transaction on it.
@@ -124,11 +128,7 @@ impl FutureChain {
     pub(crate) fn least_time(&self) -> Option<Time>
         ensures { result ≡ least_time self.now.items }
     {
-        let mut least = self.last.least_time();
-        for i in (0..self.closed.len()).rev() {
-            least = soonest(self.closed[i].least_time(), least);
-        }
-        least
+        soonest(self.least, self.last.least_time())
     }
 
     // Moves the transactions of a time to the current chain, in the order in which they came.
@@ -138,9 +138,8 @@ impl FutureChain {
         ensures future { self.new.items ≡ filter (λ e. not (is_due time e)) self.old.items }
     {
         let before = current.len();
-        take_due(&mut self.closed, current, time);
+        take_closed(&mut self.closed, &mut self.least, current, time);
         self.last.take_due(current, time);
-        drop_empty(&mut self.closed);
         self.len -= current.len() - before;
     }
 
@@ -152,22 +151,46 @@ impl FutureChain {
         let last = self.last.copy()?;
         Ok(FutureChain {
             closed,
+            least: self.least,
             last,
             len: self.len,
         })
     }
 }
 
-// Closes the last segment: a new one, with room for so many, stands behind it.
-fn close(closed: &mut Vec<Segment>, last: &mut Segment, count: usize) -> Result<(), AllocError>
-    ensures { all_items closed.new.items ++ last.new.items ≡ all_items closed.old.items ++ last.old.items }
+// Moves the transactions of a time from closed segments, of which this is the least time, to the current chain. Those
+// that hold something stay.
+#[inline(always)]
+fn take_closed(
+    segments: &mut Vec<Segment>,
+    least: &mut Option<Time>,
+    current: &mut PriorityChain,
+    time: Time,
+)
+    requires room { length (all_items segments.old.items) ≤ current.old.room }
+    requires least { least.old ≡ least_time (all_items segments.old.items) }
+    ensures current { current.new.items ≡ all_lined_up (due time (all_items segments.old.items)) current.old.items }
+    ensures future { all_items segments.new.items ≡ filter (λ e. not (is_due time e)) (all_items segments.old.items) }
+    ensures room { current.old.room ≤ current.new.room + length (all_items segments.old.items) }
+    ensures least { least.new ≡ least_time (all_items segments.new.items) }
 {
-    closed.reserve(1)?;
-    let mut fresh = Segment::new(*closed.allocator());
-    fresh.reserve(count)?;
-    let full = mem::replace(last, fresh);
-    closed.push_reserved(full);
-    Ok(())
+    if is_later(*least, time) {
+        return;
+    }
+    take_and_drop(segments, current, time);
+    *least = least_time(segments);
+}
+
+// The same, where some are due.
+#[inline(never)]
+fn take_and_drop(segments: &mut Vec<Segment>, current: &mut PriorityChain, time: Time)
+    requires { length (all_items segments.old.items) ≤ current.old.room }
+    ensures current { current.new.items ≡ all_lined_up (due time (all_items segments.old.items)) current.old.items }
+    ensures future { all_items segments.new.items ≡ filter (λ e. not (is_due time e)) (all_items segments.old.items) }
+    ensures room { current.old.room ≤ current.new.room + length (all_items segments.old.items) }
+{
+    take_due(segments, current, time);
+    drop_empty(segments);
 }
 
 // Moves the transactions of a time from each segment to the current chain, from the first segment on.
@@ -187,6 +210,17 @@ fn drop_empty(segments: &mut Vec<Segment>)
     ensures { segments.new.items ≡ filter is_in_use segments.old.items }
 {
     segments.retain(|segment| !segment.is_empty());
+}
+
+// The least time on segments.
+fn least_time(segments: &[Segment]) -> Option<Time>
+    ensures { result ≡ least_time (all_items segments.now) }
+{
+    let mut least = None;
+    for i in (0..segments.len()).rev() {
+        least = soonest(segments[i].least_time(), least);
+    }
+    least
 }
 
 // Equal segments.

@@ -17,6 +17,7 @@ mod delays;
 mod draws;
 mod entities;
 mod entity_change;
+mod expression;
 mod facilities;
 mod future;
 mod making;
@@ -31,6 +32,7 @@ mod storages;
 mod tally;
 mod transfer;
 mod value;
+mod waiting_values;
 
 pub use case::{Case, Halt};
 pub use chain::PriorityChain;

@@ -1,5 +1,4 @@
 ghost use Rattle.std.specs.Prelude.{◌≡◌, ◌+◌, ◌++◌, ◌∷◌, ◌≤◌, ◌<◌, [], length, drop, filter, not, Some, IfOk, OnOk, ◌^◌, ◌==◌};
-ghost use Rattle.std.specs.Slice.{IsItemAt};
 ghost use Rattle.gw_meaning.specs.Changes.{all_lined_up, due, is_due};
 ghost use Rattle.gw_meaning.specs.Step.{least_time, sooner};
 ghost use Rattle.gw_scan.specs.Segments.{soonest, is_later};
@@ -61,13 +60,6 @@ impl Segment {
         self.events.is_empty()
     }
 
-    // The transaction at an index, with its time.
-    pub(crate) fn get(&self, index: usize) -> Option<&Event>
-        ensures { IsItemAt self.now.items index result }
-    {
-        self.events.get(index)
-    }
-
     // The transactions from an index on.
     pub(crate) fn from(&self, index: usize) -> &[Event]
         ensures { result.now ≡ drop index self.now.items }
@@ -111,8 +103,7 @@ impl Segment {
         if is_later(self.least, time) {
             return;
         }
-        take_due(&mut self.events, current, time);
-        self.least = least_time(&self.events);
+        self.least = take_due(&mut self.events, current, time);
     }
 
     // An equal segment.
@@ -128,7 +119,7 @@ impl Segment {
 }
 
 // Whether a time, where there is one, is later than another.
-fn is_later(least: Option<Time>, time: Time) -> bool
+pub(crate) fn is_later(least: Option<Time>, time: Time) -> bool
     ensures { result ≡ is_later least time }
 {
     match least {
@@ -137,36 +128,28 @@ fn is_later(least: Option<Time>, time: Time) -> bool
     }
 }
 
-// The least time of transactions.
-#[tactic(auto, using(crate::proofs::ChainLaws::item_drop))]
-fn least_time(events: &[Event]) -> Option<Time>
-    ensures { result ≡ least_time events.now }
-{
-    let mut least = None;
-    for i in (0..events.len()).rev() {
-        least = Some(sooner(events[i].time, least));
-    }
-    least
-}
-
-// Moves the transactions of a time to the current chain, and keeps the others in their order.
-fn take_due(events: &mut Vec<Event>, current: &mut PriorityChain, time: Time)
+// Moves the transactions of a time to the current chain, and keeps the others in their order: the least time of these.
+fn take_due(events: &mut Vec<Event>, current: &mut PriorityChain, time: Time) -> Option<Time>
     requires { length events.old.items ≤ current.old.room }
     ensures current { current.new.items ≡ all_lined_up (due time events.old.items) current.old.items }
     ensures future { events.new.items ≡ filter (λ e. not (is_due time e)) events.old.items }
     ensures room { current.old.room ≤ current.new.room + length events.old.items }
+    ensures least { result ≡ least_time events.new.items }
 {
     let mut kept = 0;
+    let mut least = None;
     for i in 0..events.len() {
         let event = &events[i];
         if event.time == time {
             current.line_up(same(&event.transaction));
         } else {
+            least = Some(sooner(event.time, least));
             events.swap(kept, i);
             kept += 1;
         }
     }
     events.truncate(kept);
+    least
 }
 
 // The sooner of two times, where there are any.

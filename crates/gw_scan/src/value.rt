@@ -1,6 +1,6 @@
 // What operands stand for: values, entities and units.
 ghost use Rattle.std.specs.Prelude.{◌≡◌, ◌++◌, option_copied};
-ghost use Rattle.gw_meaning.specs.Evaluation.{number_given, value_prog, value_or_zero, value_there, numbered, named, entity_prog, units_prog, ◌~>◌};
+ghost use Rattle.gw_meaning.specs.Evaluation.{value_prog, value_or_zero, value_there, numbered, named, entity_prog, units_prog, ◌~>◌};
 ghost use Rattle.gw_scan.specs.Deciding.{Decides, Comes};
 
 use crate::case::{Case, Halt, ask_name};
@@ -25,12 +25,8 @@ impl State {
             result notes.old notes.new }
     {
         match operand.node() {
-            Node::Constant(value) => Ok(*value),
-            Node::Number(name) => {
-                let value = ask_name(case.version, notes, name)?;
-                number_given(value)
-            }
-            Node::Attribute(class, of) => self.attribute(case, asker, notes, *class, of),
+            Node::Value(atom) => self.atom(case, asker, notes, atom),
+            Node::Computed(tokens) => self.computed(case, asker, notes, tokens),
             _ => Err(Halt::End(End::Error(Stop::Range))),
         }
     }
@@ -130,16 +126,6 @@ impl State {
             return Err(Halt::End(End::Error(Stop::BadCount)));
         }
         Ok(units.magnitude())
-    }
-}
-
-// The number that a name stands for.
-fn number_given(number: Option<Val>) -> Result<Val, Halt>
-    ensures { Comes (number_given number) result }
-{
-    match number {
-        Some(number) => Ok(number),
-        None => Err(Halt::End(End::Error(Stop::Range))),
     }
 }
 

@@ -1,17 +1,12 @@
-use Rattle.std.proofs.Common.{◌≡◌, ◌+◌, ◌-◌, ◌<◌, ◌++◌, ℕ, length, drop, sym, ap, ◌∙◌, arith}
+use Rattle.std.proofs.Common.{sym, ap, ◌∙◌}
 use Rattle.gw_meaning.specs.Step.{least_time}
 use Rattle.gw_scan.specs.Segments.{all_items, soonest}
-use Rattle.gw_scan.proofs.SegmentLaws.{least_next}
+use Rattle.gw_scan.proofs.SegmentLaws.{least_append}
 use Rattle.gw_scan.proofs.future.FutureChain.least_time.Goals as goal
 
-pub loop-i-preserved : goal.loop-i-preserved
-loop-i-preserved c =
-    let ss = c.self.inside.closed.items in
+pub returns : goal.returns
+returns c =
+    let closed = all_items c.self.inside.closed.items in
     let last = c.self.inside.last.items in
-    let k : ℕ = c.loop-i.i - 1 in
-    let s = c.index.result.now in
-    let one : c.loop-i.i ≡ k + 1 = omega arith in
-    let within : k < length ss = omega arith in
-    c.soonest-least.ensures ∙ (ap (λ o. soonest o c.loop-i.least) c.least_time.ensures ∙
-    (ap (soonest (least_time s.items)) (c.loop-i.invariant ∙ ap (λ n. least_time (all_items (drop n ss) ++ last)) one) ∙
-    sym (least_next ss last k s within c.index.ensures)))
+    rw (← c.self.view_is) (c.soonest.ensures ∙ (ap (soonest c.self.inside.least) c.least_time.ensures ∙
+    (ap (λ o. soonest o (least_time last)) c.self.invariant.2 ∙ sym (least_append closed last))))

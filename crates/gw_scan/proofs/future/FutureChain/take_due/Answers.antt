@@ -6,35 +6,35 @@ pub overflow_sub-self : goal.overflow_sub-self
 overflow_sub-self c =
     let closed = c.self.inside.closed.items in
     let last = c.self.inside.last.items in
-    let lined = chain_taken c.args.time closed last c.args.current.now.items _ _ c.take_due.ensures.current c.take_due-2.ensures.current in
+    let lined = chain_taken c.args.time closed last c.args.current.now.items _ _ c.take_closed.ensures.current c.take_due.ensures.current in
     omega (arith, due_and_chain c.args.time closed last c.args.current.now.items _ lined, c.len-before.ensures.len, c.len.ensures.len)
 
 pub overflow_sub-self-2 : goal.overflow_sub-self-2
 overflow_sub-self-2 c =
     let closed = c.self.inside.closed.items in
     let last = c.self.inside.last.items in
-    let lined = chain_taken c.args.time closed last c.args.current.now.items _ _ c.take_due.ensures.current c.take_due-2.ensures.current in
+    let lined = chain_taken c.args.time closed last c.args.current.now.items _ _ c.take_closed.ensures.current c.take_due.ensures.current in
     omega (arith, chain_counts c.args.time closed last c.args.current.now.items _ lined, c.len-before.ensures.len, c.len.ensures.len, c.self.invariant.0)
 
 pub invariant_of-self : goal.invariant_of-self
 invariant_of-self c =
     let closed = c.self.inside.closed.items in
     let last = c.self.inside.last.items in
-    let lined = chain_taken c.args.time closed last c.args.current.now.items _ _ c.take_due.ensures.current c.take_due-2.ensures.current in
+    let lined = chain_taken c.args.time closed last c.args.current.now.items _ _ c.take_closed.ensures.current c.take_due.ensures.current in
     let kept = ap length
-    (chain_kept c.args.time closed last c.take_due.new.segments.items _ _ c.take_due.ensures.future c.drop_empty.ensures c.take_due-2.ensures.future) in
+    (chain_kept c.args.time closed last c.take_closed.new.segments.items _ c.take_closed.ensures.future c.take_due.ensures.future) in
     let counts = chain_counts c.args.time closed last c.args.current.now.items _ lined in
     let more = due_and_chain c.args.time closed last c.args.current.now.items _ lined in
-    (omega (arith, kept, counts, more, c.len-before.ensures.len, c.len.ensures.len, c.self.invariant.0), omega (arith, c.self.invariant.1))
+    (omega (arith, kept, counts, more, c.len-before.ensures.len, c.len.ensures.len, c.self.invariant.0), omega (arith, c.self.invariant.1), c.take_closed.ensures.least)
 
 pub returns-clause-current : goal.returns-clause-current
 returns-clause-current c =
     rw (← c.self.view_is)
-    (chain_taken c.args.time c.self.inside.closed.items c.self.inside.last.items c.args.current.now.items _ _ c.take_due.ensures.current
-    c.take_due-2.ensures.current)
+    (chain_taken c.args.time c.self.inside.closed.items c.self.inside.last.items c.args.current.now.items _ _ c.take_closed.ensures.current
+    c.take_due.ensures.current)
 
 pub returns-clause-future : goal.returns-clause-future
 returns-clause-future c =
     rw (← c.self.view_is)
-    (chain_kept c.args.time c.self.inside.closed.items c.self.inside.last.items c.take_due.new.segments.items _ _ c.take_due.ensures.future c.drop_empty.ensures
-    c.take_due-2.ensures.future)
+    (chain_kept c.args.time c.self.inside.closed.items c.self.inside.last.items c.take_closed.new.segments.items _ c.take_closed.ensures.future
+    c.take_due.ensures.future)

@@ -1,0 +1,307 @@
+"""How bench/oracle.py reads statements: the label, the verb and the operands of a line, or the first fault in it."""
+import re
+
+BLOCKS = "GENERATE ADVANCE TERMINATE QUEUE DEPART SEIZE RELEASE ENTER LEAVE TRANSFER MARK PRIORITY BUFFER".split()
+DEFINITIONS = "STORAGE EQU".split()
+COMMANDS = "START RMULT".split()
+# The verbs of later stages, which are no names either.
+LATER_DEFINITIONS = "TABLE VARIABLE FUNCTION".split()
+LATER_COMMANDS = "RESET CLEAR".split()
+LATER_BLOCKS = "TEST GATE LOGIC ASSIGN SAVEVALUE TABULATE LINK UNLINK SPLIT LOOP".split()
+VERBS = BLOCKS + DEFINITIONS + COMMANDS + LATER_DEFINITIONS + LATER_COMMANDS + LATER_BLOCKS
+# The operands of a verb: a value, an entity, a storage, a label, a fraction, a number, a count, a seed, or a key word;
+# `!` where one must be there.
+FORMS = {
+    "GENERATE": "value value value value value",
+    "ADVANCE": "value value",
+    "TERMINATE": "value",
+    "PRIORITY": "value!",
+    "QUEUE": "entity! value",
+    "DEPART": "entity! value",
+    "SEIZE": "entity!",
+    "RELEASE": "entity!",
+    "ENTER": "storage! value",
+    "LEAVE": "storage! value",
+    "TRANSFER": "fraction! label label!",
+    "MARK": "",
+    "BUFFER": "",
+    "STORAGE": "count!",
+    "EQU": "number!",
+    "START": "count! NP",
+    "RMULT": "seed seed seed seed seed seed seed",
+}
+CLASSES = "C1 AC1 TG1 M1 XN1 PR P F FC S R SC SM Q QC QM QZ N W X LS CH CC TC RN V FN".split()
+OF_THE_MOMENT = "C1 AC1 TG1 M1 XN1 PR".split()
+OF_BLOCKS = "N W".split()
+OF_STORAGES = "S SC SM".split()
+OF_ENTITIES = "F FC Q QC QM QZ".split()
+TOKEN = re.compile(r"[A-Z0-9_$]+|[-+#\\@()]")
+DEEPEST = 32
+
+
+class Fault(Exception):
+    """Why a text is no statement: L1 to L8, with the operand where one is at fault."""
+
+
+class Bad(Exception):
+    """A text is no operand of its form."""
+
+
+class Statement:
+    """A label, a verb and operands, each as a tree: its kind, and what it is of or, for an operator, the parts."""
+
+    def __init__(self, text):
+        self.label, self.verb, self.listed = parts(text)
+        self.operands = self.listed.split(",") if self.listed else []
+        self.trees = list(read_operands(self.verb, self.operands))
+        self.id = None
+
+    def operand(self, place):
+        return self.operands[place] if place < len(self.operands) and self.operands[place] else None
+
+    def tree(self, place):
+        return self.trees[place] if place < len(self.trees) else None
+
+    def number(self, place):
+        """The number of an operand that takes digits only."""
+        return int(self.operand(place))
+
+    def leaves(self, kind):
+        """All of a kind in the operands, from left to right, inside parentheses too."""
+        return [leaf for tree in self.trees for leaf in leaves(tree) if leaf[0] == kind]
+
+    def text(self):
+        return " ".join(part for part in (self.label, self.verb, self.listed) if part)
+
+    def names(self):
+        """The names of the statement, the label first."""
+        words = [self.label] if self.label else []
+        own = [leaf[-1] for tree in self.trees for leaf in leaves(tree) if leaf[0] != "word"]
+        return words + [word for word in own if isinstance(word, str)]
+
+
+def leaves(tree):
+    if tree is None:
+        return []
+    if tree[0] not in OPERATORS:
+        return [tree]
+    return [leaf for part in tree[1:] for leaf in leaves(part)]
+
+
+def is_name(word):
+    barred = word in VERBS or re.fullmatch(f"({'|'.join(CLASSES)})[0-9]*", word)
+    return re.fullmatch("[A-Z][A-Z0-9_]{0,199}", word) is not None and not barred
+
+
+# ---- lines
+
+
+def statements_of(text):
+    """The statements of a model, numbered; the line of a fault stands in front of it."""
+    lines, statements = text.replace("\r\n", "\n").split("\n"), []
+    for number, line in enumerate(lines, 1):
+        try:
+            if len(line) > 250:
+                raise Fault("L1")
+            if code_of(line):
+                statements.append(Statement(line))
+        except Fault as fault:
+            raise Fault(f"line {number} {fault}") from None
+    for id, statement in enumerate(statements, 1):
+        statement.id = id
+    return statements
+
+
+def statement_of_edit(text):
+    """The statement of an edit's text, in which `|` ends a line."""
+    lines = text.split("|")
+    if len(lines) > 1 and not lines[-1]:
+        lines.pop()
+    if any(len(line) > 250 for line in lines):
+        raise Fault("L1")
+    try:
+        statement = Statement(lines[0])
+    except Fault as fault:
+        if len(lines) == 1 or str(fault)[:2] != "L6":
+            raise
+        raise Fault("L8") from None
+    if len(lines) > 1:
+        raise Fault("L8")
+    return statement
+
+
+def parts(line):
+    """The label, the verb and the list of operands of a line, in upper case and without the blanks that are skipped."""
+    code = code_of(line).upper()
+    code = code[re.match(r"([0-9]+[ \t]+)?", code).end() :]
+    first, second = re.match(r"([^ \t]*)[ \t]*([^ \t]*)", code).groups()
+    label, verb = (None, first) if first in VERBS else (first, second)
+    if verb not in VERBS:
+        ascii_only(code)
+        raise Fault("L4" if second and not is_name(first) else "L3")
+    start = code.index(verb, len(label or "")) + len(verb)
+    listed, end = operand_list(code[start:])
+    ascii_only(code[: start + end])
+    if label is not None and not is_name(label):
+        raise Fault("L4")
+    if (label is None and verb in DEFINITIONS + LATER_DEFINITIONS) or (label is not None and verb in COMMANDS + LATER_COMMANDS):
+        raise Fault("L4")
+    if verb not in FORMS:
+        raise Fault("L3")
+    return label, verb, listed
+
+
+def code_of(line):
+    """What stands in front of a comment with `;`, from the first mark on; nothing of a line whose first mark is `*`."""
+    code = line.split(";")[0].lstrip(" \t")
+    return "" if code[:1] == "*" else code
+
+
+def ascii_only(code):
+    if any(ord(byte) >= 128 for byte in code):
+        raise Fault("L2")
+
+
+def operand_list(text):
+    """The operands up to the first blank outside parentheses, and where they end; blanks within and behind a comma are dropped."""
+    listed, depth = "", 0
+    for at, byte in enumerate(text):
+        if byte in " \t":
+            if listed and depth == 0 and listed[-1] != ",":
+                return listed, at
+            continue
+        depth += byte == "("
+        depth -= byte == ")" and depth > 0
+        listed += byte
+    return listed, len(text)
+
+
+# ---- operands
+
+
+def read_operands(verb, operands):
+    """The tree of each operand; None where one is absent."""
+    forms = FORMS[verb].split()
+    if not forms and operands:
+        raise Fault("L7 1")
+    if verb == "TRANSFER" and not (operands and operands[0]):
+        forms = ["label", "label!"]
+    for place, word in enumerate(operands, 1):
+        if place > len(forms):
+            raise Fault(f"L7 {place}")
+        try:
+            yield read_operand(forms[place - 1].rstrip("!"), word) if word else None
+        except Bad:
+            raise Fault(f"L5 {place}") from None
+    given = [place < len(operands) and operands[place] != "" for place in range(len(forms))]
+    missing = [place for place, form in enumerate(forms) if form.endswith("!") and not given[place]]
+    if missing or verb == "GENERATE" and not (given[0] or given[3]):
+        raise Fault(f"L6 {missing[0] + 1 if missing else 1}")
+
+
+def read_operand(form, word):
+    if form in ("value", "entity") and word[0] == "(":
+        return in_parentheses(word)
+    if form == "value":
+        return constant(word) if word[0] in "-0123456789" else single(word)
+    if form == "entity" and word[0].isdigit():
+        return constant(word, 1)
+    if form == "entity" and attribute(word):
+        return attribute(word)
+    if form in ("entity", "storage", "label"):
+        return named(form, word)
+    return as_word(form, word)
+
+
+def as_word(form, word):
+    """An operand that is neither a value nor a name of its own."""
+    if form == "fraction":
+        if not re.fullmatch(r"[0-9]+\.[0-9]{0,6}|\.[0-9]{1,6}", word) or float(word) > 1:
+            raise Bad
+    elif form == "NP":
+        if word != "NP":
+            raise Bad
+    else:
+        least = -(10**9) if form == "number" else 1
+        constant(word, least, 2147483646 if form == "seed" else 10**9)
+    return "word", word
+
+
+def constant(word, least=-(10**9), most=10**9):
+    if not re.fullmatch("-?[0-9]+", word) or not least <= int(word) <= most:
+        raise Bad
+    return "number", int(word)
+
+
+def named(kind, word):
+    if not is_name(word):
+        raise Bad
+    return kind, word
+
+
+def single(word):
+    """A number without a sign, an attribute, or a name with an EQU."""
+    if word[0].isdigit():
+        return constant(word)
+    return attribute(word) or named("name", word)
+
+
+def attribute(word):
+    """The class of an attribute, with the number or the name of what it is of; None where a word is no attribute."""
+    if word in OF_THE_MOMENT:
+        return "attribute", word, None
+    read = re.fullmatch(r"([A-Z]+)(?:([0-9]+)|\$(.+))", word)
+    if read is None:
+        return None
+    of, digits, name = read.groups()
+    numbered = OF_STORAGES + OF_ENTITIES + ["RN"]
+    if digits and of in numbered and 1 <= int(digits) <= (7 if of == "RN" else 10**9):
+        return "attribute", of, int(digits)
+    return ("attribute", of, name) if name and of in OF_BLOCKS + OF_STORAGES + OF_ENTITIES and is_name(name) else None
+
+
+# ---- parentheses
+
+
+OPERATORS = ["+", "-", "#", "\\", "@"]
+
+
+def in_parentheses(word):
+    """The tree of an operand that is one pair of parentheses with what stands in it."""
+    tokens = TOKEN.findall(word)
+    if "".join(tokens) != word:
+        raise Bad
+    tree = factor(tokens, 0)
+    if tokens:
+        raise Bad
+    return tree
+
+
+def total(tokens, depth):
+    tree = product(tokens, depth)
+    while tokens and tokens[0] in "+-":
+        tree = tokens.pop(0), tree, product(tokens, depth)
+    return tree
+
+
+def product(tokens, depth):
+    tree = factor(tokens, depth)
+    while tokens and tokens[0] in "#\\@":
+        tree = tokens.pop(0), tree, factor(tokens, depth)
+    return tree
+
+
+def factor(tokens, depth):
+    if not tokens:
+        raise Bad
+    token = tokens.pop(0)
+    if token == "-":
+        return "-", factor(tokens, depth)
+    if token != "(":
+        return single(token)
+    if depth == DEEPEST:
+        raise Bad
+    tree = total(tokens, depth + 1)
+    if not tokens or tokens.pop(0) != ")":
+        raise Bad
+    return tree

@@ -1,0 +1,46 @@
+ghost use Rattle.std.specs.Prelude.{◌≡◌};
+ghost use Rattle.gw_expr.specs.Arithmetic.{applied};
+
+use crate::atom::Atom;
+use gw_nums::{ArithmeticFault, Val, add, div, mul, rem, sub};
+
+/// An operator between two values.
+#[derive(Clone, Copy, Debug, PartialEq, Eq)]
+pub enum Operator {
+    /// `#`
+    Times,
+    /// `\`: the whole quotient, cut off towards zero.
+    Quotient,
+    /// `@`: the remainder, with the dividend's sign.
+    Remainder,
+    /// `+`
+    Plus,
+    /// `-`
+    Minus,
+}
+
+/// A part of an expression behind its operands: an expression is kept in postfix order.
+#[derive(Clone, Debug, Drop, PartialEq, Eq)]
+pub enum Token {
+    /// A value.
+    Value(Atom),
+    /// The value before it, with the other sign.
+    Negated,
+    /// What an operator makes of the two values before it.
+    Applied(Operator),
+}
+
+impl Operator {
+    /// What the operator makes of two values, or why there is no value.
+    pub fn apply(self, a: Val, b: Val) -> Result<Val, ArithmeticFault>
+        ensures { result ≡ applied self a b }
+    {
+        match self {
+            Operator::Times => mul(a, b),
+            Operator::Quotient => div(a, b),
+            Operator::Remainder => rem(a, b),
+            Operator::Plus => add(a, b),
+            Operator::Minus => sub(a, b),
+        }
+    }
+}

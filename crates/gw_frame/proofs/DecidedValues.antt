@@ -1,0 +1,220 @@
+-- Each evaluation reads items that name no ids but those of blocks, and draws with the seed where a stream is set.
+use Rattle.std.proofs.Common.{◌≡◌, ℕ, zero, suc, ◌<◌, nat_le, false, not, ◌&&◌, List, [], ◌∷◌, Result, Ok, Err, Option, Some, None, ℤ, ◌-◌, pos, refl, append-nil, arith}
+use Rattle.std.specs.List.{AllByRecursion}
+use Rattle.std.proofs.lemmas.Bool.Decides.{nat_tests}
+use Rattle.gw_nums.specs.Range.{is_value, is_negative, is_below, magnitude}
+use Rattle.gw_expr.specs.Term.{Term, Value, Computed, Named}
+use Rattle.gw_nums.specs.declared.val.ArithmeticFault.{ArithmeticFault}
+use Rattle.gw_nums.specs.declared.val.ArithmeticFault.TheVariants as arithmetic_faults
+use Rattle.gw_expr.specs.Arithmetic.{applied}
+use Rattle.gw_expr.specs.declared.atom.Atom.{Atom}
+use Rattle.gw_expr.specs.declared.atom.Atom.TheVariants as atoms
+use Rattle.gw_expr.specs.declared.token.Token.{Token}
+use Rattle.gw_expr.specs.declared.token.Token.TheVariants as tokens
+use Rattle.gw_streams.specs.declared.stream.Stream.{Stream}
+use Rattle.gw_streams.specs.declared.stream.Stream.TheVariants as streams
+use Rattle.gw_streams.specs.Draws.{is_set, stream_at}
+use Rattle.gw_names.specs.declared.class.Class.{Class}
+use Rattle.gw_names.specs.declared.class.Class.TheVariants as class
+use Rattle.gw_expr.specs.declared.attribute.Subject.{Subject}
+use Rattle.gw_expr.specs.declared.attribute.Subject.TheVariants as subjects
+use Rattle.gw_meaning.specs.declared.asker.Asker.{Asker}
+use Rattle.gw_meaning.specs.declared.item.Item.TheVariants as items
+use Rattle.gw_meaning.specs.Listing.{Listing, label_at}
+use Rattle.gw_names.specs.declared.key.Key.{Key}
+use Rattle.gw_meaning.specs.Entities.{facility_at, line_at}
+use Rattle.gw_meaning.specs.Machine.{Machine, count_at}
+use Rattle.gw_meaning.specs.Evaluation.{Eval, number_of_draw, draw, amount, numbered, named, subject_prog, storage_prog, counted, block_count, random_prog, own_value, entity_value, storage_value, block_value, owned, attribute_prog, number_given, atom_prog, arithmetic, token_prog, tokens_prog, last_value, value_prog, value_there, value_or_zero, entity_prog, units_prog, in_range, spread, sample_within, time_prog}
+use Rattle.gw_frame.proofs.Seeds.{uses_seed, one_drew}
+use Rattle.gw_frame.proofs.Keeps.{ProgKeeps, Keeps, prog_gives, prog_bind, keeps_gives, keeps_ends, keeps_asks, keeps_cond, keeps_stops, keeps_unless, keeps_bind}
+use Rattle.gw_names.specs.declared.key.Key.TheVariants as keys
+use Rattle.gw_meaning.specs.Listing.{number_at}
+use Rattle.gw_meaning.specs.Entities.{store_at}
+use Rattle.gw_frame.proofs.Known.{is_storage, IsRead}
+
+a_stream : (i : ℕ) → not (nat_le 1 (suc i) && nat_le (suc i) 7) ≡ false → i < 7
+a_stream i h = grind (arith, nat_tests)
+
+-- of a value nothing is wanted
+abbrev pub Whatever : {A : Type 0} → A → Type 0
+Whatever a = Unit {0}
+
+module _ (t : Listing) (seed : ℕ) (s : Machine) where
+  -- what an evaluation gives is decided, and what it reads is read, in this state
+  abbrev pub Decides : {A : Type 0} → (A → Type 0) → Eval A → Type 0
+  Decides Q p = Keeps t seed (IsRead t s) Q p
+
+  -- values and draws
+  number_decides : (stream : Stream) →
+      ProgKeeps t seed (λ x is. AllByRecursion (IsRead t s) is × (uses_seed is ≡ is_set stream)) (number_of_draw stream)
+  number_decides (streams.Set value) = record { runs = λ x there. (((λ numbered named. tt), tt), refl) }
+  number_decides (streams.At x) = prog_gives (tt, refl)
+
+  pub draw_decides : (i : ℕ) → i < 7 → Decides Whatever (draw (suc i))
+  draw_decides i kept = record {
+    from = λ before. prog_bind (number_decides (stream_at before (suc i)))
+        (λ x is h. prog_gives (tt, rw append-nil h.0, rw append-nil (one_drew before i x is kept h.1)));
+  }
+
+  pub in_range_decides : (z : ℤ) → Decides Whatever (in_range z)
+  in_range_decides z = keeps_cond (is_value z) (keeps_gives tt) keeps_ends
+
+  -- attributes
+  amount_decides : (n : ℕ) → Decides Whatever (amount n)
+  amount_decides n = in_range_decides (pos n)
+
+  -- an entity, which is no storage
+  abbrev pub IsNoStorage : Key → Type 0
+  IsNoStorage key = is_storage key ≡ false
+
+  numbered_decides : (n : ℤ) → Decides IsNoStorage (numbered n)
+  numbered_decides n = keeps_stops (is_below n (pos 1)) _ (keeps_gives refl)
+
+  named_decides : (name : List ℕ) (number : Option ℤ) → Decides IsNoStorage (named name number)
+  named_decides name None = keeps_gives refl
+  named_decides name (Some n) = numbered_decides n
+
+  subject_decides : (of : Subject) → Decides IsNoStorage (subject_prog of)
+  subject_decides subjects.Own = keeps_ends
+  subject_decides (subjects.Number n) = numbered_decides (pos n)
+  subject_decides (subjects.Name name) = keeps_asks (items.Name name) refl (λ numbered named. tt) (named_decides name (number_at t name))
+
+  storage_decides : (of : Subject) (f : Key → Eval ℤ) → ((key : Key) → Decides Whatever (f key)) → Decides Whatever (storage_prog of f)
+  storage_decides subjects.Own f each = keeps_ends
+  storage_decides (subjects.Number n) f each = keeps_ends
+  storage_decides (subjects.Name name) f each = each (keys.Defined name)
+
+  counted_decides : (o : Option ℕ) (f : ℕ → Eval ℤ) → ((id : ℕ) → Decides Whatever (f id)) → Decides Whatever (counted o f)
+  counted_decides None f each = keeps_ends
+  counted_decides (Some id) f each = each id
+
+  block_count_decides : (of : Subject) (f : ℕ → Eval ℤ) → ((id : ℕ) → Decides Whatever (f id)) → Decides Whatever (block_count of f)
+  block_count_decides subjects.Own f each = keeps_ends
+  block_count_decides (subjects.Number n) f each = keeps_ends
+  block_count_decides (subjects.Name name) f each =
+      keeps_asks (items.Label name) refl (λ numbered named. tt) (counted_decides (label_at t name) f each)
+
+  random_decides : (of : Subject) → Decides Whatever (random_prog of)
+  random_decides subjects.Own = keeps_ends
+  random_decides (subjects.Number zero) = keeps_ends
+  random_decides (subjects.Number (suc i)) =
+      keeps_unless (not (nat_le 1 (suc i) && nat_le (suc i) 7)) _
+      (λ h. keeps_bind (draw_decides i (a_stream i h)) (λ x k. keeps_gives tt))
+  random_decides (subjects.Name name) = keeps_ends
+
+  own_decides : (q : Asker) (class : Class) → Decides Whatever (own_value s q class)
+  own_decides q class.C1 = amount_decides (s.clock - s.since)
+  own_decides q class.Ac1 = amount_decides s.clock
+  own_decides q class.Tg1 = amount_decides q.remaining
+  own_decides q class.M1 = keeps_stops (not q.is_transaction) _ (amount_decides (s.clock - q.mark))
+  own_decides q class.Xn1 = keeps_stops (not q.is_transaction) _ (amount_decides q.number)
+  own_decides q class.Pr = keeps_stops (not q.is_transaction) _ (keeps_gives tt)
+  own_decides q class = keeps_ends
+
+  entity_value_decides : (class : Class) (key : Key) → Decides Whatever (entity_value s class key)
+  entity_value_decides class.F key = amount_decides (owned (facility_at s.entities key).owner)
+  entity_value_decides class.Fc key = amount_decides (facility_at s.entities key).captures
+  entity_value_decides class.Q key = amount_decides (line_at s.entities key).level.content
+  entity_value_decides class.Qc key = amount_decides (line_at s.entities key).entries
+  entity_value_decides class.Qm key = amount_decides (line_at s.entities key).greatest
+  entity_value_decides class.Qz key = amount_decides (line_at s.entities key).zero_entries
+  entity_value_decides class key = keeps_ends
+
+  storage_value_decides : (class : Class) (key : Key) → Decides Whatever (storage_value s class key)
+  storage_value_decides class.S key = amount_decides (store_at s.entities key).level.content
+  storage_value_decides class.Sc key = amount_decides (store_at s.entities key).entries
+  storage_value_decides class.Sm key = amount_decides (store_at s.entities key).greatest
+  storage_value_decides class key = keeps_ends
+
+  block_value_decides : (class : Class) (id : ℕ) → Decides Whatever (block_value s class id)
+  block_value_decides class.N id = amount_decides (count_at s.counts id).entries
+  block_value_decides class.W id = amount_decides (count_at s.counts id).content
+  block_value_decides class id = keeps_ends
+
+  attribute_decides : (q : Asker) (class : Class) (of : Subject) → Decides Whatever (attribute_prog s q class of)
+  unfolding attribute_prog
+  attribute_decides q class.C1 of = own_decides q class.C1
+  attribute_decides q class.Ac1 of = own_decides q class.Ac1
+  attribute_decides q class.Tg1 of = own_decides q class.Tg1
+  attribute_decides q class.M1 of = own_decides q class.M1
+  attribute_decides q class.Xn1 of = own_decides q class.Xn1
+  attribute_decides q class.Pr of = own_decides q class.Pr
+  attribute_decides q class.F of = keeps_bind (subject_decides of) (λ key h. entity_value_decides class.F key)
+  attribute_decides q class.Fc of = keeps_bind (subject_decides of) (λ key h. entity_value_decides class.Fc key)
+  attribute_decides q class.Q of = keeps_bind (subject_decides of) (λ key h. entity_value_decides class.Q key)
+  attribute_decides q class.Qc of = keeps_bind (subject_decides of) (λ key h. entity_value_decides class.Qc key)
+  attribute_decides q class.Qm of = keeps_bind (subject_decides of) (λ key h. entity_value_decides class.Qm key)
+  attribute_decides q class.Qz of = keeps_bind (subject_decides of) (λ key h. entity_value_decides class.Qz key)
+  attribute_decides q class.S of = storage_decides of _ (storage_value_decides class.S)
+  attribute_decides q class.Sc of = storage_decides of _ (storage_value_decides class.Sc)
+  attribute_decides q class.Sm of = storage_decides of _ (storage_value_decides class.Sm)
+  attribute_decides q class.N of = block_count_decides of _ (block_value_decides class.N)
+  attribute_decides q class.W of = block_count_decides of _ (block_value_decides class.W)
+  attribute_decides q class.Rn of = random_decides of
+  attribute_decides q class of = keeps_ends
+
+  -- expressions
+  number_given_decides : (number : Option ℤ) → Decides Whatever (number_given number)
+  number_given_decides None = keeps_ends
+  number_given_decides (Some n) = keeps_gives tt
+
+  atom_decides : (q : Asker) (atom : Atom) → Decides Whatever (atom_prog s q atom)
+  unfolding atom_prog
+  atom_decides q (atoms.Constant value) = keeps_gives tt
+  atom_decides q (atoms.Number name) = keeps_asks (items.Name name) refl (λ numbered named. tt) (number_given_decides (number_at t name))
+  atom_decides q (atoms.Attribute class of) = attribute_decides q class of
+
+  arithmetic_decides : (r : Result ℤ ArithmeticFault) → Decides Whatever (arithmetic r)
+  arithmetic_decides (Ok z) = keeps_gives tt
+  arithmetic_decides (Err arithmetic_faults.Range) = keeps_ends
+  arithmetic_decides (Err arithmetic_faults.ZeroDivisor) = keeps_ends
+
+  token_decides : (q : Asker) (token : Token) (values : List ℤ) → Decides Whatever (token_prog s q token values)
+  token_decides q (tokens.Value atom) values = keeps_bind (atom_decides q atom) (λ v h. keeps_gives tt)
+  token_decides q tokens.Negated [] = keeps_ends
+  token_decides q tokens.Negated (v ∷ values) = keeps_gives tt
+  token_decides q (tokens.Applied operator) [] = keeps_ends
+  token_decides q (tokens.Applied operator) (b ∷ []) = keeps_ends
+  token_decides q (tokens.Applied operator) (b ∷ a ∷ values) =
+      keeps_bind (arithmetic_decides (applied operator a b)) (λ v h. keeps_gives tt)
+
+  tokens_decide : (q : Asker) (ts : List Token) (values : List ℤ) → Decides Whatever (tokens_prog s q ts values)
+  tokens_decide q [] values = keeps_gives tt
+  tokens_decide q (t ∷ ts) values = keeps_bind (token_decides q t values) (λ more h. tokens_decide q ts more)
+
+  last_decides : (values : List ℤ) → Decides Whatever (last_value values)
+  last_decides [] = keeps_ends
+  last_decides (v ∷ values) = keeps_gives tt
+
+  -- operands
+  pub value_decides : (q : Asker) (term : Term) → Decides Whatever (value_prog s q term)
+  unfolding value_prog
+  value_decides q (Value atom) = atom_decides q atom
+  value_decides q (Computed ts) = keeps_bind (tokens_decide q ts []) (λ values h. last_decides values)
+  value_decides q term = keeps_ends
+
+  pub value_there_decides : (q : Asker) (term : Option Term) → Decides Whatever (value_there s q term)
+  value_there_decides q None = keeps_ends
+  value_there_decides q (Some term) = value_decides q term
+
+  pub value_or_zero_decides : (q : Asker) (term : Option Term) → Decides Whatever (value_or_zero s q term)
+  value_or_zero_decides q None = keeps_gives tt
+  value_or_zero_decides q (Some term) = value_decides q term
+
+  pub entity_decides : (q : Asker) (term : Option Term) → Decides IsNoStorage (entity_prog s q term)
+  entity_decides q None = keeps_ends
+  entity_decides q (Some (Named name)) = keeps_asks (items.Name name) refl (λ numbered named. tt) (named_decides name (number_at t name))
+  entity_decides q (Some term) = keeps_bind (value_decides q term) (λ n h. numbered_decides n)
+
+  pub units_decides : (q : Asker) (term : Option Term) → Decides Whatever (units_prog s q term)
+  units_decides q None = keeps_gives tt
+  units_decides q (Some term) = keeps_bind (value_decides q term) (λ n h. keeps_stops (is_below n (pos 1)) _ (keeps_gives tt))
+
+  sample_within_decides : (mean : ℤ) (range : ℕ) → Decides Whatever (sample_within mean range)
+  sample_within_decides mean zero = keeps_gives tt
+  sample_within_decides mean (suc n) =
+      keeps_bind (draw_decides 0 (omega arith)) (λ x h. in_range_decides (spread mean (suc n) x))
+
+  pub time_decides : (q : Asker) (mean range : Option Term) → Decides Whatever (time_prog s q mean range)
+  time_decides q mean range = keeps_bind (value_or_zero_decides q mean)
+      (λ m h. keeps_bind (value_or_zero_decides q range) (λ r k. keeps_cond (is_negative r) (keeps_gives tt) (sample_within_decides m (magnitude r))))

@@ -1,0 +1,206 @@
+-- The evaluation in a moved state follows the evaluation in the state: none tells an id.
+use Rattle.std.proofs.Common.{ℕ, zero, suc, nat_le, not, ◌&&◌, List, [], ◌∷◌, ◌-◌, Result, Ok, Err, Option, Some, None, option_map, ℤ, pos, refl}
+use Rattle.gw_nums.specs.Range.{is_value, is_negative, is_below, magnitude}
+use Rattle.gw_expr.specs.Term.{Term, Value, Computed, Named}
+use Rattle.gw_nums.specs.declared.val.ArithmeticFault.{ArithmeticFault}
+use Rattle.gw_nums.specs.declared.val.ArithmeticFault.TheVariants as arithmetic_faults
+use Rattle.gw_expr.specs.Arithmetic.{applied}
+use Rattle.gw_expr.specs.declared.atom.Atom.{Atom}
+use Rattle.gw_expr.specs.declared.atom.Atom.TheVariants as atoms
+use Rattle.gw_expr.specs.declared.token.Token.{Token}
+use Rattle.gw_expr.specs.declared.token.Token.TheVariants as tokens
+use Rattle.gw_streams.specs.declared.stream.Stream.{Stream}
+use Rattle.gw_streams.specs.declared.stream.Stream.TheVariants as streams
+use Rattle.gw_streams.specs.Draws.{stream_at}
+use Rattle.gw_names.specs.declared.class.Class.{Class}
+use Rattle.gw_names.specs.declared.class.Class.TheVariants as class
+use Rattle.gw_expr.specs.declared.attribute.Subject.{Subject}
+use Rattle.gw_expr.specs.declared.attribute.Subject.TheVariants as subjects
+use Rattle.gw_meaning.specs.declared.asker.Asker.{Asker}
+use Rattle.gw_meaning.specs.declared.item.Item.TheVariants as items
+use Rattle.gw_names.specs.declared.key.Key.{Key}
+use Rattle.gw_names.specs.declared.key.Key.TheVariants as keys
+use Rattle.gw_meaning.specs.Entities.{facility_at, line_at, store_at}
+use Rattle.gw_meaning.specs.Machine.{Machine, count_at}
+use Rattle.gw_meaning.specs.Evaluation.{Eval, number_of_draw, draw, amount, numbered, named, subject_prog, storage_prog, counted, block_count, random_prog, own_value, entity_value, storage_value, block_value, owned, attribute_prog, number_given, atom_prog, arithmetic, token_prog, tokens_prog, last_value, value_prog, value_there, value_or_zero, entity_prog, units_prog, in_range, spread, sample_within, time_prog}
+use Rattle.gw_frame.specs.Moved.{IsMove, moved_machine}
+use Rattle.gw_frame.proofs.Follows.{ProgFollows, prog_gives, prog_asks, prog_bind, Follows, follows_gives, follows_ends, follows_asks, follows_cond, follows_stops, follows_bind}
+use Rattle.gw_frame.proofs.MovedLists.{count_at_moved}
+
+abbrev pub same : {A : Type 0} → A → A
+same a = a
+
+module _ (move : ℕ → ℕ) (is : IsMove move) where
+  -- values and draws
+  pub number_follows : (stream : Stream) → ProgFollows move same (number_of_draw stream) (number_of_draw stream)
+  number_follows (streams.Set value) = prog_asks items.Seed (λ seed. prog_gives refl)
+  number_follows (streams.At x) = prog_gives refl
+
+  pub draw_follows : (j : ℕ) → Follows move same (draw j) (draw j)
+  draw_follows j = record { from = λ before. prog_bind _ (number_follows (stream_at before j)) (λ x. prog_gives refl) }
+
+  pub in_range_follows : (z : ℤ) → Follows move same (in_range z) (in_range z)
+  in_range_follows z = follows_cond (is_value z) (follows_gives refl) follows_ends
+
+  -- attributes: none tells an id
+  amount_follows : (n : ℕ) → Follows move same (amount n) (amount n)
+  amount_follows n = in_range_follows (pos n)
+
+  numbered_follows : (n : ℤ) → Follows move same (numbered n) (numbered n)
+  numbered_follows n = follows_stops (is_below n (pos 1)) _ (follows_gives refl)
+
+  named_follows : (name : List ℕ) (number : Option ℤ) → Follows move same (named name number) (named name number)
+  named_follows name None = follows_gives refl
+  named_follows name (Some n) = numbered_follows n
+
+  subject_follows : (of : Subject) → Follows move same (subject_prog of) (subject_prog of)
+  subject_follows subjects.Own = follows_ends
+  subject_follows (subjects.Number n) = numbered_follows (pos n)
+  subject_follows (subjects.Name name) = follows_asks (items.Name name) (named_follows name)
+
+  storage_follows : (of : Subject) (f : Key → Eval ℤ) → ((key : Key) → Follows move same (f key) (f key)) →
+      Follows move same (storage_prog of f) (storage_prog of f)
+  storage_follows subjects.Own f each = follows_ends
+  storage_follows (subjects.Number n) f each = follows_ends
+  storage_follows (subjects.Name name) f each = each (keys.Defined name)
+
+  counted_follows : (o : Option ℕ) (f g : ℕ → Eval ℤ) → ((id : ℕ) → Follows move same (f id) (g (move id))) →
+      Follows move same (counted o f) (counted (option_map move o) g)
+  counted_follows None f g each = follows_ends
+  counted_follows (Some id) f g each = each id
+
+  block_count_follows : (of : Subject) (f g : ℕ → Eval ℤ) → ((id : ℕ) → Follows move same (f id) (g (move id))) →
+      Follows move same (block_count of f) (block_count of g)
+  block_count_follows subjects.Own f g each = follows_ends
+  block_count_follows (subjects.Number n) f g each = follows_ends
+  block_count_follows (subjects.Name name) f g each = follows_asks (items.Label name) (λ id. counted_follows id f g each)
+
+  random_follows : (of : Subject) → Follows move same (random_prog of) (random_prog of)
+  random_follows subjects.Own = follows_ends
+  random_follows (subjects.Number j) =
+      follows_stops (not (nat_le 1 j && nat_le j 7)) _ (follows_bind _ (draw_follows j) (λ x. follows_gives refl))
+  random_follows (subjects.Name name) = follows_ends
+
+  own_follows : (s : Machine) (q : Asker) (class : Class) → Follows move same (own_value s q class) (own_value (moved_machine move s) q class)
+  own_follows s q class.C1 = amount_follows (s.clock - s.since)
+  own_follows s q class.Ac1 = amount_follows s.clock
+  own_follows s q class.Tg1 = amount_follows q.remaining
+  own_follows s q class.M1 = follows_stops (not q.is_transaction) _ (amount_follows (s.clock - q.mark))
+  own_follows s q class.Xn1 = follows_stops (not q.is_transaction) _ (amount_follows q.number)
+  own_follows s q class.Pr = follows_stops (not q.is_transaction) _ (follows_gives refl)
+  own_follows s q class = follows_ends
+
+  entity_value_follows : (s : Machine) (class : Class) (key : Key) →
+      Follows move same (entity_value s class key) (entity_value (moved_machine move s) class key)
+  entity_value_follows s class.F key = amount_follows (owned (facility_at s.entities key).owner)
+  entity_value_follows s class.Fc key = amount_follows (facility_at s.entities key).captures
+  entity_value_follows s class.Q key = amount_follows (line_at s.entities key).level.content
+  entity_value_follows s class.Qc key = amount_follows (line_at s.entities key).entries
+  entity_value_follows s class.Qm key = amount_follows (line_at s.entities key).greatest
+  entity_value_follows s class.Qz key = amount_follows (line_at s.entities key).zero_entries
+  entity_value_follows s class key = follows_ends
+
+  storage_value_follows : (s : Machine) (class : Class) (key : Key) →
+      Follows move same (storage_value s class key) (storage_value (moved_machine move s) class key)
+  storage_value_follows s class.S key = amount_follows (store_at s.entities key).level.content
+  storage_value_follows s class.Sc key = amount_follows (store_at s.entities key).entries
+  storage_value_follows s class.Sm key = amount_follows (store_at s.entities key).greatest
+  storage_value_follows s class key = follows_ends
+
+  block_value_follows : (s : Machine) (class : Class) (id : ℕ) →
+      Follows move same (block_value s class id) (block_value (moved_machine move s) class (move id))
+  block_value_follows s class.N id = rw (count_at_moved move is s.counts id) (amount_follows (count_at s.counts id).entries)
+  block_value_follows s class.W id = rw (count_at_moved move is s.counts id) (amount_follows (count_at s.counts id).content)
+  block_value_follows s class id = follows_ends
+
+  attribute_follows : (s : Machine) (q : Asker) (class : Class) (of : Subject) →
+      Follows move same (attribute_prog s q class of) (attribute_prog (moved_machine move s) q class of)
+  unfolding attribute_prog
+  attribute_follows s q class.C1 of = own_follows s q class.C1
+  attribute_follows s q class.Ac1 of = own_follows s q class.Ac1
+  attribute_follows s q class.Tg1 of = own_follows s q class.Tg1
+  attribute_follows s q class.M1 of = own_follows s q class.M1
+  attribute_follows s q class.Xn1 of = own_follows s q class.Xn1
+  attribute_follows s q class.Pr of = own_follows s q class.Pr
+  attribute_follows s q class.F of = follows_bind _ (subject_follows of) (entity_value_follows s class.F)
+  attribute_follows s q class.Fc of = follows_bind _ (subject_follows of) (entity_value_follows s class.Fc)
+  attribute_follows s q class.Q of = follows_bind _ (subject_follows of) (entity_value_follows s class.Q)
+  attribute_follows s q class.Qc of = follows_bind _ (subject_follows of) (entity_value_follows s class.Qc)
+  attribute_follows s q class.Qm of = follows_bind _ (subject_follows of) (entity_value_follows s class.Qm)
+  attribute_follows s q class.Qz of = follows_bind _ (subject_follows of) (entity_value_follows s class.Qz)
+  attribute_follows s q class.S of = storage_follows of _ (storage_value_follows s class.S)
+  attribute_follows s q class.Sc of = storage_follows of _ (storage_value_follows s class.Sc)
+  attribute_follows s q class.Sm of = storage_follows of _ (storage_value_follows s class.Sm)
+  attribute_follows s q class.N of = block_count_follows of _ _ (block_value_follows s class.N)
+  attribute_follows s q class.W of = block_count_follows of _ _ (block_value_follows s class.W)
+  attribute_follows s q class.Rn of = random_follows of
+  attribute_follows s q class of = follows_ends
+
+  -- expressions
+  number_given_follows : (number : Option ℤ) → Follows move same (number_given number) (number_given number)
+  number_given_follows None = follows_ends
+  number_given_follows (Some n) = follows_gives refl
+
+  atom_follows : (s : Machine) (q : Asker) (atom : Atom) → Follows move same (atom_prog s q atom) (atom_prog (moved_machine move s) q atom)
+  unfolding atom_prog
+  atom_follows s q (atoms.Constant value) = follows_gives refl
+  atom_follows s q (atoms.Number name) = follows_asks (items.Name name) number_given_follows
+  atom_follows s q (atoms.Attribute class of) = attribute_follows s q class of
+
+  arithmetic_follows : (r : Result ℤ ArithmeticFault) → Follows move same (arithmetic r) (arithmetic r)
+  arithmetic_follows (Ok z) = follows_gives refl
+  arithmetic_follows (Err arithmetic_faults.Range) = follows_ends
+  arithmetic_follows (Err arithmetic_faults.ZeroDivisor) = follows_ends
+
+  token_follows : (s : Machine) (q : Asker) (token : Token) (values : List ℤ) →
+      Follows move same (token_prog s q token values) (token_prog (moved_machine move s) q token values)
+  token_follows s q (tokens.Value atom) values = follows_bind _ (atom_follows s q atom) (λ v. follows_gives refl)
+  token_follows s q tokens.Negated [] = follows_ends
+  token_follows s q tokens.Negated (v ∷ values) = follows_gives refl
+  token_follows s q (tokens.Applied operator) [] = follows_ends
+  token_follows s q (tokens.Applied operator) (b ∷ []) = follows_ends
+  token_follows s q (tokens.Applied operator) (b ∷ a ∷ values) =
+      follows_bind _ (arithmetic_follows (applied operator a b)) (λ v. follows_gives refl)
+
+  tokens_follow : (s : Machine) (q : Asker) (ts : List Token) (values : List ℤ) →
+      Follows move same (tokens_prog s q ts values) (tokens_prog (moved_machine move s) q ts values)
+  tokens_follow s q [] values = follows_gives refl
+  tokens_follow s q (t ∷ ts) values = follows_bind _ (token_follows s q t values) (tokens_follow s q ts)
+
+  last_follows : (values : List ℤ) → Follows move same (last_value values) (last_value values)
+  last_follows [] = follows_ends
+  last_follows (v ∷ values) = follows_gives refl
+
+  -- operands
+  pub value_follows : (s : Machine) (q : Asker) (term : Term) → Follows move same (value_prog s q term) (value_prog (moved_machine move s) q term)
+  unfolding value_prog
+  value_follows s q (Value atom) = atom_follows s q atom
+  value_follows s q (Computed ts) = follows_bind _ (tokens_follow s q ts []) last_follows
+  value_follows s q term = follows_ends
+
+  pub value_there_follows : (s : Machine) (q : Asker) (term : Option Term) → Follows move same (value_there s q term) (value_there (moved_machine move s) q term)
+  value_there_follows s q None = follows_ends
+  value_there_follows s q (Some term) = value_follows s q term
+
+  pub value_or_zero_follows : (s : Machine) (q : Asker) (term : Option Term) →
+      Follows move same (value_or_zero s q term) (value_or_zero (moved_machine move s) q term)
+  value_or_zero_follows s q None = follows_gives refl
+  value_or_zero_follows s q (Some term) = value_follows s q term
+
+  pub entity_follows : (s : Machine) (q : Asker) (term : Option Term) → Follows move same (entity_prog s q term) (entity_prog (moved_machine move s) q term)
+  entity_follows s q None = follows_ends
+  entity_follows s q (Some (Named name)) = follows_asks (items.Name name) (named_follows name)
+  entity_follows s q (Some term) = follows_bind _ (value_follows s q term) numbered_follows
+
+  pub units_follows : (s : Machine) (q : Asker) (term : Option Term) → Follows move same (units_prog s q term) (units_prog (moved_machine move s) q term)
+  units_follows s q None = follows_gives refl
+  units_follows s q (Some term) = follows_bind _ (value_follows s q term) (λ n. follows_stops (is_below n (pos 1)) _ (follows_gives refl))
+
+  sample_within_follows : (mean : ℤ) (range : ℕ) → Follows move same (sample_within mean range) (sample_within mean range)
+  sample_within_follows mean zero = follows_gives refl
+  sample_within_follows mean (suc n) = follows_bind _ (draw_follows 1) (λ x. in_range_follows (spread mean (suc n) x))
+
+  pub time_follows : (s : Machine) (q : Asker) (mean range : Option Term) →
+      Follows move same (time_prog s q mean range) (time_prog (moved_machine move s) q mean range)
+  time_follows s q mean range = follows_bind _ (value_or_zero_follows s q mean)
+      (λ m. follows_bind _ (value_or_zero_follows s q range) (λ r. follows_cond (is_negative r) (follows_gives refl) (sample_within_follows m (magnitude r))))

@@ -1,0 +1,33 @@
+-- Laws of evaluation. (Our own.)
+use Rattle.std.specs.Prelude.{ℤ, ◌≡◌, Result, Ok, Err}
+use Rattle.gw_expr.specs.Term.{Computed}
+use Rattle.gw_expr.specs.Expressions.{Expression, Single, Opposite, Both, postfix}
+use Rattle.gw_expr.specs.declared.atom.Atom.TheVariants as atoms
+use Rattle.gw_meaning.specs.declared.asker.Asker.{Asker}
+use Rattle.gw_meaning.specs.declared.item.End.{End}
+use Rattle.gw_meaning.specs.Machine.{Machine}
+use Rattle.gw_meaning.specs.Evaluation.{Eval, gives, ends_with, value_prog, expression_prog}
+
+-- an expression that is kept in postfix order has the value of the expression, by the same questions and draws
+abbrev pub ExpressionsHaveTheirValues : Type 0
+ExpressionsHaveTheirValues =
+    (s : Machine) (q : Asker) (e : Expression) → value_prog s q (Computed (postfix e)) ≡ expression_prog s q e
+
+-- nothing stands in an expression but constants
+abbrev pub IsConstant : Expression → Type 0
+IsConstant (Single (atoms.Constant z)) = Unit {0}
+IsConstant (Single (atoms.Number name)) = ⊥
+IsConstant (Single (atoms.Attribute class of)) = ⊥
+IsConstant (Opposite e) = IsConstant e
+IsConstant (Both operator left right) = IsConstant left × IsConstant right
+
+-- an evaluation that comes to a result without a question or a draw
+abbrev pub comes_to : Result ℤ End → Eval ℤ
+comes_to (Ok z) = gives z
+comes_to (Err end) = ends_with end
+
+-- an expression of constants comes to one result, whatever the state and whoever asks, and neither asks nor draws: so no
+-- version has another value of it
+abbrev pub ConstantsHangOnNothing : Type 0
+ConstantsHangOnNothing = (e : Expression) → IsConstant e →
+    (r : Result ℤ End) × ((s : Machine) (q : Asker) → expression_prog s q e ≡ comes_to r)

@@ -1,0 +1,13 @@
+// Laws above the definitions of evaluation.
+ghost use Rattle.gw_meaning.specs.Laws.{ConstantsHangOnNothing, ExpressionsHaveTheirValues};
+
+/// An expression in parentheses, which is kept in postfix order, has the value that recursion on the expression gives
+/// it, by the same questions and the same draws.
+pub fn expressions_have_their_values()
+    ensures { ExpressionsHaveTheirValues }
+{}
+
+/// An expression of constants has one value, or one stop, whatever the version, the state and the transaction.
+pub fn constants_hang_on_nothing()
+    ensures { ConstantsHangOnNothing }
+{}
