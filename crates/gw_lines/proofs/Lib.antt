@@ -8,6 +8,7 @@ pub mod Closing
 pub mod Parts
 pub mod Attributes
 pub mod Values
+pub mod Bytes
 pub mod Symbols
 pub mod Computed
 pub mod Waiting
@@ -21,3 +22,4 @@ pub mod Lines
 pub mod Faults
 pub mod Whole
 pub mod Edits
+pub mod Printed

@@ -19,6 +19,7 @@ use Rattle.gw_lines.specs.declared.expression.Symbol.TheVariants as symbols
 use Rattle.gw_lines.specs.Atoms.{atom_of}
 use Rattle.gw_lines.specs.Expressions.{symbol_of}
 use Rattle.gw_lines.specs.Spelling.{Digits, first_digit, next_digit, Value, with_sign, without_sign, SpellsAttribute, alone, numbered_one, named_one, of_block, of_stream, SpellsAtom, plain_number, plain_name, plain_attribute, Multiplies, times, quotient, remainder}
+use Rattle.gw_lines.proofs.Bytes.{Takes, atom_passes}
 use Rattle.gw_lines.proofs.Fronts.{not_true}
 use Rattle.gw_lines.proofs.Values.{Valued, signed, called, of_attribute, valued_found, valued_again}
 
@@ -108,91 +109,18 @@ AreWords text = list_all is_word text ≡ true
 pub both_words : (a b : List ℕ) → AreWords a → AreWords b → AreWords (a ++ b)
 both_words a b h k = list_all-append is_word a b ∙ and_from (list_all is_word a) (list_all is_word b) h k
 
-digit_word : (b : ℕ) → is_ascii_digit b ≡ true → is_word b ≡ true
-digit_word b h = grind (arith, nat_tests)
+pub one_word : (b : ℕ) → is_word b ≡ true → AreWords (b ∷ [])
+one_word b h = and_from (is_word b) true h refl
 
 name_word : (b : ℕ) → is_name_byte b ≡ true → is_word b ≡ true
 name_word b h = grind (arith, nat_tests)
 
-letter_word : (b : ℕ) → is_ascii_alphabetic b ≡ true → is_word b ≡ true
-letter_word b h = grind (arith, nat_tests)
-
-pub one_word : (b : ℕ) → is_word b ≡ true → AreWords (b ∷ [])
-one_word b h = and_from (is_word b) true h refl
-
-digits_word : {text : List ℕ} {n : ℕ} → Digits text n → AreWords text
-digits_word (first_digit b h) = one_word b (digit_word b h)
-digits_word (next_digit text n b d h) = both_words text (b ∷ []) (digits_word d) (one_word b (digit_word b h))
-
-names_word : (text : List ℕ) → list_all is_name_byte text ≡ true → AreWords text
-names_word [] h = refl
-names_word (b ∷ bs) h =
-    let a = and_parts (is_name_byte b) (list_all is_name_byte bs) h in
-    and_from (is_word b) (list_all is_word bs) (name_word b a.0) (names_word bs a.1)
-
-name_text : (text : List ℕ) → is_name_text text ≡ true → AreWords text
-name_text [] h = refl
-name_text (b ∷ bs) h =
-    let a = and_parts (is_ascii_alphabetic b) (nat_le (length bs) 199 && list_all is_name_byte bs) h in
-    let c = and_parts (nat_le (length bs) 199) (list_all is_name_byte bs) a.1 in
-    and_from (is_word b) (list_all is_word bs) (letter_word b a.0) (names_word bs c.1)
-
-named_word : (text name : List ℕ) → name_of text ≡ Some name → AreWords text
-unfolding name_of
-named_word text name e =
-    elim (cases_Bool (is_name_text text)) [
-      | inl holds ↦ name_text text holds
-      | inr other ↦ absurd (let f = rw other at e in cc)
-    ]
-
-class_words : (class : Class) → AreWords (class_word class)
-class_words class.C1 = refl
-class_words class.Ac1 = refl
-class_words class.Tg1 = refl
-class_words class.M1 = refl
-class_words class.Xn1 = refl
-class_words class.Pr = refl
-class_words class.P = refl
-class_words class.F = refl
-class_words class.Fc = refl
-class_words class.S = refl
-class_words class.R = refl
-class_words class.Sc = refl
-class_words class.Sm = refl
-class_words class.Q = refl
-class_words class.Qc = refl
-class_words class.Qm = refl
-class_words class.Qz = refl
-class_words class.N = refl
-class_words class.W = refl
-class_words class.X = refl
-class_words class.Ls = refl
-class_words class.Ch = refl
-class_words class.Cc = refl
-class_words class.Tc = refl
-class_words class.Rn = refl
-class_words class.V = refl
-class_words class.Fn = refl
-
-dollar_words : (text : List ℕ) → AreWords text → AreWords (36 ∷ text)
-dollar_words text h = h
-
-attribute_words : {text : List ℕ} {class : Class} {of : Subject} → SpellsAttribute text class of → AreWords text
-attribute_words (alone class s) = class_words class
-attribute_words (numbered_one class digits n s h from) =
-    both_words (class_word class) digits (class_words class) (digits_word h.digits)
-attribute_words (named_one class word name s e) =
-    both_words (class_word class) (36 ∷ word) (class_words class) (dollar_words word (named_word word name e))
-attribute_words (of_block class word name s e) =
-    both_words (class_word class) (36 ∷ word) (class_words class) (dollar_words word (named_word word name e))
-attribute_words (of_stream class digits n s h from) =
-    both_words (class_word class) digits (class_words class) (digits_word h.digits)
+words : Takes is_word
+words = record { name = name_word; dollar = refl }
 
 -- a value is a word
 pub atom_words : {text : List ℕ} {a : Atom} → SpellsAtom text a → AreWords text
-atom_words (plain_number text n h) = digits_word h.digits
-atom_words (plain_name text name e) = named_word text name e
-atom_words (plain_attribute text class of s) = attribute_words s
+atom_words s = atom_passes words s
 
 -- ---- values
 

@@ -17,6 +17,7 @@ pub mod Spelling
 pub mod Faulty
 pub mod Edits
 pub mod Read
+pub mod Printed
 pub use Rattle.gw_meaning.specs.Statements
 pub use Rattle.gw_nums.specs.Range
 pub use Rattle.gw_expr.specs.Term

@@ -1,4 +1,5 @@
 // Laws above the definitions of reading.
+ghost use Rattle.gw_lines.specs.Printed.{PrintedEdits, PrintedModels, PrintedSpells};
 ghost use Rattle.gw_lines.specs.Read.{EditsAreRead, EditsAreRefused, ModelsAreRead, ModelsAreRefused};
 
 /// A model is read as what it spells, and refused with its first faulty line.
@@ -11,4 +12,12 @@ pub fn models_are_read()
 pub fn edits_are_read()
     ensures read { EditsAreRead }
     ensures refused { EditsAreRefused }
+{}
+
+/// What `list` prints of a statement that was read is read as that statement, as a line, as the text of an edit, and
+/// among the lines of a model.
+pub fn printed_is_read()
+    ensures line { PrintedSpells }
+    ensures edit { PrintedEdits }
+    ensures model { PrintedModels }
 {}

@@ -30,6 +30,6 @@ mod words;
 pub use edit::read_edit;
 pub use fault::{FaultyLine, LineFault};
 pub use gw_meaning::Statement;
-pub use laws::{edits_are_read, models_are_read};
+pub use laws::{edits_are_read, models_are_read, printed_is_read};
 pub use line::read_statement;
 pub use model::read_model;

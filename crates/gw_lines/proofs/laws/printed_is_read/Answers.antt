@@ -1,0 +1,5 @@
+use Rattle.gw_lines.proofs.Printed.{printed_spells, printed_edits, printed_models}
+use Rattle.gw_lines.proofs.laws.printed_is_read.Goals as goal
+
+pub returns : goal.returns
+returns c = record { line = printed_spells; edit = printed_edits; model = printed_models }
