@@ -22,4 +22,9 @@ pub mod Lines
 pub mod Faults
 pub mod Whole
 pub mod Edits
+pub mod OwnBytes
+pub mod KeptAgain
+pub mod PrintedWords
 pub mod Printed
+pub mod Decimals
+pub mod PrintedStorage

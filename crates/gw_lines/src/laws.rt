@@ -1,5 +1,5 @@
 // Laws above the definitions of reading.
-ghost use Rattle.gw_lines.specs.Printed.{PrintedEdits, PrintedModels, PrintedSpells};
+ghost use Rattle.gw_lines.specs.Printed.{PrintedEdits, PrintedModels, PrintedSpells, StoragesSpell};
 ghost use Rattle.gw_lines.specs.Read.{EditsAreRead, EditsAreRefused, ModelsAreRead, ModelsAreRefused};
 
 /// A model is read as what it spells, and refused with its first faulty line.
@@ -15,9 +15,10 @@ pub fn edits_are_read()
 {}
 
 /// What `list` prints of a statement that was read is read as that statement, as a line, as the text of an edit, and
-/// among the lines of a model.
+/// among the lines of a model. So is a storage whose capacity is in decimal digits.
 pub fn printed_is_read()
     ensures line { PrintedSpells }
     ensures edit { PrintedEdits }
     ensures model { PrintedModels }
+    ensures storage { StoragesSpell }
 {}
