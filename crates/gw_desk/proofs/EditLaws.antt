@@ -17,7 +17,8 @@ use Rattle.gw_lines.specs.Edits.{edit_of}
 use Rattle.gw_lines.specs.Reading.{◌>>=◌}
 use Rattle.gw_model.specs.declared.fault.ModelFault.{ModelFault}
 use Rattle.gw_model.specs.declared.fault.ModelFault.TheVariants as models
-use Rattle.gw_edit.specs.Applied.{applied, storage_place, storage_of, capacity_at, checked, unless_faulty, or_refusal, spelled_by, reseeded, without_number, has_replication}
+use Rattle.gw_lines.specs.Printed.{storage_of}
+use Rattle.gw_edit.specs.Applied.{applied, storage_place, capacity_at, checked, unless_faulty, or_refusal, spelled_by, reseeded, without_number, has_replication}
 use Rattle.gw_edit.specs.Touching.{touch_of}
 use Rattle.gw_desk.specs.declared.recording.Recording.{Recording}
 use Rattle.gw_desk.specs.Book.{Book, IsBook, run_in, IsRunOf, AreRuns}

@@ -15,7 +15,8 @@ use Rattle.gw_model.specs.Spliced.{with_splice}
 use Rattle.gw_record.specs.Asks.{differs}
 use Rattle.gw_frame.specs.Alike.{SameAnswer}
 use Rattle.gw_edit.specs.declared.touch.Probe.TheVariants.{Amounts}
-use Rattle.gw_edit.specs.Applied.{applied, is_capacity, storage_in, storage_of, storage_place}
+use Rattle.gw_lines.specs.Printed.{storage_of}
+use Rattle.gw_edit.specs.Applied.{applied, is_capacity, storage_in, storage_place}
 use Rattle.gw_edit.specs.Applied as by
 use Rattle.gw_edit.specs.Capacities.{CapacityTouchesWhatDiffers}
 use Rattle.gw_edit.specs.Touching.{is_touched, capacity_probes, splice_probes}

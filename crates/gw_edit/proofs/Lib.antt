@@ -13,3 +13,4 @@ pub mod CapacityLaws
 pub mod TouchLaws
 pub mod RebaseLaws
 pub mod PositionLaws
+pub mod SpelledLaws

@@ -11,6 +11,7 @@ use Rattle.gw_lines.specs.declared.fault.LineFault.{LineFault}
 use Rattle.gw_lines.specs.declared.fault.LineFault.TheVariants as faults
 use Rattle.gw_lines.specs.Reading.{◌>>=◌}
 use Rattle.gw_lines.specs.Edits.{edit_of}
+use Rattle.gw_lines.specs.Printed.{storage_of}
 use Rattle.gw_model.specs.declared.fault.ModelFault.{ModelFault}
 use Rattle.gw_model.specs.Faults.{fault_of, is_outside}
 use Rattle.gw_model.specs.Spliced.{with_splice}
@@ -94,14 +95,6 @@ storage_in name n (line ∷ lines) = if is_capacity (defines name line) then Som
 
 abbrev pub storage_place : List ℕ → Listing → Option ℕ
 storage_place name t = storage_in name 1 t.lines
-
--- the storage of a name with so many units, in digits
-abbrev pub storage_of : List ℕ → ℕ → Statement
-storage_of name amount = record {
-  label = Some name;
-  body = bodies.Definition (definitions.Storage amount);
-  operands = decimal amount;
-}
 
 abbrev pub capacity_at : Listing → List ℕ → ℕ → Option ℕ → Result Listing EditFault
 capacity_at t name amount None = Err NoSuchStorage

@@ -7,5 +7,6 @@ pub mod Rebasing
 pub mod Untouched
 pub mod Capacities
 pub mod InPositions
+pub mod Spelled
 pub use Rattle.gw_meaning.specs.Listing
 pub use Rattle.gw_frame.specs.Alike

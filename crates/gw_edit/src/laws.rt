@@ -1,6 +1,7 @@
 // The laws above the definitions of what an edit makes and touches.
 ghost use Rattle.gw_edit.specs.Capacities.{CapacityTouchesWhatDiffers};
 ghost use Rattle.gw_edit.specs.InPositions.{EditInPositions};
+ghost use Rattle.gw_edit.specs.Spelled.{EditsAreSpelled};
 ghost use Rattle.gw_edit.specs.Untouched.{UntouchedAlike};
 
 /// What an edit does not touch, a version and its edited version answer alike, in each replication that both
@@ -18,4 +19,10 @@ pub fn capacity_touches_what_differs()
 /// positions, it is the old one with its positions moved, and its steps read the old items moved.
 pub fn edit_in_positions()
     ensures { EditInPositions }
+{}
+
+/// Where each statement of a version is spelled by some line, as those of a model that was read, so is each of an edited
+/// version.
+pub fn edits_are_spelled()
+    ensures { EditsAreSpelled }
 {}

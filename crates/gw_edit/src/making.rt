@@ -1,6 +1,7 @@
 ghost use Rattle.std.specs.Prelude.{◌≡◌, ◌≤◌, ◌+◌, length, IfOk, IsTrue};
 ghost use Rattle.gw_model.specs.Spliced.{with_splice};
-ghost use Rattle.gw_edit.specs.Applied.{applied, checked, insert_made, delete_made, change_made, capacity_made, storage_of, seed_made, replicate_made, drop_made, horizon_made};
+ghost use Rattle.gw_lines.specs.Printed.{storage_of};
+ghost use Rattle.gw_edit.specs.Applied.{applied, checked, insert_made, delete_made, change_made, capacity_made, seed_made, replicate_made, drop_made, horizon_made};
 ghost use Rattle.gw_edit.specs.Faults.{Gives};
 
 use crate::edit::Edit;

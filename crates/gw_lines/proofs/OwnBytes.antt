@@ -1,51 +1,19 @@
 -- The bytes of an operand list that is spelled: none of them begins a comment or ends a line.
-use Rattle.std.proofs.Common.{◌≡◌, ◌≢◌, ℕ, zero, suc, ◌+◌, ◌≤◌, ◌<◌, ◌==◌, ◌&&◌, ◌||◌, Bool, true, false, not, List, [], ◌∷◌, ◌++◌, length, Option, Some, None, refl, sym, ap, subst, ◌∙◌, inl, inr, arith}
-use Rattle.std.specs.Prelude.{is_some, option_to_list, decimal, codes}
-use Rattle.std.specs.List.{list_all, find, join_with_byte}
-use Rattle.std.specs.Str.{bytes_eq}
-use Rattle.std.specs.Char.{is_ascii_alphabetic, is_ascii_digit, to_ascii_uppercase}
-use Rattle.std.proofs.lemmas.Bool.{and_from, and_parts, cases_Bool}
+use Rattle.std.proofs.Common.{◌≡◌, ℕ, ◌==◌, ◌&&◌, Bool, true, not, List, [], ◌∷◌, ◌++◌, Option, refl, sym, subst, inl, inr, arith}
+use Rattle.std.specs.List.{list_all}
+use Rattle.std.proofs.lemmas.Bool.{and_parts, cases_Bool}
 use Rattle.std.proofs.lemmas.Bool.Decides.{nat_tests}
-use Rattle.std.proofs.lemmas.List.{append-nil, length-append, length-map, map-append}
-use Rattle.std.proofs.lemmas.Fmt.{decimal_nonempty, length-decimal-le}
-use Rattle.std.proofs.lemmas.Slice.Eq.{bytes_eq-Decides}
-use Rattle.gw_names.specs.declared.verb.BlockVerb.TheVariants as blocks
-use Rattle.gw_names.specs.declared.verb.DefinitionVerb.TheVariants as definitions
-use Rattle.gw_names.specs.declared.verb.CommandVerb.TheVariants as commands
-use Rattle.gw_names.specs.declared.verb.Verb.{Verb}
-use Rattle.gw_names.specs.declared.verb.Verb.TheVariants as verbs
-use Rattle.gw_names.specs.Words as words
-use Rattle.gw_names.specs.Words.{upper_of, verb_of, is_class}
-use Rattle.gw_names.specs.Names.{name_of, is_name_byte, is_name_text, is_barred}
-use Rattle.gw_names.proofs.InUpperCase.{upper_of-upper_of, name_of_upper}
+use Rattle.gw_names.specs.Names.{is_name_byte}
 use Rattle.gw_expr.specs.Expressions.{Expression}
 use Rattle.gw_expr.specs.declared.token.Operator.{Operator}
-use Rattle.gw_meaning.specs.declared.statement.Statement.{Statement}
-use Rattle.gw_meaning.specs.Statements.{verb_of_body}
-use Rattle.gw_meaning.specs.Texts.{text_of, word_if_any}
-use Rattle.gw_meaning.specs.declared.statement.Body.TheVariants as bodies
-use Rattle.gw_meaning.specs.declared.statement.Definition.TheVariants as defined
-use Rattle.gw_meaning.proofs.Texts.{name_is_short}
-use Rattle.gw_lines.specs.declared.class.Class.TheVariants as class
 use Rattle.gw_lines.specs.declared.form.Form.{Form}
 use Rattle.gw_lines.specs.declared.form.Kind.{Kind}
 use Rattle.gw_lines.specs.declared.operand.Operand.{Operand}
-use Rattle.gw_lines.specs.declared.operand.Operand.TheVariants as operands
-use Rattle.gw_lines.specs.Classes.{is_in, is_blank, is_plain, are_plain, with_byte}
-use Rattle.gw_lines.specs.Parts.{split, parts_of, part_of, others_of, is_missing}
-use Rattle.gw_lines.specs.Forms.{a_count}
-use Rattle.gw_lines.specs.Lines.{verb_in, is_remark}
-use Rattle.gw_lines.specs.Models.{lines_of}
-use Rattle.gw_lines.specs.Edits.{edit_lines, SpellsEdit}
-use Rattle.gw_lines.specs.Whole.{OfLines, no_lines, remark_line, statement_line}
+use Rattle.gw_lines.specs.Classes.{with_byte}
+use Rattle.gw_lines.specs.Parts.{split, parts_of, part_of, others_of}
 use Rattle.gw_lines.specs.Spelling as spelling
 use Rattle.gw_lines.specs.Spelling.{Stops, Digits, first_digit, next_digit, Value, without_sign, with_sign, Rank, Multiplies, times, quotient, remainder, Adds, plus, minus, SpellsExpression, a_single, with_minus, in_parentheses, a_factor, multiplied, a_product, summed, SpellsOperand, absent, a_value, a_constant, named_value, attribute_value, computed_value, a_whole, a_key, named_entity, numbered_entity, attribute_entity, computed_entity, a_fraction, a_label, a_definition, SpellsAll, no_form, stands, unwritten, is_part, Part, nothing, mark, opening, closing, stray, inner_comma, inner_blank, Written, none_written, last_written, never_closed, more_written, Behind, verb_alone, verb_operands, Head, first_word, second_word, Label, no_label, named, ArePlain, Numbering, unnumbered, Says, Cut, HasWords, Coded, Spells}
-use Rattle.gw_lines.specs.Printed.{listed_text, PrintedSpells, PrintedEdits, PrintedModels}
-use Rattle.gw_lines.proofs.Results.{some_is}
-use Rattle.gw_lines.proofs.Bytes.{Pass, Takes, both_pass, one_passes, next_passes, digits_pass, bytes_pass, is_text, named_passes, attribute_passes, atom_passes}
-use Rattle.gw_lines.proofs.Decimals.{decimal_digits}
-use Rattle.gw_lines.proofs.Fronts.{nonzero}
-use Rattle.gw_lines.proofs.Heads.{are_plain_upper}
+use Rattle.gw_lines.proofs.Bytes.{Pass, Takes, both_pass, next_passes, digits_pass, named_passes, attribute_passes, atom_passes}
 
 -- ---- the bytes of an operand list
 

@@ -1,54 +1,32 @@
 -- What `list` prints of a statement that was read spells it again.
-use Rattle.std.proofs.Common.{◌≡◌, ◌≢◌, ℕ, zero, suc, ◌+◌, ◌≤◌, ◌<◌, ◌==◌, ◌&&◌, ◌||◌, Bool, true, false, not, List, [], ◌∷◌, ◌++◌, length, Option, Some, None, refl, sym, ap, subst, ◌∙◌, inl, inr, arith}
-use Rattle.std.specs.Prelude.{is_some, option_to_list, decimal, codes}
-use Rattle.std.specs.List.{list_all, find, join_with_byte}
-use Rattle.std.specs.Str.{bytes_eq}
-use Rattle.std.specs.Char.{is_ascii_alphabetic, is_ascii_digit, to_ascii_uppercase}
-use Rattle.std.proofs.lemmas.Bool.{and_from, and_parts, cases_Bool}
+use Rattle.std.proofs.Common.{◌≡◌, ℕ, ◌≤◌, ◌==◌, Bool, true, false, not, List, [], ◌∷◌, ◌++◌, length, Option, refl, sym, ap, subst, ◌∙◌, arith}
+use Rattle.std.specs.List.{list_all}
+use Rattle.std.specs.Char.{is_ascii_alphabetic, is_ascii_digit}
+use Rattle.std.proofs.lemmas.Bool.{and_parts}
 use Rattle.std.proofs.lemmas.Bool.Decides.{nat_tests}
-use Rattle.std.proofs.lemmas.List.{append-nil, length-append, length-map, map-append}
-use Rattle.std.proofs.lemmas.Fmt.{decimal_nonempty, length-decimal-le}
-use Rattle.std.proofs.lemmas.Slice.Eq.{bytes_eq-Decides}
-use Rattle.gw_names.specs.declared.verb.BlockVerb.TheVariants as blocks
-use Rattle.gw_names.specs.declared.verb.DefinitionVerb.TheVariants as definitions
-use Rattle.gw_names.specs.declared.verb.CommandVerb.TheVariants as commands
+use Rattle.std.proofs.lemmas.List.{append-nil, length-append}
 use Rattle.gw_names.specs.declared.verb.Verb.{Verb}
-use Rattle.gw_names.specs.declared.verb.Verb.TheVariants as verbs
 use Rattle.gw_names.specs.Words as words
 use Rattle.gw_names.specs.Words.{upper_of, verb_of, is_class}
-use Rattle.gw_names.specs.Names.{name_of, is_name_byte, is_name_text, is_barred}
-use Rattle.gw_names.proofs.InUpperCase.{upper_of-upper_of, name_of_upper}
-use Rattle.gw_expr.specs.Expressions.{Expression}
-use Rattle.gw_expr.specs.declared.token.Operator.{Operator}
+use Rattle.gw_names.proofs.InUpperCase.{upper_of-upper_of}
 use Rattle.gw_meaning.specs.declared.statement.Statement.{Statement}
 use Rattle.gw_meaning.specs.Statements.{verb_of_body}
-use Rattle.gw_meaning.specs.Texts.{text_of, word_if_any}
-use Rattle.gw_meaning.specs.declared.statement.Body.TheVariants as bodies
-use Rattle.gw_meaning.specs.declared.statement.Definition.TheVariants as defined
-use Rattle.gw_meaning.proofs.Texts.{name_is_short}
+use Rattle.gw_meaning.specs.Texts.{text_of}
 use Rattle.gw_lines.specs.declared.class.Class.TheVariants as class
-use Rattle.gw_lines.specs.declared.form.Form.{Form}
-use Rattle.gw_lines.specs.declared.form.Kind.{Kind}
-use Rattle.gw_lines.specs.declared.operand.Operand.{Operand}
-use Rattle.gw_lines.specs.declared.operand.Operand.TheVariants as operands
-use Rattle.gw_lines.specs.Classes.{is_in, is_blank, is_plain, are_plain, with_byte}
-use Rattle.gw_lines.specs.Parts.{split, parts_of, part_of, others_of, is_missing}
-use Rattle.gw_lines.specs.Forms.{a_count}
-use Rattle.gw_lines.specs.Lines.{verb_in, is_remark}
+use Rattle.gw_lines.specs.Classes.{is_in, is_blank, are_plain, with_byte}
+use Rattle.gw_lines.specs.Parts.{parts_of}
+use Rattle.gw_lines.specs.Lines.{is_remark}
 use Rattle.gw_lines.specs.Models.{lines_of}
-use Rattle.gw_lines.specs.Edits.{edit_lines, SpellsEdit}
+use Rattle.gw_lines.specs.Edits.{edit_lines}
 use Rattle.gw_lines.specs.Whole.{OfLines, no_lines, remark_line, statement_line}
 use Rattle.gw_lines.specs.Spelling as spelling
 use Rattle.gw_lines.specs.Spelling.{Stops, Digits, first_digit, next_digit, Value, without_sign, with_sign, Rank, Multiplies, times, quotient, remainder, Adds, plus, minus, SpellsExpression, a_single, with_minus, in_parentheses, a_factor, multiplied, a_product, summed, SpellsOperand, absent, a_value, a_constant, named_value, attribute_value, computed_value, a_whole, a_key, named_entity, numbered_entity, attribute_entity, computed_entity, a_fraction, a_label, a_definition, SpellsAll, no_form, stands, unwritten, is_part, Part, nothing, mark, opening, closing, stray, inner_comma, inner_blank, Written, none_written, last_written, never_closed, more_written, Behind, verb_alone, verb_operands, Head, first_word, second_word, Label, no_label, named, ArePlain, Numbering, unnumbered, Says, Cut, HasWords, Coded, Spells}
 use Rattle.gw_lines.specs.Printed.{listed_text, PrintedSpells, PrintedEdits, PrintedModels}
-use Rattle.gw_lines.proofs.Results.{some_is}
-use Rattle.gw_lines.proofs.Bytes.{Pass, Takes, both_pass, one_passes, next_passes, digits_pass, bytes_pass, is_text, named_passes, attribute_passes, atom_passes}
-use Rattle.gw_lines.proofs.Decimals.{decimal_digits}
-use Rattle.gw_lines.proofs.Fronts.{nonzero}
+use Rattle.gw_lines.proofs.Bytes.{Pass, both_pass, next_passes, bytes_pass, named_passes}
 use Rattle.gw_lines.proofs.Heads.{are_plain_upper}
-use Rattle.gw_lines.proofs.OwnBytes.{AllOwn, adds_own, closed_own, expression_own, fraction_own, is_own, list_own, multiplies_own, operand_own, own, own_name, part_own, pointed_own, spelled_own, split_own, value_own, with_own}
-use Rattle.gw_lines.proofs.KeptAgain.{behind_again, behind_shorter, behind_text, last_again, part_again, part_shorter, part_upper, some_length, spaced, spaced_length, upper_length, written_again, written_shorter}
-use Rattle.gw_lines.proofs.PrintedWords.{IsName, WordOf, begins_letter, found_so, head_again, head_shorter, is_name, label_again, marks, name_is, name_length, none_there, not_barred, plain_again, plains, printed, printed_is, tail_is, text_begins, verb_length, verb_letters, verb_word}
+use Rattle.gw_lines.proofs.OwnBytes.{is_own, list_own, own, spelled_own}
+use Rattle.gw_lines.proofs.KeptAgain.{behind_again, behind_text}
+use Rattle.gw_lines.proofs.PrintedWords.{begins_letter, head_again, head_shorter, is_name, label_again, plain_again, printed, printed_is, verb_word}
 
 -- ---- the line
 
@@ -154,7 +132,7 @@ pub record IsPrinted (s : Statement) : Type 0 where
 pub is_printed : (s : Statement) (verb : Verb) → IsStated s verb → IsPrinted s
 is_printed s verb stated =
     let e : text_of s ≡ printed s.label verb s.operands =
-      printed_is s.label (verb_of_body s.body) s.operands ∙ ap (λ (v : Verb). printed s.label v s.operands) stated.body.of_verb in
+    printed_is s.label (verb_of_body s.body) s.operands ∙ ap (λ (v : Verb). printed s.label v s.operands) stated.body.of_verb in
     let listed : Pass is_own s.operands = list_own s.operands (spelled_own stated.body.operands) in
     let own_bytes = subst (Pass is_own) (sym e) (printed_own s.operands stated.label listed) in
     let begins = subst (λ (t : List ℕ). begins_letter t ≡ true) (sym e) (printed_begins s.operands stated.label) in

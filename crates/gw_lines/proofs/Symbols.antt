@@ -1,24 +1,19 @@
 -- Bytes of expressions: the symbols, and the words between them, which are values.
-use Rattle.std.proofs.Common.{◌≡◌, ℕ, ◌==◌, ◌&&◌, Bool, true, false, not, List, [], ◌∷◌, ◌++◌, length, Option, Some, None, refl, ◌∙◌, inl, inr, arith}
-use Rattle.std.specs.Prelude.{ℤ, nat_le}
+use Rattle.std.proofs.Common.{◌≡◌, ℕ, ◌==◌, ◌&&◌, Bool, true, false, not, List, [], ◌∷◌, ◌++◌, Option, Some, None, refl, ◌∙◌, inl, inr, arith}
+use Rattle.std.specs.Prelude.{ℤ}
 use Rattle.std.specs.List.{list_all}
-use Rattle.std.specs.Char.{is_ascii_alphabetic, is_ascii_digit}
 use Rattle.std.proofs.lemmas.Bool.{and_from, and_parts, cases_Bool, eqb-true}
 use Rattle.std.proofs.lemmas.Bool.Decides.{nat_tests}
 use Rattle.std.proofs.lemmas.List.Folds.{list_all-append}
-use Rattle.gw_names.specs.declared.class.Class.{Class}
-use Rattle.gw_names.specs.declared.class.Class.TheVariants as class
-use Rattle.gw_names.specs.Words.{class_word}
-use Rattle.gw_names.specs.Names.{name_of, is_name_byte, is_name_text}
+use Rattle.gw_names.specs.Names.{is_name_byte}
 use Rattle.gw_expr.specs.declared.atom.Atom.{Atom}
 use Rattle.gw_expr.specs.declared.atom.Atom.TheVariants as atoms
 use Rattle.gw_expr.specs.declared.token.Operator.{Operator}
-use Rattle.gw_expr.specs.declared.attribute.Subject.{Subject}
 use Rattle.gw_lines.specs.declared.expression.Symbol.{Symbol}
 use Rattle.gw_lines.specs.declared.expression.Symbol.TheVariants as symbols
 use Rattle.gw_lines.specs.Atoms.{atom_of}
 use Rattle.gw_lines.specs.Expressions.{symbol_of}
-use Rattle.gw_lines.specs.Spelling.{Digits, first_digit, next_digit, Value, with_sign, without_sign, SpellsAttribute, alone, numbered_one, named_one, of_block, of_stream, SpellsAtom, plain_number, plain_name, plain_attribute, Multiplies, times, quotient, remainder}
+use Rattle.gw_lines.specs.Spelling.{Value, with_sign, without_sign, SpellsAtom, plain_number, plain_name, plain_attribute, Multiplies, times, quotient, remainder}
 use Rattle.gw_lines.proofs.Bytes.{Takes, atom_passes}
 use Rattle.gw_lines.proofs.Fronts.{not_true}
 use Rattle.gw_lines.proofs.Values.{Valued, signed, called, of_attribute, valued_found, valued_again}
