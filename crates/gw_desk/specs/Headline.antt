@@ -1,8 +1,14 @@
--- The headline: after any list of edits and queries each report handed out is, byte for byte, the report of a version
--- made anew from the statements that `list` shows, run from zero. (Our own.)
+-- The headline: after any list of edits and queries each report handed out is, byte for byte, the report of the model
+-- that `list` prints, opened anew and run from zero. (Our own.)
 use Rattle.std.specs.Prelude.{◌≡◌, ℕ, ◌+◌, List, [], ◌∷◌, Ok, length}
+use Rattle.gw_meaning.specs.declared.statement.Statement.{Statement}
 use Rattle.gw_meaning.specs.Listing.{Listing}
+use Rattle.gw_lines.specs.Models.{model_of}
+use Rattle.gw_lines.specs.Printed.{listed_text}
+use Rattle.gw_model.specs.Listed.{listed}
+use Rattle.gw_frame.specs.Renamed.{statements_of}
 use Rattle.gw_edit.specs.Applied.{applied}
+use Rattle.gw_edit.specs.Spelled.{AreSpelled}
 use Rattle.gw_desk.specs.declared.answer.Answer.{Answer}
 use Rattle.gw_desk.specs.declared.answer.Answer.TheVariants as answers
 use Rattle.gw_desk.specs.declared.play.Event.{Event}
@@ -14,36 +20,51 @@ use Rattle.gw_desk.specs.Replies.{answer_of}
 use Rattle.gw_desk.specs.Anew.{anew}
 use Rattle.gw_desk.specs.Playing.{Plays}
 
--- a query of a version behind n accepted edits is answered as the version made anew is, run from zero; or memory was
--- refused
-abbrev pub IsRight : Listing → ℕ → ℕ → ℕ → Answer → Type 0
-IsRight t n rep k answers.Memory = Unit {0}
-IsRight t n rep k answer = answer ≡ answer_of (anew t) n rep k
+-- the version made anew from a version's statements
+abbrev pub IsAnew : Listing → Listing → Type 0
+IsAnew t u = u ≡ anew t
+
+-- the version that the model that `list` prints of a version opens, with its horizon, replications and step limit
+pub record IsPrinted (t u : Listing) : Type 0 where
+  pub statements : List Statement
+  pub reads : model_of (listed_text (statements_of t.lines)) ≡ Ok statements
+  pub opens : u ≡ listed statements t.horizon t.replications t.limit
+
+-- a query of a version behind n accepted edits is answered as one that is so of it, run from zero; or memory was refused
+abbrev pub IsRight : (Listing → Listing → Type 0) → Listing → ℕ → ℕ → ℕ → Answer → Type 0
+IsRight so t n rep k answers.Memory = Unit {0}
+IsRight so t n rep k answer = (u : Listing) × so t u × (answer ≡ answer_of u n rep k)
 
 -- and a query of the recorded steps alone may also be answered that they do not decide
-abbrev pub IsRightPeek : Listing → ℕ → ℕ → ℕ → Answer → Type 0
-IsRightPeek t n rep k (answers.Unfinished steps) = Unit {0}
-IsRightPeek t n rep k answer = IsRight t n rep k answer
+abbrev pub IsRightPeek : (Listing → Listing → Type 0) → Listing → ℕ → ℕ → ℕ → Answer → Type 0
+IsRightPeek so t n rep k (answers.Unfinished steps) = Unit {0}
+IsRightPeek so t n rep k answer = IsRight so t n rep k answer
 
 -- the replies to events, from a version behind n accepted edits on: an accepted edit goes on to its version, a refused
 -- one leaves it
-abbrev pub AreRight : Listing → ℕ → List Event → List Reply → Type 0
-AreRight t n [] [] = Unit {0}
-AreRight t n [] (reply ∷ others) = ⊥
-AreRight t n (event ∷ more) [] = ⊥
-AreRight t n (events.Edit e ∷ more) (replies.Edited m ∷ others) =
-    (u : Listing) × (applied t e ≡ Ok u) × (m ≡ n + 1) × AreRight u (n + 1) more others
-AreRight t n (events.Edit e ∷ more) (replies.Refused fault ∷ others) = AreRight t n more others
-AreRight t n (events.Edit e ∷ more) (replies.Answered answer ∷ others) = ⊥
-AreRight t n (events.Peek rep k ∷ more) (replies.Answered answer ∷ others) =
-    IsRightPeek t n rep k answer × AreRight t n more others
-AreRight t n (events.Peek rep k ∷ more) (reply ∷ others) = ⊥
-AreRight t n (events.Finish rep k ∷ more) (replies.Answered answer ∷ others) =
-    IsRight t n rep k answer × AreRight t n more others
-AreRight t n (events.Finish rep k ∷ more) (reply ∷ others) = ⊥
+abbrev pub AreRight : (Listing → Listing → Type 0) → Listing → ℕ → List Event → List Reply → Type 0
+AreRight so t n [] [] = Unit {0}
+AreRight so t n [] (reply ∷ others) = ⊥
+AreRight so t n (event ∷ more) [] = ⊥
+AreRight so t n (events.Edit e ∷ more) (replies.Edited m ∷ others) =
+    (u : Listing) × (applied t e ≡ Ok u) × (m ≡ n + 1) × AreRight so u (n + 1) more others
+AreRight so t n (events.Edit e ∷ more) (replies.Refused fault ∷ others) = AreRight so t n more others
+AreRight so t n (events.Edit e ∷ more) (replies.Answered answer ∷ others) = ⊥
+AreRight so t n (events.Peek rep k ∷ more) (replies.Answered answer ∷ others) =
+    IsRightPeek so t n rep k answer × AreRight so t n more others
+AreRight so t n (events.Peek rep k ∷ more) (reply ∷ others) = ⊥
+AreRight so t n (events.Finish rep k ∷ more) (replies.Answered answer ∷ others) =
+    IsRight so t n rep k answer × AreRight so t n more others
+AreRight so t n (events.Finish rep k ∷ more) (reply ∷ others) = ⊥
 
--- whatever was played of a desk
+-- whatever was played of a desk, by the version made anew from its statements
 abbrev pub ReportsAreRight : Type 0
 ReportsAreRight =
     (b c : Book) (more : List Event) (others : List Reply) → IsBook b → Plays b more others c →
-    AreRight b.version (length b.edits) more others
+    AreRight IsAnew b.version (length b.edits) more others
+
+-- and of a desk whose model was read, by the model that `list` prints
+abbrev pub ReportsAreOfPrinted : Type 0
+ReportsAreOfPrinted =
+    (b c : Book) (more : List Event) (others : List Reply) → IsBook b → AreSpelled b.version.lines →
+    Plays b more others c → AreRight IsPrinted b.version (length b.edits) more others

@@ -1,6 +1,6 @@
 // Laws above the definitions that the contracts of the calls cite.
 ghost use Rattle.gw_desk.specs.Anew.{SameAnswers, AnsweredAnew, FaultyAnew};
-ghost use Rattle.gw_desk.specs.Headline.{ReportsAreRight};
+ghost use Rattle.gw_desk.specs.Headline.{ReportsAreOfPrinted, ReportsAreRight};
 ghost use Rattle.gw_desk.specs.Points.{FindsPoints};
 
 /// Every search for the point of a START finds what a point is: the first moment at which so many STARTs are complete,
@@ -12,9 +12,11 @@ pub fn points_are_found()
 /// After any list of edits and queries that [`Desk::play`](crate::Desk::play) played, each report handed out is, byte
 /// for byte, the report of the version made anew from its statements, run from zero. So is every other answer of a
 /// query, but that memory may be refused, and that a peek may say that the recorded steps do not decide. A refused edit
-/// leaves the version.
+/// leaves the version. Of a desk whose model was read, each report is that of the model that `list` prints: read anew,
+/// with the same horizon, replications and step limit, and run from zero.
 pub fn reports_are_right()
-    ensures { ReportsAreRight }
+    ensures anew { ReportsAreRight }
+    ensures printed { ReportsAreOfPrinted }
 {}
 
 /// The numbers of statements do not matter: two versions with the same statements in order, whatever their numbers, are

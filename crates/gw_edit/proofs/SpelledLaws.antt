@@ -2,8 +2,8 @@
 use Rattle.std.proofs.Common.{◌≡◌, ℕ, suc, ◌+◌, ◌-◌, ◌<◌, ◌≤◌, ◌&&◌, Bool, true, false, cond, List, [], ◌∷◌, ◌++◌, Option, Some, None, Result, Ok, Err, length, take, drop, refl, ap, sym, subst, ◌∙◌, inl, inr, arith}
 use Rattle.std.specs.Prelude.{All, is_some, nat_lt}
 use Rattle.std.specs.Str.{bytes_eq}
-use Rattle.std.proofs.lemmas.Bool.{and_parts, cases_Bool, ltb-false, or_false_parts}
-use Rattle.std.proofs.lemmas.List.Elements.{All-append, All-cons, All-drop, All-nil, All-take}
+use Rattle.std.proofs.lemmas.Bool.{and_parts, cases_Bool}
+use Rattle.std.proofs.lemmas.List.Elements.{All-append, All-cons, All-drop, All-head, All-nil, All-tail, All-take}
 use Rattle.std.proofs.lemmas.Slice.Eq.{bytes_eq-Decides}
 use Rattle.gw_names.specs.Names.{name_of}
 use Rattle.gw_meaning.specs.declared.statement.Definition.{Definition}
@@ -12,7 +12,7 @@ use Rattle.gw_meaning.specs.declared.statement.Statement.{Statement}
 use Rattle.gw_meaning.specs.Listing.{Listing, defines, definition_if, definition_of, has_label, nth}
 use Rattle.gw_lines.specs.declared.fault.LineFault.{LineFault}
 use Rattle.gw_lines.specs.Edits.{edit_of}
-use Rattle.gw_lines.specs.Printed.{storage_of}
+use Rattle.gw_lines.specs.Printed.{IsSpelled, storage_of}
 use Rattle.gw_lines.specs.Reading.{◌>>=◌}
 use Rattle.gw_lines.specs.Spelling.{Label, no_label, named, Spells}
 use Rattle.gw_lines.proofs.Edits.{edits_are_read}
@@ -24,17 +24,12 @@ use Rattle.gw_edit.specs.declared.edit.Edit.{Edit}
 use Rattle.gw_edit.specs.declared.edit.Edit.TheVariants as edits
 use Rattle.gw_edit.specs.declared.fault.EditFault.{EditFault}
 use Rattle.gw_edit.specs.Applied.{capacity_at, checked, has_replication, is_capacity, or_refusal, reseeded, spelled_by, storage_in, storage_place, without_number}
-use Rattle.gw_edit.specs.Spelled.{IsSpelled, AreSpelled, EditsAreSpelled}
+use Rattle.gw_edit.specs.Spelled.{AreSpelled, EditsAreSpelled}
+use Rattle.gw_edit.proofs.Splits.{place_in}
 use Rattle.gw_edit.proofs.Made.{checked_gives, one_side, other_side}
 
 abbrev LineIsSpelled : Numbered → Type 0
 LineIsSpelled line = IsSpelled line.statement
-
-first_is : (line : Numbered) (lines : List Numbered) → AreSpelled (line ∷ lines) → LineIsSpelled line
-first_is line lines h = h 0 line (omega arith)
-
-others_are : (line : Numbered) (lines : List Numbered) → AreSpelled (line ∷ lines) → AreSpelled lines
-others_are line lines h = All-drop LineIsSpelled 1 (line ∷ lines) h
 
 -- ---- a splice
 
@@ -85,20 +80,17 @@ storage_named : (name : List ℕ) (n : ℕ) (lines : List Numbered) (place : ℕ
 storage_named name n [] place e h = absurd cc
 storage_named name n (line ∷ lines) place e h =
     elim (cases_Bool (is_capacity (defines name line))) [
-      | inl here ↦ (let c = (first_is line lines h).1 in
+      | inl here ↦ (let c = (All-head LineIsSpelled line lines h).1 in
           let l = c.coded in same_name l.word line.statement.label l.verb name l.label (is_labelled name line here))
-      | inr later ↦ storage_named name (n + 1) lines place (rw later at e) (others_are line lines h)
+      | inr later ↦ storage_named name (n + 1) lines place (rw later at e) (All-tail LineIsSpelled line lines h)
     ]
-
-within : (least most n : ℕ) → is_outside least most n ≡ false → (least ≤ n) × (n ≤ most)
-within least most n h = let p = or_false_parts (nat_lt n least) (nat_lt most n) h in (ltb-false n least p.0, ltb-false most n p.1)
 
 capacity_is : (t u : Listing) (name : List ℕ) (amount : ℕ) (place : Option ℕ) → storage_place name t ≡ place
     → capacity_at t name amount place ≡ Ok u → AreSpelled t.lines → AreSpelled u.lines
 capacity_is t u name amount None is made h = absurd cc
 capacity_is t u name amount (Some place) is made h =
     let side = other_side (is_outside 1 1000000000 amount) _ _ u made in
-    let w = within 1 1000000000 amount side.0 in
+    let w = place_in 1000000000 amount side.0 in
     let s = storage_of name amount in
     let spelled : IsSpelled s = (_, storages_spell name amount (storage_named name 1 t.lines place is h) w.0 w.1) in
     subst (λ (v : Listing). AreSpelled v.lines) (checked_gives (with_splice t place true (Some s)) u side.1)

@@ -1,16 +1,11 @@
 -- The versions whose statements are spelled by some line each, as those of a model that was read, and of all that is
 -- edited from it. (Our own.)
-use Rattle.std.specs.Prelude.{ℕ, ◌≡◌, List, Ok, All}
+use Rattle.std.specs.Prelude.{◌≡◌, List, Ok, All}
 use Rattle.gw_meaning.specs.declared.statement.Numbered.{Numbered}
-use Rattle.gw_meaning.specs.declared.statement.Statement.{Statement}
 use Rattle.gw_meaning.specs.Listing.{Listing}
-use Rattle.gw_lines.specs.Spelling.{Spells}
+use Rattle.gw_lines.specs.Printed.{IsSpelled}
 use Rattle.gw_edit.specs.declared.edit.Edit.{Edit}
 use Rattle.gw_edit.specs.Applied.{applied}
-
--- some line spells the statement
-abbrev pub IsSpelled : Statement → Type 0
-IsSpelled s = (line : List ℕ) × Spells line s
 
 -- each statement is spelled by some line
 abbrev pub AreSpelled : List Numbered → Type 0

@@ -21,7 +21,9 @@ use Rattle.gw_lines.specs.Edits.{edit_lines}
 use Rattle.gw_lines.specs.Whole.{OfLines, no_lines, remark_line, statement_line}
 use Rattle.gw_lines.specs.Spelling as spelling
 use Rattle.gw_lines.specs.Spelling.{Stops, Digits, first_digit, next_digit, Value, without_sign, with_sign, Rank, Multiplies, times, quotient, remainder, Adds, plus, minus, SpellsExpression, a_single, with_minus, in_parentheses, a_factor, multiplied, a_product, summed, SpellsOperand, absent, a_value, a_constant, named_value, attribute_value, computed_value, a_whole, a_key, named_entity, numbered_entity, attribute_entity, computed_entity, a_fraction, a_label, a_definition, SpellsAll, no_form, stands, unwritten, is_part, Part, nothing, mark, opening, closing, stray, inner_comma, inner_blank, Written, none_written, last_written, never_closed, more_written, Behind, verb_alone, verb_operands, Head, first_word, second_word, Label, no_label, named, ArePlain, Numbering, unnumbered, Says, Cut, HasWords, Coded, Spells}
-use Rattle.gw_lines.specs.Printed.{listed_text, PrintedSpells, PrintedEdits, PrintedModels}
+use Rattle.std.specs.Prelude.{All}
+use Rattle.std.proofs.lemmas.List.Elements.{All-cons, All-head, All-nil, All-tail}
+use Rattle.gw_lines.specs.Printed.{IsSpelled, ModelsAreSpelled, listed_text, PrintedSpells, PrintedEdits, PrintedModels}
 use Rattle.gw_lines.proofs.Bytes.{Pass, both_pass, next_passes, bytes_pass, named_passes}
 use Rattle.gw_lines.proofs.Heads.{are_plain_upper}
 use Rattle.gw_lines.proofs.OwnBytes.{is_own, list_own, own, spelled_own}
@@ -224,13 +226,19 @@ first_line (b ∷ bs) rest h =
     let n = no_end b a.0 in
     line_on b (bs ++ 10 ∷ rest) n.feed n.carriage ∙ ap (with_byte b) (first_line bs rest a.1)
 
-pub models_again : {lines : List (List ℕ)} {statements : List Statement} → OfLines lines statements → OfLines (lines_of (listed_text statements)) statements
-models_again no_lines = no_lines
-models_again (remark_line line lines statements r others) = models_again others
-models_again (statement_line line lines s statements spelled others) =
-    let p = spelled_is line s spelled in
-    subst (λ (ls : List (List ℕ)). OfLines ls (s ∷ statements)) (sym (first_line (text_of s) (listed_text statements) p.own_bytes))
-    (statement_line (text_of s) (lines_of (listed_text statements)) s statements p.spells (models_again others))
-
 pub printed_models : PrintedModels
-printed_models bytes statements spelled = models_again spelled
+printed_models [] h = no_lines
+printed_models (s ∷ statements) h =
+    let spelled = All-head IsSpelled s statements h in
+    let p = spelled_is spelled.0 s spelled.1 in
+    subst (λ (ls : List (List ℕ)). OfLines ls (s ∷ statements)) (sym (first_line (text_of s) (listed_text statements) p.own_bytes))
+    (statement_line (text_of s) (lines_of (listed_text statements)) s statements p.spells (printed_models statements (All-tail IsSpelled s statements h)))
+
+lines_are_spelled : {lines : List (List ℕ)} {statements : List Statement} → OfLines lines statements → All IsSpelled statements
+lines_are_spelled no_lines = All-nil IsSpelled
+lines_are_spelled (remark_line line lines statements r others) = lines_are_spelled others
+lines_are_spelled (statement_line line lines s statements spelled others) =
+    All-cons IsSpelled s statements (line, spelled) (lines_are_spelled others)
+
+pub models_are_spelled : ModelsAreSpelled
+models_are_spelled bytes statements spelled = lines_are_spelled spelled

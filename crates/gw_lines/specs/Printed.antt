@@ -1,6 +1,6 @@
 -- What `list` prints spells again what was read: a statement as a line and as the text of an edit, and statements, a
 -- line each, as a model. (Our own.)
-use Rattle.std.specs.Prelude.{ℕ, ◌≤◌, ◌≡◌, List, [], ◌∷◌, ◌++◌, Some, decimal}
+use Rattle.std.specs.Prelude.{ℕ, ◌≤◌, ◌≡◌, List, [], ◌∷◌, ◌++◌, Some, decimal, All}
 use Rattle.gw_names.specs.Names.{name_of}
 use Rattle.gw_meaning.specs.declared.statement.Definition.TheVariants as definitions
 use Rattle.gw_meaning.specs.declared.statement.Body.TheVariants as bodies
@@ -9,6 +9,10 @@ use Rattle.gw_meaning.specs.Texts.{text_of}
 use Rattle.gw_lines.specs.Spelling.{Spells}
 use Rattle.gw_lines.specs.Edits.{SpellsEdit}
 use Rattle.gw_lines.specs.Whole.{SpellsModel}
+
+-- some line spells the statement
+abbrev pub IsSpelled : Statement → Type 0
+IsSpelled s = (line : List ℕ) × Spells line s
 
 -- statements as `list` prints them, a line each
 abbrev pub listed_text : List Statement → List ℕ
@@ -31,11 +35,13 @@ PrintedSpells = (line : List ℕ) (s : Statement) → Spells line s → Spells (
 abbrev pub PrintedEdits : Type 0
 PrintedEdits = (line : List ℕ) (s : Statement) → Spells line s → SpellsEdit (text_of s) s
 
--- and the statements of a model are spelled by the lines that `list` prints of them
+-- and statements that are spelled are a model, by the lines that `list` prints of them
 abbrev pub PrintedModels : Type 0
-PrintedModels =
-    (bytes : List ℕ) (statements : List Statement) →
-    SpellsModel bytes statements → SpellsModel (listed_text statements) statements
+PrintedModels = (statements : List Statement) → All IsSpelled statements → SpellsModel (listed_text statements) statements
+
+-- the statements of a model are spelled
+abbrev pub ModelsAreSpelled : Type 0
+ModelsAreSpelled = (bytes : List ℕ) (statements : List Statement) → SpellsModel bytes statements → All IsSpelled statements
 
 -- a storage whose capacity is in decimal digits is spelled by what `list` prints of it
 abbrev pub StoragesSpell : Type 0

@@ -1,5 +1,5 @@
 // Laws above the definitions of reading.
-ghost use Rattle.gw_lines.specs.Printed.{PrintedEdits, PrintedModels, PrintedSpells, StoragesSpell};
+ghost use Rattle.gw_lines.specs.Printed.{ModelsAreSpelled, PrintedEdits, PrintedModels, PrintedSpells, StoragesSpell};
 ghost use Rattle.gw_lines.specs.Read.{EditsAreRead, EditsAreRefused, ModelsAreRead, ModelsAreRefused};
 
 /// A model is read as what it spells, and refused with its first faulty line.
@@ -20,5 +20,6 @@ pub fn printed_is_read()
     ensures line { PrintedSpells }
     ensures edit { PrintedEdits }
     ensures model { PrintedModels }
+    ensures spelled { ModelsAreSpelled }
     ensures storage { StoragesSpell }
 {}

@@ -1,5 +1,5 @@
-use Rattle.gw_desk.proofs.HeadlineLaws.{reports_are_right}
+use Rattle.gw_desk.proofs.HeadlineLaws.{reports_are_right, reports_are_of_printed}
 use Rattle.gw_desk.proofs.laws.reports_are_right.Goals as goal
 
 pub returns : goal.returns
-returns c = reports_are_right
+returns c = record { anew = reports_are_right; printed = reports_are_of_printed }
