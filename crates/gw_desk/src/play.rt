@@ -1,6 +1,7 @@
 // Lists of events: edits and queries, one after another.
 ghost use Rattle.std.specs.Prelude.{◌≡◌, IfOk, OnErr, length};
-ghost use Rattle.gw_desk.specs.Headline.{AreRight};
+ghost use Rattle.gw_edit.specs.Spelled.{AreSpelled};
+ghost use Rattle.gw_desk.specs.Headline.{AreRight, IsAnew, IsPrinted};
 ghost use Rattle.gw_desk.specs.Playing.{Does, Plays};
 
 use crate::answer::Answer;
@@ -29,12 +30,14 @@ pub enum Reply {
 
 impl Desk {
     /// Makes the calls of these events, in order, and answers one reply for each: each report handed out is that of the
-    /// version made anew from its statements, run from zero. Where memory is refused for the list of replies, nothing
-    /// is done.
+    /// version made anew from its statements, run from zero; where the model was read, that is the model that `list`
+    /// prints. Where memory is refused for the list of replies, nothing is done.
     pub fn play(&mut self, alloc: Global, events: Vec<Event>) -> Result<Vec<Reply>, AllocError>
         ensures plays { IfOk result (λ replies. Plays self.old events.items replies.items self.new) }
-        ensures right { IfOk result (λ replies. AreRight self.old.version (length self.old.edits)
+        ensures right { IfOk result (λ replies. AreRight IsAnew self.old.version (length self.old.edits)
             events.items replies.items) }
+        ensures printed { AreSpelled self.old.version.lines → IfOk result (λ replies.
+            AreRight IsPrinted self.old.version (length self.old.edits) events.items replies.items) }
         ensures err { OnErr result (self.new ≡ self.old) }
     {
         self.is_book();

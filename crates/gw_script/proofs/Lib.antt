@@ -3,3 +3,4 @@ pub mod Answering
 pub mod Reporting
 pub mod Turning
 pub mod Refusing
+pub mod Opened

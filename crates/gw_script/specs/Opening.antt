@@ -10,6 +10,7 @@ use Rattle.gw_meaning.specs.Listing.{Listing}
 use Rattle.gw_model.specs.declared.fault.ModelFault.{ModelFault}
 use Rattle.gw_model.specs.Listed.{listed}
 use Rattle.gw_model.specs.Faults.{fault_of}
+use Rattle.gw_edit.specs.Spelled.{AreSpelled}
 use Rattle.gw_desk.specs.Book.{Book, blank_runs}
 use Rattle.gw_script.specs.declared.opening.Options.{Options}
 use Rattle.gw_script.specs.declared.fault.Fault.{Fault}
@@ -29,6 +30,10 @@ pub record OpensVersion (model : List ℕ) (o : Options) (t : Listing) : Type 0 
   pub spelled : SpellsModel model statements
   pub is_version : t ≡ opened statements o
   pub no_fault : fault_of t ≡ None
+
+-- so each statement of the version is spelled by some line
+abbrev pub OpenedIsSpelled : Type 0
+OpenedIsSpelled = (model : List ℕ) (o : Options) (t : Listing) → OpensVersion model o t → AreSpelled t.lines
 
 -- the model's lines spell statements, and these make a version with no fault, which lies on the desk b
 pub record Opens (model : List ℕ) (o : Options) (b : Book) : Type 0 where

@@ -2,7 +2,7 @@ use Rattle.std.proofs.Common.{◌≡◌, ◌++◌, ◌∷◌, ◌+◌, [], List,
 use Rattle.std.specs.Vec.Iter.{into_iter_items}
 use Rattle.gw_desk.specs.declared.play.Reply.{Reply}
 use Rattle.gw_desk.specs.Playing.{Plays}
-use Rattle.gw_desk.proofs.HeadlineLaws.{reports_are_right}
+use Rattle.gw_desk.proofs.HeadlineLaws.{reports_are_right, reports_are_of_printed}
 use Rattle.gw_desk.proofs.PlayLaws.{plays_more, none_of}
 use Rattle.gw_desk.proofs.desk.Desk.play.Goals as goal
 
@@ -32,5 +32,6 @@ returns c =
     record {
       plays = plays;
       right = reports_are_right c.args.self.now at.self c.args.events.items at.replies.items c.is_book.ensures plays;
+      printed = λ spelled. reports_are_of_printed c.args.self.now at.self c.args.events.items at.replies.items c.is_book.ensures spelled plays;
       err = tt;
     }
