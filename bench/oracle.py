@@ -4,7 +4,7 @@ It takes all sessions but those that end for want of memory or behind too many r
 report is a run from clock zero; what an edit leaves of a recorded run goes by the items that each step read."""
 import re, sys
 
-from statements import BLOCKS, COMMANDS, DEFINITIONS, OF_BLOCKS, OF_STORAGES, OF_THE_MOMENT
+from statements import BLOCKS, COMMANDS, DEFINITIONS, OF_BLOCKS, OF_STORAGES, OF_THE_MOMENT, OF_VARIABLES
 from statements import Fault, is_name, statement_of_edit, statements_of
 
 MODULUS = 2147483647
@@ -25,6 +25,7 @@ class Version:
         self.commands = [s for s in statements if s.verb in COMMANDS]
         self.capacities = {s.label: s.number(0) for s in statements if s.verb == "STORAGE"}
         self.numbers = {s.label: s.number(0) for s in statements if s.verb == "EQU"}
+        self.variables = {s.label: s.tree(0) for s in statements if s.verb == "VARIABLE"}
 
     def block(self, id):
         return next((b for b in self.blocks if b.id == id), None)
@@ -58,9 +59,12 @@ class Version:
         storages = [name for _, name in self.named("storage")] + [name for of, name in attributes if of in OF_STORAGES]
         if any(s not in self.capacities and s not in self.numbers for s in storages):
             return "M3"
+        variables = [name for of, name in attributes if of in OF_VARIABLES]
+        if any(v not in self.variables and v not in self.numbers for v in variables):
+            return "M3"
         if any(name not in self.numbers for _, name in self.named("name")):
             return "M3"
-        return "M4" if any(s in self.numbers for s in storages) else None
+        return "M4" if any(s in self.numbers for s in storages + variables) else None
 
     def named(self, kind):
         """What the operands of all statements have of a kind."""
@@ -103,7 +107,7 @@ class Transaction:
 
     def __init__(self, number, priority, generate):
         self.number, self.priority, self.destination = number, priority, generate
-        self.came = {}
+        self.came, self.parameters = {}, {}
 
 
 class Run:
@@ -151,15 +155,37 @@ class Run:
             self.items.append(("label", what))
             count = self.counts.get(self.version.label(what), {"entries": 0, "content": 0})
             return count["entries" if of == "N" else "content"]
+        if of in OF_VARIABLES:
+            return self.variable(block, what)
         if of in OF_STORAGES:
-            storage = self.storages.get(what, Storage())
-            return {"S": storage.content, "SC": storage.entries, "SM": storage.most}[of]
+            return self.of_storage(of, what)
         key = what if isinstance(what, int) else self.named(what)
+        if of == "P":
+            if block.verb == "GENERATE" or key not in self.active.parameters:
+                raise End("X5")
+            return self.active.parameters[key]
         if of in ("F", "FC"):
             facility = self.facilities.get(key, Facility())
             return facility.captures if of == "FC" else int(facility.owner is not None)
         queue = self.queues.get(key, Queue())
         return {"Q": queue.content, "QC": queue.entries, "QM": queue.most, "QZ": queue.zero}[of]
+
+    def variable(self, block, name):
+        """The value of a VARIABLE, of which 32 nest at most."""
+        if self.depth == 32:
+            raise End("X10")
+        self.items.append(("variable", name))
+        self.depth += 1
+        value = self.evaluate(block, self.version.variables[name])
+        self.depth -= 1
+        return value
+
+    def of_storage(self, of, name):
+        storage = self.storages.get(name, Storage())
+        if of == "R":
+            self.items.append(("storage", name))
+            return self.version.capacities[name] - storage.content
+        return {"S": storage.content, "SC": storage.entries, "SM": storage.most}[of]
 
     def of_the_moment(self, block, of):
         """An attribute of the run, or of the transaction that is there but for the operands of GENERATE."""
@@ -237,7 +263,7 @@ class Run:
     # ---- steps
     def step(self):
         """Makes a step, or raises End and changes nothing."""
-        self.items, self.drawn = [], dict(self.streams)
+        self.items, self.drawn, self.depth = [], dict(self.streams), 0
         change = self.decide()
         self.streams = self.drawn
         change()
@@ -389,6 +415,32 @@ class Run:
         def go():
             self.enter(x, block)
             x.priority = priority
+
+        return go
+
+    def assign(self, x, block):
+        key, value, sign = self.key(block), self.value(block, 1), block.sign()
+        old = x.parameters.get(key, 0) if sign else 0
+        new = within(old - value if sign == "-" else old + value)
+
+        def go():
+            self.enter(x, block)
+            x.parameters[key] = new
+
+        return go
+
+    def loop(self, x, block):
+        key = self.key(block)
+        if key not in x.parameters:
+            raise End("X5")
+        left, label = within(x.parameters[key] - 1), block.operand(1)
+        if left != 0:
+            self.items.append(("label", label))
+
+        def go():
+            self.enter(x, block)
+            x.parameters[key] = left
+            x.destination = None if left == 0 else self.version.label(label)
 
         return go
 
@@ -717,7 +769,9 @@ class Session:
             elif s.verb == "EQU":
                 items |= {("name", s.label)}
             elif s.verb == "STORAGE":
-                items |= {("asks", s.label)}
+                items |= {("asks", s.label), ("storage", s.label)}
+            elif s.verb == "VARIABLE":
+                items |= {("variable", s.label)}
             else:
                 first = sum(b.verb in COMMANDS for b in statements[: place - 1]) + 1
                 items |= {("command", j) for j in range(first, 5000)}
@@ -742,8 +796,9 @@ class Session:
         elif old and new and (old.verb, old.label) == (new.verb, new.label) and old.verb in DEFINITIONS:
             if old.verb == "STORAGE":
                 items = {("between", old.label, *sorted((old.number(0), new.number(0))))}
+                items |= {("storage", old.label)} if old.number(0) != new.number(0) else set()
             else:
-                items = {("name", old.label)} if old.listed != new.listed else set()
+                items = {(ITEMS[old.verb], old.label)} if old.listed != new.listed else set()
         else:
             items = self.touches(statements, place, *[s for s in (old, new) if s])
         behind = statements[: place - 1] + ([new] if new else []) + statements[place - 1 + goes :]
@@ -823,6 +878,10 @@ NUMBER = "[ \t]([0-9]{1,18})"
 LINES = {"report": NUMBER * 2, "peek": NUMBER * 2, "all": NUMBER, "list": "", "delete": NUMBER, "horizon": NUMBER}
 LINES |= {"insert": NUMBER + "[ \t](.*)", "change": NUMBER + "[ \t](.*)", "capacity": "[ \t]([^ \t]+)" + NUMBER}
 LINES |= {"seed": NUMBER * 2, "replicate": NUMBER * 2, "drop": NUMBER, "quit": ""}
+
+
+# Which item a definition answers.
+ITEMS = {"EQU": "name", "VARIABLE": "variable"}
 
 
 def touched_by(items, item):

@@ -1,16 +1,16 @@
 """How bench/oracle.py reads statements: the label, the verb and the operands of a line, or the first fault in it."""
 import re
 
-BLOCKS = "GENERATE ADVANCE TERMINATE QUEUE DEPART SEIZE RELEASE ENTER LEAVE TRANSFER MARK PRIORITY BUFFER".split()
-DEFINITIONS = "STORAGE EQU".split()
+BLOCKS = "GENERATE ADVANCE TERMINATE QUEUE DEPART SEIZE RELEASE ENTER LEAVE TRANSFER MARK PRIORITY BUFFER ASSIGN LOOP".split()
+DEFINITIONS = "STORAGE EQU VARIABLE".split()
 COMMANDS = "START RMULT".split()
 # The verbs of later stages, which are no names either.
-LATER_DEFINITIONS = "TABLE VARIABLE FUNCTION".split()
+LATER_DEFINITIONS = "TABLE FUNCTION".split()
 LATER_COMMANDS = "RESET CLEAR".split()
-LATER_BLOCKS = "TEST GATE LOGIC ASSIGN SAVEVALUE TABULATE LINK UNLINK SPLIT LOOP".split()
+LATER_BLOCKS = "TEST GATE LOGIC SAVEVALUE TABULATE LINK UNLINK SPLIT".split()
 VERBS = BLOCKS + DEFINITIONS + COMMANDS + LATER_DEFINITIONS + LATER_COMMANDS + LATER_BLOCKS
-# The operands of a verb: a value, an entity, a storage, a label, a fraction, a number, a count, a seed, or a key word;
-# `!` where one must be there.
+# The operands of a verb: a value, an entity, one with a sign behind it or none, a storage, a label, a fraction, an expression, a
+# number, a count, a seed, or a key word; `!` where one must be there.
 FORMS = {
     "GENERATE": "value value value value value",
     "ADVANCE": "value value",
@@ -24,17 +24,21 @@ FORMS = {
     "LEAVE": "storage! value",
     "TRANSFER": "fraction! label label!",
     "MARK": "",
+    "ASSIGN": "changed! value!",
+    "LOOP": "entity! label!",
     "BUFFER": "",
     "STORAGE": "count!",
     "EQU": "number!",
+    "VARIABLE": "expression!",
     "START": "count! NP",
     "RMULT": "seed seed seed seed seed seed seed",
 }
 CLASSES = "C1 AC1 TG1 M1 XN1 PR P F FC S R SC SM Q QC QM QZ N W X LS CH CC TC RN V FN".split()
 OF_THE_MOMENT = "C1 AC1 TG1 M1 XN1 PR".split()
 OF_BLOCKS = "N W".split()
-OF_STORAGES = "S SC SM".split()
-OF_ENTITIES = "F FC Q QC QM QZ".split()
+OF_STORAGES = "S R SC SM".split()
+OF_VARIABLES = ["V"]
+OF_ENTITIES = "P F FC Q QC QM QZ".split()
 TOKEN = re.compile(r"[A-Z0-9_$]+|[-+#\\@()]")
 DEEPEST = 32
 
@@ -61,6 +65,10 @@ class Statement:
 
     def tree(self, place):
         return self.trees[place] if place < len(self.trees) else None
+
+    def sign(self):
+        """The sign behind the first operand, where there is one."""
+        return self.operand(0)[-1] if self.operand(0)[-1] in "+-" else ""
 
     def number(self, place):
         """The number of an operand that takes digits only."""
@@ -200,8 +208,12 @@ def read_operands(verb, operands):
 
 
 def read_operand(form, word):
+    if form == "changed":
+        return read_operand("entity", word[:-1] if word[-1] in "+-" and len(word) > 1 else word)
     if form in ("value", "entity") and word[0] == "(":
         return in_parentheses(word)
+    if form == "expression":
+        return whole(word, total)
     if form == "value":
         return constant(word) if word[0] in "-0123456789" else single(word)
     if form == "entity" and word[0].isdigit():
@@ -254,10 +266,11 @@ def attribute(word):
     if read is None:
         return None
     of, digits, name = read.groups()
-    numbered = OF_STORAGES + OF_ENTITIES + ["RN"]
+    with_names = OF_BLOCKS + OF_STORAGES + OF_VARIABLES + OF_ENTITIES
+    numbered = OF_STORAGES + OF_VARIABLES + OF_ENTITIES + ["RN"]
     if digits and of in numbered and 1 <= int(digits) <= (7 if of == "RN" else 10**9):
         return "attribute", of, int(digits)
-    return ("attribute", of, name) if name and of in OF_BLOCKS + OF_STORAGES + OF_ENTITIES and is_name(name) else None
+    return ("attribute", of, name) if name and of in with_names and is_name(name) else None
 
 
 # ---- parentheses
@@ -268,10 +281,15 @@ OPERATORS = ["+", "-", "#", "\\", "@"]
 
 def in_parentheses(word):
     """The tree of an operand that is one pair of parentheses with what stands in it."""
+    return whole(word, factor)
+
+
+def whole(word, part):
+    """The tree of a word that is a part of an expression, and no more."""
     tokens = TOKEN.findall(word)
     if "".join(tokens) != word:
         raise Bad
-    tree = factor(tokens, 0)
+    tree = part(tokens, 0)
     if tokens:
         raise Bad
     return tree
