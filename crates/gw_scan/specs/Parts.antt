@@ -8,7 +8,8 @@ use Rattle.gw_meaning.specs.declared.entity_change.Deed.{Deed}
 use Rattle.gw_meaning.specs.declared.entity_change.Deed.TheVariants as deeds
 use Rattle.gw_meaning.specs.declared.transaction.Transaction.{Transaction}
 use Rattle.gw_meaning.specs.Machine.{Machine, delay_at, waiting}
-use Rattle.gw_meaning.specs.Changes.{let_in}
+use Rattle.gw_meaning.specs.declared.moves.Change.{Change}
+use Rattle.gw_meaning.specs.Changes.{let_in, held_by, with_active}
 use Rattle.gw_meaning.specs.Entities.{Entities}
 
 -- the clocks
@@ -135,6 +136,11 @@ entities_of e =
       storages = e.storages.entries;
       comings = e.comings.comings;
     }
+
+-- a state in which the parameters of the active transaction are as a change sets them
+abbrev pub with_held : Change → Machine → Machine
+with_held change s =
+    with_active s.active (λ x. record s { parameters = held_by change x.number s.parameters }) s
 
 -- there is room for what a deed adds
 abbrev pub HasRoomFor : Stock → Key → Deed → Type 0

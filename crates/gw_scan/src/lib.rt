@@ -22,6 +22,7 @@ mod facilities;
 mod future;
 mod making;
 mod notes;
+mod parameters;
 mod priorities;
 mod progress;
 mod queues;
