@@ -1,5 +1,6 @@
-ghost use Rattle.std.specs.Prelude.{◌≡◌, [], IfOk, OnOk, OnErr};
-ghost use Rattle.gw_entities.specs.Parameters.{parameter_at, assigned, without};
+ghost use Rattle.std.specs.Prelude.{◌≡◌, [], None, nat_eq, IfOk, OnOk, OnErr};
+ghost use Rattle.std.specs.Map.{lookup};
+ghost use Rattle.gw_entities.specs.Parameters.{parameter_at, assigned, without, held_of};
 
 use crate::by_key::ByKey;
 use gw_names::Key;
@@ -53,20 +54,14 @@ impl Parameters {
         ensures ok { OnOk result (self.new ≡ assigned self.old number key.now value) }
         ensures err { OnErr result (self.new ≡ self.old) }
     {
-        let alloc = *self.held.allocator();
         match self.held.get_mut(&number) {
             Some(values) => {
                 values.reserve(key)?;
                 values.set(key, value);
+                Ok(())
             }
-            None => {
-                let mut values = ByKey::new(alloc);
-                values.reserve(key)?;
-                values.set(key, value);
-                self.held.insert(number, values)?;
-            }
+            None => assign_first(&mut self.held, number, key, value),
         }
-        Ok(())
     }
 
     /// Forgets the parameters of a transaction.
@@ -95,5 +90,25 @@ impl Parameters {
             }
         }
         Ok(Parameters { held })
+    }
+}
+
+// Sets the first parameter of a transaction that has none.
+fn assign_first(
+    held: &mut IndexMap<u64, ByKey<Val>>,
+    number: u64,
+    key: &Key,
+    value: Val,
+) -> Result<(), AllocError>
+    requires { lookup (nat_eq number) held.old.entries ≡ None }
+    ensures ok { OnOk result (held_of held.new.entries ≡ assigned (held_of held.old.entries) number key.now value) }
+    ensures err { OnErr result (held_of held.new.entries ≡ held_of held.old.entries) }
+{
+    let mut values = ByKey::new(*held.allocator());
+    values.reserve(key)?;
+    values.set(key, value);
+    match held.insert(number, values) {
+        Ok(_) => Ok(()),
+        Err(_) => Err(AllocError),
     }
 }
