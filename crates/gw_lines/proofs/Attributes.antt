@@ -44,8 +44,8 @@ parameter_read : (rest : List ℕ) (of : Subject) → subject_of scopes.Entity r
     → attribute_in classes (class_word class.P ++ rest) ≡ Some (atoms.Attribute class.P of)
 parameter_read [] of e = absurd cc
 parameter_read (b ∷ bs) of e =
-    elim (cases_Bool (b == 82)) [
-      | inl same ↦ absurd (let f = rw (eqb-true b 82 same) at e in cc)
+    elim (cases_Bool (nat_eq 82 b)) [
+      | inl same ↦ absurd (let f = rw (← eqb-true 82 b same) at e in cc)
       | inr other ↦ rw (other, e) refl
     ]
 

@@ -1,16 +1,15 @@
 // What a move does to a state: reserve all that grows, then change.
 ghost use Rattle.std.specs.Prelude.{◌≡◌, OnOk, OnErr};
 ghost use Rattle.gw_meaning.specs.Machine.{raised};
-ghost use Rattle.gw_meaning.specs.Changes.{moved, decided, marked, own_marked, own_held, placed, bound};
-ghost use Rattle.gw_scan.specs.Parts.{with_held};
+ghost use Rattle.gw_meaning.specs.Changes.{moved, decided, marked, own_marked, placed, bound};
 ghost use Rattle.gw_meaning.specs.declared.moves.Move.TheVariants as moves;
 
+use crate::assigning::assign;
 use crate::entity_change::{change_entity, reserve_change};
 use crate::making::{make, make_all};
 use crate::notes::Notes;
 use crate::state::State;
 use crate::tally::Tally;
-use gw_entities::Parameters;
 use gw_meaning::{
     Arrival, Change, Destination, Event, Fate, Move, Row, StatementId, Transaction,
     TransactionChange,
@@ -101,7 +100,7 @@ impl State {
             )?,
             _ => (),
         }
-        self.assign(change)?;
+        assign(&mut self.parameters, &self.active, change)?;
         if let Some(x) = self.active.take() {
             let number = x.number;
             self.counts.cross(x.current, id, &fate);
@@ -135,18 +134,6 @@ impl State {
             }
         }
         Ok(())
-    }
-
-    // Sets the parameter of the active transaction that a change sets: the last that may be refused memory.
-    #[inline(always)]
-    fn assign(&mut self, change: &Change) -> Result<(), AllocError>
-        ensures ok { OnOk result (self.new ≡ with_held change.now self.old) }
-        ensures err { OnErr result (self.new ≡ self.old) }
-    {
-        match (change, &self.active) {
-            (Change::Transaction(change), Some(x)) => set(&mut self.parameters, change, x.number),
-            _ => Ok(()),
-        }
     }
 
     #[inline(never)]
@@ -206,22 +193,6 @@ fn change_transaction(change: &TransactionChange, clock: Clock, x: Transaction) 
             ..x
         },
         TransactionChange::Assign { .. } => x,
-    }
-}
-
-// What it sets of the transaction's parameters.
-fn set(
-    parameters: &mut Parameters,
-    change: &TransactionChange,
-    number: u64,
-) -> Result<(), AllocError>
-    ensures ok { OnOk result (parameters.new ≡ own_held change.now number parameters.old) }
-    ensures err { OnErr result (parameters.new ≡ parameters.old) }
-{
-    match change {
-        TransactionChange::Assign { key, to } => parameters.assign(number, key, *to),
-        TransactionChange::Loop { key, left, .. } => parameters.assign(number, key, *left),
-        _ => Ok(()),
     }
 }
 

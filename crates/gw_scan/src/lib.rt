@@ -5,6 +5,7 @@
 #![tactic(auto)]
 
 mod arrival;
+mod assigning;
 mod attributes;
 mod case;
 mod chain;

@@ -12,9 +12,7 @@ use crate::notes::Notes;
 use crate::state::State;
 use gw_expr::{Expr, Node, Operator, Stop};
 use gw_meaning::operands::{A, B};
-use gw_meaning::{
-    Asker, Block, Change, End, Fate, Move, Sign, StatementId, TransactionChange,
-};
+use gw_meaning::{Asker, Block, Change, End, Fate, Move, Sign, StatementId, TransactionChange};
 use gw_names::Key;
 use gw_nums::{ArithmeticFault, Val};
 
@@ -33,8 +31,8 @@ impl State {
             (assign_prog self.now asker.now id block.now.sign (operand block.now A) (operand block.now B))
             result notes.old notes.new }
     {
-        let key = self.entity(case, asker, notes, block.operand(A))?;
-        self.assign_at(case, asker, notes, id, block.sign, key, block.operand(B))
+        let parameter = self.entity(case, asker, notes, block.operand(A))?;
+        self.assign_at(case, asker, notes, id, block, parameter)
     }
 
     fn assign_at(
@@ -43,18 +41,17 @@ impl State {
         asker: &Asker,
         notes: &mut Notes,
         id: StatementId,
-        sign: Sign,
+        block: &Block,
         key: Key,
-        value: Option<&Expr>,
     ) -> Result<Move, Halt>
         ensures { Decides case.entry.version.now case.entry.seed
-            (value_there self.now asker.now (option_copied value.entry) ~>
-            (λ v. assign_with id sign key (parameter_at self.now.parameters asker.now.number key) v))
+            (value_there self.now asker.now (operand block.now B) ~>
+            (λ v. assign_with id block.now.sign key (parameter_at self.now.parameters asker.now.number key) v))
             result notes.old notes.new }
     {
-        let value = self.value_there(case, asker, notes, value)?;
+        let value = self.value_there(case, asker, notes, block.operand(B))?;
         let was = self.parameters.get(asker.number, &key);
-        assign_with(id, sign, key, was, value)
+        assign_with(id, block.sign, key, was, value)
     }
 
     // A parameter loses 1, and the transaction goes to a block while it is not 0.
