@@ -1,5 +1,5 @@
 -- The parameters that are kept, move by move and over a run: of each transaction once, and of the living alone.
-use Rattle.std.proofs.Common.{◌≡◌, ℕ, ℤ, suc, ◌+◌, ◌≤◌, ◌<◌, nat_eq, nat_lt, Bool, true, false, cond, not, List, [], ◌∷◌, length, get_or, ◌++◌, ◌⊎◌, Option, Some, None, Ok, refl, ap, sym, ◌∙◌, inl, inr, arith}
+use Rattle.std.proofs.Common.{◌≡◌, ℕ, ℤ, suc, ◌+◌, ◌≤◌, ◌<◌, nat_eq, nat_lt, Bool, true, false, cond, not, List, [], ◌∷◌, length, get_or, ◌++◌, ◌⊎◌, Option, Some, None, Ok, refl, ap, sym, subst, ◌∙◌, inl, inr, arith}
 use Rattle.std.specs.Prelude.{position, swap_remove}
 use Rattle.std.specs.List.{list_any, position_or_len, sum_by}
 use Rattle.std.specs.Option.{option_map_or}
@@ -79,7 +79,11 @@ first_passes n (h ∷ hs) d within =
       | inl is ↦ rw is is
       | inr other ↦
           let more : 1 + position_or_len (is_of n) hs < length (h ∷ hs) = rw other at within in
-          rw other (first_passes n hs d (omega arith))
+          let m = position_or_len (is_of n) hs in
+          let step : suc m ≡ 1 + m = omega arith in
+          let behind : is_of n (get_or (h ∷ hs) (1 + m) d) ≡ true =
+          subst (λ i. is_of n (get_or (h ∷ hs) i d) ≡ true) step (first_passes n hs d (omega arith)) in
+          rw other behind
     ]
 
 none_passes : (n : ℕ) (held : Held) → length held ≤ position_or_len (is_of n) held → times n held ≡ 0
