@@ -6,6 +6,8 @@ use Rattle.std.proofs.lemmas.Bool.{and_parts, eqb-true}
 use Rattle.std.proofs.lemmas.Bool.Decides.{Decides-int_eq}
 use Rattle.std.proofs.lemmas.Slice.Eq.{bytes_eq-Decides}
 use Rattle.gw_names.specs.contracts.verb.BlockVerb.{the_type}
+use Rattle.gw_meaning.specs.contracts.sign.Sign.{the_type as sign_type}
+use Rattle.gw_meaning.specs.declared.sign.Sign.{Sign}
 use Rattle.gw_names.specs.contracts.class.Class as classes
 use Rattle.gw_names.specs.declared.class.Class.{Class}
 use Rattle.gw_expr.specs.contracts.attribute.SubjectPartialEq.TheImpl as subject_comparison
@@ -23,7 +25,7 @@ use Rattle.gw_meaning.specs.declared.statement.Statement.{Statement}
 use Rattle.gw_meaning.specs.declared.statement.Block.{Block}
 use Rattle.gw_meaning.specs.declared.statement.Body.{Body}
 use Rattle.gw_meaning.specs.declared.statement.Body.TheVariants as bodies
-use Rattle.gw_edit.specs.Same.{same_atom, same_value, same_part, same_parts, kind_of, atom_of, parts_of, number_of, bytes_of, same_term, same_operand, same_operands, same_verb, same_block, same_body, same_statement, same_label}
+use Rattle.gw_edit.specs.Same.{same_atom, same_value, same_part, same_parts, kind_of, atom_of, parts_of, number_of, bytes_of, same_term, same_operand, same_operands, same_verb, same_sign, same_block, same_body, same_statement, same_label}
 
 -- the operand that is told so
 abbrev told : ℕ → Option Atom → List Token → ℕ → List ℕ → Term
@@ -143,11 +145,17 @@ verb_same : (v w : BlockVerb) → same_verb v w ≡ true → v ≡ w
 unfolding same_verb
 verb_same v w h = same_true the_type (search rules) v w h
 
+sign_same : (a b : Sign) → same_sign a b ≡ true → a ≡ b
+unfolding same_sign
+sign_same a b h = same_true sign_type (search rules) a b h
+
 block_same : (a b : Block) → same_block a b ≡ true → a ≡ b
 block_same a b h =
-    let w = and_parts (same_verb a.verb b.verb) (same_operands a.operands b.operands) h in
-    ap₂ (λ (v : BlockVerb) (os : List (Option Term)). record { verb = v; operands = os }) (verb_same a.verb b.verb w.0)
-    (operands_same a.operands b.operands w.1)
+    let w = and_parts (same_verb a.verb b.verb) (same_sign a.sign b.sign && same_operands a.operands b.operands) h in
+    let u = and_parts (same_sign a.sign b.sign) (same_operands a.operands b.operands) w.1 in
+    ap₂ (λ (v : BlockVerb) (os : List (Option Term)). record { verb = v; sign = a.sign; operands = os }) (verb_same a.verb b.verb w.0)
+    (operands_same a.operands b.operands u.1)
+    ∙ ap (λ (sign : Sign). record { verb = b.verb; sign = sign; operands = b.operands }) (sign_same a.sign b.sign u.0)
 
 body_same : (a b : Body) → same_body a b ≡ true → a ≡ b
 body_same (bodies.Block a) (bodies.Block b) h = ap (λ x. bodies.Block x) (block_same a b h)

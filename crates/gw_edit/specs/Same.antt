@@ -1,9 +1,10 @@
--- When a block is the block that it was: it has the same verb and the same operands, as they are listed and as they are
+-- When a block is the block that it was: it has the same verb, sign and operands, as they are listed and as they are
 -- read. Its label does not count. (Our own.)
 use Rattle.std.specs.Prelude.{ℕ, ◌==◌, Bool, true, false, ◌&&◌, List, [], ◌∷◌, Option, Some, None}
 use Rattle.std.specs.Str.{bytes_eq}
 use denote.Enum.Bare.{sameb}
 use Rattle.gw_names.specs.contracts.verb.BlockVerb.{the_type}
+use Rattle.gw_meaning.specs.contracts.sign.Sign.{the_type as sign_type}
 use Rattle.gw_expr.specs.contracts.atom.AtomPartialEq.TheImpl as atom_comparison
 use Rattle.gw_expr.specs.contracts.token.TokenPartialEq.TheImpl as token_comparison
 use Rattle.gw_expr.specs.declared.atom.Atom.{Atom}
@@ -11,6 +12,7 @@ use Rattle.gw_expr.specs.declared.token.Token.{Token}
 use Rattle.gw_names.specs.declared.verb.BlockVerb.{BlockVerb}
 use Rattle.gw_expr.specs.Term.{Term, Value, Computed, Named, Label, Fraction, Defined}
 use Rattle.gw_meaning.specs.declared.statement.Statement.{Statement}
+use Rattle.gw_meaning.specs.declared.sign.Sign.{Sign}
 use Rattle.gw_meaning.specs.declared.statement.Block.{Block}
 use Rattle.gw_meaning.specs.declared.statement.Body.{Body}
 use Rattle.gw_meaning.specs.declared.statement.Body.TheVariants as bodies
@@ -84,9 +86,15 @@ same_operands (a ∷ xs) (b ∷ ys) = same_operand a b && same_operands xs ys
 unfoldable pub same_verb : BlockVerb → BlockVerb → Bool
 same_verb = sameb the_type
 
+-- two signs
+unfoldable pub same_sign : Sign → Sign → Bool
+same_sign = sameb sign_type
+
 -- two blocks
 abbrev pub same_block : Block → Block → Bool
-same_block block block' = same_verb block.verb block'.verb && same_operands block.operands block'.operands
+same_block block block' =
+    same_verb block.verb block'.verb && (same_sign block.sign block'.sign
+    && same_operands block.operands block'.operands)
 
 -- two statements, both blocks
 abbrev pub same_body : Body → Body → Bool

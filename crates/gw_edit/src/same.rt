@@ -1,12 +1,12 @@
 ghost use Rattle.std.specs.Prelude.{◌≡◌, option_copied};
-ghost use Rattle.gw_edit.specs.Same.{same_term, same_operand, same_operands, same_verb, same_block, same_body, same_statement, same_label, same_atom, same_value, same_part, same_parts, kind_of, atom_of, parts_of, number_of, bytes_of};
+ghost use Rattle.gw_edit.specs.Same.{same_term, same_operand, same_operands, same_verb, same_sign, same_block, same_body, same_statement, same_label, same_atom, same_value, same_part, same_parts, kind_of, atom_of, parts_of, number_of, bytes_of};
 ghost use Rattle.gw_expr.specs.Term.{term_of};
 
 use gw_expr::{Atom, Expr, Node, Token};
-use gw_meaning::{Block, Body, Statement};
+use gw_meaning::{Block, Body, Sign, Statement};
 use gw_names::{BlockVerb, Name};
 
-/// Whether both are blocks with the same verb and operands. Labels do not count.
+/// Whether both are blocks with the same verb, sign and operands. Labels do not count.
 pub fn same_statement(old: &Statement, new: &Statement) -> bool
     ensures { result ≡ same_statement old.now new.now }
 {
@@ -25,12 +25,21 @@ fn same_body(old: &Body, new: &Body) -> bool
 fn same_block(old: &Block, new: &Block) -> bool
     ensures { result ≡ same_block old.now new.now }
 {
-    same_verb(old.verb, new.verb) && same_operands(old.operands.as_slice(), new.operands.as_slice())
+    same_verb(old.verb, new.verb)
+        && same_sign(old.sign, new.sign)
+        && same_operands(old.operands.as_slice(), new.operands.as_slice())
 }
 
 #[tactic(auto, unfolding(crate::specs::Same::same_verb))]
 fn same_verb(old: BlockVerb, new: BlockVerb) -> bool
     ensures { result ≡ same_verb old new }
+{
+    old == new
+}
+
+#[tactic(auto, unfolding(crate::specs::Same::same_sign))]
+fn same_sign(old: Sign, new: Sign) -> bool
+    ensures { result ≡ same_sign old new }
 {
     old == new
 }

@@ -1,5 +1,6 @@
 pub mod Comings
 pub mod Levels
+pub mod Parameters
 pub mod Places
 pub mod Records
 pub mod Tables

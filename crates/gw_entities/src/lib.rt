@@ -2,7 +2,7 @@
 //!
 //! A [`Level`] is a content over time: its sum is exact, tick by tick. [`Facility`], [`Queue`] and [`Storage`] count
 //! what a report tells of them; each takes any change. [`ByKey`] keeps a value for each entity, and [`Comings`] who
-//! came to which queue; all that they grow by is reserved first.
+//! came to which queue; all that they grow by is reserved first. [`Parameters`] keeps the parameters of transactions.
 #![tactic(auto)]
 
 mod by_key;
@@ -10,6 +10,7 @@ mod comings;
 mod facility;
 mod laws;
 mod level;
+mod parameters;
 mod queue;
 mod storage;
 
@@ -18,5 +19,6 @@ pub use comings::Comings;
 pub use facility::Facility;
 pub use laws::sum_is_over_ticks;
 pub use level::Level;
+pub use parameters::Parameters;
 pub use queue::Queue;
 pub use storage::Storage;

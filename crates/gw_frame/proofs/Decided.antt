@@ -1,6 +1,6 @@
 -- Each evaluation decides a move of which what is said in Known holds, and reads items that name no ids but those of
 -- blocks: one line for each choice, and no law asks further.
-use Rattle.std.proofs.Common.{◌≡◌, ℕ, zero, suc, ◌+◌, ◌≤◌, nat_eq, nat_le, nat_lt, Bool, true, false, cond, not, ◌&&◌, ◌||◌, List, [], ◌∷◌, length, Option, Some, None, is_some, inr, ℤ, ◌-◌, ◌++◌, append_assoc, refl, ap, sym, subst, ◌∙◌, append-nil, arith}
+use Rattle.std.proofs.Common.{◌≡◌, ℕ, zero, suc, ◌+◌, ◌≤◌, nat_eq, nat_le, nat_lt, Bool, true, false, cond, not, ◌&&◌, ◌||◌, List, [], ◌∷◌, length, Option, Some, None, is_some, inr, ℤ, pos, ◌-◌, ◌++◌, append_assoc, refl, ap, sym, subst, ◌∙◌, append-nil, arith}
 use Rattle.std.specs.List.{AllByRecursion}
 use Rattle.std.proofs.lemmas.Bool.{cond_both, or_parts}
 use Rattle.std.proofs.lemmas.Bool.Decides.{nat_tests}
@@ -30,6 +30,11 @@ use Rattle.gw_meaning.specs.Machine.{Machine, raised, live, delay_at}
 use Rattle.gw_meaning.specs.Questions.{ask, result_of}
 use Rattle.gw_meaning.specs.Evaluation.{Eval, asks, named, owned, millionths}
 use Rattle.gw_meaning.specs.Step.{for_none, for_one, arrival_at, arrival_in_time, arrival_prog, first_of_generate, first_of, first_arrival, with_arrival, prime_prog, arrivals_prog, first_arrivals_prog, start_prog, command_prog, generate_prog, delay_of, advance_prog, terminate_prog, is_too_many, queue_units, queue_prog, depart_units, depart_prog, seize_or_wait, seize_prog, first_number, is_owner, release_to, release_prog, go_to, lead_to, transfer_prog, priority_prog, block_prog, meet_prog, try_prog, attempt_prog, least_time, within_prog, clock_prog, pick_prog, scan_prog, move_prog, step_prog}
+use Rattle.gw_expr.specs.Arithmetic.{applied}
+use Rattle.gw_expr.specs.declared.token.Operator.TheVariants as operators
+use Rattle.gw_meaning.specs.declared.sign.Sign.{Sign}
+use Rattle.gw_entities.specs.Parameters.{parameter_at}
+use Rattle.gw_meaning.specs.Step.{by_sign, assign_with, assign_prog, left_of, loop_back, loop_to, loop_prog}
 use Rattle.gw_frame.specs.BlockIds.{IsBlockId, ActiveNames, TransactionNames}
 use Rattle.gw_frame.proofs.Generates.{IsBlockIn, generates_there}
 use Rattle.gw_frame.proofs.Labels.{label_there}
@@ -38,7 +43,7 @@ use Rattle.gw_frame.proofs.Keeps.{ProgKeeps, all_with, prog_gives, prog_ends, pr
 use Rattle.gw_names.specs.declared.key.Key.TheVariants as keys
 use Rattle.gw_meaning.specs.Entities.{store_at}
 use Rattle.gw_meaning.specs.Step.{beside, in_use, share_of, all_shares, enter_or_wait, enter_storage, enter_prog, shares_prog, leave_for, leave_units, leave_prog}
-use Rattle.gw_frame.proofs.DecidedValues.{Decides, IsNoStorage, draw_decides, value_decides, value_there_decides, value_or_zero_decides, entity_decides, units_decides, time_decides}
+use Rattle.gw_frame.proofs.DecidedValues.{Decides, Whatever, IsNoStorage, draw_decides, arithmetic_decides, value_decides, value_there_decides, value_or_zero_decides, entity_decides, units_decides, time_decides}
 use Rattle.gw_frame.proofs.Known.{IsComing, IsComingIfAny, AreFirst, within_limit, leaves, does_fit, shares_of, IsDecidedFate, IsRefused, IsDecided, IsRead, IsAfter}
 
 -- there are no more GENERATEs than statements
@@ -271,6 +276,38 @@ module _ (t : Listing) (seed : ℕ) (s : Machine) where
   priority_decides : (q : Asker) (id : ℕ) (priority : Option Term) → IsBlockId t id → Decides t seed s (IsDecided t s) (priority_prog s q id priority)
   priority_decides q id priority named = keeps_bind (value_there_decides t seed s q priority) (λ p h. keeps_gives (named, tt, tt))
 
+  -- ASSIGN and LOOP
+  assign_with_decides : (id : ℕ) (sign : Sign) (key : Key) (was : Option ℤ) (v : ℤ) → IsBlockId t id →
+      Decides t seed s (IsDecided t s) (assign_with id sign key was v)
+  assign_with_decides id sign key was v named =
+      keeps_bind (arithmetic_decides t seed s (by_sign sign was v)) (λ to h. keeps_gives (named, tt, tt))
+
+  assign_decides : (q : Asker) (id : ℕ) (sign : Sign) (parameter value : Option Term) → IsBlockId t id →
+      Decides t seed s (IsDecided t s) (assign_prog s q id sign parameter value)
+  assign_decides q id sign parameter value named = keeps_bind (entity_decides t seed s q parameter)
+      (λ key h. keeps_bind (value_there_decides t seed s q value)
+      (λ v k. assign_with_decides id sign key (parameter_at s.parameters q.number key) v named))
+
+  left_decides : (was : Option ℤ) → Decides t seed s (Whatever {A = ℤ}) (left_of was)
+  left_decides None = keeps_ends
+  left_decides (Some v) = arithmetic_decides t seed s (applied operators.Minus v (pos 1))
+
+  loop_back_decides : (id : ℕ) (key : Key) (left : ℤ) (name : List ℕ) (to : Option ℕ) → label_at t name ≡ to → IsBlockId t id →
+      Decides t seed s (IsDecided t s) (loop_back id key left to)
+  loop_back_decides id key left name None is named = keeps_ends
+  loop_back_decides id key left name (Some to) is named = keeps_gives (named, (λ numbered. inr (label_there t.lines name to numbered is)), tt)
+
+  loop_to_decides : (id : ℕ) (key : Key) (left : ℤ) (label : Option Term) → IsBlockId t id → Decides t seed s (IsDecided t s) (loop_to id key left label)
+  loop_to_decides id key left (Some (Label name)) named =
+      keeps_asks (items.Label name) refl (λ numbered there. tt) (loop_back_decides id key left name (label_at t name) refl named)
+  loop_to_decides id key left (Some term) named = keeps_ends
+  loop_to_decides id key left None named = keeps_ends
+
+  loop_decides : (q : Asker) (id : ℕ) (parameter label : Option Term) → IsBlockId t id → Decides t seed s (IsDecided t s) (loop_prog s q id parameter label)
+  loop_decides q id parameter label named = keeps_bind (entity_decides t seed s q parameter)
+      (λ key h. keeps_bind (left_decides (parameter_at s.parameters q.number key))
+      (λ left k. keeps_cond (nat_eq (magnitude left) 0) (keeps_gives (named, tt, tt)) (loop_to_decides id key left label named)))
+
   block_decides : (x : Transaction) (id : ℕ) (b : Block) (verb : BlockVerb) → IsBlockId t id → Decides t seed s (IsDecided t s) (block_prog s x id b verb)
   block_decides x id b blocks.Generate named = generate_decides x id (operand b A) (operand b B) (operand b D) (operand b E) named
   block_decides x id b blocks.Advance named = advance_decides (for_one s x) id (operand b A) (operand b B) named
@@ -285,6 +322,8 @@ module _ (t : Listing) (seed : ℕ) (s : Machine) where
   block_decides x id b blocks.Mark named = keeps_gives (named, tt, tt)
   block_decides x id b blocks.Priority named = priority_decides (for_one s x) id (operand b A) named
   block_decides x id b blocks.Buffer named = keeps_gives (named, tt, tt)
+  block_decides x id b blocks.Assign named = assign_decides (for_one s x) id b.sign (operand b A) (operand b B) named
+  block_decides x id b blocks.Loop named = loop_decides (for_one s x) id (operand b A) (operand b B) named
   block_decides x id b verb named = keeps_ends
 
   -- attempts: an id that is no block ends the run

@@ -23,8 +23,9 @@ use Rattle.gw_meaning.specs.declared.item.Item.TheVariants as items
 use Rattle.gw_meaning.specs.Listing.{Listing, label_at}
 use Rattle.gw_names.specs.declared.key.Key.{Key}
 use Rattle.gw_meaning.specs.Entities.{facility_at, line_at}
+use Rattle.gw_entities.specs.Parameters.{parameter_at}
 use Rattle.gw_meaning.specs.Machine.{Machine, count_at}
-use Rattle.gw_meaning.specs.Evaluation.{Eval, number_of_draw, draw, amount, numbered, named, subject_prog, storage_prog, counted, block_count, random_prog, own_value, entity_value, storage_value, block_value, owned, attribute_prog, number_given, atom_prog, arithmetic, token_prog, tokens_prog, last_value, value_prog, value_there, value_or_zero, entity_prog, units_prog, in_range, spread, sample_within, time_prog}
+use Rattle.gw_meaning.specs.Evaluation.{Eval, number_of_draw, draw, amount, numbered, named, subject_prog, storage_prog, counted, block_count, random_prog, own_value, value_held, parameter_value, entity_value, storage_value, block_value, owned, attribute_prog, number_given, atom_prog, arithmetic, token_prog, tokens_prog, last_value, value_prog, value_there, value_or_zero, entity_prog, units_prog, in_range, spread, sample_within, time_prog}
 use Rattle.gw_frame.proofs.Seeds.{uses_seed, one_drew}
 use Rattle.gw_frame.proofs.Keeps.{ProgKeeps, Keeps, prog_gives, prog_bind, keeps_gives, keeps_ends, keeps_asks, keeps_cond, keeps_stops, keeps_unless, keeps_bind}
 use Rattle.gw_names.specs.declared.key.Key.TheVariants as keys
@@ -111,6 +112,13 @@ module _ (t : Listing) (seed : ℕ) (s : Machine) where
   own_decides q class.Pr = keeps_stops (not q.is_transaction) _ (keeps_gives tt)
   own_decides q class = keeps_ends
 
+  value_held_decides : (o : Option ℤ) → Decides Whatever (value_held o)
+  value_held_decides None = keeps_ends
+  value_held_decides (Some v) = keeps_gives tt
+
+  parameter_value_decides : (q : Asker) (key : Key) → Decides Whatever (parameter_value s q key)
+  parameter_value_decides q key = keeps_stops (not q.is_transaction) _ (value_held_decides (parameter_at s.parameters q.number key))
+
   entity_value_decides : (class : Class) (key : Key) → Decides Whatever (entity_value s class key)
   entity_value_decides class.F key = amount_decides (owned (facility_at s.entities key).owner)
   entity_value_decides class.Fc key = amount_decides (facility_at s.entities key).captures
@@ -139,6 +147,7 @@ module _ (t : Listing) (seed : ℕ) (s : Machine) where
   attribute_decides q class.M1 of = own_decides q class.M1
   attribute_decides q class.Xn1 of = own_decides q class.Xn1
   attribute_decides q class.Pr of = own_decides q class.Pr
+  attribute_decides q class.P of = keeps_bind (subject_decides of) (λ key h. parameter_value_decides q key)
   attribute_decides q class.F of = keeps_bind (subject_decides of) (λ key h. entity_value_decides class.F key)
   attribute_decides q class.Fc of = keeps_bind (subject_decides of) (λ key h. entity_value_decides class.Fc key)
   attribute_decides q class.Q of = keeps_bind (subject_decides of) (λ key h. entity_value_decides class.Q key)
@@ -164,7 +173,7 @@ module _ (t : Listing) (seed : ℕ) (s : Machine) where
   atom_decides q (atoms.Number name) = keeps_asks (items.Name name) refl (λ numbered named. tt) (number_given_decides (number_at t name))
   atom_decides q (atoms.Attribute class of) = attribute_decides q class of
 
-  arithmetic_decides : (r : Result ℤ ArithmeticFault) → Decides Whatever (arithmetic r)
+  pub arithmetic_decides : (r : Result ℤ ArithmeticFault) → Decides Whatever (arithmetic r)
   arithmetic_decides (Ok z) = keeps_gives tt
   arithmetic_decides (Err arithmetic_faults.Range) = keeps_ends
   arithmetic_decides (Err arithmetic_faults.ZeroDivisor) = keeps_ends

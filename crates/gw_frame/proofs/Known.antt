@@ -101,6 +101,7 @@ IsDecidedDeed t s key (deeds.Leave units shares) = GoesOut t s key units shares
 
 abbrev pub IsDecidedOwn : Listing → TransactionChange → Type 0
 IsDecidedOwn t (own.Transfer to) = AreNumbered t.lines → IsBlockId t to
+IsDecidedOwn t (own.Loop key left to) = AreNumbered t.lines → IsBlockId t to
 IsDecidedOwn t change = Unit {0}
 
 abbrev pub IsDecidedChange : Listing → Machine → Change → Type 0

@@ -4,6 +4,7 @@ use Rattle.std.proofs.lemmas.List.{map-append}
 use Rattle.gw_meaning.specs.declared.transaction.Transaction.{Transaction}
 use Rattle.gw_names.specs.declared.key.Key.{Key}
 use Rattle.gw_entities.specs.Tables.{with_value}
+use Rattle.gw_entities.specs.Parameters.{Held}
 use Rattle.gw_meaning.specs.declared.entity_change.Deed.{Deed}
 use Rattle.gw_meaning.specs.declared.entity_change.Deed.TheVariants as deeds
 use Rattle.gw_meaning.specs.declared.moves.Arrival.{Arrival}
@@ -18,7 +19,7 @@ use Rattle.gw_meaning.specs.declared.moves.Move.{Move}
 use Rattle.gw_meaning.specs.declared.moves.Move.TheVariants as moves
 use Rattle.gw_meaning.specs.Entities.{Entities, touched}
 use Rattle.gw_meaning.specs.Machine.{Machine, raised, delay_at}
-use Rattle.gw_meaning.specs.Changes.{crossed, due, Making, making, made, maybe_made, all_made, making_of, with_making, newcomer, placed, started, arrived, lined_up, own_marked, marked, fated, let_in, one_let_in, some_let_in, admitted, changed, entering, bound, refused, picked, advanced, with_active, moved, decided}
+use Rattle.gw_meaning.specs.Changes.{crossed, due, Making, making, made, maybe_made, all_made, making_of, with_making, newcomer, placed, started, arrived, lined_up, own_marked, marked, own_held, held_by, fated, let_in, one_let_in, some_let_in, admitted, changed, entering, bound, refused, picked, advanced, with_active, moved, decided}
 use Rattle.gw_frame.specs.Moved.{IsMove, moved_transaction, moved_event, moved_count, moved_machine}
 use Rattle.gw_frame.proofs.MovedLists.{made_one_moved, crossed_moved, lined_up_moved, all_lined_up_moved, due_moved, later_moved}
 use Rattle.gw_frame.proofs.Delays.{delay_at_moved, with_delay_moved}
@@ -30,6 +31,7 @@ module _ (move : ℕ → ℕ) where
 
   abbrev pub moved_own : TransactionChange → TransactionChange
   moved_own (own.Transfer to) = own.Transfer (move to)
+  moved_own (own.Loop key left to) = own.Loop key left (move to)
   moved_own change = change
 
   abbrev pub moved_change : Change → Change
@@ -82,12 +84,26 @@ module _ (move : ℕ → ℕ) (is : IsMove move) where
   own_moved own.Mark clock x = refl
   own_moved (own.Priority to) clock x = refl
   own_moved (own.Transfer to) clock x = refl
+  own_moved (own.Assign key to) clock x = refl
+  own_moved (own.Loop key left to) clock x = refl
 
   marked_moved : (change : Change) (clock : ℕ) (x : Transaction) →
       marked (moved_change move change) clock (moved_transaction move x) ≡ moved_transaction move (marked change clock x)
   marked_moved (changes.Generate next) clock x = refl
   marked_moved (changes.Transaction change) clock x = own_moved change clock x
   marked_moved change clock x = refl
+
+  own_held_moved : (change : TransactionChange) (number : ℕ) (held : Held) → own_held (moved_own move change) number held ≡ own_held change number held
+  own_held_moved own.Mark number held = refl
+  own_held_moved (own.Priority to) number held = refl
+  own_held_moved (own.Transfer to) number held = refl
+  own_held_moved (own.Assign key to) number held = refl
+  own_held_moved (own.Loop key left to) number held = refl
+
+  held_moved : (change : Change) (number : ℕ) (held : Held) → held_by (moved_change move change) number held ≡ held_by change number held
+  held_moved (changes.Generate next) number held = refl
+  held_moved (changes.Transaction change) number held = own_held_moved change number held
+  held_moved change number held = refl
 
   fated_moved : (fate : Fate) (x : Transaction) (s : Machine) →
       fated fate (moved_transaction move x) (moved_machine move s) ≡ moved_machine move (fated fate x s)
@@ -143,11 +159,16 @@ module _ (move : ℕ → ℕ) (is : IsMove move) where
       entering (moved_machine move s) (moved_transaction move x) (move id) (moved_change move change) fate ≡
       moved_machine move (entering s x id change fate)
   entering_moved s x id change fate =
-      let there : Machine = record s { counts = crossed fate s.counts x.current id; entities = touched change s.clock x.number s.entities } in
+      let there : Machine = record s {
+        counts = crossed fate s.counts x.current id;
+        entities = touched change s.clock x.number s.entities;
+        parameters = held_by change x.number s.parameters;
+      } in
       let y = marked change s.clock (placed x id) in
       rw (
         crossed_moved move is fate s.counts x.current id,
         touched_moved change s.clock x.number s.entities,
+        held_moved change x.number s.parameters,
         marked_moved change s.clock (placed x id),
         fated_moved fate y there,
       )

@@ -1,5 +1,5 @@
 -- The step from a moved state follows the step from the state: one line for each choice.
-use Rattle.std.proofs.Common.{◌≡◌, ℕ, zero, suc, nat_eq, nat_le, nat_lt, ◌+◌, Bool, true, false, cond, not, ◌&&◌, ◌||◌, List, [], ◌∷◌, ◌++◌, ◌-◌, map, Option, Some, None, is_some, option_map, ℤ, refl, ap, sym, ◌∙◌}
+use Rattle.std.proofs.Common.{◌≡◌, ℕ, zero, suc, nat_eq, nat_le, nat_lt, ◌+◌, Bool, true, false, cond, not, ◌&&◌, ◌||◌, List, [], ◌∷◌, ◌++◌, ◌-◌, map, Option, Some, None, is_some, option_map, ℤ, pos, refl, ap, sym, ◌∙◌}
 use Rattle.std.proofs.lemmas.List.{map-append, length-map}
 use Rattle.gw_nums.specs.Range.{is_negative, magnitude}
 use Rattle.gw_expr.specs.Term.{Term, Label, Fraction, Defined}
@@ -22,9 +22,14 @@ use Rattle.gw_meaning.specs.Entities.{facility_at, line_at, store_at}
 use Rattle.gw_meaning.specs.Machine.{Machine, raised, live, number_of_active, count_at, delay_at, waiting}
 use Rattle.gw_meaning.specs.Evaluation.{millionths}
 use Rattle.gw_meaning.specs.Step.{for_none, for_one, arrival_at, arrival_in_time, arrival_within, arrival_prog, first_of_generate, first_of, first_arrival, with_arrival, arrivals_prog, first_arrivals_prog, start_prog, command_prog, generate_prog, advance_prog, terminate_prog, is_too_many, queue_units, queue_prog, depart_units, depart_prog, seize_or_wait, seize_prog, first_number, is_owner, release_to, release_prog, beside, in_use, share_of, all_shares, enter_or_wait, enter_storage, enter_prog, shares_prog, leave_for, leave_units, leave_prog, go_to, lead_to, transfer_prog, priority_prog, block_prog, meet_prog, try_prog, attempt_prog, sooner, least_time, within_prog, clock_prog, pick_prog, scan_prog, move_prog, step_prog, run_prog}
+use Rattle.gw_expr.specs.Arithmetic.{applied}
+use Rattle.gw_expr.specs.declared.token.Operator.TheVariants as operators
+use Rattle.gw_meaning.specs.declared.sign.Sign.{Sign}
+use Rattle.gw_entities.specs.Parameters.{parameter_at}
+use Rattle.gw_meaning.specs.Step.{by_sign, assign_with, assign_prog, left_of, loop_back, loop_to, loop_prog}
 use Rattle.gw_frame.specs.Moved.{IsMove, moved_transaction, moved_event, moved_machine}
 use Rattle.gw_frame.proofs.Follows.{ProgFollows, prog_gives, prog_bind, Follows, follows_gives, follows_ends, follows_asks, follows_cond, follows_stops, follows_bind}
-use Rattle.gw_frame.proofs.MovedValues.{same, draw_follows, value_follows, value_there_follows, value_or_zero_follows, entity_follows, units_follows, time_follows}
+use Rattle.gw_frame.proofs.MovedValues.{same, draw_follows, arithmetic_follows, value_follows, value_there_follows, value_or_zero_follows, entity_follows, units_follows, time_follows}
 use Rattle.gw_frame.proofs.MovedLists.{count_at_moved, none_moved}
 use Rattle.gw_frame.proofs.Delays.{delay_at_moved, waiting_moved}
 use Rattle.gw_frame.proofs.MovedChanges.{moved_arrival, moved_move, decided_moved}
@@ -250,6 +255,38 @@ module _ (move : ℕ → ℕ) (is : IsMove move) where
       Follows move (moved_move move) (priority_prog s q id priority) (priority_prog (moved_machine move s) q (move id) priority)
   priority_follows s q id priority = follows_bind _ (value_there_follows move is s q priority) (λ p. follows_gives refl)
 
+  -- ASSIGN and LOOP
+  assign_with_follows : (id : ℕ) (sign : Sign) (key : Key) (was : Option ℤ) (v : ℤ) →
+      Follows move (moved_move move) (assign_with id sign key was v) (assign_with (move id) sign key was v)
+  assign_with_follows id sign key was v = follows_bind _ (arithmetic_follows move is (by_sign sign was v)) (λ to. follows_gives refl)
+
+  assign_follows : (s : Machine) (q : Asker) (id : ℕ) (sign : Sign) (parameter value : Option Term) →
+      Follows move (moved_move move) (assign_prog s q id sign parameter value) (assign_prog (moved_machine move s) q (move id) sign parameter value)
+  assign_follows s q id sign parameter value = follows_bind _ (entity_follows move is s q parameter)
+      (λ key. follows_bind _ (value_there_follows move is s q value)
+      (λ v. assign_with_follows id sign key (parameter_at s.parameters q.number key) v))
+
+  left_follows : (was : Option ℤ) → Follows move same (left_of was) (left_of was)
+  left_follows None = follows_ends
+  left_follows (Some v) = arithmetic_follows move is (applied operators.Minus v (pos 1))
+
+  loop_back_follows : (id : ℕ) (key : Key) (left : ℤ) (to : Option ℕ) →
+      Follows move (moved_move move) (loop_back id key left to) (loop_back (move id) key left (option_map move to))
+  loop_back_follows id key left None = follows_ends
+  loop_back_follows id key left (Some to) = follows_gives refl
+
+  loop_to_follows : (id : ℕ) (key : Key) (left : ℤ) (label : Option Term) →
+      Follows move (moved_move move) (loop_to id key left label) (loop_to (move id) key left label)
+  loop_to_follows id key left (Some (Label name)) = follows_asks (items.Label name) (loop_back_follows id key left)
+  loop_to_follows id key left (Some term) = follows_ends
+  loop_to_follows id key left None = follows_ends
+
+  loop_follows : (s : Machine) (q : Asker) (id : ℕ) (parameter label : Option Term) →
+      Follows move (moved_move move) (loop_prog s q id parameter label) (loop_prog (moved_machine move s) q (move id) parameter label)
+  loop_follows s q id parameter label = follows_bind _ (entity_follows move is s q parameter)
+      (λ key. follows_bind _ (left_follows (parameter_at s.parameters q.number key))
+      (λ left. follows_cond (nat_eq (magnitude left) 0) (follows_gives refl) (loop_to_follows id key left label)))
+
   block_follows : (s : Machine) (x : Transaction) (id : ℕ) (b : Block) (verb : BlockVerb) →
       Follows move (moved_move move) (block_prog s x id b verb) (block_prog (moved_machine move s) (moved_transaction move x) (move id) b verb)
   block_follows s x id b blocks.Generate = generate_follows s x id (operand b A) (operand b B) (operand b D) (operand b E)
@@ -265,6 +302,8 @@ module _ (move : ℕ → ℕ) (is : IsMove move) where
   block_follows s x id b blocks.Mark = follows_gives refl
   block_follows s x id b blocks.Priority = priority_follows s (for_one s x) id (operand b A)
   block_follows s x id b blocks.Buffer = follows_gives refl
+  block_follows s x id b blocks.Assign = assign_follows s (for_one s x) id b.sign (operand b A) (operand b B)
+  block_follows s x id b blocks.Loop = loop_follows s (for_one s x) id (operand b A) (operand b B)
   block_follows s x id b verb = follows_ends
 
   meet_follows : (s : Machine) (x : Transaction) (id : ℕ) (block : Option Block) →

@@ -21,8 +21,9 @@ use Rattle.gw_meaning.specs.declared.item.Item.TheVariants as items
 use Rattle.gw_names.specs.declared.key.Key.{Key}
 use Rattle.gw_names.specs.declared.key.Key.TheVariants as keys
 use Rattle.gw_meaning.specs.Entities.{facility_at, line_at, store_at}
+use Rattle.gw_entities.specs.Parameters.{parameter_at}
 use Rattle.gw_meaning.specs.Machine.{Machine, count_at}
-use Rattle.gw_meaning.specs.Evaluation.{Eval, number_of_draw, draw, amount, numbered, named, subject_prog, storage_prog, counted, block_count, random_prog, own_value, entity_value, storage_value, block_value, owned, attribute_prog, number_given, atom_prog, arithmetic, token_prog, tokens_prog, last_value, value_prog, value_there, value_or_zero, entity_prog, units_prog, in_range, spread, sample_within, time_prog}
+use Rattle.gw_meaning.specs.Evaluation.{Eval, number_of_draw, draw, amount, numbered, named, subject_prog, storage_prog, counted, block_count, random_prog, own_value, value_held, parameter_value, entity_value, storage_value, block_value, owned, attribute_prog, number_given, atom_prog, arithmetic, token_prog, tokens_prog, last_value, value_prog, value_there, value_or_zero, entity_prog, units_prog, in_range, spread, sample_within, time_prog}
 use Rattle.gw_frame.specs.Moved.{IsMove, moved_machine}
 use Rattle.gw_frame.proofs.Follows.{ProgFollows, prog_gives, prog_asks, prog_bind, Follows, follows_gives, follows_ends, follows_asks, follows_cond, follows_stops, follows_bind}
 use Rattle.gw_frame.proofs.MovedLists.{count_at_moved}
@@ -90,6 +91,14 @@ module _ (move : ℕ → ℕ) (is : IsMove move) where
   own_follows s q class.Pr = follows_stops (not q.is_transaction) _ (follows_gives refl)
   own_follows s q class = follows_ends
 
+  value_held_follows : (o : Option ℤ) → Follows move same (value_held o) (value_held o)
+  value_held_follows None = follows_ends
+  value_held_follows (Some v) = follows_gives refl
+
+  parameter_value_follows : (s : Machine) (q : Asker) (key : Key) →
+      Follows move same (parameter_value s q key) (parameter_value (moved_machine move s) q key)
+  parameter_value_follows s q key = follows_stops (not q.is_transaction) _ (value_held_follows (parameter_at s.parameters q.number key))
+
   entity_value_follows : (s : Machine) (class : Class) (key : Key) →
       Follows move same (entity_value s class key) (entity_value (moved_machine move s) class key)
   entity_value_follows s class.F key = amount_follows (owned (facility_at s.entities key).owner)
@@ -122,6 +131,7 @@ module _ (move : ℕ → ℕ) (is : IsMove move) where
   attribute_follows s q class.M1 of = own_follows s q class.M1
   attribute_follows s q class.Xn1 of = own_follows s q class.Xn1
   attribute_follows s q class.Pr of = own_follows s q class.Pr
+  attribute_follows s q class.P of = follows_bind _ (subject_follows of) (parameter_value_follows s q)
   attribute_follows s q class.F of = follows_bind _ (subject_follows of) (entity_value_follows s class.F)
   attribute_follows s q class.Fc of = follows_bind _ (subject_follows of) (entity_value_follows s class.Fc)
   attribute_follows s q class.Q of = follows_bind _ (subject_follows of) (entity_value_follows s class.Q)
@@ -147,7 +157,7 @@ module _ (move : ℕ → ℕ) (is : IsMove move) where
   atom_follows s q (atoms.Number name) = follows_asks (items.Name name) number_given_follows
   atom_follows s q (atoms.Attribute class of) = attribute_follows s q class of
 
-  arithmetic_follows : (r : Result ℤ ArithmeticFault) → Follows move same (arithmetic r) (arithmetic r)
+  pub arithmetic_follows : (r : Result ℤ ArithmeticFault) → Follows move same (arithmetic r) (arithmetic r)
   arithmetic_follows (Ok z) = follows_gives refl
   arithmetic_follows (Err arithmetic_faults.Range) = follows_ends
   arithmetic_follows (Err arithmetic_faults.ZeroDivisor) = follows_ends

@@ -17,7 +17,7 @@ use Rattle.gw_meaning.specs.declared.moves.Move.TheVariants as moves
 use Rattle.gw_meaning.specs.Listing.{Listing}
 use Rattle.gw_meaning.specs.Entities.{touched}
 use Rattle.gw_meaning.specs.Machine.{Machine, delay_at}
-use Rattle.gw_meaning.specs.Changes.{lined_up, crossed, made, making_of, with_making, placed, own_marked, marked, fated, let_in, one_let_in, some_let_in, admitted, changed, entering, with_active, picked, moved}
+use Rattle.gw_meaning.specs.Changes.{lined_up, crossed, made, making_of, with_making, placed, own_marked, marked, held_by, fated, let_in, one_let_in, some_let_in, admitted, changed, entering, with_active, picked, moved}
 use Rattle.gw_frame.proofs.Known.{IsComing, IsDecidedChange}
 use Rattle.gw_frame.proofs.Delays.{delay_set}
 
@@ -27,6 +27,7 @@ settled s x id change fate =
     fated fate (marked change s.clock (placed x id)) (record s {
       counts = crossed fate s.counts x.current id;
       entities = touched change s.clock x.number s.entities;
+      parameters = held_by change x.number s.parameters;
     })
 
 -- what a mark and a fate leave alone
@@ -35,6 +36,8 @@ own_same : (change : TransactionChange) (clock : ℕ) (x : Transaction) →
 own_same own.Mark clock x = (refl, refl)
 own_same (own.Priority to) clock x = (refl, refl)
 own_same (own.Transfer to) clock x = (refl, refl)
+own_same (own.Assign key to) clock x = (refl, refl)
+own_same (own.Loop key left to) clock x = (refl, refl)
 
 pub marked_same : (change : Change) (clock : ℕ) (x : Transaction) →
     ((marked change clock x).number ≡ x.number) × ((marked change clock x).current ≡ x.current)

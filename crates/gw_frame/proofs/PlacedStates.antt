@@ -100,6 +100,8 @@ module _ (t : Listing) where
   own_names x id clock own.Mark numbered coming named = record { current = named; destination = tt }
   own_names x id clock (own.Priority to) numbered coming named = record { current = named; destination = tt }
   own_names x id clock (own.Transfer to) numbered coming named = record { current = named; destination = coming numbered }
+  own_names x id clock (own.Assign key to) numbered coming named = record { current = named; destination = tt }
+  own_names x id clock (own.Loop key left to) numbered coming named = record { current = named; destination = coming numbered }
 
   marked_names : (s : Machine) (x : Transaction) (id : ℕ) (change : Change) → AreNumbered t.lines → IsDecidedChange t s change → IsBlockId t id →
       TransactionNames t (marked change s.clock (placed x id))

@@ -13,6 +13,7 @@ pub mod StayLaws
 pub mod OwnerLaws
 pub mod TurnLaws
 pub mod LossLaws
+pub mod ParameterLaws
 pub mod PlaceLaws
 pub mod FacilityLaws
 pub mod QueueLaws

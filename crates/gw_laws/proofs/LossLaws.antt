@@ -19,7 +19,7 @@ use Rattle.gw_laws.proofs.NumberLaws.{has_number, lets_same, not_alive, alive}
 
 module _ (k : ℕ) where
   -- a transaction with this number lives, or was the active one before
-  abbrev Lives : Machine → Type 0
+  abbrev pub Lives : Machine → Type 0
   Lives s = 1 ≤ crowd (has_number k) s
 
   abbrev WasActive : Machine → Type 0
@@ -28,10 +28,10 @@ module _ (k : ℕ) where
   abbrev LivesOn : Machine → Machine → Type 0
   LivesOn s v = Lives v ⊎ WasActive s
 
-  made_lives : (a : Arrival) (w : Making) (s : Machine) → Lives (with_making w s) → Lives (with_making (made a w) s)
+  pub made_lives : (a : Arrival) (w : Making) (s : Machine) → Lives (with_making w s) → Lives (with_making (made a w) s)
   made_lives a w s h = let push = future_push (has_number k) w.future (newcomer w.next a) in omega (arith, h, push)
 
-  all_made_lives : (arrivals : List Arrival) (w : Making) (s : Machine) → Lives (with_making w s) → Lives (with_making (all_made arrivals w) s)
+  pub all_made_lives : (arrivals : List Arrival) (w : Making) (s : Machine) → Lives (with_making w s) → Lives (with_making (all_made arrivals w) s)
   all_made_lives [] w s h = h
   all_made_lives (a ∷ rest) w s h = all_made_lives rest (made a w) s (made_lives a w s h)
 
@@ -71,7 +71,7 @@ module _ (k : ℕ) where
             absurd (let no = alive k (living s) (many_living (has_number k) s ∙ omega arith) in false≢true (sym no ∙ is))
       ]
 
-  lives_here : (s : Machine) → Lives s → lives s k ≡ true
+  pub lives_here : (s : Machine) → Lives s → lives s k ≡ true
   lives_here s h =
       elim (cases_Bool (lives s k)) [
         | inl is ↦ is

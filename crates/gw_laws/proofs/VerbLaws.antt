@@ -5,6 +5,7 @@ use Rattle.gw_names.specs.declared.key.Key.TheVariants as keys
 use Rattle.gw_expr.specs.Term.{Term, Value, Named, Defined}
 use Rattle.gw_expr.specs.declared.atom.Atom.TheVariants as atoms
 use Rattle.gw_entities.specs.Records.{never_owned, seized, queued, no_line, never_used, entered}
+use Rattle.gw_meaning.specs.declared.sign.Sign.TheVariants as signs
 use Rattle.gw_meaning.specs.declared.statement.Definition.TheVariants as definitions
 use Rattle.gw_meaning.specs.declared.statement.Body.TheVariants as bodies
 use Rattle.gw_meaning.specs.declared.transaction.Transaction.{Transaction}
@@ -57,11 +58,15 @@ in_use = record zero_state {
       record { facilities = []; queues = []; storages = (keys.Defined [], entered 1 0 never_used) ∷ []; comings = [] };
 }
 
+-- a state in which the transaction has a parameter
+abbrev counting : Machine
+counting = record zero_state { parameters = (1, (keys.Named [], pos 1) ∷ []) ∷ [] }
+
 pub each_verb_is_evaluated : EachVerbIsEvaluated
 unfolding value_prog atom_prog
 each_verb_is_evaluated blocks.Generate given forms is = record {
   version = version;
-  block = record { verb = blocks.Generate; operands = [] };
+  block = record { verb = blocks.Generate; sign = signs.Absent; operands = [] };
   state = zero_state;
   transaction = first;
   change = (changes.Generate (Some (record { id = 1; time = 0; priority = pos 0 })));
@@ -71,7 +76,7 @@ each_verb_is_evaluated blocks.Generate given forms is = record {
 }
 each_verb_is_evaluated blocks.Advance given forms is = record {
   version = version;
-  block = record { verb = blocks.Advance; operands = [] };
+  block = record { verb = blocks.Advance; sign = signs.Absent; operands = [] };
   state = zero_state;
   transaction = first;
   change = changes.Nothing;
@@ -81,7 +86,7 @@ each_verb_is_evaluated blocks.Advance given forms is = record {
 }
 each_verb_is_evaluated blocks.Terminate given forms is = record {
   version = version;
-  block = record { verb = blocks.Terminate; operands = [] };
+  block = record { verb = blocks.Terminate; sign = signs.Absent; operands = [] };
   state = zero_state;
   transaction = first;
   change = changes.Nothing;
@@ -91,7 +96,7 @@ each_verb_is_evaluated blocks.Terminate given forms is = record {
 }
 each_verb_is_evaluated blocks.Queue given forms is = record {
   version = version;
-  block = record { verb = blocks.Queue; operands = line ∷ [] };
+  block = record { verb = blocks.Queue; sign = signs.Absent; operands = line ∷ [] };
   state = zero_state;
   transaction = first;
   change = (changes.Entity (keys.Named [], deeds.Queue 1));
@@ -101,7 +106,7 @@ each_verb_is_evaluated blocks.Queue given forms is = record {
 }
 each_verb_is_evaluated blocks.Depart given forms is = record {
   version = version;
-  block = record { verb = blocks.Depart; operands = line ∷ [] };
+  block = record { verb = blocks.Depart; sign = signs.Absent; operands = line ∷ [] };
   state = one_there;
   transaction = first;
   change = (changes.Entity (keys.Named [], deeds.Depart 1 false));
@@ -111,7 +116,7 @@ each_verb_is_evaluated blocks.Depart given forms is = record {
 }
 each_verb_is_evaluated blocks.Seize given forms is = record {
   version = version;
-  block = record { verb = blocks.Seize; operands = line ∷ [] };
+  block = record { verb = blocks.Seize; sign = signs.Absent; operands = line ∷ [] };
   state = zero_state;
   transaction = first;
   change = (changes.Entity (keys.Named [], deeds.Seize));
@@ -121,7 +126,7 @@ each_verb_is_evaluated blocks.Seize given forms is = record {
 }
 each_verb_is_evaluated blocks.Release given forms is = record {
   version = version;
-  block = record { verb = blocks.Release; operands = line ∷ [] };
+  block = record { verb = blocks.Release; sign = signs.Absent; operands = line ∷ [] };
   state = owned;
   transaction = first;
   change = (changes.Entity (keys.Named [], deeds.Release None));
@@ -131,7 +136,7 @@ each_verb_is_evaluated blocks.Release given forms is = record {
 }
 each_verb_is_evaluated blocks.Enter given forms is = record {
   version = version;
-  block = record { verb = blocks.Enter; operands = pool ∷ [] };
+  block = record { verb = blocks.Enter; sign = signs.Absent; operands = pool ∷ [] };
   state = zero_state;
   transaction = first;
   change = (changes.Entity (keys.Defined [], deeds.Enter 1));
@@ -141,7 +146,7 @@ each_verb_is_evaluated blocks.Enter given forms is = record {
 }
 each_verb_is_evaluated blocks.Leave given forms is = record {
   version = version;
-  block = record { verb = blocks.Leave; operands = pool ∷ [] };
+  block = record { verb = blocks.Leave; sign = signs.Absent; operands = pool ∷ [] };
   state = in_use;
   transaction = first;
   change = (changes.Entity (keys.Defined [], deeds.Leave 1 []));
@@ -151,7 +156,7 @@ each_verb_is_evaluated blocks.Leave given forms is = record {
 }
 each_verb_is_evaluated blocks.Transfer given forms is = record {
   version = version;
-  block = record { verb = blocks.Transfer; operands = [] };
+  block = record { verb = blocks.Transfer; sign = signs.Absent; operands = [] };
   state = zero_state;
   transaction = first;
   change = changes.Nothing;
@@ -161,7 +166,7 @@ each_verb_is_evaluated blocks.Transfer given forms is = record {
 }
 each_verb_is_evaluated blocks.Mark given forms is = record {
   version = version;
-  block = record { verb = blocks.Mark; operands = [] };
+  block = record { verb = blocks.Mark; sign = signs.Absent; operands = [] };
   state = zero_state;
   transaction = first;
   change = (changes.Transaction own.Mark);
@@ -171,7 +176,7 @@ each_verb_is_evaluated blocks.Mark given forms is = record {
 }
 each_verb_is_evaluated blocks.Priority given forms is = record {
   version = version;
-  block = record { verb = blocks.Priority; operands = Some (Value (atoms.Constant (pos 1))) ∷ [] };
+  block = record { verb = blocks.Priority; sign = signs.Absent; operands = Some (Value (atoms.Constant (pos 1))) ∷ [] };
   state = zero_state;
   transaction = first;
   change = (changes.Transaction (own.Priority (pos 1)));
@@ -181,11 +186,31 @@ each_verb_is_evaluated blocks.Priority given forms is = record {
 }
 each_verb_is_evaluated blocks.Buffer given forms is = record {
   version = version;
-  block = record { verb = blocks.Buffer; operands = [] };
+  block = record { verb = blocks.Buffer; sign = signs.Absent; operands = [] };
   state = zero_state;
   transaction = first;
   change = changes.Nothing;
   fate = fates.Current;
+  of_verb = refl;
+  enters = refl;
+}
+each_verb_is_evaluated blocks.Assign given forms is = record {
+  version = version;
+  block = record { verb = blocks.Assign; sign = signs.Plus; operands = line ∷ Some (Value (atoms.Constant (pos 1))) ∷ [] };
+  state = zero_state;
+  transaction = first;
+  change = (changes.Transaction (own.Assign (keys.Named []) (pos 1)));
+  fate = fates.Active;
+  of_verb = refl;
+  enters = refl;
+}
+each_verb_is_evaluated blocks.Loop given forms is = record {
+  version = version;
+  block = record { verb = blocks.Loop; sign = signs.Absent; operands = line ∷ [] };
+  state = counting;
+  transaction = first;
+  change = (changes.Transaction (own.Assign (keys.Named []) (pos 0)));
+  fate = fates.Active;
   of_verb = refl;
   enters = refl;
 }

@@ -3,6 +3,7 @@ pub mod Places
 pub mod Chain
 pub mod Delays
 pub mod Numbering
+pub mod Parameters
 pub mod Contents
 pub mod Clock
 pub mod Facilities

@@ -6,6 +6,7 @@ ghost use Rattle.gw_laws.specs.Delays.{DelaysAreInOrder, DelaysAreFirstInFirstOu
 ghost use Rattle.gw_laws.specs.Delays.{WhoWaitsIsBound, WhoLeavesIsLetIn, FirstTakesOver, NobodyWaitsAtAFreeFacility};
 ghost use Rattle.gw_laws.specs.Facilities.{FacilitiesAreUsed};
 ghost use Rattle.gw_laws.specs.Numbering.{NumbersAreApart, NumbersAreGiven, NumbersAreGivenOnce, OnlyTheActiveGoes};
+ghost use Rattle.gw_laws.specs.Parameters.{ParametersAreOfTheLiving};
 ghost use Rattle.gw_laws.specs.Places.{EachHasAPlace, EachHasOnePlace};
 ghost use Rattle.gw_laws.specs.Queues.{QueuesAreWithin};
 ghost use Rattle.gw_laws.specs.Storages.{StoragesAreWithin, NobodyWaitsAtRoom};
@@ -42,6 +43,11 @@ pub fn numbers_apart()
     ensures given { NumbersAreGiven }
     ensures once { NumbersAreGivenOnce }
     ensures loss { OnlyTheActiveGoes }
+{}
+
+/// Parameters are kept of living transactions alone: those of a transaction that is destroyed are forgotten.
+pub fn parameters_are_of_the_living()
+    ensures { ParametersAreOfTheLiving }
 {}
 
 /// Each transaction stands in exactly one place: it is active, on the current chain, on the future chain, or on the

@@ -39,6 +39,16 @@ or_true : (a b : Bool) → b ≡ true → (a || b) ≡ true
 or_true true b h = refl
 or_true false b h = h
 
+-- `P` stands in front of `PR`, which no number and no `$` begins
+parameter_read : (rest : List ℕ) (of : Subject) → subject_of scopes.Entity rest ≡ Some of
+    → attribute_in classes (class_word class.P ++ rest) ≡ Some (atoms.Attribute class.P of)
+parameter_read [] of e = absurd cc
+parameter_read (b ∷ bs) of e =
+    elim (cases_Bool (nat_eq 82 b)) [
+      | inl same ↦ absurd (let f = rw (← eqb-true 82 b same) at e in cc)
+      | inr other ↦ rw (other, e) refl
+    ]
+
 behind : (class : Class) (rest : List ℕ) → Behind class rest
 unfolding is_class
 behind class.C1 rest = record { read = λ of e. rw e refl; barred = λ h. rw h refl; value = refl; number = refl }
@@ -47,7 +57,7 @@ behind class.Tg1 rest = record { read = λ of e. rw e refl; barred = λ h. rw h 
 behind class.M1 rest = record { read = λ of e. rw e refl; barred = λ h. rw h refl; value = refl; number = refl }
 behind class.Xn1 rest = record { read = λ of e. rw e refl; barred = λ h. rw h refl; value = refl; number = refl }
 behind class.Pr rest = record { read = λ of e. rw e refl; barred = λ h. rw h refl; value = refl; number = refl }
-behind class.P rest = record { read = λ of e. absurd cc; barred = λ h. rw h (or_true _ true refl); value = refl; number = refl }
+behind class.P rest = record { read = λ of e. parameter_read rest of e; barred = λ h. rw h (or_true _ true refl); value = refl; number = refl }
 behind class.F rest = record { read = λ of e. rw e refl; barred = λ h. rw h refl; value = refl; number = refl }
 behind class.Fc rest = record { read = λ of e. rw e refl; barred = λ h. rw h refl; value = refl; number = refl }
 behind class.S rest = record { read = λ of e. rw e refl; barred = λ h. rw h refl; value = refl; number = refl }

@@ -14,7 +14,7 @@ use Rattle.gw_lines.specs.declared.attribute.Scope.{Scope}
 use Rattle.gw_lines.specs.declared.attribute.Scope.TheVariants as scopes
 use Rattle.gw_lines.specs.Numbers.{number_of, from_one}
 
--- what a class's attributes are of; a storage is an entity here, and those of later versions are not read
+-- what a class's attributes are of; a storage and a parameter are entities here, and those of later versions are not read
 abbrev pub scope_of : Class → Scope
 scope_of class.C1 = scopes.Alone
 scope_of class.Ac1 = scopes.Alone
@@ -22,7 +22,7 @@ scope_of class.Tg1 = scopes.Alone
 scope_of class.M1 = scopes.Alone
 scope_of class.Xn1 = scopes.Alone
 scope_of class.Pr = scopes.Alone
-scope_of class.P = scopes.Later
+scope_of class.P = scopes.Entity
 scope_of class.F = scopes.Entity
 scope_of class.Fc = scopes.Entity
 scope_of class.S = scopes.Entity

@@ -12,7 +12,8 @@ use Rattle.gw_lines.specs.declared.operand.Operand.{Operand}
 use Rattle.gw_lines.specs.Reading.{OrMemory}
 use Rattle.gw_lines.specs.Classes.{are_plain}
 use Rattle.gw_lines.specs.Forms.{forms_of, lacks}
-use Rattle.gw_lines.specs.Parts.{parts_of, part_of, is_given, others_of, is_missing}
+use Rattle.gw_lines.specs.Signs.{bare_parts}
+use Rattle.gw_lines.specs.Parts.{part_of, is_given, others_of, is_missing}
 use Rattle.gw_lines.specs.Lines.{verb_in, is_command, needs_label, is_remark}
 use Rattle.gw_lines.specs.Spelling.{AreIn, Stops, SpellsOperand, SpellsAll, Head, Label, ArePlain, Cut, HasWords}
 
@@ -84,11 +85,11 @@ pub data WordsFault : List ℕ → LineFault → Type 0 where
       → needs_label verb ≡ true → WordsFault words faults.BadLabel
   verb_to_come : (words : List ℕ) (word : Option (List ℕ)) (verb : Verb) (kept : List ℕ) (label : Option (List ℕ))
       → Head words word verb kept → ArePlain word kept → Label word verb label
-      → forms_of verb (is_given (parts_of (upper_of kept))) ≡ None → WordsFault words faults.UnknownVerb
+      → forms_of verb (is_given (bare_parts verb (upper_of kept))) ≡ None → WordsFault words faults.UnknownVerb
   operand_fault : (words : List ℕ) (word : Option (List ℕ)) (verb : Verb) (kept : List ℕ) (label : Option (List ℕ))
       (f : LineFault)
       → Head words word verb kept → ArePlain word kept → Label word verb label
-      → OperandFault verb (parts_of (upper_of kept)) f → WordsFault words f
+      → OperandFault verb (bare_parts verb (upper_of kept)) f → WordsFault words f
 
 -- the first fault of a line
 pub data FirstFault : List ℕ → LineFault → Type 0 where

@@ -15,6 +15,7 @@ use Rattle.gw_expr.specs.declared.token.Operator.{Operator}
 use Rattle.gw_expr.specs.declared.token.Operator.TheVariants as operators
 use Rattle.gw_expr.specs.Expressions.{Expression, Single, Opposite, Both, postfix}
 use Rattle.gw_expr.specs.Term as terms
+use Rattle.gw_meaning.specs.declared.sign.Sign.{Sign}
 use Rattle.gw_meaning.specs.declared.statement.Body.{Body}
 use Rattle.gw_meaning.specs.declared.statement.Statement.{Statement}
 use Rattle.gw_meaning.specs.Statements.{verb_of_body}
@@ -30,7 +31,8 @@ use Rattle.gw_lines.specs.declared.operand.Operand.TheVariants as operands
 use Rattle.gw_lines.specs.Classes.{is_in, is_blank, are_plain}
 use Rattle.gw_lines.specs.Attributes.{scope_of}
 use Rattle.gw_lines.specs.Forms.{forms_of, fields_of, lacks, is_listed}
-use Rattle.gw_lines.specs.Parts.{parts_of, goes_on, part_of, is_given, others_of, is_missing}
+use Rattle.gw_lines.specs.Parts.{goes_on, part_of, is_given, others_of, is_missing}
+use Rattle.gw_lines.specs.Signs.{sign_of, bare_parts, HasSign}
 use Rattle.gw_lines.specs.Lines.{verb_in, is_command, needs_label, is_remark}
 
 -- each byte is of the class
@@ -166,11 +168,12 @@ pub data SpellsAll : List Form → List (List ℕ) → List (Option Operand) →
   unwritten : (form : Form) (forms : List Form) (os : List (Option Operand))
       → form.presence ≡ presences.Written → SpellsAll forms [] os → SpellsAll (form ∷ forms) [] os
 
--- what the operands of a verb say: a statement that has them
-pub record Says (verb : Verb) (parts : List (List ℕ)) (body : Body) : Type 0 where
+-- what a sign and the operands of a verb say: a statement that has them
+pub record Says (verb : Verb) (sign : Sign) (parts : List (List ℕ)) (body : Body) : Type 0 where
   pub forms : List Form
   pub are_forms : forms_of verb (is_given parts) ≡ Some forms
   pub of_verb : verb_of_body body ≡ verb
+  pub has_sign : HasSign body sign
   pub operands : SpellsAll forms parts (fields_of body)
   pub enough : lacks verb (fields_of body) ≡ false
 
@@ -264,7 +267,7 @@ pub record Coded (words : List ℕ) (s : Statement) : Type 0 where
   pub plain : ArePlain word kept
   pub label : Label word verb s.label
   pub listed : s.operands ≡ upper_of kept
-  pub body : Says verb (parts_of s.operands) s.body
+  pub body : Says verb (sign_of verb s.operands) (bare_parts verb s.operands) s.body
 
 -- a text spells a statement
 pub record Spells (text : List ℕ) (s : Statement) : Type 0 where

@@ -64,7 +64,8 @@ fn scope_of(class: Class) -> Scope
 {
     match class {
         Class::C1 | Class::Ac1 | Class::Tg1 | Class::M1 | Class::Xn1 | Class::Pr => Scope::Alone,
-        Class::F
+        Class::P
+        | Class::F
         | Class::Fc
         | Class::S
         | Class::Sc
@@ -75,8 +76,7 @@ fn scope_of(class: Class) -> Scope
         | Class::Qz => Scope::Entity,
         Class::N | Class::W => Scope::Block,
         Class::Rn => Scope::Stream,
-        Class::P
-        | Class::R
+        Class::R
         | Class::X
         | Class::Ls
         | Class::Ch

@@ -1,14 +1,16 @@
 ghost use Rattle.std.specs.Prelude.{◌≡◌, ◌≤◌, length, IfOk};
 ghost use Rattle.gw_lines.specs.Reading.{Gives};
-ghost use Rattle.gw_lines.specs.Parts.{parts_of};
-ghost use Rattle.gw_lines.specs.Bodies.{body_of, in_forms, body_with, definition_with, command_with, first_of, value_in, whole_in, constant_in, constant_of};
+ghost use Rattle.gw_lines.specs.Forms.{forms_of};
+ghost use Rattle.gw_lines.specs.Parts.{is_given, parts_of};
+ghost use Rattle.gw_lines.specs.Bodies.{body_of, by_forms, in_forms, body_with, definition_with, command_with, first_of, value_in, whole_in, constant_in, constant_of};
 
 use crate::fault::LineFault;
 use crate::form::{Form, forms_of, lacks};
 use crate::operand::Operand;
 use crate::operands::{is_given, read_operands};
+use crate::sign::{sign_of, without_sign};
 use gw_expr::{Atom, Expr, Node};
-use gw_meaning::{Block, Body, Command, Definition, Row};
+use gw_meaning::{Block, Body, Command, Definition, Row, Sign};
 use gw_names::{CommandVerb, DefinitionVerb, Verb};
 use gw_nums::Val;
 use std::alloc::{AllocError, Global};
@@ -18,41 +20,61 @@ use std::alloc::{AllocError, Global};
 pub fn read_body(alloc: Global, verb: Verb, text: &[u8]) -> Result<Body, LineFault>
     ensures { Gives (λ b. b) result (body_of verb text.now) }
 {
+    let sign = sign_of(verb, text);
+    match sign {
+        Sign::Absent => by_forms(alloc, verb, sign, text),
+        Sign::Plus | Sign::Minus => by_forms(alloc, verb, sign, &without_sign(alloc, text)?),
+    }
+}
+
+// The body that a verb's operand list spells, which has lost its sign.
+fn by_forms(alloc: Global, verb: Verb, sign: Sign, text: &[u8]) -> Result<Body, LineFault>
+    ensures { Gives (λ b. b) result
+        (by_forms verb sign (forms_of verb (is_given (parts_of text.now))) (parts_of text.now)) }
+{
     match forms_of(verb, is_given(text)) {
-        Some(forms) => in_forms(alloc, verb, forms, text),
+        Some(forms) => in_forms(alloc, verb, sign, forms, text),
         None => Err(LineFault::UnknownVerb),
     }
 }
 
 #[tactic(auto, unfolding(crate::specs::Bodies::in_forms))]
-fn in_forms(alloc: Global, verb: Verb, forms: &[Form], text: &[u8]) -> Result<Body, LineFault>
+fn in_forms(
+    alloc: Global,
+    verb: Verb,
+    sign: Sign,
+    forms: &[Form],
+    text: &[u8],
+) -> Result<Body, LineFault>
     requires { length forms.now ≤ 7 }
-    ensures { Gives (λ b. b) result (in_forms verb forms.now (parts_of text.now)) }
+    ensures { Gives (λ b. b) result (in_forms verb sign forms.now (parts_of text.now)) }
 {
     let operands = read_operands(alloc, forms, text)?;
     if lacks(verb, &operands) {
         return Err(LineFault::MissingOperand(1));
     }
-    match body_with(alloc, verb, operands)? {
+    match body_with(alloc, verb, sign, operands)? {
         Some(body) => Ok(body),
         None => Err(LineFault::UnknownVerb),
     }
 }
 
-// The body of a verb with these operands, if they have its forms.
+// The body of a verb with this sign and these operands, if they have its forms.
 #[tactic(auto, unfolding(crate::specs::Bodies::body_with))]
 fn body_with(
     alloc: Global,
     verb: Verb,
+    sign: Sign,
     operands: Vec<Option<Operand>>,
 ) -> Result<Option<Body>, AllocError>
-    ensures { IfOk result (λ o. o ≡ body_with verb operands.items) }
+    ensures { IfOk result (λ o. o ≡ body_with verb sign operands.items) }
 {
     match verb {
         Verb::Block(verb) => {
             let operands = operands.into_iter().map(|o| value_in(o)).collect(alloc)?;
             Ok(Some(Body::Block(Block {
                 verb,
+                sign,
                 operands: Row::from_vec(operands),
             })))
         }

@@ -68,6 +68,8 @@ fn forms_of_block(verb: BlockVerb, given: bool) -> Option<&'static [Form]>
         BlockVerb::Transfer => Some(forms_of_transfer(given)),
         BlockVerb::Mark | BlockVerb::Buffer => Some(&[]),
         BlockVerb::Priority => Some(&[ONE_VALUE]),
+        BlockVerb::Assign => Some(&[ENTITY, ONE_VALUE]),
+        BlockVerb::Loop => Some(&[ENTITY, LABEL]),
         _ => None,
     }
 }

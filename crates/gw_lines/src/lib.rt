@@ -3,7 +3,8 @@
 //!
 //! [`read_statement`] reads one line, [`read_model`] all lines, and [`read_edit`] the text of an edit, in which `|`
 //! ends a line. A line is cut into words (words), and its operand list is copied without the blanks that are skipped
-//! (listed). What the operands of a verb may be is a list of forms (form). The list is split once, each part is read by
+//! (listed). What the operands of a verb may be is a list of forms (form), behind the first of which a sign may stand
+//! (sign). The list is split once, each part is read by
 //! its form (operands, operand, number, atom, attribute, expression), and the statement is made of what was read
 //! (body). What is read is a [`Statement`], which [`Statement::put_text`] lists.
 //!
@@ -25,6 +26,7 @@ mod model;
 mod number;
 mod operand;
 mod operands;
+mod sign;
 mod words;
 
 pub use edit::read_edit;

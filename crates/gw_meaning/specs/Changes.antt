@@ -1,7 +1,7 @@
 -- What a move does to a state. (Manual: the chains and the counts of blocks. Our own: that an ADVANCE of 0 leaves the
 -- transaction active, that a time is fixed when the transaction comes onto the future chain, and that who waited for a
 -- facility or a storage enters its block in the step that gives it back.)
-use Rattle.std.specs.Prelude.{ℕ, ◌-◌, Bool, true, not, ◌==◌, List, [], ◌∷◌, ◌++◌, Option, Some, None, if◌then◌else◌, filter, nat_lt}
+use Rattle.std.specs.Prelude.{ℕ, ℤ, ◌-◌, Bool, true, not, ◌==◌, List, [], ◌∷◌, ◌++◌, Option, Some, None, if◌then◌else◌, filter, nat_lt}
 use Rattle.gw_nums.specs.Range.{is_below}
 use Rattle.gw_meaning.specs.declared.transaction.Transaction.{Transaction}
 use Rattle.gw_meaning.specs.declared.transaction.Event.{Event}
@@ -9,6 +9,7 @@ use Rattle.gw_meaning.specs.declared.transaction.Count.{Count}
 use Rattle.gw_streams.specs.declared.stream.Stream.{Stream}
 use Rattle.gw_names.specs.declared.key.Key.{Key}
 use Rattle.gw_entities.specs.Tables.{with_value}
+use Rattle.gw_entities.specs.Parameters.{assigned, without}
 use Rattle.gw_meaning.specs.declared.entity_change.Deed.{Deed}
 use Rattle.gw_meaning.specs.declared.entity_change.Deed.TheVariants as deeds
 use Rattle.gw_meaning.specs.declared.moves.Arrival.{Arrival}
@@ -110,19 +111,33 @@ started count s = record s { remaining = count; commands = raised s.commands; pr
 abbrev pub arrived : Option Arrival → Machine → Machine
 arrived next s = with_making (maybe_made next (making_of s)) s
 
--- what a block changes of its transaction: its mark time, its priority, or the block that it goes to
+-- what a block changes of its transaction: its mark time, its priority, or the block that it goes to (its parameters
+-- stand apart)
 abbrev pub own_marked : TransactionChange → ℕ → Transaction → Transaction
 own_marked own.Mark clock x = record x { mark = clock }
 own_marked (own.Priority to) clock x = record x { priority = to }
 own_marked (own.Transfer to) clock x = record x { destination = Some to }
+own_marked (own.Assign key to) clock x = x
+own_marked (own.Loop key left to) clock x = record x { destination = Some to }
 
 abbrev pub marked : Change → ℕ → Transaction → Transaction
 marked (changes.Generate next) clock x = own_marked own.Mark clock x
 marked (changes.Transaction change) clock x = own_marked change clock x
 marked change clock x = x
 
+-- the parameters of all transactions, with what a block sets of those of its transaction
+abbrev pub own_held : TransactionChange → ℕ → List (ℕ × List (Key × ℤ)) → List (ℕ × List (Key × ℤ))
+own_held (own.Assign key to) number held = assigned held number key to
+own_held (own.Loop key left to) number held = assigned held number key left
+own_held change number held = held
+
+abbrev pub held_by : Change → ℕ → List (ℕ × List (Key × ℤ)) → List (ℕ × List (Key × ℤ))
+held_by (changes.Transaction change) number held = own_held change number held
+held_by change number held = held
+
 -- what becomes of the transaction x: it stays active, goes behind its equals on the current chain, is on the future
--- chain, or is gone with its count taken from the termination count, which completes the START at 0
+-- chain, or is gone, with its parameters and with its count taken from the termination count, which completes the START
+-- at 0
 abbrev pub fated : Fate → Transaction → Machine → Machine
 fated fates.Active x s = record s { active = Some x }
 fated fates.Current x s = record s { active = None; current = lined_up x s.current }
@@ -134,6 +149,7 @@ fated (fates.Destroyed count) x s =
       remaining = s.remaining - count;
       complete =
           (if nat_lt count s.remaining then s.complete else raised s.complete);
+      parameters = without s.parameters x.number;
     }
 
 -- a transaction that waited at a block enters it, and goes to the current chain behind its equals
@@ -173,6 +189,7 @@ entering s x id change fate =
     changed change (fated fate (marked change s.clock (placed x id)) (record s {
       counts = crossed fate s.counts x.current id;
       entities = touched change s.clock x.number s.entities;
+      parameters = held_by change x.number s.parameters;
     }))
 
 -- a transaction that is to enter a block, and asks so many units there

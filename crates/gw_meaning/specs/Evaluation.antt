@@ -29,6 +29,7 @@ use Rattle.gw_meaning.specs.declared.item.Item.TheVariants as items
 use Rattle.gw_meaning.specs.declared.item.End.{End}
 use Rattle.gw_meaning.specs.declared.item.End.TheVariants as ends
 use Rattle.gw_meaning.specs.declared.asker.Asker.{Asker}
+use Rattle.gw_entities.specs.Parameters.{parameter_at}
 use Rattle.gw_meaning.specs.Entities.{facility_at, line_at, store_at}
 use Rattle.gw_meaning.specs.Machine.{Machine, count_at}
 use Rattle.gw_meaning.specs.Questions.{Answer, Prog, Gives, Ends, Asks, ◌>>=◌}
@@ -113,7 +114,7 @@ abbrev pub named : List ℕ → Option ℤ → Eval Key
 named name None = gives (keys.Named name)
 named name (Some n) = numbered n
 
--- the facility or queue that an attribute is of
+-- the facility, the queue or the parameter that an attribute is of
 abbrev pub subject_prog : Subject → Eval Key
 subject_prog subjects.Own = ends_with (ends.Error Range)
 subject_prog (subjects.Number n) = numbered (pos n)
@@ -168,6 +169,14 @@ block_value s class.N id = amount (count_at s.counts id).entries
 block_value s class.W id = amount (count_at s.counts id).content
 block_value s class id = ends_with (ends.Error Range)
 
+-- the value of a parameter, which its transaction has to have
+abbrev pub value_held : Option ℤ → Eval ℤ
+value_held None = ends_with (ends.Error NoParameter)
+value_held (Some v) = gives v
+
+abbrev pub parameter_value : Machine → Asker → Key → Eval ℤ
+parameter_value s q key = for_transaction q (value_held (parameter_at s.parameters q.number key))
+
 -- the value of an attribute
 unfoldable pub attribute_prog : Machine → Asker → Class → Subject → Eval ℤ
 attribute_prog s q class.C1 of = own_value s q class.C1
@@ -176,6 +185,7 @@ attribute_prog s q class.Tg1 of = own_value s q class.Tg1
 attribute_prog s q class.M1 of = own_value s q class.M1
 attribute_prog s q class.Xn1 of = own_value s q class.Xn1
 attribute_prog s q class.Pr of = own_value s q class.Pr
+attribute_prog s q class.P of = subject_prog of ~> (λ key. parameter_value s q key)
 attribute_prog s q class.F of = subject_prog of ~> (λ key. entity_value s class.F key)
 attribute_prog s q class.Fc of = subject_prog of ~> (λ key. entity_value s class.Fc key)
 attribute_prog s q class.Q of = subject_prog of ~> (λ key. entity_value s class.Q key)

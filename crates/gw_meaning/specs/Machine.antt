@@ -1,7 +1,7 @@
--- The state of a run: both clocks, the termination count, what is done, the streams, the chains, the entities and the
--- counts of the blocks.
+-- The state of a run: both clocks, the termination count, what is done, the streams, the chains, the counts of the
+-- blocks, the entities and the parameters of the transactions.
 -- (Manual; that RESET's clock is kept as a time is our own.)
-use Rattle.std.specs.Prelude.{◌≡◌, ℕ, ◌+◌, ◌-◌, ◌^◌, Bool, false, ◌==◌, List, [], ◌∷◌, ◌++◌, Option, Some, None, if◌then◌else◌, min, length, unwrap_or, AllPairs}
+use Rattle.std.specs.Prelude.{◌≡◌, ℕ, ℤ, ◌+◌, ◌-◌, ◌^◌, Bool, false, ◌==◌, List, [], ◌∷◌, ◌++◌, Option, Some, None, if◌then◌else◌, min, length, unwrap_or, AllPairs}
 use Rattle.gw_nums.specs.Range.{is_below}
 use Rattle.gw_names.specs.declared.key.Key.{Key}
 use Rattle.gw_entities.specs.Tables.{value_of}
@@ -39,6 +39,8 @@ pub record Machine : Type 0 where
   -- what is counted at each block, in the order of first use
   pub counts : List (ℕ × Count)
   pub entities : Entities
+  -- the parameters of each transaction that has some, by its number
+  pub parameters : List (ℕ × List (Key × ℤ))
 
 -- a chain in order of priority: no transaction stands behind one of lower priority
 abbrev pub AreInOrder : List Transaction → Type 0
@@ -62,6 +64,7 @@ zero_state = record {
   delays = [];
   counts = [];
   entities = no_entities;
+  parameters = [];
 }
 
 -- one more; a count of 64 bits stays at its greatest value, which no run is long enough to reach

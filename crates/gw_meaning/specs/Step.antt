@@ -4,8 +4,11 @@
 -- fit go in, whoever waits, and that a PRIORITY leaves its transaction active.)
 use Rattle.std.specs.Prelude.{ℕ, zero, suc, ◌+◌, ◌-◌, Bool, true, false, ◌==◌, List, [], ◌∷◌, ◌++◌, Option, Some, None, Result, Ok, Err, ℤ, pos, ◌&&◌, ◌||◌, if◌then◌else◌, nat_le, nat_lt, min, not, is_some}
 use Rattle.gw_nums.specs.Range.{is_negative, magnitude}
+use Rattle.gw_nums.specs.declared.val.ArithmeticFault.{ArithmeticFault}
+use Rattle.gw_expr.specs.Arithmetic.{applied}
+use Rattle.gw_expr.specs.declared.token.Operator.TheVariants as operators
 use Rattle.gw_expr.specs.Term.{Term, Label, Fraction, Defined}
-use Rattle.gw_expr.specs.declared.stop.Stop.TheVariants.{NegativeTime, NotOwner, LeaveTooMany, DepartTooMany, NoNextBlock, TooManyTransactions, BadCount, TooManyUnits, Range}
+use Rattle.gw_expr.specs.declared.stop.Stop.TheVariants.{NegativeTime, NotOwner, LeaveTooMany, DepartTooMany, NoParameter, NoNextBlock, TooManyTransactions, BadCount, TooManyUnits, Range}
 use Rattle.gw_names.specs.declared.key.Key.{Key}
 use Rattle.gw_names.specs.declared.key.Key.TheVariants as keys
 use Rattle.gw_names.specs.declared.verb.BlockVerb.{BlockVerb}
@@ -14,6 +17,8 @@ use Rattle.gw_meaning.specs.declared.item.Item.{Item}
 use Rattle.gw_meaning.specs.declared.item.Item.TheVariants as items
 use Rattle.gw_meaning.specs.declared.item.End.{End}
 use Rattle.gw_meaning.specs.declared.item.End.TheVariants as ends
+use Rattle.gw_meaning.specs.declared.sign.Sign.{Sign}
+use Rattle.gw_meaning.specs.declared.sign.Sign.TheVariants as signs
 use Rattle.gw_meaning.specs.declared.statement.Block.{Block}
 use Rattle.gw_meaning.specs.declared.statement.Command.{Command}
 use Rattle.gw_meaning.specs.declared.statement.Command.TheVariants as commands
@@ -35,9 +40,10 @@ use Rattle.gw_meaning.specs.Listing.{Listing}
 use Rattle.gw_meaning.specs.Machine.{Machine, zero_state, raised, live, count_at, delay_at}
 use Rattle.gw_entities.specs.Records.{Line, Store, capped}
 use Rattle.gw_entities.specs.Comings.{came}
+use Rattle.gw_entities.specs.Parameters.{parameter_at}
 use Rattle.gw_meaning.specs.Entities.{facility_at, line_at, store_at}
 use Rattle.gw_meaning.specs.Questions.{Prog, Gives, result_of, items_of, ◌>>=◌}
-use Rattle.gw_meaning.specs.Evaluation.{Eval, gives, ends_with, asks, ◌~>◌, stops_if, value_prog, value_or_zero, value_there, entity_prog, units_prog, millionths, draw, time_prog}
+use Rattle.gw_meaning.specs.Evaluation.{Eval, gives, ends_with, asks, ◌~>◌, stops_if, value_prog, value_or_zero, value_there, entity_prog, units_prog, arithmetic, millionths, draw, time_prog}
 use Rattle.gw_meaning.specs.Changes.{decided}
 
 -- The next transaction of a GENERATE: its limit, then the time, then its priority.
@@ -282,6 +288,48 @@ priority_prog s q id priority =
 abbrev pub buffer_prog : ℕ → Eval Move
 buffer_prog id = gives (moves.Enter id changes.Nothing fates.Current)
 
+-- ASSIGN: the parameter is set to the value, or by a sign that is added to it or taken from it; one that is absent
+-- counts as 0 then.
+abbrev pub or_zero : Option ℤ → ℤ
+or_zero None = pos 0
+or_zero (Some v) = v
+
+abbrev pub by_sign : Sign → Option ℤ → ℤ → Result ℤ ArithmeticFault
+by_sign signs.Absent was v = Ok v
+by_sign signs.Plus was v = applied operators.Plus (or_zero was) v
+by_sign signs.Minus was v = applied operators.Minus (or_zero was) v
+
+abbrev pub assign_to : ℕ → Key → ℤ → Eval Move
+assign_to id key to = gives (moves.Enter id (changes.Transaction (own.Assign key to)) fates.Active)
+
+abbrev pub assign_with : ℕ → Sign → Key → Option ℤ → ℤ → Eval Move
+assign_with id sign key was v = arithmetic (by_sign sign was v) ~> (λ to. assign_to id key to)
+
+abbrev pub assign_prog : Machine → Asker → ℕ → Sign → Option Term → Option Term → Eval Move
+assign_prog s q id sign parameter value = entity_prog s q parameter ~> (λ key. value_there s q value ~>
+    (λ v. assign_with id sign key (parameter_at s.parameters q.number key) v))
+
+-- LOOP: 1 is taken from the parameter, which has to be there. While it is not 0 the transaction goes to the block with
+-- the label, which each version has; at 0 it goes on to the next block, and no label is looked up.
+abbrev pub left_of : Option ℤ → Eval ℤ
+left_of None = ends_with (ends.Error NoParameter)
+left_of (Some v) = arithmetic (applied operators.Minus v (pos 1))
+
+abbrev pub loop_back : ℕ → Key → ℤ → Option ℕ → Eval Move
+loop_back id key left None = ends_with (ends.Error NoNextBlock)
+loop_back id key left (Some to) = gives (moves.Enter id (changes.Transaction (own.Loop key left to)) fates.Active)
+
+abbrev pub loop_to : ℕ → Key → ℤ → Option Term → Eval Move
+loop_to id key left (Some (Label name)) = asks (items.Label name) (loop_back id key left)
+loop_to id key left label = ends_with (ends.Error NoNextBlock)
+
+abbrev pub loop_with : ℕ → Key → ℤ → Option Term → Eval Move
+loop_with id key left label = if magnitude left == 0 then assign_to id key left else loop_to id key left label
+
+abbrev pub loop_prog : Machine → Asker → ℕ → Option Term → Option Term → Eval Move
+loop_prog s q id parameter label = entity_prog s q parameter ~>
+    (λ key. left_of (parameter_at s.parameters q.number key) ~> (λ left. loop_with id key left label))
+
 -- by the block's verb; no other verb is read so far
 abbrev pub block_prog : Machine → Transaction → ℕ → Block → BlockVerb → Eval Move
 block_prog s x id b blocks.Generate =
@@ -298,6 +346,8 @@ block_prog s x id b blocks.Transfer = transfer_prog id (operand b A) (operand b 
 block_prog s x id b blocks.Mark = mark_prog id
 block_prog s x id b blocks.Priority = priority_prog s (for_one s x) id (operand b A)
 block_prog s x id b blocks.Buffer = buffer_prog id
+block_prog s x id b blocks.Assign = assign_prog s (for_one s x) id b.sign (operand b A) (operand b B)
+block_prog s x id b blocks.Loop = loop_prog s (for_one s x) id (operand b A) (operand b B)
 block_prog s x id b verb = ends_with (ends.Error NoNextBlock)
 
 abbrev pub meet_prog : Machine → Transaction → ℕ → Option Block → Eval Move

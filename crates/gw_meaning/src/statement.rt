@@ -3,6 +3,7 @@ ghost use Rattle.gw_meaning.specs.Statements.{operand, is_generate_verb, verb_of
 ghost use Rattle.gw_meaning.specs.Listing.{block_of, definition_of, command_of, is_block, is_command, is_generate};
 
 use crate::row::Row;
+use crate::sign::Sign;
 use crate::statement_id::StatementId;
 use gw_expr::Expr;
 use gw_names::{BlockVerb, CommandVerb, DefinitionVerb, Name, Verb};
@@ -30,6 +31,8 @@ pub enum Body {
 #[derive(Debug, Drop)]
 pub struct Block {
     pub verb: BlockVerb,
+    /// Behind A, where the verb takes one there.
+    pub sign: Sign,
     pub operands: Row<Option<Expr>>,
 }
 
@@ -96,6 +99,7 @@ impl Block {
         }
         Ok(Block {
             verb: self.verb,
+            sign: self.sign,
             operands: Row::from_vec(operands),
         })
     }

@@ -1,7 +1,7 @@
 // The values of attributes: what a state says of itself, of the transaction that asks, of an entity or of a block.
 ghost use Rattle.std.specs.Prelude.{◌≡◌, pos};
 ghost use Rattle.gw_expr.specs.declared.attribute.Subject.TheVariants as subjects;
-ghost use Rattle.gw_meaning.specs.Evaluation.{amount, own_value, owned, subject_prog, entity_value, storage_prog, storage_value, block_count, counted, block_value, random_prog, thousandth, attribute_prog, draw, gives, ◌~>◌};
+ghost use Rattle.gw_meaning.specs.Evaluation.{amount, own_value, owned, subject_prog, parameter_value, entity_value, storage_prog, storage_value, block_count, counted, block_value, random_prog, thousandth, attribute_prog, draw, gives, ◌~>◌};
 ghost use Rattle.gw_meaning.specs.Step.{for_none, for_one};
 ghost use Rattle.gw_scan.specs.Deciding.{Decides, Comes};
 
@@ -48,6 +48,7 @@ impl State {
             Class::Ac1 => self.own_value(asker, class),
             Class::Tg1 => self.own_value(asker, class),
             Class::M1 | Class::Xn1 | Class::Pr => self.own_value(asker, class),
+            Class::P => self.of_parameter(case, asker, notes, of),
             Class::F | Class::Fc => self.of_entity(case, notes, class, of),
             Class::Q | Class::Qc => self.of_entity(case, notes, class, of),
             Class::Qm | Class::Qz => self.of_entity(case, notes, class, of),
@@ -75,6 +76,21 @@ impl State {
             Class::Pr => Ok(asker.priority),
             _ => Err(Halt::End(End::Error(Stop::Range))),
         }
+    }
+
+    // Of the transaction that asks: one of its parameters.
+    fn of_parameter(
+        &self,
+        case: Case,
+        asker: &Asker,
+        notes: &mut Notes,
+        of: &Subject,
+    ) -> Result<Val, Halt>
+        ensures { Decides case.entry.version.now case.entry.seed
+            (subject_prog of.now ~> (λ key. parameter_value self.now asker.now key)) result notes.old notes.new }
+    {
+        let key = subject(case, notes, of)?;
+        self.parameter(asker, &key)
     }
 
     // Of a facility or a queue.
@@ -204,7 +220,7 @@ fn owned(owner: Option<u64>) -> u64
     }
 }
 
-// The facility or queue that an attribute is of.
+// The facility, the queue or the parameter that an attribute is of.
 fn subject(case: Case, notes: &mut Notes, of: &Subject) -> Result<Key, Halt>
     ensures { Decides case.entry.version.now case.entry.seed (subject_prog of.now) result notes.old notes.new }
 {

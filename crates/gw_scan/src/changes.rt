@@ -4,6 +4,7 @@ ghost use Rattle.gw_meaning.specs.Machine.{raised};
 ghost use Rattle.gw_meaning.specs.Changes.{moved, decided, marked, own_marked, placed, bound};
 ghost use Rattle.gw_meaning.specs.declared.moves.Move.TheVariants as moves;
 
+use crate::assigning::assign;
 use crate::entity_change::{change_entity, reserve_change};
 use crate::making::{make, make_all};
 use crate::notes::Notes;
@@ -99,6 +100,7 @@ impl State {
             )?,
             _ => (),
         }
+        assign(&mut self.parameters, &self.active, change)?;
         if let Some(x) = self.active.take() {
             let number = x.number;
             self.counts.cross(x.current, id, &fate);
@@ -110,7 +112,10 @@ impl State {
                     time: *until,
                     transaction,
                 }),
-                Fate::Destroyed { count } => self.progress.count_down(*count),
+                Fate::Destroyed { count } => {
+                    self.progress.count_down(*count);
+                    self.parameters.forget(number);
+                }
             }
             match change {
                 Change::Generate {
@@ -183,10 +188,11 @@ fn change_transaction(change: &TransactionChange, clock: Clock, x: Transaction) 
             ..x
         },
         TransactionChange::Priority { to } => Transaction { priority: *to, ..x },
-        TransactionChange::Transfer { to } => Transaction {
+        TransactionChange::Transfer { to } | TransactionChange::Loop { to, .. } => Transaction {
             destination: Destination::to(*to),
             ..x
         },
+        TransactionChange::Assign { .. } => x,
     }
 }
 

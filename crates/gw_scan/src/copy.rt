@@ -16,6 +16,7 @@ impl State {
         let delays = self.delays.copy()?;
         let counts = self.counts.copy()?;
         let entities = self.entities.copy()?;
+        let parameters = self.parameters.copy()?;
         Ok(State {
             clocks: self.clocks,
             progress: self.progress,
@@ -27,6 +28,7 @@ impl State {
             delays,
             counts,
             entities,
+            parameters,
         })
     }
 }

@@ -167,6 +167,8 @@ impl State {
             BlockVerb::Mark => mark_of(id),
             BlockVerb::Priority => self.priority_of(case, asker, notes, id, block),
             BlockVerb::Buffer => buffer_of(id),
+            BlockVerb::Assign => self.assign_of(case, asker, notes, id, block),
+            BlockVerb::Loop => self.loop_of(case, asker, notes, id, block),
             _ => Err(Halt::End(End::Error(Stop::NoNextBlock))),
         }
     }

@@ -129,7 +129,7 @@ fn applied_last(operator: Operator, values: WaitingValues) -> Result<WaitingValu
 }
 
 // What an operator comes to.
-fn arithmetic(found: Result<Val, ArithmeticFault>) -> Result<Val, Halt>
+pub fn arithmetic(found: Result<Val, ArithmeticFault>) -> Result<Val, Halt>
     ensures { Comes (arithmetic found) result }
 {
     match found {

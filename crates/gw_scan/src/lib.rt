@@ -5,6 +5,7 @@
 #![tactic(auto)]
 
 mod arrival;
+mod assigning;
 mod attributes;
 mod case;
 mod chain;
@@ -22,6 +23,7 @@ mod facilities;
 mod future;
 mod making;
 mod notes;
+mod parameters;
 mod priorities;
 mod progress;
 mod queues;

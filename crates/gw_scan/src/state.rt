@@ -9,6 +9,7 @@ use crate::delays::DelayChains;
 use crate::entities::Entities;
 use crate::future::FutureChain;
 use crate::progress::Progress;
+use gw_entities::Parameters;
 use gw_meaning::{Count, StatementId, Transaction};
 use gw_nums::{Clock, Time};
 use gw_streams::Streams;
@@ -28,6 +29,7 @@ pub struct State {
     pub(crate) delays: DelayChains,
     pub(crate) counts: Counts,
     pub(crate) entities: Entities,
+    pub(crate) parameters: Parameters,
 }
 
 impl Model for State {
@@ -51,6 +53,7 @@ impl Model for State {
       delays = delays_of s.delays.chains;
       counts = s.counts.entries;
       entities = entities_of s.entities;
+      parameters = s.parameters;
     } };
 }
 
@@ -70,6 +73,7 @@ impl State {
             delays: DelayChains::new(alloc),
             counts: Counts::new(alloc),
             entities: Entities::new(alloc),
+            parameters: Parameters::new(alloc),
         }
     }
 

@@ -28,6 +28,7 @@ returns-in-Entity-change-clause-ok c =
       delays = [];
       counts = [];
       entities = entities_of c.change_entity.new.entities;
+      parameters = m.parameters;
     } in
     let before : record rest { delays = delays_of m.delays.chains; current = m.current.items; counts = m.counts.entries } ≡
     fated c.args.fate (marked (changes.Entity t) s.clock (placed x c.args.id)) (record s {

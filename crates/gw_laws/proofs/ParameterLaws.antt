@@ -1,0 +1,298 @@
+-- The parameters that are kept, move by move and over a run: of each transaction once, and of the living alone.
+use Rattle.std.proofs.Common.{◌≡◌, ℕ, ℤ, suc, ◌+◌, ◌≤◌, ◌<◌, nat_eq, nat_lt, Bool, true, false, cond, not, List, [], ◌∷◌, length, get_or, ◌++◌, ◌⊎◌, Option, Some, None, Ok, refl, ap, sym, subst, ◌∙◌, inl, inr, arith}
+use Rattle.std.specs.Prelude.{position, swap_remove}
+use Rattle.std.specs.List.{list_any, position_or_len, sum_by}
+use Rattle.std.specs.Option.{option_map_or}
+use Rattle.std.proofs.lemmas.Bool.{cases_Bool, cases_eq, cases_lt, eq-eqb, ne_eqb, eqb-true, false≢true}
+use Rattle.std.proofs.lemmas.Bool.Decides.{nat_tests}
+use Rattle.std.proofs.lemmas.List.Sums.{sum_by-cons, sum_by-swap_remove}
+use Rattle.gw_names.specs.declared.key.Key.{Key}
+use Rattle.gw_entities.specs.Tables.{with_value}
+use Rattle.gw_entities.specs.Parameters.{Held, values_at, with_values, without}
+use Rattle.gw_meaning.specs.declared.transaction.Transaction.{Transaction}
+use Rattle.gw_meaning.specs.declared.moves.Arrival.{Arrival}
+use Rattle.gw_meaning.specs.declared.moves.Change.{Change}
+use Rattle.gw_meaning.specs.declared.moves.Change.TheVariants as changes
+use Rattle.gw_meaning.specs.declared.transaction_change.TransactionChange.TheVariants as own
+use Rattle.gw_meaning.specs.declared.moves.Fate.{Fate}
+use Rattle.gw_meaning.specs.declared.moves.Fate.TheVariants as fates
+use Rattle.gw_meaning.specs.declared.moves.Move.{Move}
+use Rattle.gw_meaning.specs.declared.moves.Move.TheVariants as moves
+use Rattle.gw_meaning.specs.Listing.{Listing}
+use Rattle.gw_meaning.specs.Machine.{Machine}
+use Rattle.gw_meaning.specs.Changes.{Making, made, all_made, picked, making_of, with_making, placed, marked, held_by, started, let_in, one_let_in, refused, moved}
+use Rattle.gw_meaning.specs.Step.{run}
+use Rattle.gw_laws.specs.Numbering.{lives}
+use Rattle.gw_laws.specs.Parameters.{has_parameters, ParametersAreOfTheLiving}
+use Rattle.gw_frame.proofs.Known.{IsDecided}
+use Rattle.gw_frame.proofs.Moves.{settled, marked_same, with_active_has, entered_has, picked_has}
+use Rattle.gw_frame.proofs.Running.{over_run}
+use Rattle.gw_laws.proofs.Crowd.{one, crowd, others, remains, active_crowd, settled_crowd, refused_crowd, picked_crowd, advanced_crowd}
+use Rattle.gw_laws.proofs.NumberLaws.{has_number, lets_same}
+use Rattle.gw_laws.proofs.Waiting.{leaving}
+use Rattle.gw_laws.proofs.LossLaws.{Lives, made_lives, all_made_lives, lives_here}
+
+abbrev Values : Type 0
+Values = List (Key × ℤ)
+
+nat_eq_symm : (a b : ℕ) → nat_eq a b ≡ nat_eq b a
+nat_eq_symm a b = grind (arith, nat_tests)
+
+-- how often the parameters of a transaction are kept
+abbrev is_of : ℕ → ℕ × Values → Bool
+is_of k h = nat_eq k h.0
+
+abbrev times : ℕ → Held → ℕ
+times k [] = 0
+times k (h ∷ hs) = one (is_of k h) + times k hs
+
+times_sum : (k : ℕ) (held : Held) → times k held ≡ sum_by (λ h. one (is_of k h)) held
+times_sum k [] = refl
+times_sum k (h ∷ hs) = ap (λ n. one (is_of k h) + n) (times_sum k hs) ∙ sym (sum_by-cons (λ (e : ℕ × Values). one (is_of k e)) h hs)
+
+-- those of one transaction are set
+set_once : (n : ℕ) (held : Held) (values : Values) → times n held ≤ 1 → times n (with_values held n values) ≤ 1
+set_once n [] values once = let here = eq-eqb n n refl in let is : one (nat_eq n n) ≡ 1 = rw here refl in omega arith
+set_once n (h ∷ hs) values once =
+    elim (cases_Bool (nat_eq n h.0)) [
+      | inl is ↦ rw is (let here : one (nat_eq n h.0) ≡ 1 = rw is refl in omega arith)
+      | inr other ↦
+          let none : one (nat_eq n h.0) ≡ 0 = rw other refl in
+          let rest = set_once n hs values (omega arith) in
+          rw other (omega arith)
+    ]
+
+set_others : (k n : ℕ) (held : Held) (values : Values) → nat_eq k n ≡ false → times k (with_values held n values) ≡ times k held
+set_others k n [] values apart = let none : one (nat_eq k n) ≡ 0 = rw apart refl in omega arith
+set_others k n (h ∷ hs) values apart =
+    elim (cases_Bool (nat_eq n h.0)) [
+      | inl is ↦ rw is refl
+      | inr other ↦ rw other (ap (λ m. one (is_of k h) + m) (set_others k n hs values apart))
+    ]
+
+-- those of one transaction are forgotten
+first_passes : (n : ℕ) (held : Held) (d : ℕ × Values) → position_or_len (is_of n) held < length held →
+    is_of n (get_or held (position_or_len (is_of n) held) d) ≡ true
+first_passes n [] d within = absurd (omega arith)
+first_passes n (h ∷ hs) d within =
+    elim (cases_Bool (nat_eq n h.0)) [
+      | inl is ↦ rw is is
+      | inr other ↦
+          let more : 1 + position_or_len (is_of n) hs < length (h ∷ hs) = rw other at within in
+          let m = position_or_len (is_of n) hs in
+          let step : suc m ≡ 1 + m = omega arith in
+          let behind : is_of n (get_or (h ∷ hs) (1 + m) d) ≡ true =
+          subst (λ i. is_of n (get_or (h ∷ hs) i d) ≡ true) step (first_passes n hs d (omega arith)) in
+          rw other behind
+    ]
+
+none_passes : (n : ℕ) (held : Held) → length held ≤ position_or_len (is_of n) held → times n held ≡ 0
+none_passes n [] beyond = refl
+none_passes n (h ∷ hs) beyond =
+    elim (cases_Bool (nat_eq n h.0)) [
+      | inl is ↦ absurd (let early : length (h ∷ hs) ≤ 0 = rw is at beyond in omega arith)
+      | inr other ↦
+          let more : length (h ∷ hs) ≤ 1 + position_or_len (is_of n) hs = rw other at beyond in
+          let rest = none_passes n hs (omega arith) in
+          let none : one (nat_eq n h.0) ≡ 0 = rw other refl in
+          omega arith
+    ]
+
+-- the place where they stand, if they are kept
+place_is : (n : ℕ) (held : Held) (i : ℕ) → position (is_of n) held ≡ Some i → (i < length held) × (i ≡ position_or_len (is_of n) held)
+place_is n held i is =
+    elim (cases_Bool (nat_lt (position_or_len (is_of n) held) (length held))) [
+      | inl within ↦ let same : Some (position_or_len (is_of n) held) ≡ Some i = rw within at is in
+          let at : position_or_len (is_of n) held ≡ i = cc in (grind (arith, nat_tests), sym at)
+      | inr beyond ↦ absurd (let no : None ≡ Some i = rw beyond at is in cc)
+    ]
+
+no_place : (n : ℕ) (held : Held) → position (is_of n) held ≡ None → length held ≤ position_or_len (is_of n) held
+no_place n held is =
+    elim (cases_Bool (nat_lt (position_or_len (is_of n) held) (length held))) [
+      | inl within ↦ absurd (let no : Some (position_or_len (is_of n) held) ≡ None = rw within at is in cc)
+      | inr beyond ↦ grind (arith, nat_tests)
+    ]
+
+swapped : (k : ℕ) (held : Held) (i : ℕ) (d : ℕ × Values) → i < length held →
+    times k (swap_remove held i d) + one (is_of k (get_or held i d)) ≡ times k held
+swapped k held i d within =
+    rw (times_sum k (swap_remove held i d), times_sum k held) (sum_by-swap_remove (λ (e : ℕ × Values). one (is_of k e)) held i d within)
+
+forget_fewer : (k n : ℕ) (held : Held) → times k (without held n) ≤ times k held
+forget_fewer k n [] = omega arith
+forget_fewer k n (h ∷ hs) = go (position (is_of n) (h ∷ hs)) refl where
+  go : (o : Option ℕ) → position (is_of n) (h ∷ hs) ≡ o →
+      times k (option_map_or (λ i. swap_remove (h ∷ hs) i h) o (h ∷ hs)) ≤ times k (h ∷ hs)
+  go None is = omega arith
+  go (Some i) is = let less = swapped k (h ∷ hs) i h (place_is n (h ∷ hs) i is).0 in omega arith
+
+forget_all : (n : ℕ) (held : Held) → times n held ≤ 1 → times n (without held n) ≡ 0
+forget_all n [] once = refl
+forget_all n (h ∷ hs) once = go (position (is_of n) (h ∷ hs)) refl where
+  go : (o : Option ℕ) → position (is_of n) (h ∷ hs) ≡ o → times n (option_map_or (λ i. swap_remove (h ∷ hs) i h) o (h ∷ hs)) ≡ 0
+  go None is = none_passes n (h ∷ hs) (no_place n (h ∷ hs) is)
+  go (Some i) is =
+      let at = place_is n (h ∷ hs) i is in
+      let less = swapped n (h ∷ hs) i h at.0 in
+      let passes = first_passes n (h ∷ hs) h (omega (arith, at.0, at.1)) in
+      let here : is_of n (get_or (h ∷ hs) i h) ≡ true = rw at.1 passes in
+      let is_one : one (is_of n (get_or (h ∷ hs) i h)) ≡ 1 = rw here refl in
+      omega arith
+
+-- what a block sets of the parameters of its transaction
+set_has : (k n : ℕ) (held : Held) (values : Values) → 1 ≤ times k (with_values held n values) → (k ≡ n) ⊎ (1 ≤ times k held)
+set_has k n held values some =
+    elim (cases_Bool (nat_eq k n)) [
+      | inl is ↦ inl (eqb-true k n is)
+      | inr other ↦ let same = set_others k n held values other in inr (omega arith)
+    ]
+
+set_all_once : (k n : ℕ) (held : Held) (values : Values) → times k held ≤ 1 → times k (with_values held n values) ≤ 1
+set_all_once k n held values once =
+    elim (cases_Bool (nat_eq k n)) [
+      | inl is ↦ let same = eqb-true k n is in rw same (set_once n held values (rw same at once))
+      | inr other ↦ let same = set_others k n held values other in omega arith
+    ]
+
+change_once : (k n : ℕ) (change : Change) (held : Held) → times k held ≤ 1 → times k (held_by change n held) ≤ 1
+change_once k n (changes.Transaction (own.Assign key to)) held once = set_all_once k n held (with_value (values_at held n) key to) once
+change_once k n (changes.Transaction (own.Loop key left to)) held once = set_all_once k n held (with_value (values_at held n) key left) once
+change_once k n (changes.Transaction own.Mark) held once = once
+change_once k n (changes.Transaction (own.Priority to)) held once = once
+change_once k n (changes.Transaction (own.Transfer to)) held once = once
+change_once k n (changes.Generate next) held once = once
+change_once k n (changes.Entity change) held once = once
+change_once k n changes.Nothing held once = once
+
+change_has : (k n : ℕ) (change : Change) (held : Held) → 1 ≤ times k (held_by change n held) → (k ≡ n) ⊎ (1 ≤ times k held)
+change_has k n (changes.Transaction (own.Assign key to)) held some = set_has k n held (with_value (values_at held n) key to) some
+change_has k n (changes.Transaction (own.Loop key left to)) held some = set_has k n held (with_value (values_at held n) key left) some
+change_has k n (changes.Transaction own.Mark) held some = inr some
+change_has k n (changes.Transaction (own.Priority to)) held some = inr some
+change_has k n (changes.Transaction (own.Transfer to)) held some = inr some
+change_has k n (changes.Generate next) held some = inr some
+change_has k n (changes.Entity change) held some = inr some
+change_has k n changes.Nothing held some = inr some
+
+-- ---- moves
+
+-- the parameters of each transaction are kept once, and of the living alone
+record AreKept (s : Machine) : Type 0 where
+  once : (k : ℕ) → times k s.parameters ≤ 1
+  alive : (k : ℕ) → 1 ≤ times k s.parameters → Lives k s
+
+same_kept : (s v : Machine) → v.parameters ≡ s.parameters → ((k : ℕ) → Lives k s → Lives k v) → AreKept s → AreKept v
+same_kept s v same live h = record {
+  once = λ k. rw same (h.once k);
+  alive = λ k some. live k (h.alive k (rw same at some));
+}
+
+module _ (s : Machine) (x : Transaction) (id : ℕ) (change : Change) (is : s.active ≡ Some x) (h : AreKept s) where
+  abbrev number : ℕ
+  number = (marked change s.clock (placed x id)).number
+
+  number_is : number ≡ x.number
+  number_is = (marked_same change s.clock (placed x id)).0
+
+  -- whoever has parameters behind the change lives before it
+  alive_before : (k : ℕ) → 1 ≤ times k (held_by change x.number s.parameters) → Lives k s
+  alive_before k some =
+      elim (change_has k x.number change s.parameters some) [
+        | inl same ↦
+            let was = active_crowd (has_number k) s x is in
+            let here = eq-eqb x.number k (sym same) in
+            let is_one : one (has_number k x) ≡ 1 = rw here refl in
+            omega arith
+        | inr before ↦ h.alive k before
+      ]
+
+  stays_kept : (fate : Fate) → (settled s x id change fate).parameters ≡ held_by change x.number s.parameters →
+      ((n : ℕ) → remains fate n ≡ n) → AreKept (settled s x id change fate)
+  stays_kept fate parameters stays = record {
+    once = λ k. rw parameters (change_once k x.number change s.parameters (h.once k));
+    alive = λ k some.
+        let lived = alive_before k (rw parameters at some) in
+        let was = active_crowd (has_number k) s x is in
+        let now = settled_crowd (has_number k) s x id change fate in
+        let still = stays (one (has_number k (marked change s.clock (placed x id)))) in
+        let same : one (has_number k (marked change s.clock (placed x id))) ≡ one (has_number k x) = ap (λ n. one (nat_eq n k)) number_is in
+        omega arith;
+  }
+
+  settled_kept : (fate : Fate) → AreKept (settled s x id change fate)
+  settled_kept fates.Active = stays_kept fates.Active refl (λ n. refl)
+  settled_kept fates.Current = stays_kept fates.Current refl (λ n. refl)
+  settled_kept (fates.Delayed until) = stays_kept (fates.Delayed until) refl (λ n. refl)
+  settled_kept (fates.Destroyed count) =
+      let held = held_by change x.number s.parameters in
+      record {
+        once = λ k. let fewer = forget_fewer k number held in let once = change_once k x.number change s.parameters (h.once k) in omega arith;
+        alive = λ k some.
+            elim (cases_Bool (nat_eq k number)) [
+              | inl same ↦
+                  let at = eqb-true k number same in
+                  let none = forget_all number held (change_once number x.number change s.parameters (h.once number)) in
+                  let some_there : 1 ≤ times number (without held number) = rw at at some in
+                  absurd (omega arith)
+              | inr other ↦
+                  let fewer = forget_fewer k number held in
+                  let lived = alive_before k (omega arith) in
+                  let was = active_crowd (has_number k) s x is in
+                  let now = settled_crowd (has_number k) s x id change (fates.Destroyed count) in
+                  let apart : nat_eq x.number k ≡ false = rw number_is at (nat_eq_symm number k ∙ other) in
+                  let not_he : one (has_number k x) ≡ 0 = rw apart refl in
+                  omega arith
+            ];
+      }
+
+let_in_parameters : (x : Transaction) (to : Option ℕ) (s : Machine) → (let_in x to s).parameters ≡ s.parameters
+let_in_parameters x None s = refl
+let_in_parameters x (Some id) s = refl
+
+all_made_parameters : (arrivals : List Arrival) (w : Making) (s : Machine) → (with_making (all_made arrivals w) s).parameters ≡ s.parameters
+all_made_parameters arrivals w s = refl
+
+-- each move
+moved_kept : (t : Listing) (s : Machine) (m : Move) → IsDecided t s m → AreKept s → AreKept (moved s m)
+moved_kept t s (moves.Start count arrivals) decided h =
+    same_kept s (moved s (moves.Start count arrivals)) refl (λ k lived. all_made_lives k arrivals (making_of s) (started count s) lived) h
+moved_kept t s moves.Command decided h = same_kept s (moved s moves.Command) refl (λ k lived. lived) h
+moved_kept t s (moves.Enter id change fate) decided h =
+    entered_has AreKept AreKept t s id change fate decided.1 h (λ x is. settled_kept s x id change is h fate)
+    (λ v. record {
+      nothing = λ g. g;
+      one = λ a coming g. same_kept v (with_making (made a (making_of v)) v) refl (λ k lived. made_lives k a (making_of v) v lived) g;
+      lets = λ w key x passed xs is g.
+          same_kept w (one_let_in key x (passed ++ xs) w) (let_in_parameters x x.destination (leaving w key (passed ++ xs)))
+          (λ k lived. let same = lets_same k w key x passed xs is in omega arith) g;
+    })
+moved_kept t s (moves.Refuse id key units) decided h =
+    with_active_has AreKept s.active (λ x. refused s x id key units) s h
+    (λ x is. same_kept s (refused s x id key units) refl
+    (λ k lived. let same = refused_crowd (has_number k) s x id key units is refl in omega arith) h)
+moved_kept t s moves.Pick decided h =
+    picked_has AreKept s s.current h
+    (λ x xs is. same_kept s (picked s (x ∷ xs)) refl (λ k lived. let same = picked_crowd (has_number k) s x xs decided is in omega arith) h)
+moved_kept t s (moves.Clock time) decided h =
+    same_kept s (moved s (moves.Clock time)) refl (λ k lived. let same = advanced_crowd (has_number k) s time in omega arith) h
+
+-- over a run
+all_kept : (t : Listing) (seed n : ℕ) (s : Machine) → run t seed n ≡ Ok s → AreKept s
+all_kept t seed n s there =
+    over_run t seed (λ n s. AreKept s) (record { once = λ k. omega arith; alive = λ k some. absurd (omega arith) })
+    (λ n s m streams there decided h. (let k = moved_kept t s m decided h in record { once = k.once; alive = k.alive }))
+    n s there
+
+-- what that says of the list of parameters
+some_times : (k : ℕ) (held : Held) → list_any (λ (h : ℕ × Values). nat_eq k h.0) held ≡ true → 1 ≤ times k held
+some_times k [] is = absurd cc
+some_times k (h ∷ hs) is =
+    elim (cases_Bool (nat_eq k h.0)) [
+      | inl here ↦ let is_one : one (nat_eq k h.0) ≡ 1 = rw here refl in omega arith
+      | inr other ↦ let rest = some_times k hs (rw other at is) in omega arith
+    ]
+
+pub parameters_are_of_the_living : ParametersAreOfTheLiving
+parameters_are_of_the_living t seed n s there number has =
+    lives_here number s ((all_kept t seed n s there).alive number (some_times number s.parameters has))

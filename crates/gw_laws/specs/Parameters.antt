@@ -1,0 +1,18 @@
+-- The parameters of transactions over every run from zero. (Manual: a parameter is a transaction's own.)
+use Rattle.std.specs.Prelude.{◌≡◌, ℕ, ℤ, ◌==◌, Bool, true, List, Ok}
+use Rattle.std.specs.List.{list_any}
+use Rattle.gw_names.specs.declared.key.Key.{Key}
+use Rattle.gw_meaning.specs.Listing.{Listing}
+use Rattle.gw_meaning.specs.Machine.{Machine}
+use Rattle.gw_meaning.specs.Step.{run}
+use Rattle.gw_laws.specs.Numbering.{lives}
+
+-- whether a transaction with this number has parameters
+abbrev pub has_parameters : Machine → ℕ → Bool
+has_parameters s number = list_any (λ (h : ℕ × List (Key × ℤ)). number == h.0) s.parameters
+
+-- parameters are kept of living transactions alone
+abbrev pub ParametersAreOfTheLiving : Type 0
+ParametersAreOfTheLiving =
+    (t : Listing) (seed n : ℕ) (s : Machine) → run t seed n ≡ Ok s →
+    (number : ℕ) → has_parameters s number ≡ true → lives s number ≡ true

@@ -1,0 +1,228 @@
+// ASSIGN and LOOP, and the value of a parameter: ask and test, and change nothing.
+ghost use Rattle.std.specs.Prelude.{◌≡◌, pos, option_copied};
+ghost use Rattle.gw_entities.specs.Parameters.{parameter_at};
+ghost use Rattle.gw_meaning.specs.Statements.{A, B, operand};
+ghost use Rattle.gw_meaning.specs.Evaluation.{value_there, value_held, parameter_value, ◌~>◌};
+ghost use Rattle.gw_meaning.specs.Step.{by_sign, or_zero, assign_to, assign_with, assign_prog, left_of, loop_back, loop_to, loop_with, loop_prog};
+ghost use Rattle.gw_scan.specs.Deciding.{Decides, Comes};
+
+use crate::case::{Case, Halt, ask_label};
+use crate::expression::arithmetic;
+use crate::notes::Notes;
+use crate::state::State;
+use gw_expr::{Expr, Node, Operator, Stop};
+use gw_meaning::operands::{A, B};
+use gw_meaning::{Asker, Block, Change, End, Fate, Move, Sign, StatementId, TransactionChange};
+use gw_names::Key;
+use gw_nums::{ArithmeticFault, Val};
+
+impl State {
+    // A parameter is set, or something is added to it or taken from it.
+    #[inline(never)]
+    pub(crate) fn assign_of(
+        &self,
+        case: Case,
+        asker: &Asker,
+        notes: &mut Notes,
+        id: StatementId,
+        block: &Block,
+    ) -> Result<Move, Halt>
+        ensures { Decides case.entry.version.now case.entry.seed
+            (assign_prog self.now asker.now id block.now.sign (operand block.now A) (operand block.now B))
+            result notes.old notes.new }
+    {
+        let parameter = self.entity(case, asker, notes, block.operand(A))?;
+        self.assign_at(case, asker, notes, id, block, parameter)
+    }
+
+    fn assign_at(
+        &self,
+        case: Case,
+        asker: &Asker,
+        notes: &mut Notes,
+        id: StatementId,
+        block: &Block,
+        key: Key,
+    ) -> Result<Move, Halt>
+        ensures { Decides case.entry.version.now case.entry.seed
+            (value_there self.now asker.now (operand block.now B) ~>
+            (λ v. assign_with id block.now.sign key (parameter_at self.now.parameters asker.now.number key) v))
+            result notes.old notes.new }
+    {
+        let value = self.value_there(case, asker, notes, block.operand(B))?;
+        let was = self.parameters.get(asker.number, &key);
+        assign_with(id, block.sign, key, was, value)
+    }
+
+    // A parameter loses 1, and the transaction goes to a block while it is not 0.
+    #[inline(never)]
+    pub(crate) fn loop_of(
+        &self,
+        case: Case,
+        asker: &Asker,
+        notes: &mut Notes,
+        id: StatementId,
+        block: &Block,
+    ) -> Result<Move, Halt>
+        ensures { Decides case.entry.version.now case.entry.seed
+            (loop_prog self.now asker.now id (operand block.now A) (operand block.now B))
+            result notes.old notes.new }
+    {
+        let key = self.entity(case, asker, notes, block.operand(A))?;
+        self.loop_at(case, asker, notes, id, key, block.operand(B))
+    }
+
+    fn loop_at(
+        &self,
+        case: Case,
+        asker: &Asker,
+        notes: &mut Notes,
+        id: StatementId,
+        key: Key,
+        label: Option<&Expr>,
+    ) -> Result<Move, Halt>
+        ensures { Decides case.entry.version.now case.entry.seed
+            (left_of (parameter_at self.now.parameters asker.now.number key) ~>
+            (λ left. loop_with id key left (option_copied label.entry))) result notes.old notes.new }
+    {
+        let was = self.parameters.get(asker.number, &key);
+        let left = left_of(was)?;
+        loop_with(case, notes, id, key, left, label)
+    }
+
+    // The value of a parameter of the transaction that asks.
+    pub(crate) fn parameter(&self, asker: &Asker, key: &Key) -> Result<Val, Halt>
+        ensures { Comes (parameter_value self.now asker.now key.now) result }
+    {
+        if !asker.is_transaction {
+            return Err(Halt::End(End::Error(Stop::NoParameter)));
+        }
+        value_held(self.parameters.get(asker.number, key))
+    }
+}
+
+// The value of a parameter, which is to be there.
+fn value_held(value: Option<Val>) -> Result<Val, Halt>
+    ensures { Comes (value_held value) result }
+{
+    match value {
+        Some(value) => Ok(value),
+        None => Err(Halt::End(End::Error(Stop::NoParameter))),
+    }
+}
+
+// What a value makes of a parameter, by the sign before it.
+fn by_sign(sign: Sign, was: Option<Val>, value: Val) -> Result<Val, ArithmeticFault>
+    ensures { result ≡ by_sign sign was value }
+{
+    match sign {
+        Sign::Absent => Ok(value),
+        Sign::Plus => Operator::Plus.apply(or_zero(was), value),
+        Sign::Minus => Operator::Minus.apply(or_zero(was), value),
+    }
+}
+
+fn or_zero(value: Option<Val>) -> Val
+    ensures { result ≡ or_zero value }
+{
+    match value {
+        Some(value) => value,
+        None => Val::ZERO,
+    }
+}
+
+fn assign_with(
+    id: StatementId,
+    sign: Sign,
+    key: Key,
+    was: Option<Val>,
+    value: Val,
+) -> Result<Move, Halt>
+    ensures { Comes (assign_with id sign key was value) result }
+{
+    let to = arithmetic(by_sign(sign, was, value))?;
+    assign_to(id, key, to)
+}
+
+fn assign_to(id: StatementId, key: Key, to: Val) -> Result<Move, Halt>
+    ensures { Comes (assign_to id key to) result }
+{
+    Ok(Move::Enter {
+        id,
+        change: Change::Transaction(TransactionChange::Assign { key, to }),
+        fate: Fate::Active,
+    })
+}
+
+// What a LOOP leaves of a parameter.
+fn left_of(was: Option<Val>) -> Result<Val, Halt>
+    ensures { Comes (left_of was) result }
+{
+    match was {
+        Some(value) => arithmetic(Operator::Minus.apply(value, one())),
+        None => Err(Halt::End(End::Error(Stop::NoParameter))),
+    }
+}
+
+fn one() -> Val
+    ensures { result ≡ pos 1 }
+{
+    match Val::new(1) {
+        Some(one) => one,
+        None => unreachable!(),
+    }
+}
+
+// At 0 to the next block, else back to the one with the label.
+fn loop_with(
+    case: Case,
+    notes: &mut Notes,
+    id: StatementId,
+    key: Key,
+    left: Val,
+    label: Option<&Expr>,
+) -> Result<Move, Halt>
+    ensures { Decides case.entry.version.now case.entry.seed (loop_with id key left (option_copied label.entry))
+        result notes.old notes.new }
+{
+    if left.magnitude() == 0 {
+        return assign_to(id, key, left);
+    }
+    loop_to(case, notes, id, key, left, label)
+}
+
+fn loop_to(
+    case: Case,
+    notes: &mut Notes,
+    id: StatementId,
+    key: Key,
+    left: Val,
+    label: Option<&Expr>,
+) -> Result<Move, Halt>
+    ensures { Decides case.entry.version.now case.entry.seed (loop_to id key left (option_copied label.entry))
+        result notes.old notes.new }
+{
+    let Some(expr) = label else {
+        return Err(Halt::End(End::Error(Stop::NoNextBlock)));
+    };
+    match expr.node() {
+        Node::Label(name) => {
+            let to = ask_label(case.version, notes, name)?;
+            loop_back(id, key, left, to)
+        }
+        _ => Err(Halt::End(End::Error(Stop::NoNextBlock))),
+    }
+}
+
+fn loop_back(id: StatementId, key: Key, left: Val, to: Option<StatementId>) -> Result<Move, Halt>
+    ensures { Comes (loop_back id key left to) result }
+{
+    match to {
+        Some(to) => Ok(Move::Enter {
+            id,
+            change: Change::Transaction(TransactionChange::Loop { key, left, to }),
+            fate: Fate::Active,
+        }),
+        None => Err(Halt::End(End::Error(Stop::NoNextBlock))),
+    }
+}
