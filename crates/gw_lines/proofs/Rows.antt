@@ -42,6 +42,7 @@ unfolding body_with
 built (bodies.Block block) = rw (values_back block.operands) refl
 built (bodies.Definition (definitions.Storage capacity)) = refl
 built (bodies.Definition (definitions.Equ z)) = refl
+built (bodies.Definition (definitions.Variable expression)) = refl
 built (bodies.Command (commands.Start count)) = refl
 built (bodies.Command (commands.Rmult values)) = rw (wholes_back values) refl
 
@@ -86,6 +87,8 @@ definition_made definition_verbs.Storage =
     of_row (verbs.Definition definition_verbs.Storage) _ refl (λ (c, u). makes (bodies.Definition (definitions.Storage c)) refl)
 definition_made definition_verbs.Equ =
     of_row (verbs.Definition definition_verbs.Equ) _ refl (λ (z, u). makes (bodies.Definition (definitions.Equ z)) refl)
+definition_made definition_verbs.Variable =
+    of_row (verbs.Definition definition_verbs.Variable) _ refl (λ (e, u). makes (bodies.Definition (definitions.Variable e)) refl)
 definition_made verb = tt
 
 command_made : (verb : CommandVerb) → MadeOf (verbs.Command verb) (forms_of_command verb)
