@@ -95,7 +95,7 @@ apart text left b f =
 begins : {most : ℕ} {rank : Rank} {room depth : ℕ} {ps : List Pending} {text : List ℕ} {ts : List Token} → is_high rank ≡ true
     → Waits most rank room depth ps text ts → (f : List ℕ) (e : Expression) → SpellsExpression Factor room f e
     → Complete most room (text ++ f) (behind depth ps (ts ++ postfix e))
-begins {_} {rank} {room} {depth} {ps} {text} {ts} high w f e s = record {
+begins {most} {rank} {room} {depth} {ps} {text} {ts} high w f e s = record {
   depth = depth;
   ps = ps;
   ts = ts ++ postfix e;
@@ -139,11 +139,11 @@ completes (behind_product rank room depth ps text ts left g b o high w t m) f e 
     tokens_is = three ts (postfix g) (postfix e) (tokens.Applied o ∷ []);
   };
 }
-completes (behind_sign rank room depth ps text ts w) f e s =
+completes {most} (behind_sign rank room depth ps text ts w) f e s =
     let ih = completes w (45 ∷ f) (Opposite e) (with_minus room f e s) in
-    subst (λ (t : List ℕ). Complete _ room t (completed depth (waits.Sign ∷ ps) (ts ++ postfix e)))
+    subst (λ (t : List ℕ). Complete most room t (completed depth (waits.Sign ∷ ps) (ts ++ postfix e)))
     (sym (append_assoc text (45 ∷ []) f))
-    (subst (λ (t : List Token). Complete _ room (text ++ 45 ∷ f) (completed depth ps t))
+    (subst (λ (t : List Token). Complete most room (text ++ 45 ∷ f) (completed depth ps t))
     (sym (append_assoc ts (postfix e) (tokens.Negated ∷ []))) ih)
 
 -- a state in which a sum is complete
@@ -158,7 +158,7 @@ record Summed (most : ℕ) (room : ℕ) (text : List ℕ) (s : State) : Type 0 w
 alone : {most : ℕ} {room depth : ℕ} {ps : List Pending} {first : List ℕ} {so_far : List Token} → Waits most Sum room depth ps first so_far
     → (left : List ℕ) (e : Expression) → SpellsExpression Product room left e
     → Summed most room (first ++ left) (behind depth ps (so_far ++ postfix e))
-alone {_} {room} {depth} {ps} {first} {so_far} w left e s = record {
+alone {most} {room} {depth} {ps} {first} {so_far} w left e s = record {
   depth = depth;
   ps = ps;
   ts = so_far ++ postfix e;
@@ -201,9 +201,9 @@ settles_by h (behind_sign rank room depth ps text ts w) f e s = absurd cc
 
 settles : {most : ℕ} {room depth : ℕ} {ps : List Pending} {text : List ℕ} {ts : List Token} → Stands most room depth ps text ts
     → Summed most room text (settled depth ps ts)
-settles {_} {room} {depth} {ps} {text} {ts} s =
-    subst (λ (t : List ℕ). Summed _ room t (settled depth ps ts)) (sym s.text_is)
-    (subst (λ (t : List Token). Summed _ room (s.first ++ s.left) (settled depth ps t)) (sym s.tokens_is)
+settles {most} {room} {depth} {ps} {text} {ts} s =
+    subst (λ (t : List ℕ). Summed most room t (settled depth ps ts)) (sym s.text_is)
+    (subst (λ (t : List Token). Summed most room (s.first ++ s.left) (settled depth ps t)) (sym s.tokens_is)
     (settles_by s.high s.waits_ s.left s.e s.spells))
 
 -- ---- where reading stands
@@ -225,17 +225,17 @@ data At (most : ℕ) : State → List ℕ → Type 0 where
       → Stands most room depth ps text ts → At most (worded word depth ps ts) (text ++ word)
 
 at_clean : {most : ℕ} {s : State} {text : List ℕ} → Clean most s text → At most s text
-at_clean (clean_before rank room depth ps text ts w) =
-    subst (λ (t : List ℕ). At _ (before depth ps ts) t) (append-nil text) (at_before rank room depth ps text ts [] w refl)
-at_clean (clean_behind room depth ps text ts s) =
-    subst (λ (t : List ℕ). At _ (behind depth ps ts) t) (append-nil text) (at_behind room depth ps text ts [] s)
+at_clean {most} (clean_before rank room depth ps text ts w) =
+    subst (λ (t : List ℕ). At most (before depth ps ts) t) (append-nil text) (at_before rank room depth ps text ts [] w refl)
+at_clean {most} (clean_behind room depth ps text ts s) =
+    subst (λ (t : List ℕ). At most (behind depth ps ts) t) (append-nil text) (at_behind room depth ps text ts [] s)
 
 clean_complete : {most : ℕ} {room : ℕ} {text : List ℕ} {s : State} → Complete most room text s → Clean most s text
-clean_complete {_} {room} {text} c =
-    subst (λ (x : State). Clean _ x text) (sym c.is) (clean_behind room c.depth c.ps text c.ts c.stands)
+clean_complete {most} {room} {text} c =
+    subst (λ (x : State). Clean most x text) (sym c.is) (clean_behind room c.depth c.ps text c.ts c.stands)
 
 same_clean : {most : ℕ} {s t : State} {text : List ℕ} → some s ≡ Some t → Clean most s text → Clean most t text
-same_clean {_} {s} {t} {text} e c = subst (λ (x : State). Clean _ x text) (some_is s t e) c
+same_clean {most} {s} {t} {text} e c = subst (λ (x : State). Clean most x text) (some_is s t e) c
 
 -- ---- a word is taken
 
@@ -247,11 +247,11 @@ atom_taken {room = room} w word h (Some a) is u e =
     same_clean e (clean_complete (completes w word (Single a) (a_single room word a (atom_found word a h is))))
 
 takes : {most : ℕ} {s : State} {text : List ℕ} → At most s text → (u : State) → taken s ≡ Some u → Clean most u text
-takes (at_before rank room depth ps text ts [] w h) u e =
-    subst (λ (t : List ℕ). Clean _ u t) (sym (append-nil text)) (same_clean e (clean_before rank room depth ps text ts w))
+takes {most} (at_before rank room depth ps text ts [] w h) u e =
+    subst (λ (t : List ℕ). Clean most u t) (sym (append-nil text)) (same_clean e (clean_before rank room depth ps text ts w))
 takes (at_before rank room depth ps text ts (b ∷ bs) w h) u e = atom_taken w (b ∷ bs) h (atom_of (b ∷ bs)) refl u e
-takes (at_behind room depth ps text ts [] s) u e =
-    subst (λ (t : List ℕ). Clean _ u t) (sym (append-nil text)) (same_clean e (clean_behind room depth ps text ts s))
+takes {most} (at_behind room depth ps text ts [] s) u e =
+    subst (λ (t : List ℕ). Clean most u t) (sym (append-nil text)) (same_clean e (clean_behind room depth ps text ts s))
 takes (at_behind room depth ps text ts (b ∷ bs) s) u e = absurd cc
 
 -- ---- a symbol
@@ -263,7 +263,7 @@ opens_in : {most : ℕ} {rank : Rank} (room : ℕ) {depth : ℕ} {ps : List Pend
     → Waits most rank room depth ps text ts → nat_lt depth 32 ≡ true
     → Clean most (before (suc depth) (waits.Opening ∷ ps) ts) (text ++ 40 ∷ [])
 opens_in zero {depth} w h = absurd (no_room depth (rooms w) h)
-opens_in {_} {rank} (suc room) {depth} {ps} {text} {ts} w h =
+opens_in {most} {rank} (suc room) {depth} {ps} {text} {ts} w h =
     clean_before Sum room (suc depth) (waits.Opening ∷ ps) (text ++ 40 ∷ []) ts (within rank room depth ps text ts w)
 
 opens : {most : ℕ} {rank : Rank} {room depth : ℕ} {ps : List Pending} {text : List ℕ} {ts : List Token}
@@ -282,14 +282,14 @@ closes_in : {most : ℕ} {room depth : ℕ} {ps : List Pending} {text : List ℕ
     → (left : List ℕ) (e : Expression) → SpellsExpression Sum room left e → (t : State)
     → closed depth ps (ts ++ postfix e) ≡ Some t → Clean most t ((text ++ left) ++ 41 ∷ [])
 closes_in (outermost depth k) left e s t h = absurd cc
-closes_in (within rank room depth ps text ts w) left e s t h =
-    subst (λ (x : List ℕ). Clean _ t x) (sym (spanned text left))
+closes_in {most} (within rank room depth ps text ts w) left e s t h =
+    subst (λ (x : List ℕ). Clean most t x) (sym (spanned text left))
     (same_clean h (clean_complete (completes w (40 ∷ (left ++ 41 ∷ [])) e (in_parentheses room left e s))))
 
 closes_by : {most : ℕ} {room depth : ℕ} {ps : List Pending} {text : List ℕ} {ts : List Token} → Sums most room depth ps text ts → (t : State)
     → closed depth ps ts ≡ Some t → Clean most t (text ++ 41 ∷ [])
-closes_by {depth = depth} {ps} s t h =
-    subst (λ (x : List ℕ). Clean _ t (x ++ 41 ∷ [])) (sym s.text_is)
+closes_by {most} {depth = depth} {ps} s t h =
+    subst (λ (x : List ℕ). Clean most t (x ++ 41 ∷ [])) (sym s.text_is)
     (closes_in s.waits_ s.left s.e s.spells t (ap (closed depth ps) (sym s.tokens_is) ∙ h))
 
 closes : {most : ℕ} {room depth : ℕ} {ps : List Pending} {text : List ℕ} {ts : List Token} → Stands most room depth ps text ts → (t : State)
@@ -298,10 +298,10 @@ closes s t h = let c = settles s in closes_by c.sums t (rw c.is at h)
 
 adds_by : {most : ℕ} {room depth : ℕ} {ps : List Pending} {text : List ℕ} {ts : List Token} → Sums most room depth ps text ts
     → (b : ℕ) (o : Operator) → Adds b o → Clean most (before depth (waits.Sum o ∷ ps) ts) (text ++ b ∷ [])
-adds_by {_} {room} {depth} {ps} {text} {ts} s b o a =
-    subst (λ (x : List ℕ). Clean _ (before depth (waits.Sum o ∷ ps) ts) (x ++ b ∷ [])) (sym s.text_is)
-    (subst (λ (x : List ℕ). Clean _ (before depth (waits.Sum o ∷ ps) ts) x) (sym (append_assoc s.first s.left (b ∷ [])))
-    (subst (λ (x : List Token). Clean _ (before depth (waits.Sum o ∷ ps) x) (s.first ++ (s.left ++ b ∷ []))) (sym s.tokens_is)
+adds_by {most} {room} {depth} {ps} {text} {ts} s b o a =
+    subst (λ (x : List ℕ). Clean most (before depth (waits.Sum o ∷ ps) ts) (x ++ b ∷ [])) (sym s.text_is)
+    (subst (λ (x : List ℕ). Clean most (before depth (waits.Sum o ∷ ps) ts) x) (sym (append_assoc s.first s.left (b ∷ [])))
+    (subst (λ (x : List Token). Clean most (before depth (waits.Sum o ∷ ps) x) (s.first ++ (s.left ++ b ∷ []))) (sym s.tokens_is)
     (clean_before Product room depth (waits.Sum o ∷ ps) _ _
     (behind_sum room depth ps s.first s.so_far s.left s.e b o s.waits_ s.spells a))))
 
@@ -311,10 +311,10 @@ adds s b o a t h = let c = settles s in same_clean (rw c.is at h) (adds_by c.sum
 
 multiplies : {most : ℕ} {room depth : ℕ} {ps : List Pending} {text : List ℕ} {ts : List Token} → Stands most room depth ps text ts
     → (b : ℕ) (o : Operator) → Multiplies b o → Clean most (before depth (waits.Product o ∷ ps) ts) (text ++ b ∷ [])
-multiplies {_} {room} {depth} {ps} {text} {ts} s b o m =
-    subst (λ (x : List ℕ). Clean _ (before depth (waits.Product o ∷ ps) ts) (x ++ b ∷ [])) (sym s.text_is)
-    (subst (λ (x : List ℕ). Clean _ (before depth (waits.Product o ∷ ps) ts) x) (sym (append_assoc s.first s.left (b ∷ [])))
-    (subst (λ (x : List Token). Clean _ (before depth (waits.Product o ∷ ps) x) (s.first ++ (s.left ++ b ∷ []))) (sym s.tokens_is)
+multiplies {most} {room} {depth} {ps} {text} {ts} s b o m =
+    subst (λ (x : List ℕ). Clean most (before depth (waits.Product o ∷ ps) ts) (x ++ b ∷ [])) (sym s.text_is)
+    (subst (λ (x : List ℕ). Clean most (before depth (waits.Product o ∷ ps) ts) x) (sym (append_assoc s.first s.left (b ∷ [])))
+    (subst (λ (x : List Token). Clean most (before depth (waits.Product o ∷ ps) x) (s.first ++ (s.left ++ b ∷ []))) (sym s.tokens_is)
     (clean_before Factor room depth (waits.Product o ∷ ps) _ _
     (behind_product s.rank room depth ps s.first s.so_far s.left s.e b o s.high s.waits_ s.spells m))))
 
@@ -334,34 +334,34 @@ symbol_read (clean_behind room depth ps text ts s) (multiplying b o m) t h = sam
 
 -- ---- a text
 
-pub then_some : {most : ℕ} {A B : Type 0} (f : A → Option B) (o : Option A) (y : B) → option_and_then f o ≡ Some y
+pub then_some : {A B : Type 0} (f : A → Option B) (o : Option A) (y : B) → option_and_then f o ≡ Some y
     → (x : A) × (o ≡ Some x) × (f x ≡ Some y)
 then_some f None y e = absurd cc
 then_some f (Some x) y e = (x, refl, e)
 
 byte_read : {most : ℕ} {s : State} {text : List ℕ} → At most s text → (b : ℕ) → is_word b ≡ true → (t : State) → by_kind None b s ≡ Some t
     → At most t (text ++ b ∷ [])
-byte_read (at_before rank room depth ps text ts word w h) b k t e =
-    subst (λ (x : State). At _ x ((text ++ word) ++ b ∷ [])) (some_is _ t e)
-    (subst (λ (x : List ℕ). At _ (reading (word ++ b ∷ []) depth ps ts) x) (sym (append_assoc text word (b ∷ [])))
+byte_read {most} (at_before rank room depth ps text ts word w h) b k t e =
+    subst (λ (x : State). At most x ((text ++ word) ++ b ∷ [])) (some_is _ t e)
+    (subst (λ (x : List ℕ). At most (reading (word ++ b ∷ []) depth ps ts) x) (sym (append_assoc text word (b ∷ [])))
     (at_before rank room depth ps text ts (word ++ b ∷ []) w (both_words word (b ∷ []) h (one_word b k))))
-byte_read (at_behind room depth ps text ts word s) b k t e =
-    subst (λ (x : State). At _ x ((text ++ word) ++ b ∷ [])) (some_is _ t e)
-    (subst (λ (x : List ℕ). At _ (worded (word ++ b ∷ []) depth ps ts) x) (sym (append_assoc text word (b ∷ [])))
+byte_read {most} (at_behind room depth ps text ts word s) b k t e =
+    subst (λ (x : State). At most x ((text ++ word) ++ b ∷ [])) (some_is _ t e)
+    (subst (λ (x : List ℕ). At most (worded (word ++ b ∷ []) depth ps ts) x) (sym (append_assoc text word (b ∷ [])))
     (at_behind room depth ps text ts (word ++ b ∷ []) s))
 
 kind_read : {most : ℕ} {s : State} {text : List ℕ} → At most s text → {b : ℕ} {k : Option Symbol} → Kinds b k → (t : State) → by_kind k b s ≡ Some t
     → At most t (text ++ b ∷ [])
 kind_read a (a_byte b h) t e = byte_read a b h t e
-kind_read {_} {s} a (a_symbol b k i) t e =
+kind_read {most} {s} a (a_symbol b k i) t e =
     let u = then_some (with_symbol k) (taken s) t e in at_clean (symbol_read (takes a u.0 u.1) i t u.2)
 
-runs : (bytes : List ℕ) {s : State} {text : List ℕ} → At most s text → (t : State) → run bytes s ≡ Some t → At most t (text ++ bytes)
-runs [] {s} {text} a t e =
-    subst (λ (x : List ℕ). At _ t x) (sym (append-nil text)) (subst (λ (x : State). At _ x text) (some_is s t e) a)
-runs (b ∷ bs) {s} {text} a t e =
+runs : {most : ℕ} (bytes : List ℕ) {s : State} {text : List ℕ} → At most s text → (t : State) → run bytes s ≡ Some t → At most t (text ++ bytes)
+runs {most} [] {s} {text} a t e =
+    subst (λ (x : List ℕ). At most t x) (sym (append-nil text)) (subst (λ (x : State). At most x text) (some_is s t e) a)
+runs {most} (b ∷ bs) {s} {text} a t e =
     let u = then_some (λ v. run bs v) (step b s) t e in
-    subst (λ (x : List ℕ). At _ t x) (append_assoc text (b ∷ []) bs) (runs bs (kind_read a (kind_of b) u.0 u.1) t u.2)
+    subst (λ (x : List ℕ). At most t x) (append_assoc text (b ∷ []) bs) (runs bs (kind_read a (kind_of b) u.0 u.1) t u.2)
 
 -- what spells an expression of these tokens, in which so many parentheses may be open at once
 abbrev pub SpellsTokens : ℕ → List ℕ → List Token → Type 0
@@ -375,8 +375,8 @@ all_spelled (within rank room depth ps text ts w) left e s read h = absurd cc
 
 sum_spelled : {most : ℕ} {room depth : ℕ} {ps : List Pending} {text : List ℕ} {ts : List Token} → Sums most room depth ps text ts
     → (read : List Token) → all_closed ps ts ≡ Some read → SpellsTokens most text read
-sum_spelled {ps = ps} s read h =
-    subst (λ (x : List ℕ). SpellsTokens _ x read) (sym s.text_is)
+sum_spelled {most} {ps = ps} s read h =
+    subst (λ (x : List ℕ). SpellsTokens most x read) (sym s.text_is)
     (all_spelled s.waits_ s.left s.e s.spells read (ap (all_closed ps) (sym s.tokens_is) ∙ h))
 
 end_found : {most : ℕ} {s : State} {text : List ℕ} → Clean most s text → (read : List Token) → ended s ≡ Some read → SpellsTokens most text read

@@ -77,13 +77,8 @@ fn scope_of(class: Class) -> Scope
         | Class::V => Scope::Entity,
         Class::N | Class::W => Scope::Block,
         Class::Rn => Scope::Stream,
-        Class::P
-        | Class::X
-        | Class::Ls
-        | Class::Ch
-        | Class::Cc
-        | Class::Tc
-        | Class::Fn => Scope::Later,
+        Class::P | Class::X | Class::Ls | Class::Ch | Class::Cc | Class::Tc | Class::Fn =>
+            Scope::Later,
     }
 }
 

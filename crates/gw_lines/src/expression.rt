@@ -1,5 +1,5 @@
 ghost use Rattle.std.specs.Prelude.{◌≡◌, ◌∷◌, [], true, IfOk, option_map};
-ghost use Rattle.gw_lines.specs.Expressions.{symbol_of, before, completed, settled, taken, closed_in, opened, by_symbol, with_symbol, with_byte, step, ended, tokens_of, before_closing, inside_of, computed_of, bare_of};
+ghost use Rattle.gw_lines.specs.Expressions.{symbol_of, before, completed, settled, taken, closed_in, opened, by_symbol, with_symbol, with_byte, step, ended, tokens_of, before_closing, inside_of, computed, computed_of, bare_of};
 
 use crate::atom::atom_of;
 use crate::listed::shallower;
