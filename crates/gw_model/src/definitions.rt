@@ -195,7 +195,7 @@ fn is_equ(definitions: &BTreeMap<Name, Definition>, name: &Name) -> bool
 
 // Whether a definition is a storage, or an EQU in the place of one.
 fn is_storage_or_equ(definition: Option<&Definition>) -> bool
-    ensures { result ≡ is_storage_or_equ (option_copied definition) }
+    ensures { result ≡ is_storage_or_equ (option_copied definition.entry) }
 {
     match definition {
         Some(Definition::Storage { .. } | Definition::Equ { .. }) => true,
@@ -205,7 +205,7 @@ fn is_storage_or_equ(definition: Option<&Definition>) -> bool
 
 // Whether a definition is a VARIABLE, or an EQU in the place of one.
 fn is_variable_or_equ(definition: Option<&Definition>) -> bool
-    ensures { result ≡ is_variable_or_equ (option_copied definition) }
+    ensures { result ≡ is_variable_or_equ (option_copied definition.entry) }
 {
     match definition {
         Some(Definition::Variable { .. } | Definition::Equ { .. }) => true,
@@ -215,7 +215,7 @@ fn is_variable_or_equ(definition: Option<&Definition>) -> bool
 
 // Whether a definition is what an attribute of a class is of, or an EQU.
 fn is_wanted_or_equ(class: Class, definition: Option<&Definition>) -> bool
-    ensures { result ≡ is_wanted_or_equ class (option_copied definition) }
+    ensures { result ≡ is_wanted_or_equ class (option_copied definition.entry) }
 {
     if is_of_storage(class) {
         is_storage_or_equ(definition)
