@@ -8,14 +8,14 @@ use Rattle.gw_meaning.specs.declared.item.Outcome.{Outcome}
 use Rattle.gw_meaning.specs.declared.statement.Statement.{Statement}
 use Rattle.gw_meaning.specs.declared.statement.Definition.{Definition}
 use Rattle.gw_meaning.specs.declared.statement.Numbered.{Numbered}
-use Rattle.gw_meaning.specs.Listing.{Listing, block_of_body, labelled_in, is_start, starts, seed_at, seed_in, has_label, command_of_body, definition_of_body, definition_if, or_next, defined_in}
+use Rattle.gw_meaning.specs.Listing.{Listing, operands_of_body, labelled_in, is_start, starts, seed_at, seed_in, has_label, command_of_body, definition_of_body, definition_if, or_next, defined_in}
 use Rattle.gw_meaning.specs.Machine.{Machine, zero_state}
 use Rattle.gw_meaning.specs.Step.{step}
 use Rattle.gw_meaning.specs.Point.{outcome_of}
 use Rattle.gw_model.specs.Listed.{numbered}
 use Rattle.gw_model.proofs.Numbers.{numbered_listed}
 use Rattle.gw_frame.specs.Moved.{IsMove, moved_machine, moved_result}
-use Rattle.gw_model.specs.Faults.{is_labelled, has_label_twice, holds_of, block_operands, holds_in, is_unknown_label, has_unknown_label, is_undefined, has_unknown_definition, is_equ_named, has_equ_named}
+use Rattle.gw_model.specs.Faults.{is_labelled, has_label_twice, holds_of, holds_in, is_unknown_label, has_unknown_label, is_undefined, has_unknown_definition, is_equ_named, has_equ_named}
 use Rattle.gw_model.specs.Listed.{counted_label}
 use Rattle.gw_frame.specs.Renamed.{statements_of, AreRenamed, IsSameModel, IsRenamed}
 use Rattle.gw_frame.proofs.Renaming.{commands_renamed, label_renamed}
@@ -141,7 +141,7 @@ lines_alike test move [] [] r = refl
 lines_alike test move [] (m ∷ ms) r = absurd r
 lines_alike test move (l ∷ ls) [] r = absurd r
 lines_alike test move (l ∷ ls) (m ∷ ms) r =
-    ap₂ (λ a b. a || b) (ap (λ (s : Statement). list_any (holds_of test) (block_operands (block_of_body s.body))) r.1)
+    ap₂ (λ a b. a || b) (ap (λ (s : Statement). list_any (holds_of test) (operands_of_body s.body)) r.1)
     (lines_alike test move ls ms r.2)
 
 unknown_renamed : (move : ℕ → ℕ) → IsMove move → (ls ms : List Numbered) → AreRenamed move ls ms → has_unknown_label ms ≡ has_unknown_label ls

@@ -9,13 +9,14 @@ use Rattle.std.proofs.lemmas.Slice.Eq.{bytes_eq-Decides}
 use Rattle.std.proofs.lemmas.Bool.{cases_Bool, or_parts}
 use Rattle.std.proofs.lemmas.List.Elements.{filter_map-append}
 use Rattle.std.proofs.lemmas.List.Folds.{list_any-append}
+use Rattle.gw_expr.specs.Term.{Term}
 use Rattle.gw_meaning.specs.declared.item.Item.{Item}
 use Rattle.gw_meaning.specs.declared.item.Item.TheVariants as items
 use Rattle.gw_meaning.specs.declared.statement.Body.{Body}
 use Rattle.gw_meaning.specs.declared.statement.Body.TheVariants as bodies
 use Rattle.gw_meaning.specs.declared.statement.Statement.{Statement}
 use Rattle.gw_meaning.specs.declared.statement.Numbered.{Numbered}
-use Rattle.gw_meaning.specs.Listing.{Listing, block_of_body, is_block, is_generate, is_generate_body, has_label, labelled_in, generates_in, capacity_in, command_of_body, defines, definition_if, definition_of, definition_of_body, first_said, is_command, number_of, or_next, units_of}
+use Rattle.gw_meaning.specs.Listing.{Listing, block_of_body, is_block, is_generate, is_generate_body, has_label, labelled_in, generates_in, capacity_in, command_of_body, defines, definition_if, definition_of, definition_of_body, first_said, is_command, number_of, expression_of, or_next, units_of}
 use Rattle.gw_meaning.specs.Questions.{Answer, ask}
 use Rattle.gw_meaning.specs.Reads.{is_use}
 use Rattle.gw_edit.specs.Same.{same_statement, same_label}
@@ -246,6 +247,20 @@ module _ (name : List ℕ) where
       elim (has_label name (Some label)) as (λ b. number_of (definition_if b (Some (definitions.Storage capacity))) ≡ None) [ true ↦ refl | false ↦ refl ]
   no_number (Some label) (Some (definitions.Equ value)) h =
       ap (λ b. number_of (definition_if b (Some (definitions.Equ value)))) (other_name label h)
+  no_number (Some label) (Some (definitions.Variable expression)) h =
+      elim (has_label name (Some label)) as (λ b. number_of (definition_if b (Some (definitions.Variable expression))) ≡ None) [ true ↦ refl | false ↦ refl ]
+
+  -- the expression of the VARIABLE
+  pub no_expression : IsSilent expression_of refl (items.Variable name)
+  no_expression None None h = refl
+  no_expression None (Some definition) h = refl
+  no_expression (Some label) None h = ap expression_of (nothing_defined (Some label))
+  no_expression (Some label) (Some (definitions.Storage capacity)) h =
+      elim (has_label name (Some label)) as (λ b. expression_of (definition_if b (Some (definitions.Storage capacity))) ≡ None) [ true ↦ refl | false ↦ refl ]
+  no_expression (Some label) (Some (definitions.Equ value)) h =
+      elim (has_label name (Some label)) as (λ b. expression_of (definition_if b (Some (definitions.Equ value))) ≡ None) [ true ↦ refl | false ↦ refl ]
+  no_expression (Some label) (Some (definitions.Variable expression)) h =
+      ap (λ b. expression_of (definition_if b (Some (definitions.Variable expression)))) (other_name label h)
 
   -- whether so many units fit
   abbrev pub fitting : ℕ → Option Definition → Option Bool
@@ -259,6 +274,22 @@ module _ (name : List ℕ) where
       ap (λ b. fitting units (definition_if b (Some (definitions.Storage capacity)))) ((and_true_parts (bytes_eq label name) h))
   no_units units (Some label) (Some (definitions.Equ value)) h =
       elim (has_label name (Some label)) as (λ b. fitting units (definition_if b (Some (definitions.Equ value))) ≡ None) [ true ↦ refl | false ↦ refl ]
+  no_units units (Some label) (Some (definitions.Variable expression)) h =
+      elim (has_label name (Some label)) as (λ b. fitting units (definition_if b (Some (definitions.Variable expression))) ≡ None)
+      [ true ↦ refl | false ↦ refl ]
+
+  -- how many units it has
+  pub no_capacity : IsSilent units_of refl (items.Storage name)
+  no_capacity None None h = refl
+  no_capacity None (Some definition) h = refl
+  no_capacity (Some label) None h = ap units_of (nothing_defined (Some label))
+  no_capacity (Some label) (Some (definitions.Storage capacity)) h =
+      ap (λ b. units_of (definition_if b (Some (definitions.Storage capacity)))) ((and_true_parts (bytes_eq label name) h))
+  no_capacity (Some label) (Some (definitions.Equ value)) h =
+      elim (has_label name (Some label)) as (λ b. units_of (definition_if b (Some (definitions.Equ value))) ≡ None) [ true ↦ refl | false ↦ refl ]
+  no_capacity (Some label) (Some (definitions.Variable expression)) h =
+      elim (has_label name (Some label)) as (λ b. units_of (definition_if b (Some (definitions.Variable expression))) ≡ None)
+      [ true ↦ refl | false ↦ refl ]
 
 -- of the storage of a name the first that is defined tells whether so many units fit
 fits_said : (units : ℕ) (o : Option ℕ) → nat_le units (unwrap_or o 0) ≡ unwrap_or (option_map (λ c. nat_le units c) o) (nat_le units 0)
@@ -323,6 +354,22 @@ by_lines (items.Fits name units) listed = record {
   is = λ t seed. fits_listed name units t.lines;
   line = silent_line name (fitting name units) refl (items.Fits name units) (no_units name units);
   change = λ line s was is h. silent_blocks name (fitting name units) refl line (changed_line line s) was is;
+}
+by_lines (items.Storage name) listed = record {
+  X = ℕ;
+  says = λ line. units_of (defines name line);
+  made = λ horizon seed ns. unwrap_or (leading ns) 0;
+  is = λ t seed. ap (λ o. unwrap_or o 0) (said_listed (λ line. units_of (defines name line)) t.lines);
+  line = silent_line name units_of refl (items.Storage name) (no_capacity name);
+  change = λ line s was is h. silent_blocks name units_of refl line (changed_line line s) was is;
+}
+by_lines (items.Variable name) listed = record {
+  X = Term;
+  says = λ line. expression_of (defines name line);
+  made = λ horizon seed es. leading es;
+  is = λ t seed. said_listed (λ line. expression_of (defines name line)) t.lines;
+  line = silent_line name expression_of refl (items.Variable name) (no_expression name);
+  change = λ line s was is h. silent_blocks name expression_of refl line (changed_line line s) was is;
 }
 by_lines item listed = record {
   X = Unit {0};

@@ -1,6 +1,7 @@
 -- An edit of a capacity touches the amounts that the two capacities answer in two ways, and nothing else.
 use Rattle.std.proofs.Common.{◌≡◌, ◌&&◌, ◌||◌, ℕ, suc, ◌+◌, ◌-◌, ◌≤◌, Bool, true, false, cond, not, nat_le, List, [], ◌∷◌, ◌++◌, take, drop, Option, Some, None, Ok, slice_get, unwrap_or, refl, ap, sym, ◌∙◌, arith}
 use Rattle.std.specs.Str.{bytes_eq}
+use Rattle.std.proofs.lemmas.Bool.Decides.{nat_tests}
 use Rattle.std.proofs.lemmas.Slice.Eq.{bytes_eq-Decides}
 use Rattle.gw_meaning.specs.declared.item.Item.{Item}
 use Rattle.gw_meaning.specs.declared.item.Item.TheVariants as items
@@ -12,7 +13,7 @@ use Rattle.gw_meaning.specs.declared.statement.Numbered.{Numbered}
 use Rattle.gw_meaning.specs.Listing.{Listing, nth, has_label, definition_of_body, definition_if, defines, or_next, units_of, capacity_in, capacity_at}
 use Rattle.gw_model.specs.Faults.{is_outside}
 use Rattle.gw_model.specs.Spliced.{with_splice}
-use Rattle.gw_record.specs.Asks.{differs}
+use Rattle.gw_record.specs.Asks.{differs, is_other}
 use Rattle.gw_frame.specs.Alike.{SameAnswer}
 use Rattle.gw_edit.specs.declared.touch.Probe.TheVariants.{Amounts}
 use Rattle.gw_lines.specs.Printed.{storage_of}
@@ -51,6 +52,7 @@ gives name n (line ∷ lines) place h = go (defines name line) refl h (gives nam
       (storage_in name (n + 1) lines ≡ Some place → Gives name lines (n + 1) place) → Gives name (line ∷ lines) n place
   go None is k rest = later (ap units_of is) (rest k)
   go (Some (definitions.Equ value)) is k rest = later (ap units_of is) (rest k)
+  go (Some (definitions.Variable expression)) is k rest = later (ap units_of is) (rest k)
   go (Some (definitions.Storage from)) is k rest = record {
     index = 0;
     at = (let same : n ≡ place = cc in omega (arith, same));
@@ -104,6 +106,10 @@ two_ways from to amount h = go (nat_le amount from) (nat_le amount to) h where
   go false true k same = absurd cc
   go false false k same = absurd cc
 
+-- another capacity is another one
+two_capacities : (from to : ℕ) → is_other (Some from) (Some to) ≡ true → to ≡ from → ⊥
+two_capacities from to h same = grind (arith, nat_tests, h, same)
+
 answered : (t u : Listing) (a b : ℕ) (name : List ℕ) (from to : ℕ) → capacity_at t name ≡ from → capacity_at u name ≡ to → (i : Item) →
     is_touched (Amounts name (Some from) (Some to) ∷ []) i ≡ true → SameAnswer t a u b i → ⊥
 answered t u a b name from to was is (items.Fits other amount) h same = go (bytes_eq name other) refl (differs (Some from) (Some to) amount) refl h where
@@ -114,6 +120,15 @@ answered t u a b name from to was is (items.Fits other amount) h same = go (byte
       let here : name ≡ other = (bytes_eq-Decides name other).0 named in
       let alike : nat_le amount (capacity_at u name) ≡ nat_le amount (capacity_at t name) = rw here same in
       two_ways from to amount there (ap (λ n. nat_le amount n) (sym is) ∙ (alike ∙ ap (λ n. nat_le amount n) was))
+answered t u a b name from to was is (items.Storage other) h same = go (bytes_eq name other) refl (is_other (Some from) (Some to)) refl h where
+  go : (e : Bool) → bytes_eq name other ≡ e → (d : Bool) → is_other (Some from) (Some to) ≡ d → ((e && d) || false) ≡ true → ⊥
+  go false named d there k = absurd cc
+  go true named false there k = absurd cc
+  go true named true there k =
+      let here : name ≡ other = (bytes_eq-Decides name other).0 named in
+      let alike : capacity_at u name ≡ capacity_at t name = rw here same in
+      two_capacities from to there (sym is ∙ (alike ∙ was))
+answered t u a b name from to was is (items.Variable other) h same = absurd cc
 answered t u a b name from to was is (items.Block id) h same = absurd cc
 answered t u a b name from to was is (items.After id) h same = absurd cc
 answered t u a b name from to was is (items.Label label) h same = absurd cc

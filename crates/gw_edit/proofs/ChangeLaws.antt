@@ -1,24 +1,25 @@
 -- Two versions of which one has another statement for a statement: what is not touched, they answer alike.
 use Rattle.std.proofs.Common.{◌≡◌, ℕ, Bool, true, false, cond, not, List, ◌∷◌, ◌++◌, Some, None, option_and_then, ◌==◌, ◌&&◌, refl, ap, sym, subst, ◌∙◌, ⊎_elim, Option, [], is_some, nat_le, option_map, ℤ}
 use Rattle.std.specs.List.{filter_map, cons_option}
-use Rattle.std.proofs.lemmas.Bool.{cases_Bool, and_parts, or_parts}
+use Rattle.std.proofs.lemmas.Bool.{cases_Bool, and_parts, or_parts, eqb-true}
+use Rattle.gw_expr.specs.Term.{Term}
 use Rattle.gw_meaning.specs.declared.item.Item.{Item}
 use Rattle.gw_meaning.specs.declared.item.Item.TheVariants as items
 use Rattle.gw_meaning.specs.declared.statement.Statement.{Statement}
 use Rattle.gw_meaning.specs.declared.statement.Numbered.{Numbered}
-use Rattle.gw_meaning.specs.Listing.{Listing, line_in, block_of, block_of_body, is_block, command_of, first_block, after_in, nth, command_of_body, defines, definition_if, definition_of, definition_of_body, has_label, is_generate_body, number_of, units_of}
+use Rattle.gw_meaning.specs.Listing.{Listing, line_in, block_of, block_of_body, is_block, command_of, first_block, after_in, nth, command_of_body, defines, definition_if, definition_of, definition_of_body, has_label, is_generate_body, number_of, expression_of, units_of}
 use Rattle.gw_meaning.specs.Questions.{ask}
 use Rattle.gw_model.proofs.Numbers.{other_way}
-use Rattle.gw_edit.specs.Same.{same_statement}
-use Rattle.gw_edit.specs.Touching.{lines_before, one_if, line_probes, change_places, block_change, splice_probes, is_touched, one_name, other_change, same_number}
+use Rattle.gw_edit.specs.Same.{same_statement, same_term}
+use Rattle.gw_edit.specs.Touching.{lines_before, one_if, line_probes, change_places, block_change, splice_probes, is_touched, one_name, other_change, same_number, same_expression}
 use Rattle.gw_edit.proofs.Fronts.{block_in, block_behind, after_behind, commands_behind}
-use Rattle.gw_edit.proofs.SameBlocks.{statement_same}
+use Rattle.gw_edit.proofs.SameBlocks.{statement_same, term_same}
 use Rattle.gw_edit.proofs.ByLines.{untouched_both, probed_at, untouched_at, changed_line, change_parts, by_lines, changed_alike, IsListed, bytes_other, fitting, generate_none, generate_of, label_of}
 use Rattle.std.proofs.lemmas.Bool.Decides.{Decides-int_eq}
 use Rattle.gw_edit.proofs.LineLaws.{command_none, line_alike}
 use Rattle.std.specs.Str.{bytes_eq}
 use Rattle.std.proofs.lemmas.Slice.Eq.{bytes_eq-Decides}
-use Rattle.gw_record.specs.Asks.{differs, is_ask}
+use Rattle.gw_record.specs.Asks.{differs, is_ask, is_other}
 use Rattle.gw_meaning.specs.declared.statement.Body.{Body}
 use Rattle.gw_meaning.specs.declared.statement.Definition.{Definition}
 use Rattle.std.specs.Ordering.{int_eq}
@@ -99,6 +100,7 @@ units_alike true from to amount h = go (nat_le amount from) (nat_le amount to) h
   go false true k = absurd cc
   go false false k = refl
 
+-- what definitions say to which they say nothing, whether they are of the name or not
 numberless : (b : Bool) (c : ℕ) → number_of (definition_if b (Some (definitions.Storage c))) ≡ None
 numberless true c = refl
 numberless false c = refl
@@ -106,6 +108,39 @@ numberless false c = refl
 unitless : (b : Bool) (z : ℤ) → units_of (definition_if b (Some (definitions.Equ z))) ≡ None
 unitless true z = refl
 unitless false z = refl
+
+storage_unexpressed : (b : Bool) (c : ℕ) → expression_of (definition_if b (Some (definitions.Storage c))) ≡ None
+storage_unexpressed true c = refl
+storage_unexpressed false c = refl
+
+equ_unexpressed : (b : Bool) (z : ℤ) → expression_of (definition_if b (Some (definitions.Equ z))) ≡ None
+equ_unexpressed true z = refl
+equ_unexpressed false z = refl
+
+variable_numberless : (b : Bool) (e : Term) → number_of (definition_if b (Some (definitions.Variable e))) ≡ None
+variable_numberless true e = refl
+variable_numberless false e = refl
+
+variable_unitless : (b : Bool) (e : Term) → units_of (definition_if b (Some (definitions.Variable e))) ≡ None
+variable_unitless true e = refl
+variable_unitless false e = refl
+
+-- two definitions of one name that say nothing of another kind
+nothing_said : {X : Type 0} (f : Option Definition → Option X) (line other : Numbered) (label : List ℕ) (d e : Definition) (name : List ℕ) →
+    line.statement.label ≡ Some label → other.statement.label ≡ Some label → definition_of line ≡ Some d → definition_of other ≡ Some e →
+    ((b : Bool) → f (definition_if b (Some d)) ≡ None) → ((b : Bool) → f (definition_if b (Some e)) ≡ None) → f (defines name other) ≡ f (defines name line)
+nothing_said f line other label d e name l m was is before behind =
+    let b = bytes_eq label name in
+    ap f (defines_it other label e name m is) ∙ (behind b ∙ sym (ap f (defines_it line label d name l was) ∙ before b))
+
+-- one capacity, where another one is touched
+capacity_alike : (b : Bool) (from to : ℕ) → (b && is_other (Some from) (Some to)) ≡ false →
+    units_of (definition_if b (Some (definitions.Storage to))) ≡ units_of (definition_if b (Some (definitions.Storage from)))
+capacity_alike false from to h = refl
+capacity_alike true from to h = go (from == to) refl h where
+  go : (same : Bool) → (from == to) ≡ same → not same ≡ false → Some to ≡ Some from
+  go true is k = ap (λ n. Some n) (sym (eqb-true from to is))
+  go false is k = absurd cc
 
 units_said : (i : Item) (label : List ℕ) (from to : ℕ) (line other : Numbered) → line.statement.label ≡ Some label → other.statement.label ≡ Some label →
     definition_of line ≡ Some (definitions.Storage from) → definition_of other ≡ Some (definitions.Storage to) → block_of line ≡ None →
@@ -118,11 +153,15 @@ units_said (items.Cmd j) label from to line other l m was is no_block none h lis
 units_said items.Generates label from to line other l m was is no_block none h listed = generates_said line other no_block none
 units_said (items.Label name) label from to line other l m was is no_block none h listed = label_said name line other no_block none
 units_said (items.Name name) label from to line other l m was is no_block none h listed =
-    let b = bytes_eq label name in
-    ap number_of (defines_it other label _ name m is) ∙ (numberless b to ∙ sym (ap number_of (defines_it line label _ name l was) ∙ numberless b from))
+    nothing_said number_of line other label _ _ name l m was is (λ b. numberless b from) (λ b. numberless b to)
 units_said (items.Fits name amount) label from to line other l m was is no_block none h listed =
     ap (fitting name amount) (defines_it other label _ name m is) ∙
     (units_alike (bytes_eq label name) from to amount h ∙ sym (ap (fitting name amount) (defines_it line label _ name l was)))
+units_said (items.Storage name) label from to line other l m was is no_block none h listed =
+    ap units_of (defines_it other label _ name m is) ∙
+    (capacity_alike (bytes_eq label name) from to h ∙ sym (ap units_of (defines_it line label _ name l was)))
+units_said (items.Variable name) label from to line other l m was is no_block none h listed =
+    nothing_said expression_of line other label _ _ name l m was is (λ b. storage_unexpressed b from) (λ b. storage_unexpressed b to)
 units_said items.Seed label from to line other l m was is no_block none h listed = refl
 units_said (items.Within time) label from to line other l m was is no_block none h listed = refl
 
@@ -153,12 +192,53 @@ number_said (items.Name name) label x y same line other e l m was is no_block no
         let apart : bytes_eq label name ≡ false = bytes_other name label untouched in
         ap (λ b. number_of (definition_if b (Some (definitions.Equ y)))) apart ∙ sym (ap (λ b. number_of (definition_if b (Some (definitions.Equ x)))) apart)
 number_said (items.Fits name amount) label x y same line other e l m was is no_block none h listed =
-    let b = bytes_eq label name in
     let nothing : Option ℕ → Option Bool = option_map (λ c. nat_le amount c) in
-    ap (fitting name amount) (defines_it other label _ name m is) ∙
-    (ap nothing (unitless b y) ∙ sym (ap (fitting name amount) (defines_it line label _ name l was) ∙ ap nothing (unitless b x)))
+    nothing_said (fitting name amount) line other label _ _ name l m was is (λ b. ap nothing (unitless b x)) (λ b. ap nothing (unitless b y))
+number_said (items.Storage name) label x y same line other e l m was is no_block none h listed =
+    nothing_said units_of line other label _ _ name l m was is (λ b. unitless b x) (λ b. unitless b y)
+number_said (items.Variable name) label x y same line other e l m was is no_block none h listed =
+    nothing_said expression_of line other label _ _ name l m was is (λ b. equ_unexpressed b x) (λ b. equ_unexpressed b y)
 number_said items.Seed label x y same line other e l m was is no_block none h listed = refl
 number_said (items.Within time) label x y same line other e l m was is no_block none h listed = refl
+
+-- two expressions of one name, which are touched where they are not the same
+expressions_alike : (same : Bool) (old new : Statement) (x y : Term) → same_expression old new x y ≡ same → same ≡ true → x ≡ y
+expressions_alike same old new x y is yes' = term_same x y ((and_parts (bytes_eq old.operands new.operands) (same_term x y) (is ∙ yes')).1)
+
+expression_said : (i : Item) (label : List ℕ) (x y : Term) (same : Bool) (line other : Numbered) →
+    same_expression line.statement other.statement x y ≡ same → line.statement.label ≡ Some label → other.statement.label ≡ Some label →
+    definition_of line ≡ Some (definitions.Variable x) → definition_of other ≡ Some (definitions.Variable y) → block_of line ≡ None →
+    block_of other ≡ None → probed_at (one_if (not same) (items.Variable label)) i ≡ false →
+    (listed : IsListed i) → (by_lines i listed).says other ≡ (by_lines i listed).says line
+unfolding by_lines
+expression_said (items.Block k) label x y same line other e l m was is no_block none h listed = absurd listed
+expression_said (items.After k) label x y same line other e l m was is no_block none h listed = absurd listed
+expression_said (items.Cmd j) label x y same line other e l m was is no_block none h listed = absurd listed
+expression_said items.Generates label x y same line other e l m was is no_block none h listed = generates_said line other no_block none
+expression_said (items.Label name) label x y same line other e l m was is no_block none h listed = label_said name line other no_block none
+expression_said (items.Name name) label x y same line other e l m was is no_block none h listed =
+    nothing_said number_of line other label _ _ name l m was is (λ b. variable_numberless b x) (λ b. variable_numberless b y)
+expression_said (items.Fits name amount) label x y same line other e l m was is no_block none h listed =
+    let nothing : Option ℕ → Option Bool = option_map (λ c. nat_le amount c) in
+    nothing_said (fitting name amount) line other label _ _ name l m was is (λ b. ap nothing (variable_unitless b x))
+    (λ b. ap nothing (variable_unitless b y))
+expression_said (items.Storage name) label x y same line other e l m was is no_block none h listed =
+    nothing_said units_of line other label _ _ name l m was is (λ b. variable_unitless b x) (λ b. variable_unitless b y)
+expression_said (items.Variable name) label x y same line other e l m was is no_block none h listed =
+    ap expression_of (defines_it other label _ name m is) ∙ (go same e h ∙ sym (ap expression_of (defines_it line label _ name l was)))
+  where
+    go : (b : Bool) → same_expression line.statement other.statement x y ≡ b → probed_at (one_if (not b) (items.Variable label)) (items.Variable name) ≡ false →
+        expression_of (definition_if (bytes_eq label name) (Some (definitions.Variable y))) ≡
+        expression_of (definition_if (bytes_eq label name) (Some (definitions.Variable x)))
+    go true k untouched =
+        ap (λ z. expression_of (definition_if (bytes_eq label name) (Some (definitions.Variable z))))
+        (sym (expressions_alike true line.statement other.statement x y k refl))
+    go false k untouched =
+        let apart : bytes_eq label name ≡ false = bytes_other name label untouched in
+        ap (λ b. expression_of (definition_if b (Some (definitions.Variable y)))) apart ∙
+        sym (ap (λ b. expression_of (definition_if b (Some (definitions.Variable x)))) apart)
+expression_said items.Seed label x y same line other e l m was is no_block none h listed = refl
+expression_said (items.Within time) label x y same line other e l m was is no_block none h listed = refl
 
 -- a version and the version with the other statement
 pub record IsChanged (t u : Listing) (place : ℕ) (line : Numbered) (s : Statement) (back : List Numbered) : Type 0 where
@@ -243,12 +323,14 @@ module _ (t u : Listing) (place : ℕ) (line : Numbered) (s : Statement) (back :
         defined_alike none.0 no_more.0 none.1 no_more.1 i
         (number_said i name x y (same_number line.statement s x y) line (changed_line line s) refl labels.0 labels.1 was is none.0 no_more.0
         (untouched_at (one_if (not (same_number line.statement s x y)) (items.Name name) ∷ []) 0 _ i refl h))
-    other_alike absent (Some name) named (Some (definitions.Storage from)) (Some (definitions.Equ y)) was is i h = kind_alike absent i h
-    other_alike absent (Some name) named (Some (definitions.Equ x)) (Some (definitions.Storage to)) was is i h = kind_alike absent i h
-    other_alike absent (Some name) named (Some (definitions.Storage from)) None was is i h = kind_alike absent i h
-    other_alike absent (Some name) named (Some (definitions.Equ x)) None was is i h = kind_alike absent i h
-    other_alike absent (Some name) named None behind was is i h = kind_alike absent i h
-    other_alike absent None named before behind was is i h = kind_alike absent i h
+    other_alike absent (Some name) named (Some (definitions.Variable x)) (Some (definitions.Variable y)) was is i h =
+        let none = defined_parts line (definitions.Variable x) was in
+        let no_more = defined_parts (changed_line line s) (definitions.Variable y) is in
+        let labels = labels_are line.statement.label s.label name named in
+        defined_alike none.0 no_more.0 none.1 no_more.1 i
+        (expression_said i name x y (same_expression line.statement s x y) line (changed_line line s) refl labels.0 labels.1 was is none.0 no_more.0
+        (untouched_at (one_if (not (same_expression line.statement s x y)) (items.Variable name) ∷ []) 0 _ i refl h))
+    other_alike absent name named before behind was is i h = kind_alike absent i h
 
     by_kinds : line_in (lines_before t place ++ back) line.number ≡ None → (was is : Bool) → is_block line ≡ was → is_block (changed_line line s) ≡ is →
         (i : Item) →

@@ -107,7 +107,7 @@ more_parts_than_none [] us some none = absurd (omega arith)
 more_parts_than_none (t ∷ ts) [] some none = refl
 more_parts_than_none (t ∷ ts) (u ∷ us) some none = absurd (omega arith)
 
-term_same : (a b : Term) → same_term a b ≡ true → a ≡ b
+pub term_same : (a b : Term) → same_term a b ≡ true → a ≡ b
 term_same a b h =
     let all = and_parts (kind_of a == kind_of b) _ h in
     let but_kind = and_parts (same_value (atom_of a) (atom_of b)) _ all.1 in

@@ -19,10 +19,11 @@ use Rattle.gw_edit.specs.declared.touch.Probe.{Probe}
 use Rattle.gw_edit.specs.declared.touch.Probe.TheVariants.{One, CommandsFrom, Beyond, Amounts}
 use Rattle.gw_record.specs.Asks.{is_ask}
 use Rattle.gw_edit.specs.Applied.{storage_place}
-use Rattle.gw_edit.specs.Same.{same_statement, same_label}
+use Rattle.gw_expr.specs.Term.{Term}
+use Rattle.gw_edit.specs.Same.{same_statement, same_label, same_term}
 
 -- whether a probe is of an item: of that one, of a command from the first one on, of a later time than the last one, of
--- an amount that two capacities answer in two ways
+-- an amount that two capacities answer in two ways, or the capacity itself
 abbrev pub is_probed : Probe → Item → Bool
 is_probed (One item) i = is_use item i
 is_probed (CommandsFrom first) i = is_command_use first i
@@ -77,11 +78,12 @@ block_places front line =
 abbrev pub block_probes : Listing → ℕ → Numbered → List Probe
 block_probes t place line = given (block_places (block_before t place) line)
 
--- a definition that comes in or goes out: what its name is asked, a storage how many units fit, and a name with a number
--- which number that is
+-- a definition that comes in or goes out: what its name is asked, a storage how many units fit and how many it has, a
+-- name with a number which number that is, and a VARIABLE its expression
 abbrev pub definition_place : Option (List ℕ) → Option Definition → Option Probe
 definition_place (Some name) (Some (definitions.Storage capacity)) = Some (Amounts name None None)
 definition_place (Some name) (Some (definitions.Equ value)) = Some (One (items.Name name))
+definition_place (Some name) (Some (definitions.Variable expression)) = Some (One (items.Variable name))
 definition_place label definition = None
 
 abbrev pub definition_probes : Numbered → List Probe
@@ -120,15 +122,21 @@ one_name a b = None
 abbrev pub same_number : Statement → Statement → ℤ → ℤ → Bool
 same_number old new a b = bytes_eq old.operands new.operands && int_eq a b
 
+-- whether two VARIABLEs have one expression, as it is written and as it is read
+abbrev pub same_expression : Statement → Statement → Term → Term → Bool
+same_expression old new a b = bytes_eq old.operands new.operands && same_term a b
+
 -- a statement that is another one, of which not both are blocks: of a storage of one name the amounts that the two
--- capacities answer in two ways, of an EQU of one name the number where it is another one; else what the one touches that
--- goes, and what the one that comes in
+-- capacities answer in two ways, of an EQU of one name the number where it is another one, of a VARIABLE of one name the
+-- expression where it is another one; else what the one touches that goes, and what the one that comes in
 abbrev pub other_change :
     Option (List ℕ) → Option Definition → Option Definition → Listing → ℕ → Numbered → Numbered → List Probe
 other_change (Some name) (Some (definitions.Storage from)) (Some (definitions.Storage to)) t place old new =
     given (Some (Amounts name (Some from) (Some to)) ∷ [])
 other_change (Some name) (Some (definitions.Equ a)) (Some (definitions.Equ b)) t place old new =
     given (one_if (not (same_number old.statement new.statement a b)) (items.Name name) ∷ [])
+other_change (Some name) (Some (definitions.Variable a)) (Some (definitions.Variable b)) t place old new =
+    given (one_if (not (same_expression old.statement new.statement a b)) (items.Variable name) ∷ [])
 other_change name before behind t place old new = line_probes t place old ++ line_probes t place new
 
 -- of a statement, where there is one

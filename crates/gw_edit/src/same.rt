@@ -66,7 +66,8 @@ fn same_operand(old: &Option<Expr>, new: &Option<Expr>) -> bool
     }
 }
 
-fn same_term(old: &Expr, new: &Expr) -> bool
+/// Whether both operands are the same, as they are read.
+pub fn same_term(old: &Expr, new: &Expr) -> bool
     ensures { result ≡ same_term old.now new.now }
 {
     let (old, new) = (old.node(), new.node());

@@ -1,10 +1,11 @@
 ghost use Rattle.std.specs.Prelude.{◌≡◌, IfOk, ◌++◌, [], ◌∷◌, Some, None, option_copied};
 ghost use Rattle.gw_meaning.specs.Listing.{definition_of};
-ghost use Rattle.gw_edit.specs.Touching.{touching_of, capacity_probes, definition_place, other_change, one_name, same_number, rest_probes, seed_touching, seed_probes, everywhere, given, one_if, label_if, block_places, block_before, command_from, line_probes, probes_of, splice_probes, block_change, same_seed};
+ghost use Rattle.gw_edit.specs.Touching.{touching_of, capacity_probes, definition_place, other_change, one_name, same_number, same_expression, rest_probes, seed_touching, seed_probes, everywhere, given, one_if, label_if, block_places, block_before, command_from, line_probes, probes_of, splice_probes, block_change, same_seed};
 
 use crate::edit::Edit;
 use crate::lines::{count_commands, last_block, line_at, lines_before, storage_place};
-use crate::same::{same_label, same_statement};
+use crate::same::{same_label, same_statement, same_term};
+use gw_expr::Expr;
 use gw_meaning::{Body, Definition, Item, Numbered, Statement, StatementId};
 use gw_model::Version;
 use gw_names::Name;
@@ -21,8 +22,8 @@ pub enum Probe {
     CommandsFrom(u64),
     /// The clock steps beyond this time.
     Beyond(Time),
-    /// The amounts asked of the storage of this name that fit one of two capacities and not the other: all, where there is
-    /// no storage before or behind.
+    /// The amounts asked of the storage of this name that fit one of two capacities and not the other, and the capacity
+    /// where the two differ: all, where there is no storage before or behind.
     Amounts {
         name: Name,
         from: Option<u64>,
@@ -197,6 +198,9 @@ fn definition_place(line: &Numbered) -> Result<Option<Probe>, AllocError>
         (Some(name), Some(Definition::Equ { .. })) => {
             Ok(Some(Probe::One(Item::Name(name.clone()?))))
         }
+        (Some(name), Some(Definition::Variable { .. })) => {
+            Ok(Some(Probe::One(Item::Variable(name.clone()?))))
+        }
         _ => Ok(None),
     }
 }
@@ -293,6 +297,10 @@ fn definition_change(
             let same = same_number(&old.statement, &new.statement, *a, *b);
             Ok(alone(one_if(!same, Item::Name(name.clone()?))))
         }
+        (Definition::Variable { expression: a }, Definition::Variable { expression: b }) => {
+            let same = same_expression(&old.statement, &new.statement, a, b);
+            Ok(alone(one_if(!same, Item::Variable(name.clone()?))))
+        }
         _ => both_touch(version, place, old, new),
     }
 }
@@ -327,6 +335,12 @@ fn same_number(old: &Statement, new: &Statement, before: Val, behind: Val) -> bo
     ensures { result ≡ same_number old.now new.now before behind }
 {
     old.operands.as_slice() == new.operands.as_slice() && before == behind
+}
+
+fn same_expression(old: &Statement, new: &Statement, before: &Expr, behind: &Expr) -> bool
+    ensures { result ≡ same_expression old.now new.now before.now behind.now }
+{
+    old.operands.as_slice() == new.operands.as_slice() && same_term(before, behind)
 }
 
 // The storage at a place, if any, with another capacity.

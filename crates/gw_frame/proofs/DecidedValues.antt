@@ -20,12 +20,12 @@ use Rattle.gw_expr.specs.declared.attribute.Subject.{Subject}
 use Rattle.gw_expr.specs.declared.attribute.Subject.TheVariants as subjects
 use Rattle.gw_meaning.specs.declared.asker.Asker.{Asker}
 use Rattle.gw_meaning.specs.declared.item.Item.TheVariants as items
-use Rattle.gw_meaning.specs.Listing.{Listing, label_at}
+use Rattle.gw_meaning.specs.Listing.{Listing, capacity_at, label_at, variable_at}
 use Rattle.gw_names.specs.declared.key.Key.{Key}
 use Rattle.gw_meaning.specs.Entities.{facility_at, line_at}
 use Rattle.gw_entities.specs.Parameters.{parameter_at}
 use Rattle.gw_meaning.specs.Machine.{Machine, count_at}
-use Rattle.gw_meaning.specs.Evaluation.{Eval, number_of_draw, draw, amount, numbered, named, subject_prog, storage_prog, counted, block_count, random_prog, own_value, value_held, parameter_value, entity_value, storage_value, block_value, owned, attribute_prog, number_given, atom_prog, arithmetic, token_prog, tokens_prog, last_value, value_prog, value_there, value_or_zero, entity_prog, units_prog, in_range, spread, sample_within, time_prog}
+use Rattle.gw_meaning.specs.Evaluation.{Eval, number_of_draw, draw, amount, numbered, named, subject_prog, storage_prog, counted, block_count, random_prog, own_value, value_held, parameter_value, entity_value, storage_value, block_value, owned, attribute_prog, number_given, atom_prog, arithmetic, token_prog, tokens_prog, last_value, value_prog, value_there, value_or_zero, entity_prog, units_prog, in_range, spread, sample_within, time_prog, left_prog, Variables, is_of_variable, of_variable, term_prog, expression_given, variable_prog, DEEPEST}
 use Rattle.gw_frame.proofs.Seeds.{uses_seed, one_drew}
 use Rattle.gw_frame.proofs.Keeps.{ProgKeeps, Keeps, prog_gives, prog_bind, keeps_gives, keeps_ends, keeps_asks, keeps_cond, keeps_stops, keeps_unless, keeps_bind}
 use Rattle.gw_names.specs.declared.key.Key.TheVariants as keys
@@ -84,6 +84,12 @@ module _ (t : Listing) (seed : ℕ) (s : Machine) where
   storage_decides subjects.Own f each = keeps_ends
   storage_decides (subjects.Number n) f each = keeps_ends
   storage_decides (subjects.Name name) f each = each (keys.Defined name)
+
+  left_decides : (of : Subject) → Decides Whatever (left_prog s of)
+  left_decides subjects.Own = keeps_ends
+  left_decides (subjects.Number n) = keeps_ends
+  left_decides (subjects.Name name) = keeps_asks (items.Storage name) refl (λ numbered named. tt)
+      (amount_decides (capacity_at t name - (store_at s.entities (keys.Defined name)).level.content))
 
   counted_decides : (o : Option ℕ) (f : ℕ → Eval ℤ) → ((id : ℕ) → Decides Whatever (f id)) → Decides Whatever (counted o f)
   counted_decides None f each = keeps_ends
@@ -155,6 +161,7 @@ module _ (t : Listing) (seed : ℕ) (s : Machine) where
   attribute_decides q class.Qm of = keeps_bind (subject_decides of) (λ key h. entity_value_decides class.Qm key)
   attribute_decides q class.Qz of = keeps_bind (subject_decides of) (λ key h. entity_value_decides class.Qz key)
   attribute_decides q class.S of = storage_decides of _ (storage_value_decides class.S)
+  attribute_decides q class.R of = left_decides of
   attribute_decides q class.Sc of = storage_decides of _ (storage_value_decides class.Sc)
   attribute_decides q class.Sm of = storage_decides of _ (storage_value_decides class.Sm)
   attribute_decides q class.N of = block_count_decides of _ (block_value_decides class.N)
@@ -167,40 +174,64 @@ module _ (t : Listing) (seed : ℕ) (s : Machine) where
   number_given_decides None = keeps_ends
   number_given_decides (Some n) = keeps_gives tt
 
-  atom_decides : (q : Asker) (atom : Atom) → Decides Whatever (atom_prog s q atom)
+  -- what VARIABLEs come to
+  abbrev AreDecided : Variables → Type 0
+  AreDecided vs = (name : List ℕ) → Decides Whatever (vs name)
+
+  of_variable_decides : (vs : Variables) → AreDecided vs → (of : Subject) → Decides Whatever (of_variable vs of)
+  of_variable_decides vs each subjects.Own = keeps_ends
+  of_variable_decides vs each (subjects.Number n) = keeps_ends
+  of_variable_decides vs each (subjects.Name name) = each name
+
+  atom_decides : (q : Asker) (vs : Variables) → AreDecided vs → (atom : Atom) → Decides Whatever (atom_prog s q vs atom)
   unfolding atom_prog
-  atom_decides q (atoms.Constant value) = keeps_gives tt
-  atom_decides q (atoms.Number name) = keeps_asks (items.Name name) refl (λ numbered named. tt) (number_given_decides (number_at t name))
-  atom_decides q (atoms.Attribute class of) = attribute_decides q class of
+  atom_decides q vs each (atoms.Constant value) = keeps_gives tt
+  atom_decides q vs each (atoms.Number name) = keeps_asks (items.Name name) refl (λ numbered named. tt) (number_given_decides (number_at t name))
+  atom_decides q vs each (atoms.Attribute class of) =
+      keeps_cond (is_of_variable class) (of_variable_decides vs each of) (attribute_decides q class of)
 
   pub arithmetic_decides : (r : Result ℤ ArithmeticFault) → Decides Whatever (arithmetic r)
   arithmetic_decides (Ok z) = keeps_gives tt
   arithmetic_decides (Err arithmetic_faults.Range) = keeps_ends
   arithmetic_decides (Err arithmetic_faults.ZeroDivisor) = keeps_ends
 
-  token_decides : (q : Asker) (token : Token) (values : List ℤ) → Decides Whatever (token_prog s q token values)
-  token_decides q (tokens.Value atom) values = keeps_bind (atom_decides q atom) (λ v h. keeps_gives tt)
-  token_decides q tokens.Negated [] = keeps_ends
-  token_decides q tokens.Negated (v ∷ values) = keeps_gives tt
-  token_decides q (tokens.Applied operator) [] = keeps_ends
-  token_decides q (tokens.Applied operator) (b ∷ []) = keeps_ends
-  token_decides q (tokens.Applied operator) (b ∷ a ∷ values) =
+  token_decides : (q : Asker) (vs : Variables) → AreDecided vs → (token : Token) (values : List ℤ) → Decides Whatever (token_prog s q vs token values)
+  token_decides q vs each (tokens.Value atom) values = keeps_bind (atom_decides q vs each atom) (λ v h. keeps_gives tt)
+  token_decides q vs each tokens.Negated [] = keeps_ends
+  token_decides q vs each tokens.Negated (v ∷ values) = keeps_gives tt
+  token_decides q vs each (tokens.Applied operator) [] = keeps_ends
+  token_decides q vs each (tokens.Applied operator) (b ∷ []) = keeps_ends
+  token_decides q vs each (tokens.Applied operator) (b ∷ a ∷ values) =
       keeps_bind (arithmetic_decides (applied operator a b)) (λ v h. keeps_gives tt)
 
-  tokens_decide : (q : Asker) (ts : List Token) (values : List ℤ) → Decides Whatever (tokens_prog s q ts values)
-  tokens_decide q [] values = keeps_gives tt
-  tokens_decide q (t ∷ ts) values = keeps_bind (token_decides q t values) (λ more h. tokens_decide q ts more)
+  tokens_decide : (q : Asker) (vs : Variables) → AreDecided vs → (ts : List Token) (values : List ℤ) → Decides Whatever (tokens_prog s q vs ts values)
+  tokens_decide q vs each [] values = keeps_gives tt
+  tokens_decide q vs each (t ∷ ts) values = keeps_bind (token_decides q vs each t values) (λ more h. tokens_decide q vs each ts more)
 
   last_decides : (values : List ℤ) → Decides Whatever (last_value values)
   last_decides [] = keeps_ends
   last_decides (v ∷ values) = keeps_gives tt
 
   -- operands
+  term_decides : (q : Asker) (vs : Variables) → AreDecided vs → (term : Term) → Decides Whatever (term_prog s q vs term)
+  unfolding term_prog
+  term_decides q vs each (Value atom) = atom_decides q vs each atom
+  term_decides q vs each (Computed ts) = keeps_bind (tokens_decide q vs each ts []) (λ values h. last_decides values)
+  term_decides q vs each term = keeps_ends
+
+  expression_decides : (f : Term → Eval ℤ) → ((term : Term) → Decides Whatever (f term)) → (o : Option Term) → Decides Whatever (expression_given f o)
+  expression_decides f each None = keeps_ends
+  expression_decides f each (Some term) = each term
+
+  variable_decides : (depth : ℕ) (q : Asker) → AreDecided (variable_prog depth s q)
+  unfolding variable_prog
+  variable_decides zero q = λ name. keeps_ends
+  variable_decides (suc depth) q = λ name. keeps_asks (items.Variable name) refl (λ numbered named. tt)
+      (expression_decides (term_prog s q (variable_prog depth s q)) (term_decides q (variable_prog depth s q) (variable_decides depth q)) (variable_at t name))
+
   pub value_decides : (q : Asker) (term : Term) → Decides Whatever (value_prog s q term)
   unfolding value_prog
-  value_decides q (Value atom) = atom_decides q atom
-  value_decides q (Computed ts) = keeps_bind (tokens_decide q ts []) (λ values h. last_decides values)
-  value_decides q term = keeps_ends
+  value_decides q term = term_decides q (variable_prog DEEPEST s q) (variable_decides DEEPEST q) term
 
   pub value_there_decides : (q : Asker) (term : Option Term) → Decides Whatever (value_there s q term)
   value_there_decides q None = keeps_ends

@@ -23,7 +23,7 @@ use Rattle.gw_names.specs.declared.key.Key.TheVariants as keys
 use Rattle.gw_meaning.specs.Entities.{facility_at, line_at, store_at}
 use Rattle.gw_entities.specs.Parameters.{parameter_at}
 use Rattle.gw_meaning.specs.Machine.{Machine, count_at}
-use Rattle.gw_meaning.specs.Evaluation.{Eval, number_of_draw, draw, amount, numbered, named, subject_prog, storage_prog, counted, block_count, random_prog, own_value, value_held, parameter_value, entity_value, storage_value, block_value, owned, attribute_prog, number_given, atom_prog, arithmetic, token_prog, tokens_prog, last_value, value_prog, value_there, value_or_zero, entity_prog, units_prog, in_range, spread, sample_within, time_prog}
+use Rattle.gw_meaning.specs.Evaluation.{Eval, number_of_draw, draw, amount, numbered, named, subject_prog, storage_prog, counted, block_count, random_prog, own_value, value_held, parameter_value, entity_value, storage_value, block_value, owned, attribute_prog, number_given, atom_prog, arithmetic, token_prog, tokens_prog, last_value, value_prog, value_there, value_or_zero, entity_prog, units_prog, in_range, spread, sample_within, time_prog, left_prog, Variables, is_of_variable, of_variable, term_prog, expression_given, variable_prog, DEEPEST}
 use Rattle.gw_frame.specs.Moved.{IsMove, moved_machine}
 use Rattle.gw_frame.proofs.Follows.{ProgFollows, prog_gives, prog_asks, prog_bind, Follows, follows_gives, follows_ends, follows_asks, follows_cond, follows_stops, follows_bind}
 use Rattle.gw_frame.proofs.MovedLists.{count_at_moved}
@@ -64,6 +64,12 @@ module _ (move : ℕ → ℕ) (is : IsMove move) where
   storage_follows subjects.Own f each = follows_ends
   storage_follows (subjects.Number n) f each = follows_ends
   storage_follows (subjects.Name name) f each = each (keys.Defined name)
+
+  left_follows : (s : Machine) (of : Subject) → Follows move same (left_prog s of) (left_prog (moved_machine move s) of)
+  left_follows s subjects.Own = follows_ends
+  left_follows s (subjects.Number n) = follows_ends
+  left_follows s (subjects.Name name) = follows_asks (items.Storage name)
+      (λ capacity. amount_follows (capacity - (store_at s.entities (keys.Defined name)).level.content))
 
   counted_follows : (o : Option ℕ) (f g : ℕ → Eval ℤ) → ((id : ℕ) → Follows move same (f id) (g (move id))) →
       Follows move same (counted o f) (counted (option_map move o) g)
@@ -139,6 +145,7 @@ module _ (move : ℕ → ℕ) (is : IsMove move) where
   attribute_follows s q class.Qm of = follows_bind _ (subject_follows of) (entity_value_follows s class.Qm)
   attribute_follows s q class.Qz of = follows_bind _ (subject_follows of) (entity_value_follows s class.Qz)
   attribute_follows s q class.S of = storage_follows of _ (storage_value_follows s class.S)
+  attribute_follows s q class.R of = left_follows s of
   attribute_follows s q class.Sc of = storage_follows of _ (storage_value_follows s class.Sc)
   attribute_follows s q class.Sm of = storage_follows of _ (storage_value_follows s class.Sm)
   attribute_follows s q class.N of = block_count_follows of _ _ (block_value_follows s class.N)
@@ -151,42 +158,72 @@ module _ (move : ℕ → ℕ) (is : IsMove move) where
   number_given_follows None = follows_ends
   number_given_follows (Some n) = follows_gives refl
 
-  atom_follows : (s : Machine) (q : Asker) (atom : Atom) → Follows move same (atom_prog s q atom) (atom_prog (moved_machine move s) q atom)
-  unfolding atom_prog
-  atom_follows s q (atoms.Constant value) = follows_gives refl
-  atom_follows s q (atoms.Number name) = follows_asks (items.Name name) number_given_follows
-  atom_follows s q (atoms.Attribute class of) = attribute_follows s q class of
+  -- two ways to evaluate VARIABLEs, of which the second follows the first
+  abbrev AreFollowed : Variables → Variables → Type 0
+  AreFollowed vs ws = (name : List ℕ) → Follows move same (vs name) (ws name)
+
+  of_variable_follows : (vs ws : Variables) → AreFollowed vs ws → (of : Subject) → Follows move same (of_variable vs of) (of_variable ws of)
+  of_variable_follows vs ws each subjects.Own = follows_ends
+  of_variable_follows vs ws each (subjects.Number n) = follows_ends
+  of_variable_follows vs ws each (subjects.Name name) = each name
+
+  module _ (s : Machine) (q : Asker) (vs ws : Variables) (each : AreFollowed vs ws) where
+    atom_follows : (atom : Atom) → Follows move same (atom_prog s q vs atom) (atom_prog (moved_machine move s) q ws atom)
+    unfolding atom_prog
+    atom_follows (atoms.Constant value) = follows_gives refl
+    atom_follows (atoms.Number name) = follows_asks (items.Name name) number_given_follows
+    atom_follows (atoms.Attribute class of) =
+        follows_cond (is_of_variable class) (of_variable_follows vs ws each of) (attribute_follows s q class of)
 
   pub arithmetic_follows : (r : Result ℤ ArithmeticFault) → Follows move same (arithmetic r) (arithmetic r)
   arithmetic_follows (Ok z) = follows_gives refl
   arithmetic_follows (Err arithmetic_faults.Range) = follows_ends
   arithmetic_follows (Err arithmetic_faults.ZeroDivisor) = follows_ends
 
-  token_follows : (s : Machine) (q : Asker) (token : Token) (values : List ℤ) →
-      Follows move same (token_prog s q token values) (token_prog (moved_machine move s) q token values)
-  token_follows s q (tokens.Value atom) values = follows_bind _ (atom_follows s q atom) (λ v. follows_gives refl)
-  token_follows s q tokens.Negated [] = follows_ends
-  token_follows s q tokens.Negated (v ∷ values) = follows_gives refl
-  token_follows s q (tokens.Applied operator) [] = follows_ends
-  token_follows s q (tokens.Applied operator) (b ∷ []) = follows_ends
-  token_follows s q (tokens.Applied operator) (b ∷ a ∷ values) =
-      follows_bind _ (arithmetic_follows (applied operator a b)) (λ v. follows_gives refl)
+  module _ (s : Machine) (q : Asker) (vs ws : Variables) (each : AreFollowed vs ws) where
+    token_follows : (token : Token) (values : List ℤ) →
+        Follows move same (token_prog s q vs token values) (token_prog (moved_machine move s) q ws token values)
+    token_follows (tokens.Value atom) values = follows_bind _ (atom_follows s q vs ws each atom) (λ v. follows_gives refl)
+    token_follows tokens.Negated [] = follows_ends
+    token_follows tokens.Negated (v ∷ values) = follows_gives refl
+    token_follows (tokens.Applied operator) [] = follows_ends
+    token_follows (tokens.Applied operator) (b ∷ []) = follows_ends
+    token_follows (tokens.Applied operator) (b ∷ a ∷ values) =
+        follows_bind _ (arithmetic_follows (applied operator a b)) (λ v. follows_gives refl)
 
-  tokens_follow : (s : Machine) (q : Asker) (ts : List Token) (values : List ℤ) →
-      Follows move same (tokens_prog s q ts values) (tokens_prog (moved_machine move s) q ts values)
-  tokens_follow s q [] values = follows_gives refl
-  tokens_follow s q (t ∷ ts) values = follows_bind _ (token_follows s q t values) (tokens_follow s q ts)
+    tokens_follow : (ts : List Token) (values : List ℤ) →
+        Follows move same (tokens_prog s q vs ts values) (tokens_prog (moved_machine move s) q ws ts values)
+    tokens_follow [] values = follows_gives refl
+    tokens_follow (t ∷ ts) values = follows_bind _ (token_follows t values) (tokens_follow ts)
 
   last_follows : (values : List ℤ) → Follows move same (last_value values) (last_value values)
   last_follows [] = follows_ends
   last_follows (v ∷ values) = follows_gives refl
 
   -- operands
+  term_follows : (s : Machine) (q : Asker) (vs ws : Variables) → AreFollowed vs ws → (term : Term) →
+      Follows move same (term_prog s q vs term) (term_prog (moved_machine move s) q ws term)
+  unfolding term_prog
+  term_follows s q vs ws each (Value atom) = atom_follows s q vs ws each atom
+  term_follows s q vs ws each (Computed ts) = follows_bind _ (tokens_follow s q vs ws each ts []) last_follows
+  term_follows s q vs ws each term = follows_ends
+
+  expression_follows : (f g : Term → Eval ℤ) → ((term : Term) → Follows move same (f term) (g term)) → (o : Option Term) →
+      Follows move same (expression_given f o) (expression_given g o)
+  expression_follows f g each None = follows_ends
+  expression_follows f g each (Some term) = each term
+
+  variable_follows : (depth : ℕ) (s : Machine) (q : Asker) → AreFollowed (variable_prog depth s q) (variable_prog depth (moved_machine move s) q)
+  unfolding variable_prog
+  variable_follows zero s q = λ name. follows_ends
+  variable_follows (suc depth) s q = λ name. follows_asks (items.Variable name)
+      (expression_follows (term_prog s q (variable_prog depth s q)) (term_prog (moved_machine move s) q (variable_prog depth (moved_machine move s) q))
+      (term_follows s q (variable_prog depth s q) (variable_prog depth (moved_machine move s) q) (variable_follows depth s q)))
+
   pub value_follows : (s : Machine) (q : Asker) (term : Term) → Follows move same (value_prog s q term) (value_prog (moved_machine move s) q term)
   unfolding value_prog
-  value_follows s q (Value atom) = atom_follows s q atom
-  value_follows s q (Computed ts) = follows_bind _ (tokens_follow s q ts []) last_follows
-  value_follows s q term = follows_ends
+  value_follows s q term =
+      term_follows s q (variable_prog DEEPEST s q) (variable_prog DEEPEST (moved_machine move s) q) (variable_follows DEEPEST s q) term
 
   pub value_there_follows : (s : Machine) (q : Asker) (term : Option Term) → Follows move same (value_there s q term) (value_there (moved_machine move s) q term)
   value_there_follows s q None = follows_ends

@@ -14,7 +14,7 @@ use Rattle.gw_meaning.specs.declared.moves.Change.TheVariants as changes
 use Rattle.gw_meaning.specs.declared.transaction_change.TransactionChange.TheVariants as own
 use Rattle.gw_meaning.specs.declared.moves.Fate.TheVariants as fates
 use Rattle.gw_meaning.specs.Listing.{Listing}
-use Rattle.gw_meaning.specs.Evaluation.{value_prog, atom_prog}
+use Rattle.gw_meaning.specs.Evaluation.{value_prog, term_prog, atom_prog}
 use Rattle.gw_meaning.specs.Machine.{Machine, zero_state}
 use Rattle.gw_laws.specs.Verbs.{EachVerbIsEvaluated}
 
@@ -63,7 +63,7 @@ abbrev counting : Machine
 counting = record zero_state { parameters = (1, (keys.Named [], pos 1) ∷ []) ∷ [] }
 
 pub each_verb_is_evaluated : EachVerbIsEvaluated
-unfolding value_prog atom_prog
+unfolding value_prog term_prog atom_prog
 each_verb_is_evaluated blocks.Generate given forms is = record {
   version = version;
   block = record { verb = blocks.Generate; sign = signs.Absent; operands = [] };

@@ -61,7 +61,7 @@ behind class.P rest = record { read = λ of e. parameter_read rest of e; barred 
 behind class.F rest = record { read = λ of e. rw e refl; barred = λ h. rw h refl; value = refl; number = refl }
 behind class.Fc rest = record { read = λ of e. rw e refl; barred = λ h. rw h refl; value = refl; number = refl }
 behind class.S rest = record { read = λ of e. rw e refl; barred = λ h. rw h refl; value = refl; number = refl }
-behind class.R rest = record { read = λ of e. absurd cc; barred = λ h. rw h refl; value = refl; number = refl }
+behind class.R rest = record { read = λ of e. rw e refl; barred = λ h. rw h refl; value = refl; number = refl }
 behind class.Sc rest = record { read = λ of e. rw e refl; barred = λ h. rw h refl; value = refl; number = refl }
 behind class.Sm rest = record { read = λ of e. rw e refl; barred = λ h. rw h refl; value = refl; number = refl }
 behind class.Q rest = record { read = λ of e. rw e refl; barred = λ h. rw h refl; value = refl; number = refl }
@@ -76,7 +76,7 @@ behind class.Ch rest = record { read = λ of e. absurd cc; barred = λ h. rw h r
 behind class.Cc rest = record { read = λ of e. absurd cc; barred = λ h. rw h refl; value = refl; number = refl }
 behind class.Tc rest = record { read = λ of e. absurd cc; barred = λ h. rw h refl; value = refl; number = refl }
 behind class.Rn rest = record { read = λ of e. rw e refl; barred = λ h. rw h refl; value = refl; number = refl }
-behind class.V rest = record { read = λ of e. absurd cc; barred = λ h. rw h refl; value = refl; number = refl }
+behind class.V rest = record { read = λ of e. rw e refl; barred = λ h. rw h refl; value = refl; number = refl }
 behind class.Fn rest = record { read = λ of e. absurd cc; barred = λ h. rw h refl; value = refl; number = refl }
 
 -- ---- what is read is spelled so

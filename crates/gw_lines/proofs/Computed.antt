@@ -1,4 +1,4 @@
--- Expressions in parentheses: what is spelled so is read.
+-- Expressions: what is spelled so is read.
 use Rattle.std.proofs.Common.{◌≡◌, ℕ, suc, ◌+◌, Bool, true, false, List, [], ◌∷◌, ◌++◌, Option, Some, refl, sym, ap, ◌∙◌, append_assoc, arith}
 use Rattle.std.specs.Prelude.{option_and_then, nat_lt}
 use Rattle.std.specs.List.{list_all}
@@ -163,10 +163,10 @@ sum_step : {b : ℕ} {o : Operator} → Adds b o → (depth : ℕ) (ps : List Pe
 sum_step plus depth ps ts h = rw (open_settled depth ps ts h) refl
 sum_step minus depth ps ts h = rw (open_settled depth ps ts h) refl
 
-has_room : (room depth : ℕ) → suc room + depth ≡ 31 → nat_lt depth 31 ≡ true
+has_room : (room depth : ℕ) → suc room + depth ≡ 32 → nat_lt depth 32 ≡ true
 has_room room depth h = grind (arith, nat_tests)
 
-opening_step : (room depth : ℕ) (ps : List Pending) (ts : List Token) → suc room + depth ≡ 31
+opening_step : (room depth : ℕ) (ps : List Pending) (ts : List Token) → suc room + depth ≡ 32
     → step 40 (before depth ps ts) ≡ Some (before (suc depth) (waits.Opening ∷ ps) ts)
 opening_step room depth ps ts h = rw (has_room room depth h) refl
 
@@ -175,13 +175,13 @@ opening_step room depth ps ts h = rw (has_room room depth h) refl
 -- how a text is read that spells an expression
 abbrev pub Reads : Rank → ℕ → List ℕ → Expression → Type 0
 Reads Factor room text e =
-    (depth : ℕ) (ps : List Pending) (ts : List Token) (rest : List ℕ) → room + depth ≡ 31 → Ends rest
+    (depth : ℕ) (ps : List Pending) (ts : List Token) (rest : List ℕ) → room + depth ≡ 32 → Ends rest
     → outcome (text ++ rest) (before depth ps ts) ≡ outcome rest (completed depth ps (ts ++ postfix e))
 Reads Product room text e =
-    (depth : ℕ) (ps : List Pending) (ts : List Token) (rest : List ℕ) → room + depth ≡ 31 → Ends rest → is_wide ps ≡ true
+    (depth : ℕ) (ps : List Pending) (ts : List Token) (rest : List ℕ) → room + depth ≡ 32 → Ends rest → is_wide ps ≡ true
     → outcome (text ++ rest) (before depth ps ts) ≡ outcome rest (behind depth ps (ts ++ postfix e))
 Reads Sum room text e =
-    (depth : ℕ) (ps : List Pending) (ts : List Token) (rest : List ℕ) → room + depth ≡ 31 → Follows rest → is_open ps ≡ true
+    (depth : ℕ) (ps : List Pending) (ts : List Token) (rest : List ℕ) → room + depth ≡ 32 → Follows rest → is_open ps ≡ true
     → outcome (text ++ rest) (before depth ps ts) ≡ outcome rest (behind depth ps (ts ++ postfix e))
 
 -- a state with tokens put together otherwise
@@ -192,7 +192,7 @@ same_tokens rest depth ps a b e = ap (λ (t : List Token). outcome rest (behind 
 three : (ts a b c : List Token) → ((ts ++ a) ++ b) ++ c ≡ ts ++ (a ++ (b ++ c))
 three ts a b c = append_assoc (ts ++ a) b c ∙ append_assoc ts a (b ++ c)
 
-pub deeper : (room depth : ℕ) → suc room + depth ≡ 31 → room + suc depth ≡ 31
+pub deeper : (room depth : ℕ) → suc room + depth ≡ 32 → room + suc depth ≡ 32
 deeper room depth h = omega arith
 
 parenthesised : (room : ℕ) (text : List ℕ) (e : Expression) → Reads Sum room text e → Reads Factor (suc room) (40 ∷ (text ++ 41 ∷ [])) e
@@ -250,8 +250,9 @@ reads (multiplied room left e b o right f s m t) = multiplied_so room left e b o
 reads (a_product room text e s) = product_so room text e (reads s)
 reads (summed room left e b o right f s m t) = summed_so room left e b o right f (reads s) m (reads t)
 
--- what spells an expression in parentheses is read as its tokens
-pub tokens_again : (text : List ℕ) (e : Expression) → SpellsExpression Sum 31 text e → tokens_of text ≡ Some (postfix e)
+-- what spells an expression is read as its tokens
+pub tokens_again : (most depth : ℕ) → most + depth ≡ 32 → (text : List ℕ) (e : Expression) → SpellsExpression Sum most text e →
+    tokens_of depth text ≡ Some (postfix e)
 unfolding tokens_of
-tokens_again text e s =
-    ap (λ (t : List ℕ). outcome t (before 0 [] [])) (sym (append-nil text)) ∙ reads s 0 [] [] [] refl nothing_follows refl
+tokens_again most depth fits text e s =
+    ap (λ (t : List ℕ). outcome t (before depth [] [])) (sym (append-nil text)) ∙ reads s depth [] [] [] fits nothing_follows refl

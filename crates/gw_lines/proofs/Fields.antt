@@ -14,7 +14,7 @@ use Rattle.gw_lines.specs.declared.operand.Operand.{Operand}
 use Rattle.gw_lines.specs.declared.operand.Operand.TheVariants as operands
 use Rattle.gw_lines.specs.Forms.{value, whole}
 use Rattle.gw_lines.specs.Parts.{part_of, is_missing}
-use Rattle.gw_lines.specs.Spelling.{SpellsOperand, absent, a_value, a_constant, named_value, attribute_value, computed_value, a_whole, a_key, named_entity, numbered_entity, attribute_entity, computed_entity, a_fraction, a_label, a_definition, SpellsAll, no_form, stands, unwritten}
+use Rattle.gw_lines.specs.Spelling.{SpellsOperand, absent, a_value, a_constant, named_value, attribute_value, computed_value, a_whole, a_key, named_entity, numbered_entity, attribute_entity, computed_entity, a_fraction, a_label, a_definition, an_expression, SpellsAll, no_form, stands, unwritten}
 
 abbrev pub Data : Kind → Type 0
 Data kinds.Value = Term
@@ -25,6 +25,7 @@ Data kinds.Entity = Term
 Data kinds.Fraction = Term
 Data kinds.Label = Term
 Data kinds.Defined = Term
+Data kinds.Expression = Term
 
 abbrev pub data_operand : (kind : Kind) → Data kind → Option Operand
 data_operand kinds.Value t = Some (operands.Value t)
@@ -35,6 +36,7 @@ data_operand kinds.Entity t = Some (operands.Value t)
 data_operand kinds.Fraction t = Some (operands.Value t)
 data_operand kinds.Label t = Some (operands.Value t)
 data_operand kinds.Defined t = Some (operands.Value t)
+data_operand kinds.Expression t = Some (operands.Value t)
 
 abbrev pub Field : Presence → Kind → Type 0
 Field presences.Required kind = Data kind
@@ -50,6 +52,7 @@ maybe kinds.Entity d = value d
 maybe kinds.Fraction d = value d
 maybe kinds.Label d = value d
 maybe kinds.Defined d = value d
+maybe kinds.Expression d = value d
 
 maybe_some : (kind : Kind) (d : Data kind) → maybe kind (Some d) ≡ data_operand kind d
 maybe_some kinds.Value d = refl
@@ -60,6 +63,7 @@ maybe_some kinds.Entity d = refl
 maybe_some kinds.Fraction d = refl
 maybe_some kinds.Label d = refl
 maybe_some kinds.Defined d = refl
+maybe_some kinds.Expression d = refl
 
 maybe_none : (kind : Kind) → maybe kind None ≡ None
 maybe_none kinds.Value = refl
@@ -70,6 +74,7 @@ maybe_none kinds.Entity = refl
 maybe_none kinds.Fraction = refl
 maybe_none kinds.Label = refl
 maybe_none kinds.Defined = refl
+maybe_none kinds.Expression = refl
 
 abbrev pub field_operand : (presence : Presence) (kind : Kind) → Field presence kind → Option Operand
 field_operand presences.Required kind d = data_operand kind d
@@ -93,6 +98,7 @@ data_of (computed_entity text e s) = inl (Computed (postfix e), refl)
 data_of (a_fraction text n f) = inl (Fraction n, refl)
 data_of (a_label text name e) = inl (Label name, refl)
 data_of (a_definition text name e) = inl (Defined name, refl)
+data_of (an_expression text e s) = inl (Computed (postfix e), refl)
 
 maybe_field : (kind : Kind) {P : Type 0} {o : Option Operand}
     → ((d : Data kind) × (data_operand kind d ≡ o)) ⊎ (P × (None ≡ o))
@@ -171,6 +177,7 @@ is_value kinds.Entity = true
 is_value kinds.Fraction = true
 is_value kinds.Label = true
 is_value kinds.Defined = true
+is_value kinds.Expression = true
 is_value kind = false
 
 one_value : {kind : Kind} {text : List ℕ} {o : Option Operand} → is_value kind ≡ true → SpellsOperand kind text o
@@ -190,6 +197,7 @@ one_value w (computed_entity text e s) = (Some (Computed (postfix e)), refl)
 one_value w (a_fraction text n f) = (Some (Fraction n), refl)
 one_value w (a_label text name e) = (Some (Label name), refl)
 one_value w (a_definition text name e) = (Some (Defined name), refl)
+one_value w (an_expression text e s) = (Some (Computed (postfix e)), refl)
 
 pub values : {forms : List Form} {parts : List (List ℕ)} {os : List (Option Operand)} → are_all is_value forms ≡ true
     → SpellsAll forms parts os → (values : List (Option Term)) × (map value values ≡ os)
@@ -216,6 +224,7 @@ one_whole w (computed_entity text e s) = absurd cc
 one_whole w (a_fraction text n f) = absurd cc
 one_whole w (a_label text name e) = absurd cc
 one_whole w (a_definition text name e) = absurd cc
+one_whole w (an_expression text e s) = absurd cc
 
 pub wholes : {forms : List Form} {parts : List (List ℕ)} {os : List (Option Operand)} → are_all is_whole forms ≡ true
     → SpellsAll forms parts os → (values : List (Option ℕ)) × (map whole values ≡ os)

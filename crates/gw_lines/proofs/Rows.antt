@@ -44,6 +44,7 @@ unfolding body_with
 built (bodies.Block block) sign signed = rw (values_back block.operands, ← signed) refl
 built (bodies.Definition (definitions.Storage capacity)) sign signed = refl
 built (bodies.Definition (definitions.Equ z)) sign signed = refl
+built (bodies.Definition (definitions.Variable expression)) sign signed = refl
 built (bodies.Command (commands.Start count)) sign signed = refl
 built (bodies.Command (commands.Rmult values)) sign signed = rw (wholes_back values) refl
 
@@ -92,6 +93,8 @@ definition_made definition_verbs.Storage sign =
     (λ (c, u). makes (bodies.Definition (definitions.Storage c)) sign tt refl)
 definition_made definition_verbs.Equ sign =
     of_row (verbs.Definition definition_verbs.Equ) sign _ refl (λ (z, u). makes (bodies.Definition (definitions.Equ z)) sign tt refl)
+definition_made definition_verbs.Variable sign =
+    of_row (verbs.Definition definition_verbs.Variable) sign _ refl (λ (e, u). makes (bodies.Definition (definitions.Variable e)) sign tt refl)
 definition_made verb sign = tt
 
 command_made : (verb : CommandVerb) (sign : Sign) → MadeOf (verbs.Command verb) sign (forms_of_command verb)

@@ -21,12 +21,12 @@ use Rattle.gw_lines.specs.Numbers.{number_of, from_one, fraction_of}
 use Rattle.gw_lines.specs.Forms.{is_listed}
 use Rattle.gw_lines.specs.Operands.{label_of, defined_of, as_value, operand_in, listed_here, each_of, missing_of, has_more, operands_of}
 use Rattle.gw_lines.specs.Parts.{goes_on, part_of, others_of, is_missing}
-use Rattle.gw_lines.specs.Spelling.{SpellsOperand, absent, a_value, a_constant, named_value, attribute_value, computed_value, a_whole, a_key, named_entity, numbered_entity, attribute_entity, computed_entity, a_fraction, a_label, a_definition, SpellsAll, no_form, stands, unwritten}
+use Rattle.gw_lines.specs.Spelling.{SpellsOperand, absent, a_value, a_constant, named_value, attribute_value, computed_value, a_whole, a_key, named_entity, numbered_entity, attribute_entity, computed_entity, a_fraction, a_label, a_definition, an_expression, SpellsAll, no_form, stands, unwritten}
 use Rattle.gw_lines.specs.Faulty.{Lawful, FirstBad, bad_here, bad_later, AllLawful, FirstMissing, missing_here, missing_later, FaultOfAll, bad_operand, extra_operand, missing_operand}
 use Rattle.gw_lines.proofs.Results.{some, some_is}
 use Rattle.gw_lines.proofs.Digits.{number_found, number_again, mapped, from_one_found, from_one_again}
 use Rattle.gw_lines.proofs.Values.{signed, called, of_attribute, no_name}
-use Rattle.gw_lines.proofs.Stated.{value_is, constant_is, entity_is, value_again, computed_value_again, constant_again, name_again, numbered_again, attribute_in_again, computed_entity_again}
+use Rattle.gw_lines.proofs.Stated.{value_is, constant_is, entity_is, value_again, computed_value_again, constant_again, name_again, numbered_again, attribute_in_again, computed_entity_again, expression_is, expression_again}
 use Rattle.gw_lines.proofs.Fractions.{fraction_found, fraction_again}
 
 -- ---- one operand: what a further kind adds
@@ -86,6 +86,7 @@ operand_found kinds.Entity (b ∷ bs) o e = entity_is (b ∷ bs) o e
 operand_found kinds.Fraction (b ∷ bs) o e = fraction_is (b ∷ bs) o e
 operand_found kinds.Label (b ∷ bs) o e = label_is (b ∷ bs) o e
 operand_found kinds.Defined (b ∷ bs) o e = defined_is (b ∷ bs) o e
+operand_found kinds.Expression (b ∷ bs) o e = expression_is (b ∷ bs) o e
 
 whole_in_again : (most : ℕ) (text : List ℕ) (n : ℕ) → number_of most text ≡ Some n → 1 ≤ n
     → operand_in (kinds.Whole most) text ≡ Some (Some (operands.Whole n))
@@ -124,6 +125,7 @@ operand_again (computed_entity text e s) = computed_entity_again text e s
 operand_again (a_fraction text n f) = fraction_in_again text n (fraction_again f)
 operand_again (a_label text name e) = label_in_again text name e
 operand_again (a_definition text name e) = defined_in_again text name e
+operand_again (an_expression text e s) = expression_again text e s
 
 -- ---- one part
 

@@ -17,9 +17,9 @@ use Rattle.gw_lines.specs.declared.operand.Operand.TheVariants as operands
 use Rattle.gw_lines.specs.Numbers.{number_of, value_of, from_one}
 use Rattle.gw_lines.specs.Attributes.{or_atom, attribute_of}
 use Rattle.gw_lines.specs.Atoms.{constant_of, atom_of}
-use Rattle.gw_lines.specs.Expressions.{tokens_of, inside_of, computed_of}
+use Rattle.gw_lines.specs.Expressions.{tokens_of, inside_of, computed_of, bare_of}
 use Rattle.gw_lines.specs.Operands.{atomic, numbered, or_term, or_number, as_value, operand_in}
-use Rattle.gw_lines.specs.Spelling.{Sum, SpellsExpression, SpellsOperand, a_value, a_constant, named_value, attribute_value, computed_value, Value, Number, named_entity, numbered_entity, attribute_entity, computed_entity, SpellsAttribute}
+use Rattle.gw_lines.specs.Spelling.{Sum, SpellsExpression, SpellsOperand, a_value, a_constant, named_value, attribute_value, computed_value, Value, Number, named_entity, numbered_entity, attribute_entity, computed_entity, an_expression, SpellsAttribute}
 use Rattle.gw_lines.proofs.Results.{some_is}
 use Rattle.gw_lines.proofs.Digits.{Begins, begins, number_found, number_again, value_found, mapped, from_one_found, from_one_again}
 use Rattle.gw_lines.proofs.Digits as digits
@@ -62,9 +62,9 @@ computed_is : (kind : Kind) (text : List ℕ) (o : Option Operand) → SpellsCom
     → SpellsOperand kind text o
 computed_is kind text o spells h =
     let m = mapped (λ (t : Term). as_operand t) (computed_of text) o h in
-    let k = mapped (λ (ts : List Token). Computed ts) (option_and_then tokens_of (inside_of text)) m.0 m.1 in
-    let u = then_some tokens_of (inside_of text) k.0 k.1 in
-    let f = tokens_found u.0 k.0 u.2 in
+    let k = mapped (λ (ts : List Token). Computed ts) (option_and_then (tokens_of 1) (inside_of text)) m.0 m.1 in
+    let u = then_some (tokens_of 1) (inside_of text) k.0 k.1 in
+    let f = tokens_found 31 1 refl u.0 k.0 u.2 in
     let is : as_operand (Computed (postfix f.0)) ≡ o = ap (λ (ts : List Token). as_operand (Computed ts)) f.2 ∙ ap as_operand k.2 ∙ m.2 in
     subst (λ (x : Option Operand). SpellsOperand kind text x) is
     (subst (λ (t : List ℕ). SpellsOperand kind t (as_operand (Computed (postfix f.0)))) (sym (inside_found text u.0 u.1))
@@ -80,7 +80,7 @@ either_is kind text (Some a) o spells other h = atom_is kind text (Some a) o spe
 -- what spells an expression in parentheses is read as one
 computed_read : (text : List ℕ) (e : Expression) → SpellsExpression Sum 31 text e
     → computed_of (40 ∷ (text ++ 41 ∷ [])) ≡ Some (Computed (postfix e))
-computed_read text e s = rw (inside_again text, tokens_again text e s) refl
+computed_read text e s = rw (inside_again text, tokens_again 31 1 refl text e s) refl
 
 pub value_is : (text : List ℕ) (o : Option Operand) → as_value (or_term (atomic (atom_of text)) (computed_of text)) ≡ Some o
     → SpellsOperand kinds.Value text o
@@ -173,3 +173,23 @@ pub computed_entity_again : (text : List ℕ) (e : Expression) → SpellsExpress
     → operand_in kinds.Entity (40 ∷ (text ++ 41 ∷ [])) ≡ Some (Some (operands.Value (Computed (postfix e))))
 computed_entity_again text e s =
     let n = no_entity (text ++ 41 ∷ []) in rw (n.0, n.1, computed_read text e s) refl
+
+-- ---- an expression without parentheses around the whole
+
+-- nothing is none
+nothing_spelled : (ts : List Token) → tokens_of 0 [] ≡ Some ts → ⊥
+unfolding tokens_of
+nothing_spelled ts h = cc
+
+pub expression_is : (text : List ℕ) (o : Option Operand) → as_value (bare_of text) ≡ Some o → SpellsOperand kinds.Expression text o
+expression_is text o h =
+    let m = mapped (λ (t : Term). as_operand t) (bare_of text) o h in
+    let k = mapped (λ (ts : List Token). Computed ts) (tokens_of 0 text) m.0 m.1 in
+    let f = tokens_found 32 0 refl text k.0 k.1 in
+    let is : as_operand (Computed (postfix f.0)) ≡ o = ap (λ (ts : List Token). as_operand (Computed ts)) f.2 ∙ ap as_operand k.2 ∙ m.2 in
+    subst (λ (x : Option Operand). SpellsOperand kinds.Expression text x) is (an_expression text f.0 f.1)
+
+pub expression_again : (text : List ℕ) (e : Expression) → SpellsExpression Sum 32 text e
+    → operand_in kinds.Expression text ≡ Some (Some (operands.Value (Computed (postfix e))))
+expression_again [] e s = absurd (let read = tokens_again 32 0 refl [] e s in nothing_spelled (postfix e) read)
+expression_again (b ∷ bs) e s = rw (tokens_again 32 0 refl (b ∷ bs) e s) refl

@@ -14,7 +14,8 @@ use Rattle.gw_lines.specs.declared.attribute.Scope.{Scope}
 use Rattle.gw_lines.specs.declared.attribute.Scope.TheVariants as scopes
 use Rattle.gw_lines.specs.Numbers.{number_of, from_one}
 
--- what a class's attributes are of; a storage and a parameter are entities here, and those of later versions are not read
+-- what a class's attributes are of; a storage, a parameter and a VARIABLE are entities here, and those of later versions are
+-- not read
 abbrev pub scope_of : Class → Scope
 scope_of class.C1 = scopes.Alone
 scope_of class.Ac1 = scopes.Alone
@@ -26,7 +27,7 @@ scope_of class.P = scopes.Entity
 scope_of class.F = scopes.Entity
 scope_of class.Fc = scopes.Entity
 scope_of class.S = scopes.Entity
-scope_of class.R = scopes.Later
+scope_of class.R = scopes.Entity
 scope_of class.Sc = scopes.Entity
 scope_of class.Sm = scopes.Entity
 scope_of class.Q = scopes.Entity
@@ -41,7 +42,7 @@ scope_of class.Ch = scopes.Later
 scope_of class.Cc = scopes.Later
 scope_of class.Tc = scopes.Later
 scope_of class.Rn = scopes.Stream
-scope_of class.V = scopes.Later
+scope_of class.V = scopes.Entity
 scope_of class.Fn = scopes.Later
 
 -- the subject of an attribute that stands alone: the text is empty

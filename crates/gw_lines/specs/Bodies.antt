@@ -60,10 +60,15 @@ abbrev pub equ_with : Option ℤ → Option Body
 equ_with None = None
 equ_with (Some z) = Some (bodies.Definition (definitions.Equ z))
 
+abbrev pub variable_with : Option Term → Option Body
+variable_with None = None
+variable_with (Some expression) = Some (bodies.Definition (definitions.Variable expression))
+
 -- the definition of a verb with these operands
 abbrev pub definition_with : DefinitionVerb → List (Option Operand) → Option Body
 definition_with definition_verbs.Storage os = storage_with (whole_in (place os 0))
 definition_with definition_verbs.Equ os = equ_with (constant_in (place os 0))
+definition_with definition_verbs.Variable os = variable_with (value_in (place os 0))
 definition_with verb os = None
 
 abbrev pub start_with : Option ℕ → Option Body

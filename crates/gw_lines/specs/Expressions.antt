@@ -1,4 +1,4 @@
--- Expressions in parentheses as they are read: byte by byte, with what waits for the operand that comes next. (Manual:
+-- Expressions as they are read, in parentheses and without: byte by byte, with what waits for the operand that comes next. (Manual:
 -- the operators and which of them come first. Our own: how deep parentheses may be.)
 use Rattle.std.specs.Prelude.{ℕ, suc, ◌==◌, Bool, true, false, List, [], ◌∷◌, ◌++◌, Option, Some, None, option_map, option_and_then, if◌then◌else◌, nat_lt}
 use Rattle.gw_expr.specs.declared.atom.Atom.{Atom}
@@ -80,9 +80,9 @@ closed depth pending ts = None
 abbrev pub closed_in : State → Option State
 closed_in s = closed s.depth s.pending s.tokens
 
--- behind an opening one: 31 of them may stand in the outermost
+-- behind an opening one: 32 of them may be open at once
 abbrev pub opened : State → Option State
-opened s = if nat_lt s.depth 31 then Some (before (suc s.depth) (waits.Opening ∷ s.pending) s.tokens) else None
+opened s = if nat_lt s.depth 32 then Some (before (suc s.depth) (waits.Opening ∷ s.pending) s.tokens) else None
 
 -- behind a symbol, where an operand is complete and where none is
 abbrev pub by_symbol : Symbol → Bool → State → Option State
@@ -132,10 +132,10 @@ ended_by true s = all_closed s.pending s.tokens
 abbrev pub ended : State → Option (List Token)
 ended s = ended_by s.given (settled s.depth s.pending s.tokens)
 
--- the tokens that the text in parentheses is
-unfoldable pub tokens_of : List ℕ → Option (List Token)
-tokens_of text =
-    option_and_then ended (option_and_then taken (run text (before 0 [] [])))
+-- the tokens that a text is, behind so many open parentheses
+unfoldable pub tokens_of : ℕ → List ℕ → Option (List Token)
+tokens_of depth text =
+    option_and_then ended (option_and_then taken (run text (before depth [] [])))
 
 -- what stands before the closing parenthesis at the very end
 abbrev pub before_closing : List ℕ → Option (List ℕ)
@@ -153,4 +153,8 @@ computed read = option_map (λ ts. Computed ts) read
 
 -- the expression in parentheses that a text is
 abbrev pub computed_of : List ℕ → Option Term
-computed_of text = computed (option_and_then tokens_of (inside_of text))
+computed_of text = computed (option_and_then (tokens_of 1) (inside_of text))
+
+-- the expression that a text is, without parentheses around the whole
+abbrev pub bare_of : List ℕ → Option Term
+bare_of text = computed (tokens_of 0 text)

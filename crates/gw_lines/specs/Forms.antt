@@ -36,6 +36,10 @@ one_value = record { kind = kinds.Value; presence = presences.Required }
 abbrev pub a_constant : Form
 a_constant = record { kind = kinds.Constant; presence = presences.Required }
 
+-- an expression
+abbrev pub an_expression : Form
+an_expression = record { kind = kinds.Expression; presence = presences.Required }
+
 -- how many terminations a run takes, or how many units a storage has
 abbrev pub a_count : Form
 a_count = record { kind = kinds.Whole 1000000000; presence = presences.Required }
@@ -99,6 +103,7 @@ forms_of_block verb given = None
 abbrev pub forms_of_definition : DefinitionVerb → Option (List Form)
 forms_of_definition definition_verbs.Storage = Some (a_count ∷ [])
 forms_of_definition definition_verbs.Equ = Some (a_constant ∷ [])
+forms_of_definition definition_verbs.Variable = Some (an_expression ∷ [])
 forms_of_definition verb = None
 
 abbrev pub forms_of_command : CommandVerb → Option (List Form)
@@ -121,6 +126,7 @@ whole v = option_map (λ n. operands.Whole n) v
 abbrev pub fields_of_definition : Definition → List (Option Operand)
 fields_of_definition (definitions.Storage capacity) = Some (operands.Whole capacity) ∷ []
 fields_of_definition (definitions.Equ z) = Some (operands.Value (Value (atoms.Constant z))) ∷ []
+fields_of_definition (definitions.Variable expression) = Some (operands.Value expression) ∷ []
 
 -- the operands that a command has: `NP` leaves no trace
 abbrev pub fields_of_command : Command → List (Option Operand)

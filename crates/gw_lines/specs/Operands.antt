@@ -17,7 +17,7 @@ use Rattle.gw_lines.specs.Reading.{◌>>=◌}
 use Rattle.gw_lines.specs.Numbers.{number_of, from_one, fraction_of}
 use Rattle.gw_lines.specs.Attributes.{or_atom, attribute_of}
 use Rattle.gw_lines.specs.Atoms.{constant_of, atom_of}
-use Rattle.gw_lines.specs.Expressions.{computed_of}
+use Rattle.gw_lines.specs.Expressions.{bare_of, computed_of}
 use Rattle.gw_lines.specs.Forms.{is_listed}
 use Rattle.gw_lines.specs.Parts.{split, goes_on, part_of, others_of, is_missing}
 
@@ -69,6 +69,7 @@ given_in kinds.Entity text = as_value (entity_of text)
 given_in kinds.Fraction text = as_value (option_map (λ n. Fraction n) (fraction_of text))
 given_in kinds.Label text = as_value (label_of text)
 given_in kinds.Defined text = as_value (defined_of text)
+given_in kinds.Expression text = as_value (bare_of text)
 
 -- what a text is, if it is lawful
 abbrev pub operand_in : Kind → List ℕ → Option (Option Operand)

@@ -108,7 +108,7 @@ pub data Rank : Type 0 where
   Product : Rank
   Sum : Rank
 
--- a text in parentheses, in which so many further ones may be open at once: a factor is a value, a factor with a sign or
+-- a text in which so many parentheses may be open at once: a factor is a value, a factor with a sign or
 -- a sum in parentheses; a product is a factor, or a product and a factor; a sum is a product, or a sum and a product
 pub data SpellsExpression : Rank → ℕ → List ℕ → Expression → Type 0 where
   a_single : (room : ℕ) (text : List ℕ) (a : Atom) → SpellsAtom text a → SpellsExpression Factor room text (Single a)
@@ -157,6 +157,8 @@ pub data SpellsOperand : Kind → List ℕ → Option Operand → Type 0 where
       → SpellsOperand kinds.Label text (Some (operands.Value (terms.Label name)))
   a_definition : (text name : List ℕ) → name_of text ≡ Some name
       → SpellsOperand kinds.Defined text (Some (operands.Value (terms.Defined name)))
+  an_expression : (text : List ℕ) (e : Expression) → SpellsExpression Sum 32 text e
+      → SpellsOperand kinds.Expression text (Some (operands.Value (terms.Computed (postfix e))))
 
 -- the parts of a list spell the operands of its forms: each is listed, or a written one behind the last part is not
 pub data SpellsAll : List Form → List (List ℕ) → List (Option Operand) → Type 0 where

@@ -14,7 +14,7 @@ const STREAMS: u32 = 7;
 pub enum Scope {
     /// The run, or the transaction that evaluates it.
     Alone,
-    /// An entity, by its number or its name.
+    /// An entity or a definition, by its number or its name.
     Entity,
     /// A block, by its label.
     Block,
@@ -68,22 +68,17 @@ fn scope_of(class: Class) -> Scope
         | Class::F
         | Class::Fc
         | Class::S
+        | Class::R
         | Class::Sc
         | Class::Sm
         | Class::Q
         | Class::Qc
         | Class::Qm
-        | Class::Qz => Scope::Entity,
+        | Class::Qz
+        | Class::V => Scope::Entity,
         Class::N | Class::W => Scope::Block,
         Class::Rn => Scope::Stream,
-        Class::R
-        | Class::X
-        | Class::Ls
-        | Class::Ch
-        | Class::Cc
-        | Class::Tc
-        | Class::V
-        | Class::Fn => Scope::Later,
+        Class::X | Class::Ls | Class::Ch | Class::Cc | Class::Tc | Class::Fn => Scope::Later,
     }
 }
 

@@ -97,6 +97,10 @@ fn definition_with(verb: DefinitionVerb, mut operands: Vec<Option<Operand>>) -> 
             let value = constant_in(first)?;
             Some(Body::Definition(Definition::Equ { value }))
         }
+        DefinitionVerb::Variable => {
+            let expression = value_in(first)?;
+            Some(Body::Definition(Definition::Variable { expression }))
+        }
         _ => None,
     }
 }

@@ -1,5 +1,5 @@
 ghost use Rattle.std.specs.Prelude.{◌≡◌, ◌∷◌, [], true, IfOk, option_map};
-ghost use Rattle.gw_lines.specs.Expressions.{symbol_of, before, completed, settled, taken, closed_in, opened, by_symbol, with_symbol, with_byte, step, ended, tokens_of, before_closing, inside_of, computed_of};
+ghost use Rattle.gw_lines.specs.Expressions.{symbol_of, before, completed, settled, taken, closed_in, opened, by_symbol, with_symbol, with_byte, step, ended, tokens_of, before_closing, inside_of, computed, computed_of, bare_of};
 
 use crate::atom::atom_of;
 use crate::listed::shallower;
@@ -7,8 +7,8 @@ use gw_expr::{Expr, Operator, Token};
 use std::alloc::{AllocError, Global};
 use std::marker::Model;
 
-// How many parentheses may be open in the outermost.
-const DEEPEST: usize = 31;
+// How many parentheses may be open at once.
+const DEEPEST: usize = 32;
 
 /// A byte that is no part of a word.
 #[derive(Clone, Copy, Debug)]
@@ -64,10 +64,23 @@ pub fn read_expression(alloc: Global, text: &[u8]) -> Result<Option<Expr>, Alloc
     ensures { IfOk result (λ o. o ≡ computed_of text.now) }
 {
     match inside(text) {
-        Some(inner) => match read_tokens(alloc, inner)? {
-            Some(tokens) => Ok(Some(Expr::computed(tokens))),
-            None => Ok(None),
-        },
+        Some(inner) => computed(read_tokens(alloc, 1, inner)?),
+        None => Ok(None),
+    }
+}
+
+/// The expression that a text in upper case is, without parentheses around the whole.
+pub fn read_bare(alloc: Global, text: &[u8]) -> Result<Option<Expr>, AllocError>
+    ensures { IfOk result (λ o. o ≡ bare_of text.now) }
+{
+    computed(read_tokens(alloc, 0, text)?)
+}
+
+fn computed(read: Option<Vec<Token>>) -> Result<Option<Expr>, AllocError>
+    ensures { IfOk result (λ o. o ≡ computed (option_map (λ v. v.items) read)) }
+{
+    match read {
+        Some(tokens) => Ok(Some(Expr::computed(tokens))),
         None => Ok(None),
     }
 }
@@ -95,12 +108,12 @@ fn before_closing(text: &[u8]) -> Option<&[u8]>
     text.strip_suffix(b")")
 }
 
-// The tokens that the text in parentheses is.
+// The tokens that a text is, behind so many open parentheses.
 #[tactic(auto, unfolding(crate::specs::Expressions::tokens_of))]
-fn read_tokens(alloc: Global, text: &[u8]) -> Result<Option<Vec<Token>>, AllocError>
-    ensures { IfOk result (λ o. option_map (λ v. v.items) o ≡ tokens_of text.now) }
+fn read_tokens(alloc: Global, depth: usize, text: &[u8]) -> Result<Option<Vec<Token>>, AllocError>
+    ensures { IfOk result (λ o. option_map (λ v. v.items) o ≡ tokens_of depth text.now) }
 {
-    let mut reader = Reader::new(alloc);
+    let mut reader = Reader::new(alloc, depth);
     for b in text {
         reader = match reader.step(alloc, *b)? {
             Some(next) => next,
@@ -131,13 +144,13 @@ fn symbol_of(b: u8) -> Option<Symbol>
 
 impl Reader {
     // Before the first operand.
-    fn new(alloc: Global) -> Reader
-        ensures { result ≡ before 0 [] [] }
+    fn new(alloc: Global, depth: usize) -> Reader
+        ensures { result ≡ before depth [] [] }
     {
         Reader {
             word: Vec::new(alloc),
             given: false,
-            depth: 0,
+            depth,
             pending: Vec::new(alloc),
             tokens: Vec::new(alloc),
         }

@@ -24,6 +24,8 @@ pub enum Kind {
     Label,
     /// The name of a definition.
     Defined,
+    /// An expression, without parentheses around the whole.
+    Expression,
 }
 
 /// Whether an operand may be absent.
@@ -94,6 +96,7 @@ pub fn forms_of_definition(verb: DefinitionVerb) -> Option<&'static [Form]>
     match verb {
         DefinitionVerb::Storage => Some(&[COUNT]),
         DefinitionVerb::Equ => Some(&[CONSTANT]),
+        DefinitionVerb::Variable => Some(&[EXPRESSION]),
         _ => None,
     }
 }
@@ -121,6 +124,11 @@ const ONE_VALUE: Form = Form {
 
 const CONSTANT: Form = Form {
     kind: Kind::Constant,
+    presence: Presence::Required,
+};
+
+const EXPRESSION: Form = Form {
+    kind: Kind::Expression,
     presence: Presence::Required,
 };
 

@@ -3,7 +3,7 @@ ghost use Rattle.gw_lines.specs.Operands.{operand_in, given_in, as_value, atomic
 ghost use Rattle.gw_lines.specs.Expressions.{computed_of};
 
 use crate::atom::{atom_of, constant, or_attribute};
-use crate::expression::read_expression;
+use crate::expression::{read_bare, read_expression};
 use crate::form::Kind;
 use crate::number::{LIMIT, fraction, from_one};
 use gw_expr::{Atom, Expr};
@@ -57,6 +57,7 @@ fn given(alloc: Global, kind: Kind, text: &[u8]) -> Result<Option<Option<Operand
         },
         Kind::Label => Ok(as_value(label(alloc, text)?)),
         Kind::Defined => Ok(as_value(defined(alloc, text)?)),
+        Kind::Expression => Ok(as_value(read_bare(alloc, text)?)),
     }
 }
 

@@ -12,34 +12,34 @@ use Rattle.gw_meaning.specs.declared.item.End.{End}
 use Rattle.gw_meaning.specs.declared.item.End.TheVariants as ends
 use Rattle.gw_meaning.specs.Laws.{comes_to, ConstantsHangOnNothing}
 use Rattle.gw_meaning.specs.Machine.{Machine}
-use Rattle.gw_meaning.specs.Evaluation.{Eval, gives, ◌~>◌, atom_prog, arithmetic, expression_prog}
+use Rattle.gw_meaning.specs.Evaluation.{Eval, gives, ◌~>◌, Variables, atom_prog, arithmetic, expression_prog}
 
 -- what evaluations in any state come to
-abbrev Settled : (Machine → Asker → Eval ℤ) → Type 0
-Settled p = (r : Result ℤ End) × ((s : Machine) (q : Asker) → p s q ≡ comes_to r)
+abbrev Settled : (Machine → Asker → Variables → Eval ℤ) → Type 0
+Settled p = (r : Result ℤ End) × ((s : Machine) (q : Asker) (v : Variables) → p s q v ≡ comes_to r)
 
 -- one evaluation and then another, which hangs on what the first gives alone
-settled_then : (p : Machine → Asker → Eval ℤ) (f : Machine → Asker → ℤ → Eval ℤ) → Settled p → ((z : ℤ) → Settled (λ s q. f s q z)) →
-    Settled (λ s q. p s q ~> f s q)
+settled_then : (p : Machine → Asker → Variables → Eval ℤ) (f : Machine → Asker → Variables → ℤ → Eval ℤ) → Settled p →
+    ((z : ℤ) → Settled (λ s q v. f s q v z)) → Settled (λ s q v. p s q v ~> f s q v)
 settled_then p f (Ok z, first) second =
     let next = second z in
-    (next.0, λ s q. (ap (λ m. m ~> f s q) (first s q) ∙ next.1 s q))
-settled_then p f (Err end, first) second = (Err end, λ s q. ap (λ m. m ~> f s q) (first s q))
+    (next.0, λ s q v. (ap (λ m. m ~> f s q v) (first s q v) ∙ next.1 s q v))
+settled_then p f (Err end, first) second = (Err end, λ s q v. ap (λ m. m ~> f s q v) (first s q v))
 
-settled_arithmetic : (r : Result ℤ ArithmeticFault) → Settled (λ s q. arithmetic r)
-settled_arithmetic (Ok z) = (Ok z, λ s q. refl)
-settled_arithmetic (Err arithmetic_faults.Range) = (Err (ends.Error stops.Range), λ s q. refl)
-settled_arithmetic (Err arithmetic_faults.ZeroDivisor) = (Err (ends.Error stops.ZeroDivisor), λ s q. refl)
+settled_arithmetic : (r : Result ℤ ArithmeticFault) → Settled (λ s q v. arithmetic r)
+settled_arithmetic (Ok z) = (Ok z, λ s q v. refl)
+settled_arithmetic (Err arithmetic_faults.Range) = (Err (ends.Error stops.Range), λ s q v. refl)
+settled_arithmetic (Err arithmetic_faults.ZeroDivisor) = (Err (ends.Error stops.ZeroDivisor), λ s q v. refl)
 
 pub constants_settle : ConstantsHangOnNothing
 unfolding atom_prog
-constants_settle (Single (atoms.Constant z)) is = (Ok z, λ s q. refl)
+constants_settle (Single (atoms.Constant z)) is = (Ok z, λ s q v. refl)
 constants_settle (Single (atoms.Number name)) is = absurd is
 constants_settle (Single (atoms.Attribute class of)) is = absurd is
 constants_settle (Opposite e) is =
-    settled_then (λ s q. expression_prog s q e) (λ s q v. gives (negated v)) (constants_settle e is) (λ z. (Ok (negated z), λ s q. refl))
+    settled_then (λ s q vs. expression_prog s q vs e) (λ s q vs v. gives (negated v)) (constants_settle e is) (λ z. (Ok (negated z), λ s q v. refl))
 constants_settle (Both operator left right) is =
-    settled_then (λ s q. expression_prog s q left) (λ s q a. expression_prog s q right ~> (λ b. arithmetic (applied operator a b)))
+    settled_then (λ s q vs. expression_prog s q vs left) (λ s q vs a. expression_prog s q vs right ~> (λ b. arithmetic (applied operator a b)))
     (constants_settle left is.0)
-    (λ a. settled_then (λ s q. expression_prog s q right) (λ s q b. arithmetic (applied operator a b)) (constants_settle right is.1)
+    (λ a. settled_then (λ s q vs. expression_prog s q vs right) (λ s q vs b. arithmetic (applied operator a b)) (constants_settle right is.1)
     (λ b. settled_arithmetic (applied operator a b)))

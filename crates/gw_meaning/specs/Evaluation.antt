@@ -20,7 +20,7 @@ use Rattle.gw_names.specs.declared.class.Class.{Class}
 use Rattle.gw_names.specs.declared.class.Class.TheVariants as class
 use Rattle.gw_expr.specs.declared.attribute.Subject.{Subject}
 use Rattle.gw_expr.specs.declared.attribute.Subject.TheVariants as subjects
-use Rattle.gw_expr.specs.declared.stop.Stop.TheVariants.{Range, BadCount, NoParameter, ZeroDivisor}
+use Rattle.gw_expr.specs.declared.stop.Stop.TheVariants.{Range, BadCount, NoParameter, VariableDepth, ZeroDivisor}
 use Rattle.gw_streams.specs.declared.stream.Stream.{Stream}
 use Rattle.gw_streams.specs.declared.stream.Stream.TheVariants as streams
 use Rattle.gw_streams.specs.Draws.{next_of, start_of, stream_at, with_stream}
@@ -125,6 +125,14 @@ abbrev pub storage_prog : Subject → (Key → Eval ℤ) → Eval ℤ
 storage_prog (subjects.Name name) f = f (keys.Defined name)
 storage_prog subject f = ends_with (ends.Error Range)
 
+-- the units of a storage that are left, of as many as it has
+abbrev pub units_left : Machine → Key → ℕ → Eval ℤ
+units_left s key capacity = amount (capacity - (store_at s.entities key).level.content)
+
+abbrev pub left_prog : Machine → Subject → Eval ℤ
+left_prog s (subjects.Name name) = asks (items.Storage name) (units_left s (keys.Defined name))
+left_prog s subject = ends_with (ends.Error Range)
+
 -- the block that an attribute is of, which each version has
 abbrev pub counted : Option ℕ → (ℕ → Eval ℤ) → Eval ℤ
 counted None f = ends_with (ends.Error Range)
@@ -177,7 +185,7 @@ value_held (Some v) = gives v
 abbrev pub parameter_value : Machine → Asker → Key → Eval ℤ
 parameter_value s q key = for_transaction q (value_held (parameter_at s.parameters q.number key))
 
--- the value of an attribute
+-- the value of an attribute other than that of a VARIABLE
 unfoldable pub attribute_prog : Machine → Asker → Class → Subject → Eval ℤ
 attribute_prog s q class.C1 of = own_value s q class.C1
 attribute_prog s q class.Ac1 of = own_value s q class.Ac1
@@ -193,6 +201,7 @@ attribute_prog s q class.Qc of = subject_prog of ~> (λ key. entity_value s clas
 attribute_prog s q class.Qm of = subject_prog of ~> (λ key. entity_value s class.Qm key)
 attribute_prog s q class.Qz of = subject_prog of ~> (λ key. entity_value s class.Qz key)
 attribute_prog s q class.S of = storage_prog of (λ key. storage_value s class.S key)
+attribute_prog s q class.R of = left_prog s of
 attribute_prog s q class.Sc of = storage_prog of (λ key. storage_value s class.Sc key)
 attribute_prog s q class.Sm of = storage_prog of (λ key. storage_value s class.Sm key)
 attribute_prog s q class.N of = block_count of (λ id. block_value s class.N id)
@@ -207,11 +216,25 @@ abbrev pub number_given : Option ℤ → Eval ℤ
 number_given None = ends_with (ends.Error Range)
 number_given (Some n) = gives n
 
+-- what the VARIABLE of each name comes to, where an expression evaluates it
+abbrev pub Variables : Type 0
+Variables = List ℕ → Eval ℤ
+
+-- what the attribute of a VARIABLE comes to
+abbrev pub is_of_variable : Class → Bool
+is_of_variable class.V = true
+is_of_variable class = false
+
+abbrev pub of_variable : Variables → Subject → Eval ℤ
+of_variable variables (subjects.Name name) = variables name
+of_variable variables subject = ends_with (ends.Error Range)
+
 -- the value of a constant, of a name that stands for a number, or of an attribute
-unfoldable pub atom_prog : Machine → Asker → Atom → Eval ℤ
-atom_prog s q (atoms.Constant value) = gives value
-atom_prog s q (atoms.Number name) = asks (items.Name name) number_given
-atom_prog s q (atoms.Attribute class of) = attribute_prog s q class of
+unfoldable pub atom_prog : Machine → Asker → Variables → Atom → Eval ℤ
+atom_prog s q variables (atoms.Constant value) = gives value
+atom_prog s q variables (atoms.Number name) = asks (items.Name name) number_given
+atom_prog s q variables (atoms.Attribute class of) =
+    if is_of_variable class then of_variable variables of else attribute_prog s q class of
 
 -- what an operator comes to: a value, or the stop that says why there is none
 abbrev pub arithmetic : Result ℤ ArithmeticFault → Eval ℤ
@@ -220,11 +243,12 @@ arithmetic (Err arithmetic_faults.Range) = ends_with (ends.Error Range)
 arithmetic (Err arithmetic_faults.ZeroDivisor) = ends_with (ends.Error ZeroDivisor)
 
 -- the value of an expression: of two operands the left one comes first
-abbrev pub expression_prog : Machine → Asker → Expression → Eval ℤ
-expression_prog s q (Single atom) = atom_prog s q atom
-expression_prog s q (Opposite e) = expression_prog s q e ~> (λ v. gives (negated v))
-expression_prog s q (Both operator left right) =
-    expression_prog s q left ~> (λ a. expression_prog s q right ~> (λ b. arithmetic (applied operator a b)))
+abbrev pub expression_prog : Machine → Asker → Variables → Expression → Eval ℤ
+expression_prog s q variables (Single atom) = atom_prog s q variables atom
+expression_prog s q variables (Opposite e) = expression_prog s q variables e ~> (λ v. gives (negated v))
+expression_prog s q variables (Both operator left right) =
+    expression_prog s q variables left
+    ~> (λ a. expression_prog s q variables right ~> (λ b. arithmetic (applied operator a b)))
 
 -- An expression is kept in postfix order, and evaluated by the values that wait for their operator, the last one first:
 -- this comes to the value of the expression.
@@ -240,14 +264,15 @@ applied_last operator (b ∷ []) = ends_with (ends.Error Range)
 applied_last operator (b ∷ a ∷ values) = arithmetic (applied operator a b) ~> (λ v. gives (v ∷ values))
 
 -- what a part of an expression makes of the values that wait
-abbrev pub token_prog : Machine → Asker → Token → List ℤ → Eval (List ℤ)
-token_prog s q (tokens.Value atom) values = atom_prog s q atom ~> (λ v. gives (v ∷ values))
-token_prog s q tokens.Negated values = negated_last values
-token_prog s q (tokens.Applied operator) values = applied_last operator values
+abbrev pub token_prog : Machine → Asker → Variables → Token → List ℤ → Eval (List ℤ)
+token_prog s q variables (tokens.Value atom) values = atom_prog s q variables atom ~> (λ v. gives (v ∷ values))
+token_prog s q variables tokens.Negated values = negated_last values
+token_prog s q variables (tokens.Applied operator) values = applied_last operator values
 
-abbrev pub tokens_prog : Machine → Asker → List Token → List ℤ → Eval (List ℤ)
-tokens_prog s q [] values = gives values
-tokens_prog s q (t ∷ ts) values = token_prog s q t values ~> (λ more. tokens_prog s q ts more)
+abbrev pub tokens_prog : Machine → Asker → Variables → List Token → List ℤ → Eval (List ℤ)
+tokens_prog s q variables [] values = gives values
+tokens_prog s q variables (t ∷ ts) values =
+    token_prog s q variables t values ~> (λ more. tokens_prog s q variables ts more)
 
 -- the value that is left
 abbrev pub last_value : List ℤ → Eval ℤ
@@ -256,12 +281,32 @@ last_value (v ∷ values) = gives v
 
 -- ---- operands
 
--- the value of an operand in a state; an entity, a label, a fraction and a definition have none, and no form lets one
--- stand for a value
+-- the value of an operand in a state, by what VARIABLEs come to; an entity, a label, a fraction and a definition have
+-- none, and no form lets one stand for a value
+unfoldable pub term_prog : Machine → Asker → Variables → Term → Eval ℤ
+term_prog s q variables (Value atom) = atom_prog s q variables atom
+term_prog s q variables (Computed ts) = tokens_prog s q variables ts [] ~> last_value
+term_prog s q variables term = ends_with (ends.Error Range)
+
+-- the value of the expression of a VARIABLE, which each version has
+abbrev pub expression_given : (Term → Eval ℤ) → Option Term → Eval ℤ
+expression_given value None = ends_with (ends.Error Range)
+expression_given value (Some expression) = value expression
+
+-- what the VARIABLE of a name comes to: its expression is asked for and evaluated at that moment, for whoever asks. So
+-- many VARIABLEs may stand in each other here, this one counted; one more stops before its expression is asked for
+unfoldable pub variable_prog : ℕ → Machine → Asker → Variables
+variable_prog zero s q name = ends_with (ends.Error VariableDepth)
+variable_prog (suc depth) s q name =
+    asks (items.Variable name) (expression_given (term_prog s q (variable_prog depth s q)))
+
+-- how many VARIABLEs may stand in each other
+abbrev pub DEEPEST : ℕ
+DEEPEST = 32
+
+-- the value of an operand in a state
 unfoldable pub value_prog : Machine → Asker → Term → Eval ℤ
-value_prog s q (Value atom) = atom_prog s q atom
-value_prog s q (Computed ts) = tokens_prog s q ts [] ~> last_value
-value_prog s q term = ends_with (ends.Error Range)
+value_prog s q term = term_prog s q (variable_prog DEEPEST s q) term
 
 -- the value of an operand that is there: no form leaves it out
 abbrev pub value_there : Machine → Asker → Option Term → Eval ℤ

@@ -6,12 +6,19 @@ use Rattle.gw_expr.specs.declared.atom.Atom.TheVariants as atoms
 use Rattle.gw_meaning.specs.declared.asker.Asker.{Asker}
 use Rattle.gw_meaning.specs.declared.item.End.{End}
 use Rattle.gw_meaning.specs.Machine.{Machine}
-use Rattle.gw_meaning.specs.Evaluation.{Eval, gives, ends_with, value_prog, expression_prog}
+use Rattle.gw_meaning.specs.Evaluation.{Eval, gives, ends_with, Variables, DEEPEST, term_prog, variable_prog, value_prog, expression_prog}
 
 -- an expression that is kept in postfix order has the value of the expression, by the same questions and draws
 abbrev pub ExpressionsHaveTheirValues : Type 0
 ExpressionsHaveTheirValues =
-    (s : Machine) (q : Asker) (e : Expression) → value_prog s q (Computed (postfix e)) ≡ expression_prog s q e
+    (s : Machine) (q : Asker) (e : Expression) →
+    value_prog s q (Computed (postfix e)) ≡ expression_prog s q (variable_prog DEEPEST s q) e
+
+-- so has the expression of a VARIABLE, whatever the VARIABLEs in it come to
+abbrev pub NestedHaveTheirValues : Type 0
+NestedHaveTheirValues =
+    (s : Machine) (q : Asker) (variables : Variables) (e : Expression) →
+    term_prog s q variables (Computed (postfix e)) ≡ expression_prog s q variables e
 
 -- nothing stands in an expression but constants
 abbrev pub IsConstant : Expression → Type 0
@@ -30,4 +37,4 @@ comes_to (Err end) = ends_with end
 -- version has another value of it
 abbrev pub ConstantsHangOnNothing : Type 0
 ConstantsHangOnNothing = (e : Expression) → IsConstant e →
-    (r : Result ℤ End) × ((s : Machine) (q : Asker) → expression_prog s q e ≡ comes_to r)
+    (r : Result ℤ End) × ((s : Machine) (q : Asker) (variables : Variables) → expression_prog s q variables e ≡ comes_to r)

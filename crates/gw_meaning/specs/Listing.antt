@@ -1,9 +1,10 @@
 -- What a version says: its statements in order with the numbers of their own, the horizon, the replications and the
 -- step limit; and what it answers when it is asked for a block, a command, a label or a definition. (Manual: blocks and
 -- commands in order. Our own: numbers, replications and the step limit.)
-use Rattle.std.specs.Prelude.{ℕ, ℤ, zero, suc, ◌+◌, Bool, true, false, ◌==◌, ◌&&◌, List, [], ◌∷◌, Option, Some, None, is_some, if◌then◌else◌, option_and_then, option_map, filter, length, unwrap_or, slice_get}
+use Rattle.std.specs.Prelude.{ℕ, ℤ, zero, suc, ◌+◌, Bool, true, false, ◌==◌, ◌&&◌, List, [], ◌∷◌, Option, Some, None, is_some, if◌then◌else◌, option_and_then, option_map, filter, length, unwrap_or, slice_get, get_or}
 use Rattle.std.specs.List.{filter_map}
 use Rattle.std.specs.Str.{bytes_eq}
+use Rattle.gw_expr.specs.Term.{Term}
 use Rattle.gw_meaning.specs.declared.statement.Block.{Block}
 use Rattle.gw_meaning.specs.declared.statement.Definition.{Definition}
 use Rattle.gw_meaning.specs.declared.statement.Definition.TheVariants as definitions
@@ -55,6 +56,23 @@ command_of line = command_of_body line.statement.body
 
 abbrev pub is_command : Numbered → Bool
 is_command line = is_some (command_of line)
+
+-- the operands of a statement that is evaluated: those of a block, and the expression of a VARIABLE
+abbrev pub operands_of_definition : Definition → List (Option Term)
+operands_of_definition (definitions.Variable expression) = Some expression ∷ []
+operands_of_definition definition = []
+
+abbrev pub operands_of_body : Body → List (Option Term)
+operands_of_body (bodies.Block block) = block.operands
+operands_of_body (bodies.Definition definition) = operands_of_definition definition
+operands_of_body (bodies.Command command) = []
+
+abbrev pub operands_of : Numbered → List (Option Term)
+operands_of line = operands_of_body line.statement.body
+
+-- the one at a place, from 0; a place that it does not have is free
+abbrev pub operand_of : Numbered → ℕ → Option Term
+operand_of line place = get_or (operands_of line) place None
 
 -- whether a statement is a GENERATE
 abbrev pub is_generate_body : Body → Bool
@@ -116,7 +134,7 @@ abbrev pub defined_in : List ℕ → List Numbered → Option Definition
 defined_in name [] = None
 defined_in name (line ∷ lines) = or_next (defines name line) (defined_in name lines)
 
--- how many units a definition gives a storage, and which number it gives a name
+-- how many units a definition gives a storage, which number it gives a name, and which expression a VARIABLE
 abbrev pub units_of : Option Definition → Option ℕ
 units_of (Some (definitions.Storage capacity)) = Some capacity
 units_of definition = None
@@ -125,17 +143,24 @@ abbrev pub number_of : Option Definition → Option ℤ
 number_of (Some (definitions.Equ value)) = Some value
 number_of definition = None
 
+abbrev pub expression_of : Option Definition → Option Term
+expression_of (Some (definitions.Variable expression)) = Some expression
+expression_of definition = None
+
 -- the first that statements say
 abbrev pub first_said : {X : Type 0} → (Numbered → Option X) → List Numbered → Option X
 first_said says [] = None
 first_said says (line ∷ lines) = or_next (says line) (first_said says lines)
 
--- the units of the storage of a name, and the number that a name stands for
+-- the units of the storage of a name, the number that a name stands for, and the expression of the VARIABLE of a name
 abbrev pub capacity_in : List ℕ → List Numbered → Option ℕ
 capacity_in name = first_said (λ line. units_of (defines name line))
 
 abbrev pub number_in : List ℕ → List Numbered → Option ℤ
 number_in name = first_said (λ line. number_of (defines name line))
+
+abbrev pub variable_in : List ℕ → List Numbered → Option Term
+variable_in name = first_said (λ line. expression_of (defines name line))
 
 -- the numbers of the GENERATEs, in order
 abbrev pub generates_in : List Numbered → List ℕ
@@ -174,6 +199,10 @@ capacity_at t name = unwrap_or (capacity_in name t.lines) 0
 -- the number that a name stands for, where it stands for one
 abbrev pub number_at : Listing → List ℕ → Option ℤ
 number_at t name = number_in name t.lines
+
+-- the expression of the VARIABLE of a name, where there is one
+abbrev pub variable_at : Listing → List ℕ → Option Term
+variable_at t name = variable_in name t.lines
 
 -- the i-th statement
 abbrev pub statement_at : Listing → ℕ → Option Statement

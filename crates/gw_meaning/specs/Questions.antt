@@ -1,12 +1,13 @@
 -- A step does not get the version: it asks it. A program of questions gives a result, ends the run, or asks and goes on
 -- with the answer; what it read is just what it asked. (Our own.)
 use Rattle.std.specs.Prelude.{ℕ, ℤ, Bool, List, [], ◌∷◌, Option, Result, Ok, Err, nat_le}
+use Rattle.gw_expr.specs.Term.{Term}
 use Rattle.gw_meaning.specs.declared.item.Item.{Item}
 use Rattle.gw_meaning.specs.declared.item.Item.TheVariants as items
 use Rattle.gw_meaning.specs.declared.item.End.{End}
 use Rattle.gw_meaning.specs.declared.statement.Block.{Block}
 use Rattle.gw_meaning.specs.declared.statement.Command.{Command}
-use Rattle.gw_meaning.specs.Listing.{Listing, block_at, after_at, label_at, capacity_at, number_at, generates_in, command_at}
+use Rattle.gw_meaning.specs.Listing.{Listing, block_at, after_at, label_at, capacity_at, number_at, variable_at, generates_in, command_at}
 
 -- what a question is answered with
 abbrev pub Answer : Item → Type 0
@@ -15,6 +16,8 @@ Answer (items.After id) = Option ℕ
 Answer (items.Label name) = Option ℕ
 Answer (items.Name name) = Option ℤ
 Answer (items.Fits name units) = Bool
+Answer (items.Storage name) = ℕ
+Answer (items.Variable name) = Option Term
 Answer items.Generates = List ℕ
 Answer (items.Cmd i) = Option Command
 Answer items.Seed = ℕ
@@ -27,6 +30,8 @@ ask t seed (items.After id) = after_at t id
 ask t seed (items.Label name) = label_at t name
 ask t seed (items.Name name) = number_at t name
 ask t seed (items.Fits name units) = nat_le units (capacity_at t name)
+ask t seed (items.Storage name) = capacity_at t name
+ask t seed (items.Variable name) = variable_at t name
 ask t seed items.Generates = generates_in t.lines
 ask t seed (items.Cmd i) = command_at t i
 ask t seed items.Seed = seed

@@ -44,6 +44,7 @@ is_generate_verb verb = false
 abbrev pub verb_of_definition : Definition → Verb
 verb_of_definition (definitions.Storage capacity) = verbs.Definition definition_verbs.Storage
 verb_of_definition (definitions.Equ value) = verbs.Definition definition_verbs.Equ
+verb_of_definition (definitions.Variable expression) = verbs.Definition definition_verbs.Variable
 
 -- a command's verb
 abbrev pub verb_of_command : Command → Verb

@@ -16,6 +16,10 @@ pub enum Item {
     Name(Name),
     /// Do so many units fit into the storage of this name?
     Fits(Name, u64),
+    /// How many units does the storage of this name have?
+    Storage(Name),
+    /// What is the expression of the VARIABLE of this name, if there is one?
+    Variable(Name),
     /// Which blocks are GENERATEs?
     Generates,
     /// What is the i-th command, from 1?

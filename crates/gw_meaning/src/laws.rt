@@ -1,10 +1,12 @@
 // Laws above the definitions of evaluation.
-ghost use Rattle.gw_meaning.specs.Laws.{ConstantsHangOnNothing, ExpressionsHaveTheirValues};
+ghost use Rattle.gw_meaning.specs.Laws.{ConstantsHangOnNothing, ExpressionsHaveTheirValues, NestedHaveTheirValues};
 
 /// An expression in parentheses, which is kept in postfix order, has the value that recursion on the expression gives
-/// it, by the same questions and the same draws.
+/// it, by the same questions and the same draws. So has the expression of a VARIABLE, whatever the VARIABLEs in it
+/// come to.
 pub fn expressions_have_their_values()
-    ensures { ExpressionsHaveTheirValues }
+    ensures operands { ExpressionsHaveTheirValues }
+    ensures nested { NestedHaveTheirValues }
 {}
 
 /// An expression of constants has one value, or one stop, whatever the version, the state and the transaction.

@@ -37,12 +37,14 @@ pub struct Block {
 }
 
 /// A definition of its statement's label.
-#[derive(Clone, Copy, Debug, PartialEq, Eq)]
+#[derive(Debug, Drop)]
 pub enum Definition {
     /// A storage of so many units, 1 to 1,000,000,000.
     Storage { capacity: u64 },
     /// The number that the name stands for.
     Equ { value: Val },
+    /// The expression that is evaluated wherever the name stands behind `V$`.
+    Variable { expression: Expr },
 }
 
 /// A command.
@@ -107,12 +109,28 @@ impl Block {
 
 impl Definition {
     /// The definition's verb.
-    pub fn verb(self) -> Verb
-        ensures { result ≡ verb_of_definition self }
+    pub fn verb(&self) -> Verb
+        ensures { result ≡ verb_of_definition self.now }
     {
         match self {
             Definition::Storage { .. } => Verb::Definition(DefinitionVerb::Storage),
             Definition::Equ { .. } => Verb::Definition(DefinitionVerb::Equ),
+            Definition::Variable { .. } => Verb::Definition(DefinitionVerb::Variable),
+        }
+    }
+
+    /// An equal definition.
+    pub fn copy(&self) -> Result<Definition, AllocError>
+        ensures { IfOk result (λ d. d ≡ self.now) }
+    {
+        match self {
+            Definition::Storage { capacity } => Ok(Definition::Storage {
+                capacity: *capacity,
+            }),
+            Definition::Equ { value } => Ok(Definition::Equ { value: *value }),
+            Definition::Variable { expression } => Ok(Definition::Variable {
+                expression: expression.copy()?,
+            }),
         }
     }
 }
@@ -159,7 +177,7 @@ impl Body {
     {
         match self {
             Body::Block(block) => Ok(Body::Block(block.copy(alloc)?)),
-            Body::Definition(definition) => Ok(Body::Definition(*definition)),
+            Body::Definition(definition) => Ok(Body::Definition(definition.copy()?)),
             Body::Command(command) => Ok(Body::Command(command.copy(alloc)?)),
         }
     }
@@ -196,11 +214,11 @@ impl Numbered {
     }
 
     /// The definition that the statement is, if it is one.
-    pub fn definition(&self) -> Option<Definition>
-        ensures { result ≡ definition_of self.now }
+    pub fn definition(&self) -> Option<&Definition>
+        ensures { option_copied result ≡ definition_of self.now }
     {
         match &self.statement.body {
-            Body::Definition(definition) => Some(*definition),
+            Body::Definition(definition) => Some(definition),
             Body::Block(_) | Body::Command(_) => None,
         }
     }

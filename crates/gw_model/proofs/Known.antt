@@ -1,5 +1,5 @@
 -- what the scans for a label that no block has, for a definition that is not there, and for an EQU's that is named as a storage find
-use Rattle.std.proofs.Common.{◌≡◌, ℕ, zero, suc, List, [], ◌∷◌, refl, Bool, false, not, Option, Some, None, is_some, ap, subst, ◌∙◌, true, ◌&&◌, sym}
+use Rattle.std.proofs.Common.{◌≡◌, ℕ, zero, suc, List, [], ◌∷◌, refl, Bool, false, cond, not, Option, Some, None, is_some, ap, subst, ◌∙◌, true, ◌&&◌, sym}
 use Rattle.std.specs.Prelude.{ℤ, get_or}
 use Rattle.std.specs.List.{list_any, slice_get}
 use Rattle.std.proofs.lemmas.Option.{get_or_from_slice_get}
@@ -8,16 +8,15 @@ use Rattle.gw_expr.specs.declared.atom.Atom.{Atom}
 use Rattle.gw_expr.specs.declared.atom.Atom.TheVariants as atoms
 use Rattle.gw_expr.specs.declared.token.Token.{Token}
 use Rattle.gw_expr.specs.declared.token.Token.TheVariants as tokens
-use Rattle.gw_meaning.specs.Listing.{block_of, defined_in, labelled_in, number_of}
-use Rattle.gw_meaning.specs.Statements.{operand}
-use Rattle.gw_meaning.specs.declared.statement.Block.{Block}
+use Rattle.gw_meaning.specs.Listing.{operand_of, operands_of, defined_in, expression_of, labelled_in, number_of, units_of}
 use Rattle.gw_meaning.specs.declared.statement.Definition.{Definition}
 use Rattle.gw_meaning.specs.declared.statement.Definition.TheVariants as definitions
 use Rattle.gw_meaning.specs.declared.statement.Numbered.{Numbered}
 use Rattle.gw_names.specs.declared.class.Class.{Class}
+use Rattle.gw_names.specs.declared.class.Class.TheVariants as class
 use Rattle.gw_expr.specs.declared.attribute.Subject.{Subject}
 use Rattle.gw_expr.specs.declared.attribute.Subject.TheVariants as subjects
-use Rattle.gw_model.specs.Faults.{is_of_block, is_of_storage, lacks_name, has_name, holds_of, block_operands, holds_in, counts_unknown, has_no_value, is_of_equ, is_unknown_label, has_unknown_label, is_undefined, has_unknown_definition, is_equ_named, has_equ_named}
+use Rattle.gw_model.specs.Faults.{is_of_block, is_of_storage, is_of_definition, is_storage_or_equ, is_variable_or_equ, is_wanted_or_equ, lacks_name, has_name, holds_of, holds_in, counts_unknown, has_no_value, is_of_equ, is_unknown_label, has_unknown_label, is_undefined, has_unknown_definition, is_equ_named, has_equ_named}
 use Rattle.gw_model.proofs.Apart.{none_of, none_from}
 
 -- the labels of these lines
@@ -34,32 +33,28 @@ there_is : (o : Option ℕ) → not (is_some o) ≡ false → (n : ℕ) × (o �
 there_is None h = absurd cc
 there_is (Some n) h = (n, refl)
 
--- what a scan of the operands of blocks finds: a test that holds in no statement holds of no operand, and the other way round
-no_operand : (test : Term → Bool) (lines : List Numbered) → list_any (holds_in test) lines ≡ false → (i place : ℕ) (line : Numbered) (block : Block)
-    (term : Term) → slice_get lines i ≡ Some line → block_of line ≡ Some block → operand block place ≡ Some term → test term ≡ false
-no_operand test lines h i place line block term e b o =
+-- what a scan of operands finds: a test that holds in no statement holds of no operand, and the other way round
+no_operand : (test : Term → Bool) (lines : List Numbered) → list_any (holds_in test) lines ≡ false → (i place : ℕ) (line : Numbered)
+    (term : Term) → slice_get lines i ≡ Some line → operand_of line place ≡ Some term → test term ≡ false
+no_operand test lines h i place line term e o =
     let here : holds_in test line ≡ false = none_of (holds_in test) lines h i line e in
-    let operands : list_any (holds_of test) block.operands ≡ false =
-    subst (λ (x : Option Block). list_any (holds_of test) (block_operands x) ≡ false) b here in
-    none_of (holds_of test) block.operands operands place (Some term) (stands block.operands place term o)
+    none_of (holds_of test) (operands_of line) here place (Some term) (stands (operands_of line) place term o)
 
 in_no_operand : (test : Term → Bool) (o : Option Term) → ((term : Term) → o ≡ Some term → test term ≡ false) → holds_of test o ≡ false
 in_no_operand test None f = refl
 in_no_operand test (Some term) f = f term refl
 
-in_no_block : (test : Term → Bool) (b : Option Block)
-    → ((block : Block) (place : ℕ) (term : Term) → b ≡ Some block → operand block place ≡ Some term → test term ≡ false)
-    → list_any (holds_of test) (block_operands b) ≡ false
-in_no_block test None f = refl
-in_no_block test (Some block) f =
-    none_from (holds_of test) block.operands
-    (λ i o e. in_no_operand test o (λ term is. f block i term refl (get_or_from_slice_get block.operands i o None e ∙ is)))
+in_no_list : (test : Term → Bool) (os : List (Option Term))
+    → ((place : ℕ) (term : Term) → get_or os place None ≡ Some term → test term ≡ false) → list_any (holds_of test) os ≡ false
+in_no_list test os f =
+    none_from (holds_of test) os
+    (λ i o e. in_no_operand test o (λ term is. f i term (get_or_from_slice_get os i o None e ∙ is)))
 
 in_no_line : (test : Term → Bool) (lines : List Numbered)
-    → ((i place : ℕ) (line : Numbered) (block : Block) (term : Term) → slice_get lines i ≡ Some line → block_of line ≡ Some block →
-    operand block place ≡ Some term → test term ≡ false) → list_any (holds_in test) lines ≡ false
+    → ((i place : ℕ) (line : Numbered) (term : Term) → slice_get lines i ≡ Some line → operand_of line place ≡ Some term → test term ≡ false) →
+    list_any (holds_in test) lines ≡ false
 in_no_line test lines f =
-    none_from (holds_in test) lines (λ i line e. in_no_block test (block_of line) (λ block place term b o. f i place line block term e b o))
+    none_from (holds_in test) lines (λ i line e. in_no_list test (operands_of line) (λ place term o. f i place line term e o))
 
 -- what a scan of the values of an operand finds: where a test of operands is one of their values, and fails, it fails of each value
 no_atom : (test : Term → Bool) (p : Atom → Bool) → ((a : Atom) → test (Value a) ≡ p a) → ((ts : List Token) → test (Computed ts) ≡
@@ -87,18 +82,18 @@ in_no_atom p (Defined name) f = refl
 
 -- each label that an operand names is that of a block
 abbrev pub LabelsThere : List Numbered → Type 0
-LabelsThere lines = (i place : ℕ) (line : Numbered) (block : Block) (name : List ℕ) → slice_get lines i ≡ Some line →
-    block_of line ≡ Some block → operand block place ≡ Some (Label name) → (id : ℕ) × (labelled_in name lines ≡ Some id)
+LabelsThere lines = (i place : ℕ) (line : Numbered) (name : List ℕ) → slice_get lines i ≡ Some line →
+    operand_of line place ≡ Some (Label name) → (id : ℕ) × (labelled_in name lines ≡ Some id)
 
 pub labels_there : (lines : List Numbered) → has_unknown_label lines ≡ false → LabelsThere lines
 unfolding has_unknown_label is_unknown_label
-labels_there lines h i place line block name e b o =
-    there_is (labelled_in name lines) (no_operand (is_unknown_label (known lines)) lines h i place line block (Label name) e b o)
+labels_there lines h i place line name e o =
+    there_is (labelled_in name lines) (no_operand (is_unknown_label (known lines)) lines h i place line (Label name) e o)
 
 -- so is each label whose block an attribute counts
 abbrev pub CountsThere : List Numbered → Type 0
-CountsThere lines = (i place : ℕ) (line : Numbered) (block : Block) (term : Term) (class : Class) (of : Subject) → slice_get lines i ≡ Some line →
-    block_of line ≡ Some block → operand block place ≡ Some term → HasAtom term (atoms.Attribute class of) → is_of_block class ≡ true →
+CountsThere lines = (i place : ℕ) (line : Numbered) (term : Term) (class : Class) (of : Subject) → slice_get lines i ≡ Some line →
+    operand_of line place ≡ Some term → HasAtom term (atoms.Attribute class of) → is_of_block class ≡ true →
     (name : List ℕ) × (of ≡ subjects.Name name) × (id : ℕ) × (labelled_in name lines ≡ Some id)
 
 both_hold : (a b : Bool) → a ≡ true → (a && b) ≡ false → b ≡ false
@@ -113,8 +108,8 @@ label_named lines (subjects.Name name) h = let there = there_is (labelled_in nam
 
 pub counts_there : (lines : List Numbered) → has_unknown_label lines ≡ false → CountsThere lines
 unfolding has_unknown_label is_unknown_label
-counts_there lines h i place line block term class of e b o has is =
-    let none = no_operand (is_unknown_label (known lines)) lines h i place line block term e b o in
+counts_there lines h i place line term class of e o has is =
+    let none = no_operand (is_unknown_label (known lines)) lines h i place line term e o in
     label_named lines of (both_hold (is_of_block class) _ is
     (no_atom (is_unknown_label (known lines)) (counts_unknown (known lines)) (λ a. refl) (λ ts. refl) term (atoms.Attribute class of) none has))
 
@@ -126,19 +121,17 @@ tested false b f = refl
 pub labels_known : (lines : List Numbered) → LabelsThere lines → CountsThere lines → has_unknown_label lines ≡ false
 unfolding has_unknown_label is_unknown_label
 labels_known lines f g = in_no_line (is_unknown_label (known lines)) lines go where
-  each : (i place : ℕ) (line : Numbered) (block : Block) (term : Term) → slice_get lines i ≡ Some line → block_of line ≡ Some block →
-      operand block place ≡ Some term → (atom : Atom) → HasAtom term atom → counts_unknown (known lines) atom ≡ false
-  each i place line block term e b o (atoms.Attribute class of) has = tested (is_of_block class) (lacks_name (known lines) of)
-      (λ is. (let h = g i place line block term class of e b o has is in
+  each : (i place : ℕ) (line : Numbered) (term : Term) → slice_get lines i ≡ Some line → operand_of line place ≡ Some term → (atom : Atom) → HasAtom term atom → counts_unknown (known lines) atom ≡ false
+  each i place line term e o (atoms.Attribute class of) has = tested (is_of_block class) (lacks_name (known lines) of)
+      (λ is. (let h = g i place line term class of e o has is in
       ap (lacks_name (known lines)) h.1 ∙ ap (λ (x : Option ℕ). not (is_some x)) h.3))
-  each i place line block term e b o atom has = refl
+  each i place line term e o atom has = refl
 
-  go : (i place : ℕ) (line : Numbered) (block : Block) (term : Term) → slice_get lines i ≡ Some line → block_of line ≡ Some block →
-      operand block place ≡ Some term → is_unknown_label (known lines) term ≡ false
-  go i place line block (Label name) e b o = ap (λ (x : Option ℕ). not (is_some x)) (f i place line block name e b o).1
-  go i place line block (Value a) e b o = in_no_atom _ (Value a) (each i place line block (Value a) e b o)
-  go i place line block (Computed ts) e b o = in_no_atom _ (Computed ts) (each i place line block (Computed ts) e b o)
-  go i place line block term e b o = refl
+  go : (i place : ℕ) (line : Numbered) (term : Term) → slice_get lines i ≡ Some line → operand_of line place ≡ Some term → is_unknown_label (known lines) term ≡ false
+  go i place line (Label name) e o = ap (λ (x : Option ℕ). not (is_some x)) (f i place line name e o).1
+  go i place line (Value a) e o = in_no_atom _ (Value a) (each i place line (Value a) e o)
+  go i place line (Computed ts) e o = in_no_atom _ (Computed ts) (each i place line (Computed ts) e o)
+  go i place line term e o = refl
 
 -- the definitions of these lines
 abbrev definition : List Numbered → List ℕ → Option Definition
@@ -146,98 +139,153 @@ definition lines name = defined_in name lines
 
 -- each definition that an operand names is a storage's, and each name that stands for a number has an EQU
 abbrev pub StoragesThere : List Numbered → Type 0
-StoragesThere lines = (i place : ℕ) (line : Numbered) (block : Block) (name : List ℕ) → slice_get lines i ≡ Some line →
-    block_of line ≡ Some block → operand block place ≡ Some (Defined name) → (capacity : ℕ) × (defined_in name lines ≡ Some (definitions.Storage capacity))
+StoragesThere lines = (i place : ℕ) (line : Numbered) (name : List ℕ) → slice_get lines i ≡ Some line →
+    operand_of line place ≡ Some (Defined name) → (capacity : ℕ) × (defined_in name lines ≡ Some (definitions.Storage capacity))
 
 abbrev pub NumbersThere : List Numbered → Type 0
-NumbersThere lines = (i place : ℕ) (line : Numbered) (block : Block) (term : Term) (name : List ℕ) → slice_get lines i ≡ Some line →
-    block_of line ≡ Some block → operand block place ≡ Some term → HasAtom term (atoms.Number name) → (value : ℤ) × (defined_in name lines ≡ Some (definitions.Equ value))
+NumbersThere lines = (i place : ℕ) (line : Numbered) (term : Term) (name : List ℕ) → slice_get lines i ≡ Some line →
+    operand_of line place ≡ Some term → HasAtom term (atoms.Number name) → (value : ℤ) × (defined_in name lines ≡ Some (definitions.Equ value))
 
-storage_is : (o : Option Definition) → not (is_some o) ≡ false → is_some (number_of o) ≡ false → (capacity : ℕ) × (o ≡ Some (definitions.Storage capacity))
+storage_is : (o : Option Definition) → not (is_storage_or_equ o) ≡ false → is_some (number_of o) ≡ false →
+    (capacity : ℕ) × (o ≡ Some (definitions.Storage capacity))
 storage_is None h k = absurd cc
 storage_is (Some (definitions.Storage capacity)) h k = (capacity, refl)
 storage_is (Some (definitions.Equ value)) h k = absurd cc
+storage_is (Some (definitions.Variable expression)) h k = absurd cc
+
+variable_is : (o : Option Definition) → not (is_variable_or_equ o) ≡ false → is_some (number_of o) ≡ false →
+    (expression : Term) × (o ≡ Some (definitions.Variable expression))
+variable_is None h k = absurd cc
+variable_is (Some (definitions.Storage capacity)) h k = absurd cc
+variable_is (Some (definitions.Equ value)) h k = absurd cc
+variable_is (Some (definitions.Variable expression)) h k = (expression, refl)
 
 equ_is : (o : Option Definition) → not (is_some (number_of o)) ≡ false → (value : ℤ) × (o ≡ Some (definitions.Equ value))
 equ_is None h = absurd cc
 equ_is (Some (definitions.Storage capacity)) h = absurd cc
 equ_is (Some (definitions.Equ value)) h = (value, refl)
+equ_is (Some (definitions.Variable expression)) h = absurd cc
 
 pub storages_there : (lines : List Numbered) → has_unknown_definition lines ≡ false → has_equ_named lines ≡ false → StoragesThere lines
 unfolding has_unknown_definition has_equ_named is_undefined is_equ_named
-storages_there lines h k i place line block name e b o =
-    storage_is (defined_in name lines) (no_operand (is_undefined (definition lines)) lines h i place line block (Defined name) e b o)
-    (no_operand (is_equ_named (definition lines)) lines k i place line block (Defined name) e b o)
+storages_there lines h k i place line name e o =
+    storage_is (defined_in name lines) (no_operand (is_undefined (definition lines)) lines h i place line (Defined name) e o)
+    (no_operand (is_equ_named (definition lines)) lines k i place line (Defined name) e o)
 
 pub numbers_there : (lines : List Numbered) → has_unknown_definition lines ≡ false → NumbersThere lines
 unfolding has_unknown_definition is_undefined
-numbers_there lines h i place line block term name e b o has =
-    let none = no_operand (is_undefined (definition lines)) lines h i place line block term e b o in
+numbers_there lines h i place line term name e o has =
+    let none = no_operand (is_undefined (definition lines)) lines h i place line term e o in
     equ_is (defined_in name lines)
     (no_atom (is_undefined (definition lines)) (has_no_value (definition lines)) (λ a. refl) (λ ts. refl) term (atoms.Number name) none has)
 
--- so is each storage whose content an attribute tells
+-- so is each storage whose content an attribute tells, and each VARIABLE that one evaluates
 abbrev pub ContentsThere : List Numbered → Type 0
-ContentsThere lines = (i place : ℕ) (line : Numbered) (block : Block) (term : Term) (class : Class) (of : Subject) → slice_get lines i ≡ Some line →
-    block_of line ≡ Some block → operand block place ≡ Some term → HasAtom term (atoms.Attribute class of) → is_of_storage class ≡ true →
+ContentsThere lines = (i place : ℕ) (line : Numbered) (term : Term) (class : Class) (of : Subject) → slice_get lines i ≡ Some line →
+    operand_of line place ≡ Some term → HasAtom term (atoms.Attribute class of) → is_of_storage class ≡ true →
     (name : List ℕ) × (of ≡ subjects.Name name) × (capacity : ℕ) × (defined_in name lines ≡ Some (definitions.Storage capacity))
 
--- whether a name is defined, and by an EQU
-abbrev is_defined : List Numbered → List ℕ → Bool
-is_defined lines name = is_some (defined_in name lines)
+abbrev pub VariablesThere : List Numbered → Type 0
+VariablesThere lines = (i place : ℕ) (line : Numbered) (term : Term) (of : Subject) → slice_get lines i ≡ Some line →
+    operand_of line place ≡ Some term → HasAtom term (atoms.Attribute class.V of) →
+    (name : List ℕ) × (of ≡ subjects.Name name) × (expression : Term) × (defined_in name lines ≡ Some (definitions.Variable expression))
+
+-- whether a name is that of a storage or of a VARIABLE, or an EQU's in the place of one; and whether it is an EQU's
+abbrev of_storage : List Numbered → List ℕ → Bool
+of_storage lines name = is_storage_or_equ (defined_in name lines)
+
+abbrev of_variable : List Numbered → List ℕ → Bool
+of_variable lines name = is_variable_or_equ (defined_in name lines)
+
+abbrev wanted : List Numbered → Class → List ℕ → Bool
+wanted lines class name = is_wanted_or_equ class (defined_in name lines)
 
 abbrev is_number : List Numbered → List ℕ → Bool
 is_number lines name = is_some (number_of (defined_in name lines))
 
-storage_named : (lines : List Numbered) (of : Subject) → lacks_name (is_defined lines) of ≡ false → has_name (is_number lines) of ≡ false →
+storage_named : (lines : List Numbered) (of : Subject) → lacks_name (of_storage lines) of ≡ false → has_name (is_number lines) of ≡ false →
     (name : List ℕ) × (of ≡ subjects.Name name) × (capacity : ℕ) × (defined_in name lines ≡ Some (definitions.Storage capacity))
 storage_named lines subjects.Own h k = absurd cc
 storage_named lines (subjects.Number n) h k = absurd cc
 storage_named lines (subjects.Name name) h k = let there = storage_is (defined_in name lines) h k in (name, refl, there.0, there.1)
 
-pub contents_there : (lines : List Numbered) → has_unknown_definition lines ≡ false → has_equ_named lines ≡ false → ContentsThere lines
+variable_named : (lines : List Numbered) (of : Subject) → lacks_name (of_variable lines) of ≡ false → has_name (is_number lines) of ≡ false →
+    (name : List ℕ) × (of ≡ subjects.Name name) × (expression : Term) × (defined_in name lines ≡ Some (definitions.Variable expression))
+variable_named lines subjects.Own h k = absurd cc
+variable_named lines (subjects.Number n) h k = absurd cc
+variable_named lines (subjects.Name name) h k = let there = variable_is (defined_in name lines) h k in (name, refl, there.0, there.1)
+
+-- the attributes of a storage are those of a definition, which is to be a storage
+storage_class : (class : Class) → is_of_storage class ≡ true → is_of_definition class ≡ true
+storage_class class.V h = absurd cc
+storage_class class h = h
+
+storage_wanted : (lines : List Numbered) (class : Class) (of : Subject) → is_of_storage class ≡ true →
+    lacks_name (wanted lines class) of ≡ lacks_name (of_storage lines) of
+storage_wanted lines class of is =
+    ap (λ b. lacks_name (λ name. cond b (is_storage_or_equ (defined_in name lines)) (is_variable_or_equ (defined_in name lines))) of) is
+
+-- what the scans find of the definition that an attribute is of
+pub definition_of_attribute : (lines : List Numbered) → has_unknown_definition lines ≡ false → has_equ_named lines ≡ false →
+    (i place : ℕ) (line : Numbered) (term : Term) (class : Class) (of : Subject) → slice_get lines i ≡ Some line → operand_of line place ≡ Some term →
+    HasAtom term (atoms.Attribute class of) → is_of_definition class ≡ true →
+    (lacks_name (wanted lines class) of ≡ false) × (has_name (is_number lines) of ≡ false)
 unfolding has_unknown_definition has_equ_named is_undefined is_equ_named
-contents_there lines h k i place line block term class of e b o has is =
-    let none = no_operand (is_undefined (definition lines)) lines h i place line block term e b o in
-    let no_equ = no_operand (is_equ_named (definition lines)) lines k i place line block term e b o in
-    storage_named lines of
-    (both_hold (is_of_storage class) _ is
-    (no_atom (is_undefined (definition lines)) (has_no_value (definition lines)) (λ a. refl) (λ ts. refl) term (atoms.Attribute class of) none has))
-    (both_hold (is_of_storage class) _ is
-    (no_atom (is_equ_named (definition lines)) (is_of_equ (definition lines)) (λ a. refl) (λ ts. refl) term (atoms.Attribute class of) no_equ has))
+definition_of_attribute lines h k i place line term class of e o has is =
+    let none = no_operand (is_undefined (definition lines)) lines h i place line term e o in
+    let no_equ = no_operand (is_equ_named (definition lines)) lines k i place line term e o in (
+      both_hold (is_of_definition class) _ is
+          (no_atom (is_undefined (definition lines)) (has_no_value (definition lines)) (λ a. refl) (λ ts. refl) term (atoms.Attribute class of) none has),
+      both_hold (is_of_definition class) _ is
+          (no_atom (is_equ_named (definition lines)) (is_of_equ (definition lines)) (λ a. refl) (λ ts. refl) term (atoms.Attribute class of) no_equ has),
+    )
 
-pub definitions_known : (lines : List Numbered) → StoragesThere lines → NumbersThere lines → ContentsThere lines → has_unknown_definition lines ≡ false
+pub contents_there : (lines : List Numbered) → has_unknown_definition lines ≡ false → has_equ_named lines ≡ false → ContentsThere lines
+contents_there lines h k i place line term class of e o has is =
+    let found = definition_of_attribute lines h k i place line term class of e o has (storage_class class is) in
+    storage_named lines of (sym (storage_wanted lines class of is) ∙ found.0) found.1
+
+pub variables_there : (lines : List Numbered) → has_unknown_definition lines ≡ false → has_equ_named lines ≡ false → VariablesThere lines
+variables_there lines h k i place line term of e o has =
+    let found = definition_of_attribute lines h k i place line term class.V of e o has refl in
+    variable_named lines of found.0 found.1
+
+pub definitions_known : (lines : List Numbered) → StoragesThere lines → NumbersThere lines → ContentsThere lines → VariablesThere lines →
+    has_unknown_definition lines ≡ false
 unfolding has_unknown_definition is_undefined
-definitions_known lines f g w = in_no_line (is_undefined (definition lines)) lines go where
-  each : (i place : ℕ) (line : Numbered) (block : Block) (term : Term) → slice_get lines i ≡ Some line → block_of line ≡ Some block →
-      operand block place ≡ Some term → (atom : Atom) → HasAtom term atom → has_no_value (definition lines) atom ≡ false
-  each i place line block term e b o (atoms.Constant value) has = refl
-  each i place line block term e b o (atoms.Number name) has =
-      ap (λ (x : Option Definition). not (is_some (number_of x))) (g i place line block term name e b o has).1
-  each i place line block term e b o (atoms.Attribute class of) has = tested (is_of_storage class) (lacks_name (is_defined lines) of)
-      (λ is. (let h = w i place line block term class of e b o has is in
-      ap (lacks_name (is_defined lines)) h.1 ∙ ap (λ (x : Option Definition). not (is_some x)) h.3))
+definitions_known lines f g w v = in_no_line (is_undefined (definition lines)) lines go where
+  each : (i place : ℕ) (line : Numbered) (term : Term) → slice_get lines i ≡ Some line → operand_of line place ≡ Some term → (atom : Atom) → HasAtom term atom → has_no_value (definition lines) atom ≡ false
+  each i place line term e o (atoms.Constant value) has = refl
+  each i place line term e o (atoms.Number name) has =
+      ap (λ (x : Option Definition). not (is_some (number_of x))) (g i place line term name e o has).1
+  each i place line term e o (atoms.Attribute class.V of) has =
+      let h = v i place line term of e o has in
+      ap (lacks_name (of_variable lines)) h.1 ∙ ap (λ (x : Option Definition). not (is_variable_or_equ x)) h.3
+  each i place line term e o (atoms.Attribute class of) has = tested (is_of_storage class) (lacks_name (wanted lines class) of)
+      (λ is. (let h = w i place line term class of e o has is in
+      storage_wanted lines class of is ∙
+      (ap (lacks_name (of_storage lines)) h.1 ∙ ap (λ (x : Option Definition). not (is_storage_or_equ x)) h.3)))
 
-  go : (i place : ℕ) (line : Numbered) (block : Block) (term : Term) → slice_get lines i ≡ Some line → block_of line ≡ Some block →
-      operand block place ≡ Some term → is_undefined (definition lines) term ≡ false
-  go i place line block (Defined name) e b o = ap (λ (x : Option Definition). not (is_some x)) (f i place line block name e b o).1
-  go i place line block (Value a) e b o = in_no_atom _ (Value a) (each i place line block (Value a) e b o)
-  go i place line block (Computed ts) e b o = in_no_atom _ (Computed ts) (each i place line block (Computed ts) e b o)
-  go i place line block term e b o = refl
+  go : (i place : ℕ) (line : Numbered) (term : Term) → slice_get lines i ≡ Some line → operand_of line place ≡ Some term → is_undefined (definition lines) term ≡ false
+  go i place line (Defined name) e o = ap (λ (x : Option Definition). not (is_storage_or_equ x)) (f i place line name e o).1
+  go i place line (Value a) e o = in_no_atom _ (Value a) (each i place line (Value a) e o)
+  go i place line (Computed ts) e o = in_no_atom _ (Computed ts) (each i place line (Computed ts) e o)
+  go i place line term e o = refl
 
-pub none_equ_named : (lines : List Numbered) → StoragesThere lines → ContentsThere lines → has_equ_named lines ≡ false
+pub none_equ_named : (lines : List Numbered) → StoragesThere lines → ContentsThere lines → VariablesThere lines → has_equ_named lines ≡ false
 unfolding has_equ_named is_equ_named
-none_equ_named lines f w = in_no_line (is_equ_named (definition lines)) lines go where
-  each : (i place : ℕ) (line : Numbered) (block : Block) (term : Term) → slice_get lines i ≡ Some line → block_of line ≡ Some block →
-      operand block place ≡ Some term → (atom : Atom) → HasAtom term atom → is_of_equ (definition lines) atom ≡ false
-  each i place line block term e b o (atoms.Attribute class of) has = tested (is_of_storage class) (has_name (is_number lines) of)
-      (λ is. (let h = w i place line block term class of e b o has is in
+none_equ_named lines f w v = in_no_line (is_equ_named (definition lines)) lines go where
+  each : (i place : ℕ) (line : Numbered) (term : Term) → slice_get lines i ≡ Some line → operand_of line place ≡ Some term → (atom : Atom) → HasAtom term atom → is_of_equ (definition lines) atom ≡ false
+  each i place line term e o (atoms.Attribute class.V of) has =
+      let h = v i place line term of e o has in
+      ap (has_name (is_number lines)) h.1 ∙ ap (λ (x : Option Definition). is_some (number_of x)) h.3
+  each i place line term e o (atoms.Attribute class of) has = tested (is_of_storage class) (has_name (is_number lines) of)
+      (λ is. (let h = w i place line term class of e o has is in
       ap (has_name (is_number lines)) h.1 ∙ ap (λ (x : Option Definition). is_some (number_of x)) h.3))
-  each i place line block term e b o atom has = refl
+  each i place line term e o atom has = refl
 
-  go : (i place : ℕ) (line : Numbered) (block : Block) (term : Term) → slice_get lines i ≡ Some line → block_of line ≡ Some block →
-      operand block place ≡ Some term → is_equ_named (definition lines) term ≡ false
-  go i place line block (Defined name) e b o = ap (λ (x : Option Definition). is_some (number_of x)) (f i place line block name e b o).1
-  go i place line block (Value a) e b o = in_no_atom _ (Value a) (each i place line block (Value a) e b o)
-  go i place line block (Computed ts) e b o = in_no_atom _ (Computed ts) (each i place line block (Computed ts) e b o)
-  go i place line block term e b o = refl
+  go : (i place : ℕ) (line : Numbered) (term : Term) → slice_get lines i ≡ Some line → operand_of line place ≡ Some term → is_equ_named (definition lines) term ≡ false
+  go i place line (Defined name) e o = ap (λ (x : Option Definition). is_some (number_of x)) (f i place line name e o).1
+  go i place line (Value a) e o = in_no_atom _ (Value a) (each i place line (Value a) e o)
+  go i place line (Computed ts) e o = in_no_atom _ (Computed ts) (each i place line (Computed ts) e o)
+  go i place line term e o = refl

@@ -9,10 +9,9 @@ use Rattle.gw_expr.specs.declared.attribute.Subject.TheVariants as subjects
 use Rattle.gw_expr.specs.Term.{Term, Defined, Label, holds_of_atom}
 use Rattle.gw_expr.specs.declared.atom.Atom.{Atom}
 use Rattle.gw_expr.specs.declared.atom.Atom.TheVariants as atoms
-use Rattle.gw_meaning.specs.Listing.{Listing, block_of, defined_in, has_label, labelled_in}
+use Rattle.gw_meaning.specs.Listing.{Listing, operands_of, defined_in, expression_of, units_of, has_label, labelled_in}
 use Rattle.gw_meaning.specs.Listing as listings
 use Rattle.gw_model.specs.Listed.{counted_label}
-use Rattle.gw_meaning.specs.declared.statement.Block.{Block}
 use Rattle.gw_meaning.specs.declared.statement.Definition.{Definition}
 use Rattle.gw_meaning.specs.declared.statement.Numbered.{Numbered}
 use Rattle.gw_meaning.specs.declared.statement.Replication.{Replication}
@@ -73,16 +72,11 @@ abbrev pub holds_of : (Term → Bool) → Option Term → Bool
 holds_of test None = false
 holds_of test (Some term) = test term
 
--- the operands of a block; what is no block has none
-abbrev pub block_operands : Option Block → List (Option Term)
-block_operands None = []
-block_operands (Some block) = block.operands
-
--- whether a test holds of an operand of a block
+-- whether a test holds of an operand of a block, or of the expression of a VARIABLE
 abbrev pub holds_in : (Term → Bool) → Numbered → Bool
-holds_in test line = list_any (holds_of test) (block_operands (block_of line))
+holds_in test line = list_any (holds_of test) (operands_of line)
 
--- whether the attributes of a class are of a block, and of a storage
+-- whether the attributes of a class are of a block, of a storage, and of a storage or a VARIABLE
 abbrev pub is_of_block : Class → Bool
 is_of_block class.N = true
 is_of_block class.W = true
@@ -90,9 +84,26 @@ is_of_block class = false
 
 abbrev pub is_of_storage : Class → Bool
 is_of_storage class.S = true
+is_of_storage class.R = true
 is_of_storage class.Sc = true
 is_of_storage class.Sm = true
 is_of_storage class = false
+
+abbrev pub is_of_definition : Class → Bool
+is_of_definition class.V = true
+is_of_definition class = is_of_storage class
+
+-- whether a definition is a storage, or an EQU in the place of one, and whether it is what an attribute of a class is of,
+-- or an EQU
+abbrev pub is_storage_or_equ : Option Definition → Bool
+is_storage_or_equ definition = is_some (units_of definition) || is_some (listings.number_of definition)
+
+abbrev pub is_variable_or_equ : Option Definition → Bool
+is_variable_or_equ definition = is_some (expression_of definition) || is_some (listings.number_of definition)
+
+abbrev pub is_wanted_or_equ : Class → Option Definition → Bool
+is_wanted_or_equ class definition =
+    if is_of_storage class then is_storage_or_equ definition else is_variable_or_equ definition
 
 -- whether what an attribute is of has no name that is known, and whether it has a name of which a test holds
 abbrev pub lacks_name : (List ℕ → Bool) → Subject → Bool
@@ -112,40 +123,41 @@ unfoldable pub is_unknown_label : (List ℕ → Bool) → Term → Bool
 is_unknown_label known (Label name) = not (known name)
 is_unknown_label known term = holds_of_atom (counts_unknown known) term
 
--- whether an operand of a block is the label of no block
+-- whether such an operand is the label of no block
 unfoldable pub has_unknown_label : List Numbered → Bool
 has_unknown_label lines = list_any (holds_in (is_unknown_label (λ name. is_some (labelled_in name lines)))) lines
 
--- a name without the definition that it needs: that of a storage has none, or what stands for a number has no EQU
+-- a name without the definition that it needs: that of a storage or of a VARIABLE has neither that nor an EQU, or what
+-- stands for a number has no EQU
 abbrev pub has_no_value : (List ℕ → Option Definition) → Atom → Bool
 has_no_value definition (atoms.Constant value) = false
 has_no_value definition (atoms.Number name) = not (is_some (listings.number_of (definition name)))
 has_no_value definition (atoms.Attribute class of) =
-    is_of_storage class && lacks_name (λ name. is_some (definition name)) of
+    is_of_definition class && lacks_name (λ name. is_wanted_or_equ class (definition name)) of
 
 unfoldable pub is_undefined : (List ℕ → Option Definition) → Term → Bool
-is_undefined definition (Defined name) = not (is_some (definition name))
+is_undefined definition (Defined name) = not (is_storage_or_equ (definition name))
 is_undefined definition term = holds_of_atom (has_no_value definition) term
 
--- whether an operand of a block is such a name
+-- whether such an operand is such a name
 unfoldable pub has_unknown_definition : List Numbered → Bool
 has_unknown_definition lines = list_any (holds_in (is_undefined (λ name. defined_in name lines))) lines
 
--- the name of a storage that is an EQU's
+-- the name of a storage or of a VARIABLE that is an EQU's
 abbrev pub is_of_equ : (List ℕ → Option Definition) → Atom → Bool
 is_of_equ definition (atoms.Attribute class of) =
-    is_of_storage class && has_name (λ name. is_some (listings.number_of (definition name))) of
+    is_of_definition class && has_name (λ name. is_some (listings.number_of (definition name))) of
 is_of_equ definition atom = false
 
 unfoldable pub is_equ_named : (List ℕ → Option Definition) → Term → Bool
 is_equ_named definition (Defined name) = is_some (listings.number_of (definition name))
 is_equ_named definition term = holds_of_atom (is_of_equ definition) term
 
--- whether an operand of a block is such a name
+-- whether such an operand is such a name
 unfoldable pub has_equ_named : List Numbered → Bool
 has_equ_named lines = list_any (holds_in (is_equ_named (λ name. defined_in name lines))) lines
 
--- the first fault of the names that operands of blocks are, if they have one
+-- the first fault of the names that operands are, if they have one
 abbrev pub definition_fault_of : List Numbered → Option ModelFault
 definition_fault_of lines =
     if has_unknown_definition lines

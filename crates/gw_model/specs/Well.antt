@@ -3,13 +3,12 @@ use Rattle.std.specs.Prelude.{ℕ, ℤ, ◌≤◌, ◌<◌, ◌≡◌, ◌≢◌
 use Rattle.gw_expr.specs.Term.{Term, Defined, Label, HasAtom}
 use Rattle.gw_expr.specs.declared.atom.Atom.TheVariants as atoms
 use Rattle.gw_names.specs.declared.class.Class.{Class}
+use Rattle.gw_names.specs.declared.class.Class.TheVariants as class
 use Rattle.gw_expr.specs.declared.attribute.Subject.{Subject}
 use Rattle.gw_expr.specs.declared.attribute.Subject.TheVariants as subjects
-use Rattle.gw_meaning.specs.Listing.{Listing, block_of, definition_at, label_at}
-use Rattle.gw_meaning.specs.Statements.{operand}
+use Rattle.gw_meaning.specs.Listing.{Listing, operand_of, definition_at, label_at}
 use Rattle.gw_model.specs.Listed.{counted_label}
 use Rattle.gw_model.specs.Faults.{is_of_block, is_of_storage}
-use Rattle.gw_meaning.specs.declared.statement.Block.{Block}
 use Rattle.gw_meaning.specs.declared.statement.Definition.TheVariants as definitions
 use Rattle.gw_meaning.specs.declared.statement.Numbered.{Numbered}
 use Rattle.gw_meaning.specs.declared.statement.Replication.{Replication}
@@ -34,24 +33,28 @@ pub record Well (t : Listing) : Type 0 where
   pub greatest_limit : t.limit ≤ 1000000
   pub labels_apart : (i j : ℕ) (k l : Numbered) (m n : List ℕ) → i < j → slice_get t.lines i ≡ Some k →
       slice_get t.lines j ≡ Some l → counted_label k ≡ Some m → counted_label l ≡ Some n → m ≢ n
-  pub labels_there : (i place : ℕ) (line : Numbered) (block : Block) (name : List ℕ) → slice_get t.lines i ≡ Some line →
-      block_of line ≡ Some block → operand block place ≡ Some (Label name) → (id : ℕ) × (label_at t name ≡ Some id)
-  pub storages_there : (i place : ℕ) (line : Numbered) (block : Block) (name : List ℕ) →
-      slice_get t.lines i ≡ Some line → block_of line ≡ Some block → operand block place ≡ Some (Defined name) →
+  pub labels_there : (i place : ℕ) (line : Numbered) (name : List ℕ) → slice_get t.lines i ≡ Some line →
+      operand_of line place ≡ Some (Label name) → (id : ℕ) × (label_at t name ≡ Some id)
+  pub storages_there : (i place : ℕ) (line : Numbered) (name : List ℕ) →
+      slice_get t.lines i ≡ Some line → operand_of line place ≡ Some (Defined name) →
       (capacity : ℕ) × (definition_at t name ≡ Some (definitions.Storage capacity))
-  pub numbers_there : (i place : ℕ) (line : Numbered) (block : Block) (term : Term) (name : List ℕ) →
-      slice_get t.lines i ≡ Some line → block_of line ≡ Some block → operand block place ≡ Some term →
+  pub numbers_there : (i place : ℕ) (line : Numbered) (term : Term) (name : List ℕ) →
+      slice_get t.lines i ≡ Some line → operand_of line place ≡ Some term →
       HasAtom term (atoms.Number name) → (value : ℤ) × (definition_at t name ≡ Some (definitions.Equ value))
   pub counts_there :
-      (i place : ℕ) (line : Numbered) (block : Block) (term : Term) (class : Class) (of : Subject) →
-      slice_get t.lines i ≡ Some line → block_of line ≡ Some block → operand block place ≡ Some term →
-      HasAtom term (atoms.Attribute class of) →
-      is_of_block class ≡ true →
+      (i place : ℕ) (line : Numbered) (term : Term) (class : Class) (of : Subject) →
+      slice_get t.lines i ≡ Some line → operand_of line place ≡ Some term →
+      HasAtom term (atoms.Attribute class of) → is_of_block class ≡ true →
       (name : List ℕ) × (of ≡ subjects.Name name) × (id : ℕ) × (label_at t name ≡ Some id)
   pub contents_there :
-      (i place : ℕ) (line : Numbered) (block : Block) (term : Term) (class : Class) (of : Subject) →
-      slice_get t.lines i ≡ Some line → block_of line ≡ Some block → operand block place ≡ Some term →
-      HasAtom term (atoms.Attribute class of) →
-      is_of_storage class ≡ true →
+      (i place : ℕ) (line : Numbered) (term : Term) (class : Class) (of : Subject) →
+      slice_get t.lines i ≡ Some line → operand_of line place ≡ Some term →
+      HasAtom term (atoms.Attribute class of) → is_of_storage class ≡ true →
       (name : List ℕ) × (of ≡ subjects.Name name) × (capacity : ℕ) ×
       (definition_at t name ≡ Some (definitions.Storage capacity))
+  pub variables_there :
+      (i place : ℕ) (line : Numbered) (term : Term) (of : Subject) →
+      slice_get t.lines i ≡ Some line → operand_of line place ≡ Some term →
+      HasAtom term (atoms.Attribute class.V of) →
+      (name : List ℕ) × (of ≡ subjects.Name name) × (expression : Term) ×
+      (definition_at t name ≡ Some (definitions.Variable expression))

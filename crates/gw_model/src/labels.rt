@@ -2,17 +2,17 @@ ghost use Rattle.std.specs.Prelude.{◌≡◌, ℕ, List, is_some};
 ghost use Rattle.std.specs.BTreeMap as tree;
 ghost use Rattle.std.specs.Ordering.{nat_cmp};
 ghost use Rattle.std.specs.Cmp.Lexicographic.{slice_cmp};
-ghost use Rattle.gw_meaning.specs.Listing.{labelled_in};
+ghost use Rattle.gw_meaning.specs.Listing.{labelled_in, operands_of_definition};
 ghost use Rattle.std.specs.List.{list_any};
 ghost use Rattle.gw_expr.specs.Term.{holds_of_token};
 ghost use Rattle.gw_model.specs.Faults.{counts_unknown, has_unknown_label, holds_in, holds_of, is_unknown_label, is_of_block, lacks_name};
 
 use gw_expr::{Atom, Expr, Node, Subject, Token};
-use gw_meaning::{Numbered, StatementId};
+use gw_meaning::{Body, Definition, Numbered, StatementId};
 use gw_names::{Class, Name};
 use std::collections::BTreeMap;
 
-/// Whether an operand of a block is the label of no block.
+/// Whether an operand of a block or the expression of a VARIABLE has the label of no block.
 #[tactic(auto, unfolding(crate::specs::Faults::has_unknown_label))]
 pub fn has_unknown_label(lines: &[Numbered], labels: &BTreeMap<Name, StatementId>) -> bool
     requires { (name : List ℕ) → tree.get (slice_cmp nat_cmp) labels.now name ≡ labelled_in name lines.now }
@@ -25,22 +25,43 @@ fn names_unknown(labels: &BTreeMap<Name, StatementId>, line: &Numbered) -> bool
     ensures { result ≡
         holds_in (is_unknown_label (λ name. is_some (tree.get (slice_cmp nat_cmp) labels.now name))) line.now }
 {
-    match line.block() {
-        Some(block) => block
+    match &line.statement.body {
+        Body::Block(block) => block
             .operands
             .as_slice()
             .iter()
-            .any(|operand| is_unknown(labels, operand)),
+            .any(|operand| is_unknown_operand(labels, operand)),
+        Body::Definition(definition) => is_unknown_in(labels, definition),
+        Body::Command(_) => false,
+    }
+}
+
+fn is_unknown_in(labels: &BTreeMap<Name, StatementId>, definition: &Definition) -> bool
+    ensures { result ≡ list_any
+        (holds_of (is_unknown_label (λ name. is_some (tree.get (slice_cmp nat_cmp) labels.now name))))
+        (operands_of_definition definition.now) }
+{
+    match definition {
+        Definition::Variable { expression } => is_unknown(labels, expression),
+        Definition::Storage { .. } | Definition::Equ { .. } => false,
+    }
+}
+
+fn is_unknown_operand(labels: &BTreeMap<Name, StatementId>, operand: &Option<Expr>) -> bool
+    ensures { result ≡
+        holds_of (is_unknown_label (λ name. is_some (tree.get (slice_cmp nat_cmp) labels.now name))) operand.now }
+{
+    match operand {
+        Some(expr) => is_unknown(labels, expr),
         None => false,
     }
 }
 
 #[tactic(auto, unfolding(crate::specs::Faults::is_unknown_label))]
-fn is_unknown(labels: &BTreeMap<Name, StatementId>, operand: &Option<Expr>) -> bool
+fn is_unknown(labels: &BTreeMap<Name, StatementId>, expr: &Expr) -> bool
     ensures { result ≡
-        holds_of (is_unknown_label (λ name. is_some (tree.get (slice_cmp nat_cmp) labels.now name))) operand.now }
+        is_unknown_label (λ name. is_some (tree.get (slice_cmp nat_cmp) labels.now name)) expr.now }
 {
-    let Some(expr) = operand else { return false };
     match expr.node() {
         Node::Label(name) => labels.get(name).is_none(),
         Node::Value(atom) => counts_unknown(labels, atom),

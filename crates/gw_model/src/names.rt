@@ -26,7 +26,7 @@ pub struct Names {
 }
 
 /// What the labels of these lines stand for. No two blocks or definitions may have one label, and what an operand of a
-/// block names must be there: a label must be that of a block, and a definition must be a storage's.
+/// block names must be there: a label must be that of a block, and a definition must be of its kind.
 pub fn sound_names(alloc: Global, lines: &[Numbered]) -> Result<Names, ModelFault>
     ensures labels { IfOk result (λ names. (name : List ℕ) →
         tree.get (slice_cmp nat_cmp) names.labels name ≡ labelled_in name lines.now) }
@@ -91,7 +91,7 @@ impl Names {
                 Ok(told || self.definitions.get(name).is_some())
             }
             Body::Definition(definition) => {
-                let told = put(&mut self.definitions, name, *definition)?;
+                let told = put(&mut self.definitions, name, definition.copy()?)?;
                 Ok(told || self.labels.get(name).is_some())
             }
             Body::Command(_) => Ok(false),

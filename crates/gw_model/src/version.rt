@@ -1,5 +1,5 @@
 ghost use Rattle.std.specs.Prelude.{◌≡◌, ◌≤◌, ◌⊎◌, IfOk, OnOk, IfErr, IfSome, IsTrue, Some, None, option_copied, length, nat_le, if◌then◌else◌};
-ghost use Rattle.gw_meaning.specs.Listing.{block_at, after_at, position_at, label_at, command_at, definition_at, capacity_at, number_at, generates_in, statement_at, starts, replication_at, seed_at};
+ghost use Rattle.gw_meaning.specs.Listing.{block_at, after_at, position_at, label_at, command_at, definition_at, capacity_at, number_at, variable_at, generates_in, statement_at, starts, replication_at, seed_at};
 
 use crate::fault::ModelFault;
 use crate::lines::{number, spliced};
@@ -8,6 +8,7 @@ use crate::places::{after_of, line_of, position_of};
 use crate::replications::seed_of;
 use crate::settings::checked_horizon;
 use crate::tabled::Tabled;
+use gw_expr::Expr;
 use gw_meaning::{Block, Command, Definition, Numbered, Replication, Statement, StatementId};
 use gw_names::Name;
 use gw_nums::{Clock, Time, Val};
@@ -211,10 +212,10 @@ impl Version {
     }
 
     /// What the name is defined as.
-    pub fn definition(&self, name: &Name) -> Option<Definition>
-        ensures { result ≡ definition_at self.now name.now }
+    pub fn definition(&self, name: &Name) -> Option<&Definition>
+        ensures { option_copied result ≡ definition_at self.now name.now }
     {
-        self.tabled.tables.definitions.get(name).copied()
+        self.tabled.tables.definitions.get(name)
     }
 
     /// The number that the name stands for, by an EQU.
@@ -224,6 +225,17 @@ impl Version {
     {
         match self.tabled.tables.definitions.get(name) {
             Some(Definition::Equ { value }) => Some(*value),
+            _ => None,
+        }
+    }
+
+    /// The expression of the VARIABLE of this name, if there is one.
+    #[tactic(auto, using(crate::proofs::Once::variable_once))]
+    pub fn variable(&self, name: &Name) -> Option<&Expr>
+        ensures { option_copied result ≡ variable_at self.now name.now }
+    {
+        match self.tabled.tables.definitions.get(name) {
+            Some(Definition::Variable { expression }) => Some(expression),
             _ => None,
         }
     }

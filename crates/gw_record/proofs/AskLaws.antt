@@ -98,6 +98,20 @@ least_is p (e ∷ es) = least_with p e es (p e.0) (least_in p es) refl (least_is
 
 -- ---- asks
 
+-- who is one item with a capacity that is asked, is that
+storage_same : (item : Item) (name : List ℕ) → same_item item (items.Storage name) ≡ true → item ≡ items.Storage name
+storage_same (items.Storage other) name h = ap (λ b. items.Storage b) ((bytes_eq-Decides other name).0 h)
+storage_same (items.Fits other n) name h = absurd cc
+storage_same (items.Variable other) name h = absurd cc
+storage_same (items.Block id) name h = absurd cc
+storage_same (items.After id) name h = absurd cc
+storage_same (items.Label other) name h = absurd cc
+storage_same (items.Name other) name h = absurd cc
+storage_same items.Generates name h = absurd cc
+storage_same (items.Cmd i) name h = absurd cc
+storage_same items.Seed name h = absurd cc
+storage_same (items.Within time) name h = absurd cc
+
 -- who is one item with an amount asked of a storage, is that
 fits_same : (item : Item) (name : List ℕ) (amount : ℕ) → same_item item (items.Fits name amount) ≡ true → item ≡ items.Fits name amount
 fits_same (items.Fits other n) name amount h =
@@ -107,6 +121,8 @@ fits_same (items.Block id) name amount h = absurd cc
 fits_same (items.After id) name amount h = absurd cc
 fits_same (items.Label other) name amount h = absurd cc
 fits_same (items.Name other) name amount h = absurd cc
+fits_same (items.Storage other) name amount h = absurd cc
+fits_same (items.Variable other) name amount h = absurd cc
 fits_same items.Generates name amount h = absurd cc
 fits_same (items.Cmd i) name amount h = absurd cc
 fits_same items.Seed name amount h = absurd cc
@@ -119,6 +135,8 @@ asked_same name from to (items.Block id) item asks h = absurd cc
 asked_same name from to (items.After id) item asks h = absurd cc
 asked_same name from to (items.Label other) item asks h = absurd cc
 asked_same name from to (items.Name other) item asks h = absurd cc
+asked_same name from to (items.Storage other) item asks h = storage_same item other h
+asked_same name from to (items.Variable other) item asks h = absurd cc
 asked_same name from to items.Generates item asks h = absurd cc
 asked_same name from to (items.Cmd i) item asks h = absurd cc
 asked_same name from to items.Seed item asks h = absurd cc
@@ -130,6 +148,8 @@ asked_use name from to (items.Block id) item asks = absurd cc
 asked_use name from to (items.After id) item asks = absurd cc
 asked_use name from to (items.Label other) item asks = absurd cc
 asked_use name from to (items.Name other) item asks = absurd cc
+asked_use name from to (items.Storage other) item asks = refl
+asked_use name from to (items.Variable other) item asks = absurd cc
 asked_use name from to items.Generates item asks = absurd cc
 asked_use name from to (items.Cmd i) item asks = absurd cc
 asked_use name from to items.Seed item asks = absurd cc
@@ -142,6 +162,8 @@ asked_noted name from to f (items.Block id) asks = absurd cc
 asked_noted name from to f (items.After id) asks = absurd cc
 asked_noted name from to f (items.Label other) asks = absurd cc
 asked_noted name from to f (items.Name other) asks = absurd cc
+asked_noted name from to f (items.Storage other) asks = refl
+asked_noted name from to f (items.Variable other) asks = absurd cc
 asked_noted name from to f items.Generates asks = absurd cc
 asked_noted name from to f (items.Cmd i) asks = absurd cc
 asked_noted name from to f items.Seed asks = absurd cc

@@ -1,6 +1,6 @@
--- The amounts that are asked of a storage, and the first step that asks one that two capacities answer in two ways. (Our
--- own.)
-use Rattle.std.specs.Prelude.{ℕ, Bool, true, false, not, ◌&&◌, List, [], ◌∷◌, Option, Some, None, if◌then◌else◌, nat_le, min}
+-- What is asked of a storage: whether an amount fits, and how many units it has; and the first step that asks what two
+-- capacities answer in two ways. (Our own.)
+use Rattle.std.specs.Prelude.{ℕ, Bool, true, false, not, ◌==◌, ◌&&◌, List, [], ◌∷◌, Option, Some, None, if◌then◌else◌, nat_le, min}
 use Rattle.std.specs.Str.{bytes_eq}
 use Rattle.gw_meaning.specs.declared.item.Item.{Item}
 use Rattle.gw_meaning.specs.declared.item.Item.TheVariants as items
@@ -10,9 +10,15 @@ abbrev pub differs : Option ℕ → Option ℕ → ℕ → Bool
 differs (Some from) (Some to) amount = if nat_le amount from then not (nat_le amount to) else nat_le amount to
 differs from to amount = true
 
--- whether such an amount is asked of the storage of this name
+-- whether two capacities are two numbers; where there is no storage before or behind, they count as two
+abbrev pub is_other : Option ℕ → Option ℕ → Bool
+is_other (Some from) (Some to) = not (from == to)
+is_other from to = true
+
+-- whether such an amount is asked of the storage of this name, or its capacity where it is another one
 abbrev pub is_ask : List ℕ → Option ℕ → Option ℕ → Item → Bool
 is_ask name from to (items.Fits other amount) = bytes_eq name other && differs from to amount
+is_ask name from to (items.Storage other) = bytes_eq name other && is_other from to
 is_ask name from to item = false
 
 -- the earlier of two steps, of which either may be none

@@ -1,7 +1,7 @@
 ghost use Rattle.std.specs.Prelude.{◌≡◌, [], Some, None, if◌then◌else◌, OnOk, OnErr, nat_lt, IsTrue, IsSome};
 ghost use Rattle.gw_meaning.specs.declared.item.Item.{Item};
 ghost use Rattle.gw_meaning.specs.Reads.{same_item, or_later};
-ghost use Rattle.gw_record.specs.Asks.{differs, earlier, is_ask, least_in};
+ghost use Rattle.gw_record.specs.Asks.{differs, earlier, is_ask, is_other, least_in};
 ghost use Rattle.gw_record.specs.Steps.{step_of, below};
 ghost use Rattle.std.specs.List.{IsDistinct};
 ghost use Rattle.std.specs.Map.{keys_of};
@@ -58,8 +58,8 @@ impl ItemSteps {
         }
     }
 
-    /// The first step that asked an amount of the storage of this name that two capacities answer in two ways, if any
-    /// did. Without a storage before or behind it is any amount.
+    /// The first step that asked of the storage of this name an amount that two capacities answer in two ways, or the
+    /// capacity where it is another one, if any did. Without a storage before or behind it is any amount.
     pub fn first_ask(&self, name: &Name, from: Option<u64>, to: Option<u64>) -> Option<u64>
         ensures least { result ≡ least_in (is_ask name.now from to) self.now }
         ensures apart { IsDistinct same_item (keys_of self.now) }
@@ -118,7 +118,7 @@ impl ItemSteps {
     }
 }
 
-// The step that noted an item, where it asks such an amount.
+// The step that noted an item, where that is asked of the storage.
 fn asked_at(name: &Name, from: Option<u64>, to: Option<u64>, item: &Item, step: u64) -> Option<u64>
     ensures { result ≡ (if is_ask name.now from to item.now then Some step else None) }
 {
@@ -129,13 +129,24 @@ fn asked_at(name: &Name, from: Option<u64>, to: Option<u64>, item: &Item, step: 
     }
 }
 
-// Whether an amount is asked of the storage of this name that two capacities answer in two ways.
+// Whether an amount is asked of the storage of this name that two capacities answer in two ways, or the capacity.
 fn is_ask(name: &Name, from: Option<u64>, to: Option<u64>, item: &Item) -> bool
     ensures { result ≡ is_ask name.now from to item.now }
 {
     match item {
         Item::Fits(other, amount) => name == other && differs(from, to, *amount),
+        Item::Storage(other) => name == other && is_other(from, to),
         _ => false,
+    }
+}
+
+// Whether two capacities are two numbers.
+fn is_other(from: Option<u64>, to: Option<u64>) -> bool
+    ensures { result ≡ is_other from to }
+{
+    match (from, to) {
+        (Some(from), Some(to)) => from != to,
+        _ => true,
     }
 }
 

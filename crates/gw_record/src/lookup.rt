@@ -61,8 +61,9 @@ impl Recorded {
         self.firsts.commands.least_from(i)
     }
 
-    /// The first step below the tip, from 0, that asked an amount of the storage of this name that fits one of two
-    /// capacities and not the other, if any did. Without a storage before or behind, any amount counts.
+    /// The first step below the tip, from 0, that asked of the storage of this name an amount that fits one of two
+    /// capacities and not the other, or the capacity where the two differ, if any did. Without a storage before or
+    /// behind, any amount counts, and the capacity does.
     pub fn first_ask(&self, name: &Name, from: Option<u64>, to: Option<u64>) -> Option<u64>
         ensures { (t : Listing) (seed : ℕ) → Records t seed self.now →
             result ≡ first_reading (is_ask name.now from to) t seed self.now.moment }

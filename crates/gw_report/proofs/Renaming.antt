@@ -12,7 +12,7 @@ use Rattle.gw_meaning.specs.declared.statement.Statement.{Statement}
 use Rattle.gw_meaning.specs.declared.statement.Numbered.{Numbered}
 use Rattle.gw_meaning.specs.declared.transaction.Transaction.{Transaction}
 use Rattle.gw_meaning.specs.declared.transaction.Event.{Event}
-use Rattle.gw_meaning.specs.Listing.{Listing, block_of, block_of_body, is_block, has_label, labelled_in, label_at, units_of, number_of, number_at, seed_in}
+use Rattle.gw_meaning.specs.Listing.{Listing, block_of, block_of_body, operands_of_body, is_block, has_label, labelled_in, label_at, units_of, number_of, number_at, seed_in}
 use Rattle.gw_meaning.specs.Machine.{Machine, count_at, delay_at}
 use Rattle.gw_frame.specs.Moved.{moved_machine, moved_transaction, moved_event, moved_count}
 use Rattle.gw_frame.specs.Renamed.{AreRenamed, IsRenamed}
@@ -22,7 +22,7 @@ use Rattle.gw_frame.proofs.Renaming.{after_renamed, position_renamed, said_renam
 use Rattle.gw_report.specs.Layout.{section_of, table_of}
 use Rattle.gw_report.specs.Cells.{signed}
 use Rattle.gw_report.specs.Chains.{position_of, next_number, line_of, put_by, by_time, current_line, future_line, current_columns, future_columns, current_text, future_text}
-use Rattle.gw_report.specs.Names.{name_columns, names_in_block, names_of, names_in, each_once, value_by, next_by, value_text, next_behind, name_lines, names_text}
+use Rattle.gw_report.specs.Names.{name_columns, names_in_operand, names_of, names_in, each_once, value_by, next_by, value_text, next_behind, name_lines, names_text}
 use Rattle.gw_report.specs.Storages.{storage_columns, storage_row, storage_line, storages_text}
 use Rattle.gw_report.specs.Storages as storages
 use Rattle.gw_report.specs.Blocks.{label_text, block_line, block_lines_of, block_lines, block_columns, blocks_text}
@@ -126,7 +126,7 @@ module _ (move : ℕ → ℕ) (t u : Listing) (r : IsRenamed move t u) where
   named_renamed [] (m ∷ ms) h = absurd h
   named_renamed (l ∷ ls) [] h = absurd h
   named_renamed (l ∷ ls) (m ∷ ms) h =
-      ap₂ ◌++◌ (ap (λ (x : Statement). option_to_list x.label ++ names_in_block (block_of_body x.body)) h.1) (named_renamed ls ms h.2)
+      ap₂ ◌++◌ (ap (λ (x : Statement). option_to_list x.label ++ flat_map names_in_operand (operands_of_body x.body)) h.1) (named_renamed ls ms h.2)
 
   pub names_renamed : name_lines u 10000 (names_in u) ≡ name_lines t 10000 (names_in t)
   names_renamed = ap (λ names. name_lines u 10000 (each_once names)) (named_renamed t.lines u.lines r.lines) ∙ name_lines_renamed 10000 (names_in t)

@@ -11,8 +11,7 @@ use Rattle.gw_expr.specs.declared.atom.Atom.TheVariants as atoms
 use Rattle.gw_expr.specs.declared.token.Token.{Token}
 use Rattle.gw_expr.specs.declared.token.Token.TheVariants as tokens
 use Rattle.gw_expr.specs.Term.{Term, Value, Computed, Named, Label, Fraction, Defined}
-use Rattle.gw_meaning.specs.Listing.{Listing, block_of, label_at, number_at}
-use Rattle.gw_meaning.specs.declared.statement.Block.{Block}
+use Rattle.gw_meaning.specs.Listing.{Listing, operands_of, label_at, number_at}
 use Rattle.gw_meaning.specs.declared.statement.Numbered.{Numbered}
 use Rattle.gw_report.specs.declared.column.Side.TheVariants.{Left, Right}
 use Rattle.gw_report.specs.Layout.{Column, section_of}
@@ -23,7 +22,7 @@ abbrev pub name_columns : List Column
 name_columns = record { title = codes "NAME"; width = 10; side = Left } ∷
     record { title = codes "VALUE"; width = 10; side = Right } ∷ []
 
--- the names in what an attribute is of, in a value, in an operand, and in a block, from left to right
+-- the names in what an attribute is of, in a value, and in an operand, from left to right
 abbrev pub names_in_subject : Subject → List (List ℕ)
 names_in_subject (subjects.Name name) = name ∷ []
 names_in_subject of = []
@@ -49,13 +48,9 @@ abbrev pub names_in_operand : Option Term → List (List ℕ)
 names_in_operand None = []
 names_in_operand (Some term) = names_in_term term
 
-abbrev pub names_in_block : Option Block → List (List ℕ)
-names_in_block None = []
-names_in_block (Some block) = flat_map names_in_operand block.operands
-
--- what a statement names: the label first
+-- what a statement names: the label first, then the operands of a block, or the expression of a VARIABLE
 abbrev pub names_of : Numbered → List (List ℕ)
-names_of line = option_to_list line.statement.label ++ names_in_block (block_of line)
+names_of line = option_to_list line.statement.label ++ flat_map names_in_operand (operands_of line)
 
 -- each once, where it stands first
 abbrev pub each_once : List (List ℕ) → List (List ℕ)

@@ -2,17 +2,17 @@ ghost use Rattle.std.specs.Prelude.{◌≡◌, ◌<◌, ◌^◌, ◌-◌, ◌++�
 ghost use Rattle.std.specs.List.{flat_map};
 ghost use Rattle.indexmap.specs.IndexSet.{insert_all};
 ghost use Rattle.gw_names.specs.Keys.{key_eq};
-ghost use Rattle.gw_meaning.specs.Listing.{label_at, number_at};
+ghost use Rattle.gw_meaning.specs.Listing.{label_at, number_at, operands_of_definition};
 ghost use Rattle.gw_report.specs.Layout.{row_of, rows_of};
 ghost use Rattle.gw_report.specs.Names.{name_columns, name_line, name_lines, names_in, names_of, names_text};
-ghost use Rattle.gw_report.specs.Names.{names_in_atom, names_in_operand, names_in_token, next_behind};
+ghost use Rattle.gw_report.specs.Names.{names_in_atom, names_in_operand, names_in_term, names_in_token, next_behind};
 ghost use Rattle.gw_report.specs.NameKeys.{as_keys, names_among};
 
 use crate::column::{Cell, Column, Side, put_row};
 use crate::position::position_of;
 use crate::section::put_section;
 use gw_expr::{Atom, Expr, Node, Subject, Token};
-use gw_meaning::Numbered;
+use gw_meaning::{Body, Definition, Numbered};
 use gw_model::Version;
 use gw_names::{Key, Name};
 use indexmap::IndexSet;
@@ -54,9 +54,21 @@ fn add_statement(names: &mut IndexSet<Key>, line: &Numbered) -> Result<(), Alloc
     if let Some(label) = &line.statement.label {
         add_name(names, label)?;
     }
-    match line.block() {
-        Some(block) => add_operands(names, block.operands.as_slice()),
-        None => Ok(()),
+    match &line.statement.body {
+        Body::Block(block) => add_operands(names, block.operands.as_slice()),
+        Body::Definition(definition) => add_definition(names, definition),
+        Body::Command(_) => Ok(()),
+    }
+}
+
+// Adds what the expression of a VARIABLE names.
+fn add_definition(names: &mut IndexSet<Key>, definition: &Definition) -> Result<(), AllocError>
+    ensures { OnOk result (names.new.keys ≡ insert_all key_eq names.old.keys
+        (as_keys (flat_map names_in_operand (operands_of_definition definition.now)))) }
+{
+    match definition {
+        Definition::Variable { expression } => add_term(names, expression),
+        Definition::Storage { .. } | Definition::Equ { .. } => Ok(()),
     }
 }
 
@@ -76,9 +88,15 @@ fn add_operand(names: &mut IndexSet<Key>, operand: &Option<Expr>) -> Result<(), 
     ensures { OnOk result (names.new.keys ≡
         insert_all key_eq names.old.keys (as_keys (names_in_operand operand.now))) }
 {
-    let Some(expr) = operand else {
-        return Ok(());
-    };
+    match operand {
+        Some(expr) => add_term(names, expr),
+        None => Ok(()),
+    }
+}
+
+fn add_term(names: &mut IndexSet<Key>, expr: &Expr) -> Result<(), AllocError>
+    ensures { OnOk result (names.new.keys ≡ insert_all key_eq names.old.keys (as_keys (names_in_term expr.now))) }
+{
     match expr.node() {
         Node::Value(atom) => add_atom(names, atom),
         Node::Computed(tokens) => add_tokens(names, tokens),

@@ -1,11 +1,11 @@
 // The values of attributes: what a state says of itself, of the transaction that asks, of an entity or of a block.
 ghost use Rattle.std.specs.Prelude.{◌≡◌, pos};
 ghost use Rattle.gw_expr.specs.declared.attribute.Subject.TheVariants as subjects;
-ghost use Rattle.gw_meaning.specs.Evaluation.{amount, own_value, owned, subject_prog, parameter_value, entity_value, storage_prog, storage_value, block_count, counted, block_value, random_prog, thousandth, attribute_prog, draw, gives, ◌~>◌};
+ghost use Rattle.gw_meaning.specs.Evaluation.{amount, own_value, owned, subject_prog, parameter_value, entity_value, storage_prog, storage_value, block_count, counted, block_value, random_prog, thousandth, attribute_prog, draw, gives, ◌~>◌, left_prog, units_left};
 ghost use Rattle.gw_meaning.specs.Step.{for_none, for_one};
 ghost use Rattle.gw_scan.specs.Deciding.{Decides, Comes};
 
-use crate::case::{Case, Halt, ask_label, ask_name};
+use crate::case::{Case, Halt, ask_capacity, ask_label, ask_name};
 use crate::draws::draw;
 use crate::notes::Notes;
 use crate::state::State;
@@ -29,7 +29,7 @@ impl State {
         }
     }
 
-    // The value of an attribute.
+    // The value of an attribute other than that of a VARIABLE.
     #[inline(never)]
     #[tactic(auto, unfolding(gw_meaning::specs::Evaluation::attribute_prog))]
     pub(crate) fn attribute(
@@ -53,6 +53,7 @@ impl State {
             Class::Q | Class::Qc => self.of_entity(case, notes, class, of),
             Class::Qm | Class::Qz => self.of_entity(case, notes, class, of),
             Class::S | Class::Sc | Class::Sm => self.of_storage(class, of),
+            Class::R => self.units_left(case, notes, of),
             Class::N | Class::W => self.of_block(case, notes, class, of),
             Class::Rn => random(case, notes, of),
             _ => Err(Halt::End(End::Error(Stop::Range))),
@@ -142,6 +143,28 @@ impl State {
             Class::Sm => amount(storage.greatest()),
             _ => Err(Halt::End(End::Error(Stop::Range))),
         }
+    }
+
+    // The units of a storage that are left.
+    fn units_left(&self, case: Case, notes: &mut Notes, of: &Subject) -> Result<Val, Halt>
+        ensures { Decides case.entry.version.now case.entry.seed (left_prog self.now of.now)
+            result notes.old notes.new }
+    {
+        match of {
+            Subject::Name(name) => {
+                let capacity = ask_capacity(case.version, notes, name)?;
+                self.left_of(capacity, &Key::Defined(name.clone()?))
+            }
+            _ => Err(Halt::End(End::Error(Stop::Range))),
+        }
+    }
+
+    // Of so many units those that are not in use.
+    fn left_of(&self, capacity: u64, key: &Key) -> Result<Val, Halt>
+        ensures { Comes (units_left self.now key.now capacity) result }
+    {
+        let in_use = self.entities.storage(key).level().content();
+        amount(capacity.saturating_sub(in_use))
     }
 
     // Of a block.

@@ -1,9 +1,10 @@
 // What a step asks, of a version and a seed.
 ghost use Rattle.std.specs.Prelude.{◌≡◌, ◌++◌, ◌∷◌, [], IfOk, OnOk, OnErr, Some, None, if◌then◌else◌, option_copied, nat_le};
 ghost use Rattle.gw_meaning.specs.declared.item.Item.TheVariants as items;
-ghost use Rattle.gw_meaning.specs.Listing.{block_at, after_at, label_at, number_at, capacity_at, command_at, generates_in};
+ghost use Rattle.gw_meaning.specs.Listing.{block_at, after_at, label_at, number_at, capacity_at, variable_at, command_at, generates_in};
 
 use crate::notes::Notes;
+use gw_expr::Expr;
 use gw_meaning::{Block, Command, End, Item, StatementId};
 use gw_model::Version;
 use gw_names::Name;
@@ -119,6 +120,36 @@ pub fn ask_fits(
 {
     notes.note(Item::Fits(name.clone()?, units))?;
     Ok(version.fits(name, units))
+}
+
+// How many units does the storage of this name have?
+pub fn ask_capacity(
+    version: &Version,
+    notes: &mut Notes,
+    name: &Name,
+) -> Result<u64, AllocError>
+    ensures answer { IfOk result (λ capacity. capacity ≡ capacity_at version.now name.now) }
+    ensures ok { OnOk result (notes.new ≡
+        record notes.old { items = notes.old.items ++ items.Storage name.now ∷ [] }) }
+    ensures err { OnErr result (notes.new ≡ notes.old) }
+{
+    notes.note(Item::Storage(name.clone()?))?;
+    Ok(version.capacity(name))
+}
+
+// What is the expression of the VARIABLE of this name, if there is one?
+pub fn ask_variable<'a>(
+    version: &'a Version,
+    notes: &mut Notes,
+    name: &Name,
+) -> Result<Option<&'a Expr>, AllocError>
+    ensures answer { IfOk result (λ expression. option_copied expression ≡ variable_at version.now name.now) }
+    ensures ok { OnOk result (notes.new ≡
+        record notes.old { items = notes.old.items ++ items.Variable name.now ∷ [] }) }
+    ensures err { OnErr result (notes.new ≡ notes.old) }
+{
+    notes.note(Item::Variable(name.clone()?))?;
+    Ok(version.variable(name))
 }
 
 // Which blocks are GENERATEs?

@@ -1,27 +1,53 @@
-// The values of expressions, part by part.
+// The values of expressions, part by part, and those of VARIABLEs within them.
 ghost use Rattle.std.specs.Prelude.{[]};
-ghost use Rattle.gw_meaning.specs.Evaluation.{atom_prog, arithmetic, negated_last, applied_last, token_prog, tokens_prog, last_value, number_given, ◌~>◌};
+ghost use Rattle.gw_meaning.specs.Evaluation.{arithmetic, negated_last, applied_last, is_of_variable, of_variable, atom_prog, token_prog, tokens_prog, last_value, term_prog, variable_prog, number_given, ◌~>◌};
 ghost use Rattle.gw_scan.specs.Deciding.{Decides, Comes};
 
-use crate::case::{Case, Halt, ask_name};
+use crate::case::{Case, Halt, ask_name, ask_variable};
 use crate::notes::Notes;
 use crate::state::State;
 use crate::waiting_values::WaitingValues;
-use gw_expr::{Atom, Operator, Stop, Token};
+use gw_expr::{Atom, Expr, Node, Operator, Stop, Subject, Token};
 use gw_meaning::{Asker, End};
+use gw_names::Class;
 use gw_nums::{ArithmeticFault, Val};
 
 impl State {
-    // The value of a constant, of a name that stands for a number, or of an attribute.
-    #[tactic(auto, unfolding(gw_meaning::specs::Evaluation::atom_prog))]
-    pub(crate) fn atom(
+    // The value of an operand, in which so many VARIABLEs may stand in each other.
+    #[cycle(nested)]
+    #[tactic(auto, unfolding(gw_meaning::specs::Evaluation::term_prog))]
+    pub(crate) fn term(
         &self,
         case: Case,
         asker: &Asker,
         notes: &mut Notes,
+        depth: u32,
+        operand: &Expr,
+    ) -> Result<Val, Halt>
+        ensures { Decides case.entry.version.now case.entry.seed
+            (term_prog self.now asker.now (variable_prog depth self.now asker.now) operand.now)
+            result notes.old notes.new }
+    {
+        match operand.node() {
+            Node::Value(atom) => self.atom(case, asker, notes, depth, atom),
+            Node::Computed(tokens) => self.computed(case, asker, notes, depth, tokens),
+            _ => Err(Halt::End(End::Error(Stop::Range))),
+        }
+    }
+
+    // The value of a constant, of a name that stands for a number, or of an attribute.
+    #[cycle(nested)]
+    #[tactic(auto, unfolding(gw_meaning::specs::Evaluation::atom_prog))]
+    fn atom(
+        &self,
+        case: Case,
+        asker: &Asker,
+        notes: &mut Notes,
+        depth: u32,
         atom: &Atom,
     ) -> Result<Val, Halt>
-        ensures { Decides case.entry.version.now case.entry.seed (atom_prog self.now asker.now atom.now)
+        ensures { Decides case.entry.version.now case.entry.seed
+            (atom_prog self.now asker.now (variable_prog depth self.now asker.now) atom.now)
             result notes.old notes.new }
     {
         match atom {
@@ -30,67 +56,97 @@ impl State {
                 let value = ask_name(case.version, notes, name)?;
                 number_given(value)
             }
-            Atom::Attribute(class, of) => self.attribute(case, asker, notes, *class, of),
-        }
-    }
-
-    // The value of an expression.
-    pub(crate) fn computed(
-        &self,
-        case: Case,
-        asker: &Asker,
-        notes: &mut Notes,
-        tokens: &[Token],
-    ) -> Result<Val, Halt>
-        ensures { Decides case.entry.version.now case.entry.seed
-            (tokens_prog self.now asker.now tokens.now [] ~> last_value) result notes.old notes.new }
-    {
-        let none = WaitingValues::new(case.alloc);
-        let values = self.tokens(case, asker, notes, tokens, none)?;
-        last_value(values)
-    }
-
-    // What the parts of an expression make of the values that wait.
-    fn tokens(
-        &self,
-        case: Case,
-        asker: &Asker,
-        notes: &mut Notes,
-        tokens: &[Token],
-        values: WaitingValues,
-    ) -> Result<WaitingValues, Halt>
-        ensures { Decides case.entry.version.now case.entry.seed (tokens_prog self.now asker.now tokens.now values)
-            result notes.old notes.new }
-    {
-        match tokens {
-            [] => Ok(values),
-            [token, rest @ ..] => {
-                let values = self.token(case, asker, notes, token, values)?;
-                self.tokens(case, asker, notes, rest, values)
+            Atom::Attribute(class, of) => {
+                if is_of_variable(*class) {
+                    self.of_variable(case, asker, notes, depth, of)
+                } else {
+                    self.attribute(case, asker, notes, *class, of)
+                }
             }
         }
     }
 
-    // What one part makes of them.
+    // The value of a VARIABLE.
+    #[cycle(nested)]
+    #[tactic(auto, unfolding(gw_meaning::specs::Evaluation::variable_prog))]
+    fn of_variable(
+        &self,
+        case: Case,
+        asker: &Asker,
+        notes: &mut Notes,
+        depth: u32,
+        of: &Subject,
+    ) -> Result<Val, Halt>
+        ensures { Decides case.entry.version.now case.entry.seed
+            (of_variable (variable_prog depth self.now asker.now) of.now)
+            result notes.old notes.new }
+    {
+        let Subject::Name(name) = of else {
+            return Err(Halt::End(End::Error(Stop::Range)));
+        };
+        if depth == 0 {
+            return Err(Halt::End(End::Error(Stop::VariableDepth)));
+        }
+        match ask_variable(case.version, notes, name)? {
+            Some(expression) => self.term(case, asker, notes, depth - 1, expression),
+            None => Err(Halt::End(End::Error(Stop::Range))),
+        }
+    }
+
+    // The value of an expression.
+    #[cycle(nested)]
+    fn computed(
+        &self,
+        case: Case,
+        asker: &Asker,
+        notes: &mut Notes,
+        depth: u32,
+        tokens: &[Token],
+    ) -> Result<Val, Halt>
+        ensures { Decides case.entry.version.now case.entry.seed
+            (tokens_prog self.now asker.now (variable_prog depth self.now asker.now) tokens.now [] ~> last_value)
+            result notes.old notes.new }
+    {
+        let mut values = WaitingValues::new(case.alloc);
+        for token in tokens {
+            values = self.token(case, asker, notes, depth, token, values)?;
+        }
+        last_value(values)
+    }
+
+    // What one part of an expression makes of the values that wait.
+    #[cycle(nested)]
     fn token(
         &self,
         case: Case,
         asker: &Asker,
         notes: &mut Notes,
+        depth: u32,
         token: &Token,
         values: WaitingValues,
     ) -> Result<WaitingValues, Halt>
-        ensures { Decides case.entry.version.now case.entry.seed (token_prog self.now asker.now token.now values)
+        ensures { Decides case.entry.version.now case.entry.seed
+            (token_prog self.now asker.now (variable_prog depth self.now asker.now) token.now values)
             result notes.old notes.new }
     {
         match token {
             Token::Value(atom) => {
-                let value = self.atom(case, asker, notes, atom)?;
+                let value = self.atom(case, asker, notes, depth, atom)?;
                 Ok(values.with(value)?)
             }
             Token::Negated => negated_last(values),
             Token::Applied(operator) => applied_last(*operator, values),
         }
+    }
+}
+
+// Whether an attribute of a class is the value of a VARIABLE.
+fn is_of_variable(class: Class) -> bool
+    ensures { result ≡ is_of_variable class }
+{
+    match class {
+        Class::V => true,
+        _ => false,
     }
 }
 

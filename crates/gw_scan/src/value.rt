@@ -11,6 +11,9 @@ use gw_meaning::{Asker, End};
 use gw_names::{Key, Name};
 use gw_nums::Val;
 
+// How many VARIABLEs may stand in each other.
+const DEEPEST: u32 = 32;
+
 impl State {
     // The value of an operand.
     #[tactic(auto, unfolding(gw_meaning::specs::Evaluation::value_prog))]
@@ -24,11 +27,7 @@ impl State {
         ensures { Decides case.entry.version.now case.entry.seed (value_prog self.now asker.now operand.now)
             result notes.old notes.new }
     {
-        match operand.node() {
-            Node::Value(atom) => self.atom(case, asker, notes, atom),
-            Node::Computed(tokens) => self.computed(case, asker, notes, tokens),
-            _ => Err(Halt::End(End::Error(Stop::Range))),
-        }
+        self.term(case, asker, notes, DEEPEST, operand)
     }
 
     // The value of an operand that is there.
