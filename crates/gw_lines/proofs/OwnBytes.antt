@@ -1,19 +1,29 @@
 -- The bytes of an operand list that is spelled: none of them begins a comment or ends a line.
-use Rattle.std.proofs.Common.{◌≡◌, ℕ, ◌==◌, ◌&&◌, Bool, true, not, List, [], ◌∷◌, ◌++◌, Option, refl, sym, subst, inl, inr, arith}
+use Rattle.std.proofs.Common.{◌≡◌, ℕ, zero, suc, ◌-◌, ◌==◌, ◌&&◌, Bool, true, false, not, List, [], ◌∷◌, ◌++◌, length, take, Option, Some, None, refl, sym, subst, ◌∙◌, inl, inr, arith}
+use Rattle.std.specs.Prelude.{slice_get, nat_lt}
 use Rattle.std.specs.List.{list_all}
 use Rattle.std.proofs.lemmas.Bool.{and_parts, cases_Bool}
 use Rattle.std.proofs.lemmas.Bool.Decides.{nat_tests}
+use Rattle.std.proofs.lemmas.List.Folds.{list_all-append}
+use Rattle.gw_names.specs.declared.verb.Verb.{Verb}
 use Rattle.gw_names.specs.Names.{is_name_byte}
 use Rattle.gw_expr.specs.Expressions.{Expression}
 use Rattle.gw_expr.specs.declared.token.Operator.{Operator}
+use Rattle.gw_meaning.specs.declared.sign.Sign.{Sign}
+use Rattle.gw_meaning.specs.declared.sign.Sign.TheVariants as signs
 use Rattle.gw_lines.specs.declared.form.Form.{Form}
 use Rattle.gw_lines.specs.declared.form.Kind.{Kind}
 use Rattle.gw_lines.specs.declared.operand.Operand.{Operand}
-use Rattle.gw_lines.specs.Classes.{with_byte}
+use Rattle.gw_lines.specs.declared.class.Class.TheVariants as class
+use Rattle.gw_lines.specs.Classes.{with_byte, front_of, rest_of}
 use Rattle.gw_lines.specs.Parts.{split, parts_of, part_of, others_of}
+use Rattle.gw_lines.specs.Signs as signing
+use Rattle.gw_lines.specs.Signs.{takes_sign, last_byte, sign_in, cut_off, bare_parts}
 use Rattle.gw_lines.specs.Spelling as spelling
-use Rattle.gw_lines.specs.Spelling.{Stops, Digits, first_digit, next_digit, Value, without_sign, with_sign, Rank, Multiplies, times, quotient, remainder, Adds, plus, minus, SpellsExpression, a_single, with_minus, in_parentheses, a_factor, multiplied, a_product, summed, SpellsOperand, absent, a_value, a_constant, named_value, attribute_value, computed_value, a_whole, a_key, named_entity, numbered_entity, attribute_entity, computed_entity, a_fraction, a_label, a_definition, SpellsAll, no_form, stands, unwritten, is_part, Part, nothing, mark, opening, closing, stray, inner_comma, inner_blank, Written, none_written, last_written, never_closed, more_written, Behind, verb_alone, verb_operands, Head, first_word, second_word, Label, no_label, named, ArePlain, Numbering, unnumbered, Says, Cut, HasWords, Coded, Spells}
-use Rattle.gw_lines.proofs.Bytes.{Pass, Takes, both_pass, next_passes, digits_pass, named_passes, attribute_passes, atom_passes}
+use Rattle.gw_lines.specs.Spelling.{Stops, Digits, first_digit, next_digit, Value, without_sign, with_sign, Rank, Multiplies, times, quotient, remainder, Adds, plus, minus, SpellsExpression, a_single, with_minus, in_parentheses, a_factor, multiplied, a_product, summed, SpellsOperand, absent, a_value, a_constant, named_value, attribute_value, computed_value, a_whole, a_key, named_entity, numbered_entity, attribute_entity, computed_entity, a_fraction, a_label, a_definition, an_expression, SpellsAll, no_form, stands, unwritten, is_part, Part, nothing, mark, opening, closing, stray, inner_comma, inner_blank, Written, none_written, last_written, never_closed, more_written, Behind, verb_alone, verb_operands, Head, first_word, second_word, Label, no_label, named, ArePlain, Numbering, unnumbered, Says, Cut, HasWords, Coded, Spells}
+use Rattle.gw_lines.proofs.Fronts.{parts}
+use Rattle.gw_lines.proofs.Results.{some_is}
+use Rattle.gw_lines.proofs.Bytes.{Pass, Takes, both_pass, one_passes, next_passes, digits_pass, named_passes, attribute_passes, atom_passes}
 
 -- ---- the bytes of an operand list
 
@@ -79,6 +89,7 @@ operand_own (computed_entity text e s) = closed_own text (expression_own s)
 operand_own (a_fraction text n f) = fraction_own f
 operand_own (a_label text name e) = named_passes own text name e
 operand_own (a_definition text name e) = named_passes own text name e
+operand_own (an_expression text e s) = expression_own s
 
 abbrev pub AllOwn : List (List ℕ) → Type 0
 AllOwn [] = Unit {0}
@@ -111,3 +122,74 @@ split_own (b ∷ bs) h =
 pub list_own : (text : List ℕ) → AllOwn (parts_of text) → Pass is_own text
 list_own [] h = refl
 list_own (b ∷ bs) h = split_own (b ∷ bs) h
+
+-- ---- with a sign behind the first operand
+
+last_own : (xs : List ℕ) (k b : ℕ) → length xs ≡ suc k → slice_get xs k ≡ Some b → is_own b ≡ true → Pass is_own (take k xs) → Pass is_own xs
+last_own [] k b len get o h = absurd cc
+last_own (x ∷ []) zero b len get o h = one_passes is_own x (subst (λ (y : ℕ). is_own y ≡ true) (sym (some_is x b get)) o)
+last_own (x ∷ []) (suc k) b len get o h = absurd cc
+last_own (x ∷ y ∷ ys) zero b len get o h = absurd cc
+last_own (x ∷ y ∷ ys) (suc k) b len get o h =
+    let a = and_parts (is_own x) (list_all is_own (take k (y ∷ ys))) h in
+    let shorter : length (y ∷ ys) ≡ suc k = cc in next_passes is_own x (y ∷ ys) a.0 (last_own (y ∷ ys) k b shorter get o a.1)
+
+-- the bytes of a list, where those without the sign at the end of its front are own ones
+cut_own : (front rest : List ℕ) (b : ℕ) → last_byte front ≡ Some b → is_own b ≡ true → Pass is_own (cut_off front rest)
+    → Pass is_own (front ++ rest)
+cut_own front rest b e o h =
+    elim (cases_Bool (nat_lt 1 (length front))) [
+      | inl long ↦ (let a = parted (take (length front - 1) front) h in
+          both_pass is_own front rest (last_own front (length front - 1) b (longer (length front) long) (rw long at e) o a.0) a.1)
+      | inr short ↦ absurd (let f = rw short at e in cc)
+    ]
+  where
+    parted : (a : List ℕ) → Pass is_own (a ++ rest) → Pass is_own a × Pass is_own rest
+    parted a h = and_parts (list_all is_own a) (list_all is_own rest) (sym (list_all-append is_own a rest) ∙ h)
+
+    longer : (n : ℕ) → nat_lt 1 n ≡ true → n ≡ suc (n - 1)
+    longer n h = grind (arith, nat_tests)
+
+record IsSign (o : Option ℕ) : Type 0 where
+  byte : ℕ
+  is_byte : o ≡ Some byte
+  is_own_byte : is_own byte ≡ true
+
+-- a sign that is there is a byte that is there
+sign_byte : (o : Option ℕ) → (sign_in o ≡ signs.Absent → ⊥) → IsSign o
+sign_byte None some = absurd (some refl)
+sign_byte (Some b) some =
+    elim (cases_Bool (b == 43)) [
+      | inl h ↦ record { byte = b; is_byte = refl; is_own_byte = plus_own b h }
+      | inr h ↦ elim (cases_Bool (b == 45)) [
+        | inl k ↦ record { byte = b; is_byte = refl; is_own_byte = minus_own b k }
+        | inr k ↦ absurd (some (rw (h, k) refl))
+      ]
+    ]
+  where
+    plus_own : (b : ℕ) → (b == 43) ≡ true → is_own b ≡ true
+    plus_own b h = grind (arith, nat_tests)
+
+    minus_own : (b : ℕ) → (b == 45) ≡ true → is_own b ≡ true
+    minus_own b h = grind (arith, nat_tests)
+
+behind : (text : List ℕ) → IsSign (last_byte (front_of class.Operand text))
+    → AllOwn (parts_of (cut_off (front_of class.Operand text) (rest_of class.Operand text))) → Pass is_own text
+behind text s h =
+    let front = front_of class.Operand text in
+    let rest = rest_of class.Operand text in
+    subst (Pass is_own) (sym (parts class.Operand text)) (cut_own front rest s.byte s.is_byte s.is_own_byte (list_own (cut_off front rest) h))
+
+signed_own : (text : List ℕ) (sign : Sign) → sign_in (last_byte (front_of class.Operand text)) ≡ sign
+    → AllOwn (parts_of (signing.without_sign sign text)) → Pass is_own text
+signed_own text signs.Absent e h = list_own text h
+signed_own text signs.Plus e h = behind text (sign_byte _ (λ k. (let f : signs.Absent ≡ signs.Plus = sym k ∙ e in cc))) h
+signed_own text signs.Minus e h = behind text (sign_byte _ (λ k. (let f : signs.Absent ≡ signs.Minus = sym k ∙ e in cc))) h
+
+-- the bytes of a verb's operand list
+pub operands_own : (verb : Verb) (text : List ℕ) → AllOwn (bare_parts verb text) → Pass is_own text
+operands_own verb text h =
+    elim (cases_Bool (takes_sign verb)) [
+      | inl takes ↦ signed_own text (sign_in (last_byte (front_of class.Operand text))) refl (rw takes at h)
+      | inr none ↦ list_own text (rw none at h)
+    ]

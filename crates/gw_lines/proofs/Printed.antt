@@ -14,7 +14,7 @@ use Rattle.gw_meaning.specs.Statements.{verb_of_body}
 use Rattle.gw_meaning.specs.Texts.{text_of}
 use Rattle.gw_lines.specs.declared.class.Class.TheVariants as class
 use Rattle.gw_lines.specs.Classes.{is_in, is_blank, are_plain, with_byte}
-use Rattle.gw_lines.specs.Parts.{parts_of}
+use Rattle.gw_lines.specs.Signs.{sign_of, bare_parts}
 use Rattle.gw_lines.specs.Lines.{is_remark}
 use Rattle.gw_lines.specs.Models.{lines_of}
 use Rattle.gw_lines.specs.Edits.{edit_lines}
@@ -26,7 +26,7 @@ use Rattle.std.proofs.lemmas.List.Elements.{All-cons, All-head, All-nil, All-tai
 use Rattle.gw_lines.specs.Printed.{IsSpelled, ModelsAreSpelled, listed_text, PrintedSpells, PrintedEdits, PrintedModels}
 use Rattle.gw_lines.proofs.Bytes.{Pass, both_pass, next_passes, bytes_pass, named_passes}
 use Rattle.gw_lines.proofs.Heads.{are_plain_upper}
-use Rattle.gw_lines.proofs.OwnBytes.{is_own, list_own, own, spelled_own}
+use Rattle.gw_lines.proofs.OwnBytes.{is_own, operands_own, own, spelled_own}
 use Rattle.gw_lines.proofs.KeptAgain.{behind_again, behind_text}
 use Rattle.gw_lines.proofs.PrintedWords.{begins_letter, head_again, head_shorter, is_name, label_again, plain_again, printed, printed_is, verb_word}
 
@@ -122,7 +122,7 @@ pub record IsStated (s : Statement) (verb : Verb) : Type 0 where
   pub written : Written s.operands s.operands
   pub upper : upper_of s.operands ≡ s.operands
   pub plain : are_plain s.operands ≡ true
-  pub body : Says verb (parts_of s.operands) s.body
+  pub body : Says verb (sign_of verb s.operands) (bare_parts verb s.operands) s.body
   pub short : length (printed s.label verb s.operands) ≤ 250
 
 -- a statement that is spelled by what `list` prints of it
@@ -135,7 +135,7 @@ pub is_printed : (s : Statement) (verb : Verb) → IsStated s verb → IsPrinted
 is_printed s verb stated =
     let e : text_of s ≡ printed s.label verb s.operands =
     printed_is s.label (verb_of_body s.body) s.operands ∙ ap (λ (v : Verb). printed s.label v s.operands) stated.body.of_verb in
-    let listed : Pass is_own s.operands = list_own s.operands (spelled_own stated.body.operands) in
+    let listed : Pass is_own s.operands = operands_own verb s.operands (spelled_own stated.body.operands) in
     let own_bytes = subst (Pass is_own) (sym e) (printed_own s.operands stated.label listed) in
     let begins = subst (λ (t : List ℕ). begins_letter t ≡ true) (sym e) (printed_begins s.operands stated.label) in
     let short = subst (λ (t : List ℕ). length t ≤ 250) (sym e) stated.short in

@@ -15,6 +15,7 @@ use Rattle.gw_meaning.specs.declared.statement.Definition.TheVariants as defined
 use Rattle.gw_meaning.proofs.Texts.{name_is_short}
 use Rattle.gw_lines.specs.declared.operand.Operand.TheVariants as operands
 use Rattle.gw_lines.specs.Classes.{with_byte}
+use Rattle.gw_meaning.specs.declared.sign.Sign.TheVariants as signs
 use Rattle.gw_lines.specs.Parts.{split, parts_of, is_missing}
 use Rattle.gw_lines.specs.Forms.{a_count}
 use Rattle.gw_lines.specs.Spelling.{Digits, first_digit, next_digit, a_whole, SpellsAll, no_form, stands, is_part, Part, nothing, mark, named, Says}
@@ -69,7 +70,7 @@ digits_given [] some h = absurd (let f = some in omega arith)
 digits_given (b ∷ bs) some h = (digits_alone b bs h, nonzero (length bs))
 
 pub storage_says : (amount : ℕ) → 1 ≤ amount → amount ≤ 1000000000
-    → Says (verbs.Definition definitions.Storage) (parts_of (decimal amount)) (bodies.Definition (defined.Storage amount))
+    → Says (verbs.Definition definitions.Storage) signs.Absent (parts_of (decimal amount)) (bodies.Definition (defined.Storage amount))
 storage_says amount from to =
     let d = decimal_digits amount (omega arith) in
     let g = digits_given (decimal amount) (decimal_nonempty amount (omega arith)) (digit_bytes d) in
@@ -77,6 +78,7 @@ storage_says amount from to =
       forms = a_count ∷ [];
       are_forms = refl;
       of_verb = refl;
+      has_sign = tt;
       operands = subst (λ (ps : List (List ℕ)). SpellsAll (a_count ∷ []) ps (Some (operands.Whole amount) ∷ [])) (sym g.0)
           (stands a_count [] (decimal amount ∷ []) (Some (operands.Whole amount)) [] refl g.1
           (a_whole 1000000000 (decimal amount) amount (record { digits = d; small = to }) from) no_form);
