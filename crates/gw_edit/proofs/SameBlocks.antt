@@ -1,5 +1,5 @@
 -- Statements that are the same are the same block.
-use Rattle.std.proofs.Common.{◌≡◌, ℕ, zero, suc, ◌==◌, ◌≤◌, ◌<◌, true, false, length, arith, List, [], ◌∷◌, Option, Some, None, refl, sym, ap, ap₂, ◌∙◌, rules}
+use Rattle.std.proofs.Common.{◌≡◌, ℕ, zero, suc, ◌==◌, ◌&&◌, ◌≤◌, ◌<◌, true, false, length, arith, List, [], ◌∷◌, Option, Some, None, refl, sym, ap, ap₂, ◌∙◌, rules}
 use denote.Enum.Bare.{same_true, sameb}
 use Rattle.std.specs.Str.{bytes_eq}
 use Rattle.std.proofs.lemmas.Bool.{and_parts, eqb-true}
