@@ -1,56 +1,29 @@
-use Rattle.std.proofs.Common.{rules, ◌≡◌, [], ℕ, ◌+◌, ◌-◌, ◌*◌, ◌<◌, ◌≤◌, length, ◌/◌, ◌%◌, Bool, true, false, nat_eq, nat_lt, List, ◌∷◌, ◌++◌, slice_index_or, slice_set, bit_and, bit_or, Fits, w8, w32, w64, Bor, MutBor}
-use Rattle.gw_meaning.specs.Evaluation.{arithmetic, negated_last, applied_last, is_of_variable, of_variable, atom_prog, token_prog, tokens_prog, last_value, term_prog, variable_prog, number_given, ◌~>◌}
-use Rattle.gw_scan.specs.Deciding.{Decides, Comes}
+use Rattle.std.proofs.Common.{◌≡◌, ◌∷◌, ℤ, List, Ok, refl, rules}
+use Rattle.std.proofs.lemmas.Result.{err_from_is_err_and}
+use Rattle.gw_meaning.specs.Evaluation.{Eval, gives, atom_prog, token_prog, variable_prog, ◌~>◌}
+use Rattle.gw_scan.proofs.Binding.{decides_exit, decides_whole, decides_comes}
 use Rattle.gw_scan.proofs.state.State.+nested.Goals as goal
 
--- src/expression.rt:61:21
-pub atom-of_variable-requires : goal.atom-of_variable-requires
-atom-of_variable-requires t c = ?
-
--- src/expression.rt:111:9
-pub computed-loop-token-init : goal.computed-loop-token-init
-computed-loop-token-init t c = ?
-
--- src/expression.rt:112:22
-pub computed-token-requires : goal.computed-token-requires
-computed-token-requires t c = ?
-
--- src/expression.rt:112:22
-pub computed-returns-in_err-values : goal.computed-returns-in_err-values
-computed-returns-in_err-values t c = ?
-
--- src/expression.rt:111:9
-pub computed-loop-token-preserved : goal.computed-loop-token-preserved
-computed-loop-token-preserved t c = ?
-
--- src/expression.rt:97:5
-pub computed-returns : goal.computed-returns
-computed-returns t c = ?
-
--- src/expression.rt:91:33
-pub of_variable-term-requires : goal.of_variable-term-requires
-of_variable-term-requires t c = ?
-
--- src/expression.rt:70:5
-pub of_variable-returns-in-Some : goal.of_variable-returns-in-Some
-of_variable-returns-in-Some t c = ?
-
--- src/expression.rt:32:34
-pub term-atom-requires : goal.term-atom-requires
-term-atom-requires t c = ?
-
--- src/expression.rt:33:39
-pub term-computed-requires : goal.term-computed-requires
-term-computed-requires t c = ?
-
--- src/expression.rt:134:29
-pub token-atom-requires : goal.token-atom-requires
-token-atom-requires t c = ?
-
--- src/expression.rt:134:29
 pub token-returns-in_err-value-in-Value : goal.token-returns-in_err-value-in-Value
-token-returns-in_err-value-in-Value t c = ?
+token-returns-in_err-value-in-Value n c =
+    let p = err_from_is_err_and c.from_residual.result c.from_residual.ensures.1 in
+    let t = c.args.case.version.now in
+    let seed = c.args.case.seed in
+    let s = c.args.self.now in
+    let first = atom_prog s c.args.asker.now (variable_prog c.args.depth s c.args.asker.now) c.in-Value.atom in
+    let rest : ℤ → Eval (List ℤ) = λ v. gives (v ∷ c.args.values) in
+    let whole : token_prog s c.args.asker.now (variable_prog c.args.depth s c.args.asker.now) c.args.token.now c.args.values ≡ (first ~> rest) = search rules in
+    decides_exit t seed first rest _ _ _ c.in_err-value-in-Value.field-0.0 _ _ whole p.1 p.2 c.in_err-value-in-Value.ensures
 
--- src/expression.rt:118:5
 pub token-returns-in_ok-with-in-Value : goal.token-returns-in_ok-with-in-Value
-token-returns-in_ok-with-in-Value t c = ?
+token-returns-in_ok-with-in-Value n c =
+    let t = c.args.case.version.now in
+    let seed = c.args.case.seed in
+    let s = c.args.self.now in
+    let first = atom_prog s c.args.asker.now (variable_prog c.args.depth s c.args.asker.now) c.in-Value.atom in
+    let rest : ℤ → Eval (List ℤ) = λ v. gives (v ∷ c.args.values) in
+    let whole : token_prog s c.args.asker.now (variable_prog c.args.depth s c.args.asker.now) c.args.token.now c.args.values ≡ (first ~> rest) = search rules in
+    let more : List ℤ = c.in_ok-with-in-Value.field-0 in
+    let here : rest c.in_ok-value-in-Value.value ≡ gives more = rw c.in_ok-with-in-Value.ensures refl in
+    decides_whole t seed first rest _ c.in_ok-value-in-Value.value (Ok more) c.args.notes.now c.atom.new.notes c.atom.new.notes whole
+    c.in_ok-value-in-Value.ensures (decides_comes t seed (rest c.in_ok-value-in-Value.value) (Ok more) c.atom.new.notes here)

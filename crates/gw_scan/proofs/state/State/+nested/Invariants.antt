@@ -25,6 +25,6 @@ abbrev pub invariant-computed-loop-token : goal.invariant-computed-loop-token
 invariant-computed-loop-token l =
     (r : Result (List ℤ) Halt) (all : Noted) →
     Decides l.case.version.now l.case.seed
-    (tokens_prog l.self.now l.asker.now (variable_prog l.depth l.self.now l.asker.now) (drop l.token-index l.tokens) l.values) r l.notes all →
-    Decides l.case.version.now l.case.seed (tokens_prog l.self.now l.asker.now (variable_prog l.depth l.self.now l.asker.now) l.tokens [])
+    (tokens_prog l.self l.asker (variable_prog l.depth l.self l.asker) (drop l.token-index l.tokens) l.values) r l.notes all →
+    Decides l.case.version.now l.case.seed (tokens_prog l.self l.asker (variable_prog l.depth l.self l.asker) l.tokens [])
     r l.fn.notes all
