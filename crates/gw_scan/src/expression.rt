@@ -1,5 +1,5 @@
 // The values of expressions, part by part, and those of VARIABLEs within them.
-ghost use Rattle.std.specs.Prelude.{[]};
+ghost use Rattle.std.specs.Prelude.{◌≡◌, []};
 ghost use Rattle.gw_meaning.specs.Evaluation.{arithmetic, negated_last, applied_last, is_of_variable, of_variable, atom_prog, token_prog, tokens_prog, last_value, term_prog, variable_prog, number_given, ◌~>◌};
 ghost use Rattle.gw_scan.specs.Deciding.{Decides, Comes};
 
