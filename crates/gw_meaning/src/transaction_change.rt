@@ -8,11 +8,18 @@ pub enum TransactionChange {
     /// A MARK sets its mark time to the clock.
     Mark,
     /// A PRIORITY gives it this priority.
-    Priority { to: Val },
+    Priority {
+        to: Val,
+    },
     /// A TRANSFER sends it to this block.
-    Transfer { to: StatementId },
+    Transfer {
+        to: StatementId,
+    },
     /// An ASSIGN, or a LOOP that goes on, sets this parameter to this value.
-    Assign { key: Key, to: Val },
+    Assign {
+        key: Key,
+        to: Val,
+    },
     /// A LOOP sets this parameter to what is left, and sends it to this block.
     Loop {
         key: Key,
