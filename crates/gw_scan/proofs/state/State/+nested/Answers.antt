@@ -1,7 +1,9 @@
-use Rattle.std.proofs.Common.{◌≡◌, ◌∷◌, ℤ, List, Ok, refl, rules}
+use Rattle.std.proofs.Common.{◌≡◌, ◌+◌, [], ◌∷◌, ℤ, List, Ok, Err, ap, drop, refl, rules}
+use Rattle.std.proofs.lemmas.List.{drop_all}
+use Rattle.gw_scan.proofs.ChainLaws.{item_drop}
 use Rattle.std.proofs.lemmas.Result.{err_from_is_err_and}
-use Rattle.gw_meaning.specs.Evaluation.{Eval, gives, atom_prog, token_prog, variable_prog, ◌~>◌}
-use Rattle.gw_scan.proofs.Binding.{decides_exit, decides_whole, decides_comes}
+use Rattle.gw_meaning.specs.Evaluation.{Eval, gives, atom_prog, token_prog, tokens_prog, last_value, variable_prog, ◌~>◌}
+use Rattle.gw_scan.proofs.Binding.{decides_exit, decides_whole, decides_comes, decides_then, decides_gives}
 use Rattle.gw_scan.proofs.state.State.+nested.Goals as goal
 
 pub token-returns-in_err-value-in-Value : goal.token-returns-in_err-value-in-Value
@@ -27,3 +29,55 @@ token-returns-in_ok-with-in-Value n c =
     let here : rest c.in_ok-value-in-Value.value ≡ gives more = rw c.in_ok-with-in-Value.ensures refl in
     decides_whole t seed first rest _ c.in_ok-value-in-Value.value (Ok more) c.args.notes.now c.atom.new.notes c.atom.new.notes whole
     c.in_ok-value-in-Value.ensures (decides_comes t seed (rest c.in_ok-value-in-Value.value) (Ok more) c.atom.new.notes here)
+
+-- the value of the rest from the part that stands here on
+pub computed-returns-in_err-values : goal.computed-returns-in_err-values
+computed-returns-in_err-values n c =
+    let p = err_from_is_err_and c.from_residual.result c.from_residual.ensures.1 in
+    let t = c.args.case.version.now in
+    let seed = c.args.case.seed in
+    let s = c.args.self.now in
+    let q = c.args.asker.now in
+    let vs = variable_prog c.args.depth s q in
+    let ts = c.args.tokens.now in
+    let i = c.loop-token.token-index in
+    let here = c.token-item.result in
+    let first = token_prog s q vs here c.loop-token.values in
+    let rest : List ℤ → Eval (List ℤ) = λ more. tokens_prog s q vs (drop (i + 1) ts) more in
+    let whole : tokens_prog s q vs (drop i ts) c.loop-token.values ≡ (first ~> rest) =
+    ap (λ us. tokens_prog s q vs us c.loop-token.values) (item_drop ts i here c.loop-token-test.true c.token-item.is) in
+    let e = c.in_err-values.field-0.0 in
+    let behind = decides_exit t seed first rest (tokens_prog s q vs (drop i ts) c.loop-token.values) (Err e) e e _ _ whole refl refl c.in_err-values.ensures in
+    let all = c.loop-token.invariant (Err e) c.token.new.notes behind in
+    decides_exit t seed (tokens_prog s q vs ts []) last_value _ c.from_residual.result _ e _ _ refl p.1 p.2 all
+
+pub computed-loop-token-preserved : goal.computed-loop-token-preserved
+computed-loop-token-preserved n c = λ r all h.
+    let t = c.args.case.version.now in
+    let seed = c.args.case.seed in
+    let s = c.args.self.now in
+    let q = c.args.asker.now in
+    let vs = variable_prog c.args.depth s q in
+    let ts = c.args.tokens.now in
+    let i = c.loop-token.token-index in
+    let here = c.token-item.result in
+    let first = token_prog s q vs here c.loop-token.values in
+    let rest : List ℤ → Eval (List ℤ) = λ more. tokens_prog s q vs (drop (i + 1) ts) more in
+    let whole : tokens_prog s q vs (drop i ts) c.loop-token.values ≡ (first ~> rest) =
+    ap (λ us. tokens_prog s q vs us c.loop-token.values) (item_drop ts i here c.loop-token-test.true c.token-item.is) in
+    c.loop-token.invariant r all
+    (decides_whole t seed first rest _ c.in_ok-values.values r c.loop-token.notes c.token.new.notes all whole c.in_ok-values.ensures h)
+
+pub computed-returns : goal.computed-returns
+computed-returns n c =
+    let t = c.args.case.version.now in
+    let seed = c.args.case.seed in
+    let s = c.args.self.now in
+    let q = c.args.asker.now in
+    let vs = variable_prog c.args.depth s q in
+    let ts = c.args.tokens.now in
+    let values = c.loop-token.values in
+    let done : drop c.loop-token.token-index ts ≡ [] = drop_all c.loop-token.token-index ts c.loop-token-test.false in
+    let all = c.loop-token.invariant (Ok values) c.loop-token.notes (rw done (decides_gives t seed values c.loop-token.notes)) in
+    decides_then t seed (tokens_prog s q vs ts []) last_value values c.last_value.result _ _ _ all
+    (decides_comes t seed (last_value values) c.last_value.result c.loop-token.notes c.last_value.ensures)
