@@ -5,3 +5,4 @@ pub mod ChainLaws
 pub mod SegmentLaws
 pub mod Binding
 pub mod StepLaws
+pub mod Nested

@@ -123,11 +123,7 @@ pub fn ask_fits(
 }
 
 // How many units does the storage of this name have?
-pub fn ask_capacity(
-    version: &Version,
-    notes: &mut Notes,
-    name: &Name,
-) -> Result<u64, AllocError>
+pub fn ask_capacity(version: &Version, notes: &mut Notes, name: &Name) -> Result<u64, AllocError>
     ensures answer { IfOk result (λ capacity. capacity ≡ capacity_at version.now name.now) }
     ensures ok { OnOk result (notes.new ≡
         record notes.old { items = notes.old.items ++ items.Storage name.now ∷ [] }) }

@@ -1,9 +1,12 @@
-use Rattle.std.proofs.Common.{◌≡◌, ◌+◌, [], ◌∷◌, ℤ, List, Ok, Err, ap, drop, refl, rules}
+use Rattle.std.proofs.Common.{◌≡◌, ◌+◌, [], ◌∷◌, ℤ, List, Ok, Err, ap, drop, refl, rules, ◌==◌, false, Some}
 use Rattle.std.proofs.lemmas.List.{drop_all}
 use Rattle.gw_scan.proofs.ChainLaws.{item_drop}
 use Rattle.std.proofs.lemmas.Result.{err_from_is_err_and}
 use Rattle.gw_meaning.specs.Evaluation.{Eval, gives, atom_prog, token_prog, tokens_prog, last_value, variable_prog, ◌~>◌}
 use Rattle.gw_scan.proofs.Binding.{decides_exit, decides_whole, decides_comes, decides_then, decides_gives}
+use Rattle.gw_meaning.specs.Listing.{variable_at}
+use Rattle.gw_expr.specs.declared.attribute.Subject.TheVariants as subjects
+use Rattle.gw_scan.proofs.Nested.{variable_decides}
 use Rattle.gw_scan.proofs.state.State.+nested.Goals as goal
 
 pub token-returns-in_err-value-in-Value : goal.token-returns-in_err-value-in-Value
@@ -81,3 +84,16 @@ computed-returns n c =
     let all = c.loop-token.invariant (Ok values) c.loop-token.notes (rw done (decides_gives t seed values c.loop-token.notes)) in
     decides_then t seed (tokens_prog s q vs ts []) last_value values c.last_value.result _ _ _ all
     (decides_comes t seed (last_value values) c.last_value.result c.loop-token.notes c.last_value.ensures)
+
+pub of_variable-returns-in-Some : goal.of_variable-returns-in-Some
+of_variable-returns-in-Some n c =
+    let t = c.args.case.version.now in
+    let seed = c.args.case.seed in
+    let s = c.args.self.now in
+    let q = c.args.asker.now in
+    let name = c.in-Name.name in
+    let deep : (c.args.depth == 0) ≡ false = search rules in
+    let at : variable_at t name ≡ Some c.in-Some.expression.now = search rules in
+    let of : c.args.of.now ≡ subjects.Name name = search rules in
+    rw of (variable_decides t seed s q c.args.depth name (Some c.in-Some.expression.now) c.term.result c.args.notes.now _ c.term.new.notes
+    deep at c.in_ok-expression.ensures.ok c.term.ensures)
