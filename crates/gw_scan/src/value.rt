@@ -6,15 +6,35 @@ ghost use Rattle.gw_scan.specs.Deciding.{Decides, Comes};
 use crate::case::{Case, Halt, ask_name};
 use crate::notes::Notes;
 use crate::state::State;
-use gw_expr::{Expr, Node, Stop};
+use gw_expr::{Atom, Expr, Node, Stop};
 use gw_meaning::{Asker, End};
 use gw_names::{Key, Name};
 use gw_nums::Val;
 
 impl State {
-    // The value of an operand.
-    #[tactic(auto, unfolding(gw_meaning::specs::Evaluation::value_prog))]
+    // The value of an operand, most of which are constants.
+    #[inline(always)]
+    #[tactic(auto, unfolding(gw_meaning::specs::Evaluation::value_prog, gw_meaning::specs::Evaluation::atom_prog))]
     pub(crate) fn value(
+        &self,
+        case: Case,
+        asker: &Asker,
+        notes: &mut Notes,
+        operand: &Expr,
+    ) -> Result<Val, Halt>
+        ensures { Decides case.entry.version.now case.entry.seed (value_prog self.now asker.now operand.now)
+            result notes.old notes.new }
+    {
+        match operand.node() {
+            Node::Value(Atom::Constant(value)) => Ok(*value),
+            _ => self.evaluated(case, asker, notes, operand),
+        }
+    }
+
+    // The value of an operand of any kind.
+    #[inline(never)]
+    #[tactic(auto, unfolding(gw_meaning::specs::Evaluation::value_prog))]
+    fn evaluated(
         &self,
         case: Case,
         asker: &Asker,
@@ -50,6 +70,7 @@ impl State {
     }
 
     // The value of an operand, or 0 where it is absent.
+    #[inline(always)]
     pub(crate) fn value_or_zero(
         &self,
         case: Case,
