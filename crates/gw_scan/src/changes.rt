@@ -1,5 +1,5 @@
 // What a move does to a state: reserve all that grows, then change.
-ghost use Rattle.std.specs.Prelude.{◌≡◌, ◌<◌, ◌≤◌, ◌+◌, Some, OnOk, OnErr};
+ghost use Rattle.std.specs.Prelude.{◌≡◌, ◌<◌, ◌≤◌, ◌+◌, Some, None, OnOk, OnErr};
 ghost use Rattle.gw_meaning.specs.Machine.{Machine, raised};
 ghost use Rattle.gw_meaning.specs.Changes.{moved, decided, fated, own_marked, placed, bound};
 ghost use Rattle.gw_meaning.specs.declared.moves.Change.TheVariants as changes;
@@ -80,18 +80,16 @@ impl State {
     }
 
     #[inline(always)]
-    fn enter_block(
-        &mut self,
-        id: StatementId,
-        change: Change,
-        fate: Fate,
-    ) -> Result<(), AllocError>
+    fn enter_block(&mut self, id: StatementId, change: Change, fate: Fate) -> Result<(), AllocError>
         ensures ok { OnOk result (self.new ≡ moved self.old (moves.Enter id change fate)) }
         ensures err { OnErr result (self.new ≡ self.old) }
     {
         match change {
             Change::Nothing => self.enter(id, fate),
-            Change::Generate { next } => self.enter_first(id, &next, fate),
+            Change::Generate {
+                next: Some(arrival),
+            } => self.enter_first(id, arrival, fate),
+            Change::Generate { next: None } => self.enter_last(id, fate),
             Change::Transaction(change) => self.enter_marked(id, &change, fate),
             Change::Entity(change) => self.enter_touching(id, &change, fate),
         }
@@ -109,36 +107,68 @@ impl State {
         if let Some(x) = &mut self.active {
             self.counts.cross(x.current, id, &fate);
             place(x, id);
-            settle(&mut self.active, &mut self.current, &mut self.future, &mut self.progress, fate);
+            settle(
+                &mut self.active,
+                &mut self.current,
+                &mut self.future,
+                &mut self.progress,
+                fate,
+            );
         }
         Ok(())
     }
 
-    // A GENERATE is entered.
+    // A GENERATE is entered that makes no further transaction.
+    #[inline(always)]
+    fn enter_last(&mut self, id: StatementId, fate: Fate) -> Result<(), AllocError>
+        ensures ok { OnOk result (self.new ≡ moved self.old (moves.Enter id (changes.Generate None) fate)) }
+        ensures err { OnErr result (self.new ≡ self.old) }
+    {
+        self.future.reserve(1)?;
+        self.current.reserve(1)?;
+        self.counts.reserve(id)?;
+        if let Some(x) = &mut self.active {
+            self.counts.cross(x.current, id, &fate);
+            place(x, id);
+            change_transaction(&TransactionChange::Mark, self.clocks.clock(), x);
+            settle(
+                &mut self.active,
+                &mut self.current,
+                &mut self.future,
+                &mut self.progress,
+                fate,
+            );
+        }
+        Ok(())
+    }
+
+    // A GENERATE is entered that makes the next transaction.
     #[inline(always)]
     fn enter_first(
         &mut self,
         id: StatementId,
-        next: &Option<Arrival>,
+        arrival: Arrival,
         fate: Fate,
     ) -> Result<(), AllocError>
-        ensures ok { OnOk result (self.new ≡ moved self.old (moves.Enter id (changes.Generate next.now) fate)) }
+        ensures ok { OnOk result (self.new ≡ moved self.old (moves.Enter id (changes.Generate (Some arrival)) fate)) }
         ensures err { OnErr result (self.new ≡ self.old) }
     {
         self.future.reserve(2)?;
         self.current.reserve(1)?;
         self.counts.reserve(id)?;
-        if let Some(arrival) = next {
-            self.counts.reserve(arrival.id)?;
-        }
+        self.counts.reserve(arrival.id)?;
         if let Some(x) = &mut self.active {
             self.counts.cross(x.current, id, &fate);
             place(x, id);
-            x.mark = self.clocks.clock().time();
-            settle(&mut self.active, &mut self.current, &mut self.future, &mut self.progress, fate);
-            if let Some(arrival) = next {
-                make(&mut self.next, &mut self.future, &mut self.counts, *arrival);
-            }
+            change_transaction(&TransactionChange::Mark, self.clocks.clock(), x);
+            settle(
+                &mut self.active,
+                &mut self.current,
+                &mut self.future,
+                &mut self.progress,
+                fate,
+            );
+            make(&mut self.next, &mut self.future, &mut self.counts, arrival);
         }
         Ok(())
     }
@@ -161,7 +191,13 @@ impl State {
             self.counts.cross(x.current, id, &fate);
             place(x, id);
             change_transaction(change, self.clocks.clock(), x);
-            settle(&mut self.active, &mut self.current, &mut self.future, &mut self.progress, fate);
+            settle(
+                &mut self.active,
+                &mut self.current,
+                &mut self.future,
+                &mut self.progress,
+                fate,
+            );
         }
         Ok(())
     }
@@ -190,7 +226,13 @@ impl State {
             let number = x.number;
             self.counts.cross(x.current, id, &fate);
             place(x, id);
-            settle(&mut self.active, &mut self.current, &mut self.future, &mut self.progress, fate);
+            settle(
+                &mut self.active,
+                &mut self.current,
+                &mut self.future,
+                &mut self.progress,
+                fate,
+            );
             change_entity(
                 &mut self.entities,
                 &mut self.delays,
