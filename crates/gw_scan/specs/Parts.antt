@@ -138,11 +138,6 @@ entities_of e =
       comings = e.comings.comings;
     }
 
--- the parameters, with what a change sets of those of the active transaction, where there is one
-abbrev pub held_with : Change → Option Transaction → Held → Held
-held_with change None held = held
-held_with change (Some x) held = held_by change x.number held
-
 -- there is room for what a deed adds
 abbrev pub HasRoomFor : Stock → Key → Deed → Type 0
 HasRoomFor e key (deeds.Queue units) = HasRoom e.queues key × (0 < e.comings.room) × (e.ready ≡ Some key)

@@ -1,31 +1,15 @@
 // What a change sets of the parameters of the transaction that enters a block.
 ghost use Rattle.std.specs.Prelude.{◌≡◌, OnOk, OnErr};
 ghost use Rattle.gw_meaning.specs.Changes.{own_held};
-ghost use Rattle.gw_scan.specs.Parts.{held_with};
 
 use gw_entities::Parameters;
-use gw_meaning::{Change, Transaction, TransactionChange};
+use gw_meaning::TransactionChange;
 use std::alloc::AllocError;
 
-// Sets the parameter that a change sets of the active transaction, or changes nothing where memory is refused. It is the
-// last that may be refused.
-#[inline(always)]
-pub fn assign(
-    parameters: &mut Parameters,
-    active: &Option<Transaction>,
-    change: &Change,
-) -> Result<(), AllocError>
-    ensures ok { OnOk result (parameters.new ≡ held_with change.now active.now parameters.old) }
-    ensures err { OnErr result (parameters.new ≡ parameters.old) }
-{
-    match (change, active) {
-        (Change::Transaction(change), Some(x)) => set(parameters, change, x.number),
-        _ => Ok(()),
-    }
-}
-
+// Sets the parameter that a change sets of the transaction with a number, or changes nothing where memory is refused. It
+// is the last that may be refused.
 #[inline(never)]
-fn set(
+pub fn set(
     parameters: &mut Parameters,
     change: &TransactionChange,
     number: u64,

@@ -1,17 +1,23 @@
 // What a move does to a state: reserve all that grows, then change.
-ghost use Rattle.std.specs.Prelude.{◌≡◌, OnOk, OnErr};
-ghost use Rattle.gw_meaning.specs.Machine.{raised};
-ghost use Rattle.gw_meaning.specs.Changes.{moved, decided, marked, own_marked, placed, bound};
+ghost use Rattle.std.specs.Prelude.{◌≡◌, ◌<◌, ◌≤◌, ◌+◌, Some, None, OnOk, OnErr};
+ghost use Rattle.gw_meaning.specs.Machine.{Machine, raised};
+ghost use Rattle.gw_meaning.specs.Changes.{moved, decided, fated, own_marked, placed, bound};
+ghost use Rattle.gw_meaning.specs.declared.moves.Change.TheVariants as changes;
 ghost use Rattle.gw_meaning.specs.declared.moves.Move.TheVariants as moves;
+ghost use Rattle.gw_meaning.specs.declared.transaction.Transaction.{Transaction};
 
-use crate::assigning::assign;
+use crate::assigning::set;
+use crate::chain::PriorityChain;
 use crate::entity_change::{change_entity, reserve_change};
+use crate::future::FutureChain;
 use crate::making::{make, make_all};
 use crate::notes::Notes;
+use crate::progress::Progress;
 use crate::state::State;
 use crate::tally::Tally;
+use gw_entities::Parameters;
 use gw_meaning::{
-    Arrival, Change, Destination, Event, Fate, Move, Row, StatementId, Transaction,
+    Arrival, Change, Destination, EntityChange, Event, Fate, Move, Row, StatementId, Transaction,
     TransactionChange,
 };
 use gw_names::Key;
@@ -45,7 +51,7 @@ impl State {
                 self.count_command();
                 Ok(())
             }
-            Move::Enter { id, change, fate } => self.enter_block(id, &change, fate),
+            Move::Enter { id, change, fate } => self.enter_block(id, change, fate),
             Move::Refuse { id, key, units } => self.refuse(id, key, units),
             Move::Pick => {
                 self.pick();
@@ -75,63 +81,175 @@ impl State {
         self.progress.count_command();
     }
 
-    fn enter_block(
+    #[inline(always)]
+    fn enter_block(&mut self, id: StatementId, change: Change, fate: Fate) -> Result<(), AllocError>
+        ensures ok { OnOk result (self.new ≡ moved self.old (moves.Enter id change fate)) }
+        ensures err { OnErr result (self.new ≡ self.old) }
+    {
+        match change {
+            Change::Nothing => self.enter(id, fate),
+            Change::Generate {
+                next: Some(arrival),
+            } => self.enter_first(id, arrival, fate),
+            Change::Generate { next: None } => self.enter_last(id, fate),
+            Change::Transaction(change) => self.enter_marked(id, &change, fate),
+            Change::Entity(change) => self.enter_touching(id, &change, fate),
+        }
+    }
+
+    // A block that changes nothing is entered.
+    #[inline(always)]
+    fn enter(&mut self, id: StatementId, fate: Fate) -> Result<(), AllocError>
+        ensures ok { OnOk result (self.new ≡ moved self.old (moves.Enter id changes.Nothing fate)) }
+        ensures err { OnErr result (self.new ≡ self.old) }
+    {
+        self.future.reserve(1)?;
+        self.current.reserve(1)?;
+        self.counts.reserve(id)?;
+        if let Some(x) = &mut self.active {
+            self.counts.cross(x.current, id, &fate);
+            place(x, id);
+            settle(
+                &mut self.active,
+                &mut self.current,
+                &mut self.future,
+                &mut self.progress,
+                &mut self.parameters,
+                fate,
+            );
+        }
+        Ok(())
+    }
+
+    // A GENERATE is entered that makes no further transaction.
+    #[inline(always)]
+    fn enter_last(&mut self, id: StatementId, fate: Fate) -> Result<(), AllocError>
+        ensures ok { OnOk result (self.new ≡ moved self.old (moves.Enter id (changes.Generate None) fate)) }
+        ensures err { OnErr result (self.new ≡ self.old) }
+    {
+        self.future.reserve(1)?;
+        self.current.reserve(1)?;
+        self.counts.reserve(id)?;
+        if let Some(x) = &mut self.active {
+            self.counts.cross(x.current, id, &fate);
+            place(x, id);
+            change_transaction(&TransactionChange::Mark, self.clocks.clock(), x);
+            settle(
+                &mut self.active,
+                &mut self.current,
+                &mut self.future,
+                &mut self.progress,
+                &mut self.parameters,
+                fate,
+            );
+        }
+        Ok(())
+    }
+
+    // A GENERATE is entered that makes the next transaction.
+    #[inline(always)]
+    fn enter_first(
         &mut self,
         id: StatementId,
-        change: &Change,
+        arrival: Arrival,
         fate: Fate,
     ) -> Result<(), AllocError>
-        ensures ok { OnOk result (self.new ≡ moved self.old (moves.Enter id change.now fate)) }
+        ensures ok { OnOk result (self.new ≡ moved self.old (moves.Enter id (changes.Generate (Some arrival)) fate)) }
         ensures err { OnErr result (self.new ≡ self.old) }
     {
         self.future.reserve(2)?;
         self.current.reserve(1)?;
         self.counts.reserve(id)?;
-        match change {
-            Change::Generate {
-                next: Some(arrival),
-            } => self.counts.reserve(arrival.id)?,
-            Change::Entity(change) => reserve_change(
+        self.counts.reserve(arrival.id)?;
+        if let Some(x) = &mut self.active {
+            self.counts.cross(x.current, id, &fate);
+            place(x, id);
+            change_transaction(&TransactionChange::Mark, self.clocks.clock(), x);
+            settle(
+                &mut self.active,
+                &mut self.current,
+                &mut self.future,
+                &mut self.progress,
+                &mut self.parameters,
+                fate,
+            );
+            make(&mut self.next, &mut self.future, &mut self.counts, arrival);
+        }
+        Ok(())
+    }
+
+    // A block that changes its transaction alone is entered.
+    #[inline(never)]
+    fn enter_marked(
+        &mut self,
+        id: StatementId,
+        change: &TransactionChange,
+        fate: Fate,
+    ) -> Result<(), AllocError>
+        ensures ok { OnOk result (self.new ≡ moved self.old (moves.Enter id (changes.Transaction change.now) fate)) }
+        ensures err { OnErr result (self.new ≡ self.old) }
+    {
+        self.future.reserve(1)?;
+        self.current.reserve(1)?;
+        self.counts.reserve(id)?;
+        if let Some(x) = &mut self.active {
+            set(&mut self.parameters, change, x.number)?;
+            self.counts.cross(x.current, id, &fate);
+            place(x, id);
+            change_transaction(change, self.clocks.clock(), x);
+            settle(
+                &mut self.active,
+                &mut self.current,
+                &mut self.future,
+                &mut self.progress,
+                &mut self.parameters,
+                fate,
+            );
+        }
+        Ok(())
+    }
+
+    // A block that changes an entity is entered.
+    #[inline(never)]
+    fn enter_touching(
+        &mut self,
+        id: StatementId,
+        change: &EntityChange,
+        fate: Fate,
+    ) -> Result<(), AllocError>
+        ensures ok { OnOk result (self.new ≡ moved self.old (moves.Enter id (changes.Entity change.now) fate)) }
+        ensures err { OnErr result (self.new ≡ self.old) }
+    {
+        self.future.reserve(1)?;
+        self.counts.reserve(id)?;
+        reserve_change(
+            &mut self.entities,
+            &self.delays,
+            &mut self.current,
+            &mut self.counts,
+            change,
+        )?;
+        if let Some(x) = &mut self.active {
+            let number = x.number;
+            self.counts.cross(x.current, id, &fate);
+            place(x, id);
+            settle(
+                &mut self.active,
+                &mut self.current,
+                &mut self.future,
+                &mut self.progress,
+                &mut self.parameters,
+                fate,
+            );
+            change_entity(
                 &mut self.entities,
-                &self.delays,
+                &mut self.delays,
                 &mut self.current,
                 &mut self.counts,
                 change,
-            )?,
-            _ => (),
-        }
-        assign(&mut self.parameters, &self.active, change)?;
-        if let Some(x) = self.active.take() {
-            let number = x.number;
-            self.counts.cross(x.current, id, &fate);
-            let transaction = mark(change, self.clocks.clock(), place(x, id));
-            match &fate {
-                Fate::Active => self.active = Some(transaction),
-                Fate::Current => self.current.line_up(transaction),
-                Fate::Delayed { until } => self.future.put(Event {
-                    time: *until,
-                    transaction,
-                }),
-                Fate::Destroyed { count } => {
-                    self.progress.count_down(*count);
-                    self.parameters.forget(number);
-                }
-            }
-            match change {
-                Change::Generate {
-                    next: Some(arrival),
-                } => make(&mut self.next, &mut self.future, &mut self.counts, *arrival),
-                Change::Entity(change) => change_entity(
-                    &mut self.entities,
-                    &mut self.delays,
-                    &mut self.current,
-                    &mut self.counts,
-                    change,
-                    self.clocks.clock(),
-                    number,
-                ),
-                Change::Generate { next: None } | Change::Transaction(_) | Change::Nothing => (),
-            }
+                self.clocks.clock(),
+                number,
+            );
         }
         Ok(())
     }
@@ -168,44 +286,83 @@ impl State {
     }
 }
 
-// What a block changes of its transaction.
-fn mark(change: &Change, clock: Clock, x: Transaction) -> Transaction
-    ensures { result ≡ marked change.now clock x }
+// What becomes of the active transaction.
+#[inline(always)]
+fn settle(
+    active: &mut Option<Transaction>,
+    current: &mut PriorityChain,
+    future: &mut FutureChain,
+    progress: &mut Progress,
+    parameters: &mut Parameters,
+    fate: Fate,
+)
+    requires current { 0 < current.old.room }
+    requires future { 0 < future.old.room }
+    ensures fated { (x : Transaction) (s : Machine) → active.old ≡ Some x →
+        record s {
+          active = active.new;
+          current = current.new.items;
+          future = future.new.items;
+          remaining = progress.new.remaining;
+          complete = progress.new.complete;
+          parameters = parameters.new;
+        } ≡ fated fate x (record s {
+          current = current.old.items;
+          future = future.old.items;
+          remaining = progress.old.remaining;
+          complete = progress.old.complete;
+          parameters = parameters.old;
+        }) }
+    ensures commands { (progress.new.commands ≡ progress.old.commands) × (progress.new.primed ≡ progress.old.primed) }
+    ensures future_room { future.old.room ≤ future.new.room + 1 }
+    ensures current_room { current.old.room ≤ current.new.room + 1 }
 {
-    match change {
-        Change::Generate { .. } => change_transaction(&TransactionChange::Mark, clock, x),
-        Change::Transaction(change) => change_transaction(change, clock, x),
-        Change::Entity(_) | Change::Nothing => x,
+    match fate {
+        Fate::Active => (),
+        Fate::Current => {
+            if let Some(x) = active.take() {
+                current.line_up(x);
+            }
+        }
+        Fate::Delayed { until } => {
+            if let Some(transaction) = active.take() {
+                future.put(Event {
+                    time: until,
+                    transaction,
+                });
+            }
+        }
+        Fate::Destroyed { count } => {
+            if let Some(x) = active.take() {
+                parameters.forget(x.number);
+            }
+            progress.count_down(count);
+        }
     }
 }
 
-fn change_transaction(change: &TransactionChange, clock: Clock, x: Transaction) -> Transaction
-    ensures { result ≡ own_marked change.now clock x }
+#[inline(always)]
+fn change_transaction(change: &TransactionChange, clock: Clock, x: &mut Transaction)
+    ensures { x.new ≡ own_marked change.now clock x.old }
 {
     match change {
-        TransactionChange::Mark => Transaction {
-            mark: clock.time(),
-            ..x
-        },
-        TransactionChange::Priority { to } => Transaction { priority: *to, ..x },
-        TransactionChange::Transfer { to } | TransactionChange::Loop { to, .. } => Transaction {
-            destination: Destination::to(*to),
-            ..x
-        },
-        TransactionChange::Assign { .. } => x,
+        TransactionChange::Mark => x.mark = clock.time(),
+        TransactionChange::Priority { to } => x.priority = *to,
+        TransactionChange::Transfer { to } | TransactionChange::Loop { to, .. } => {
+            x.destination = Destination::to(*to)
+        }
+        TransactionChange::Assign { .. } => (),
     }
 }
 
-// The transaction in the block that it enters.
-pub fn place(x: Transaction, id: StatementId) -> Transaction
-    ensures { result ≡ placed x id }
+// The transaction stands in the block that it enters.
+#[inline(always)]
+pub fn place(x: &mut Transaction, id: StatementId)
+    ensures { x.new ≡ placed x.old id }
 {
-    Transaction {
-        current: id,
-        destination: Destination::none(),
-        asked: 0,
-        ..x
-    }
+    x.current = id;
+    x.destination = Destination::none();
+    x.asked = 0;
 }
 
 // The transaction on its way to a block, where it asks so many units.

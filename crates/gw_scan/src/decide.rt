@@ -1,5 +1,5 @@
 // Which move a step is: ask and test, and change nothing.
-ghost use Rattle.std.specs.Prelude.{◌≡◌, ◌≤◌, None, option_copied};
+ghost use Rattle.std.specs.Prelude.{◌≡◌, ◌≤◌, None, Some, option_copied};
 ghost use Rattle.gw_meaning.specs.Step.{move_prog, command_prog, start_prog, first_arrivals_prog, rmult_prog, attempt_prog, try_prog, meet_prog, generate_prog, delay_of, advance_prog, terminate_prog, pick_prog};
 ghost use Rattle.gw_meaning.specs.Statements.{A, B, D, E, operand};
 ghost use Rattle.gw_scan.specs.Deciding.{Decides};
@@ -137,6 +137,7 @@ impl State {
         self.meet(case, notes, x, id, block)
     }
 
+    // Most blocks are one of these three: what they come to stays in registers.
     #[inline(always)]
     fn meet(
         &self,
@@ -152,6 +153,30 @@ impl State {
         let Some(block) = block else {
             return Err(Halt::End(End::Error(Stop::NoNextBlock)));
         };
+        match block.verb {
+            BlockVerb::Generate => self.generate_of(case, notes, x, id, block),
+            BlockVerb::Advance => self.advance_of(case, &self.for_one(x), notes, id, block),
+            BlockVerb::Terminate => self.terminate_of(case, &self.for_one(x), notes, id, block),
+            _ => match self.meet_any(case, notes, x, id, block) {
+                Ok(step) => Ok(step),
+                Err(halt) => Err(halt),
+            },
+        }
+    }
+
+    // The same, at a block of any verb.
+    #[inline(never)]
+    fn meet_any(
+        &self,
+        case: Case,
+        notes: &mut Notes,
+        x: &Transaction,
+        id: StatementId,
+        block: &Block,
+    ) -> Result<Move, Halt>
+        ensures { Decides case.entry.version.now case.entry.seed
+            (meet_prog self.now x.now id (Some block.now)) result notes.old notes.new }
+    {
         let asker = &self.for_one(x);
         match block.verb {
             BlockVerb::Generate => self.generate_of(case, notes, x, id, block),

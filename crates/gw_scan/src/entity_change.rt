@@ -181,7 +181,7 @@ fn let_first_in(
 }
 
 // A transaction that waited at a block enters it, and goes to the current chain.
-pub fn let_in(current: &mut PriorityChain, counts: &mut Counts, x: Transaction)
+pub fn let_in(current: &mut PriorityChain, counts: &mut Counts, mut x: Transaction)
     requires room { 0 < current.old.room }
     requires counts { IsWithin x.destination counts.old.limit }
     ensures let_in { (s : Machine) →
@@ -193,7 +193,8 @@ pub fn let_in(current: &mut PriorityChain, counts: &mut Counts, x: Transaction)
     match x.destination.id() {
         Some(id) => {
             counts.cross(x.current, id, &Fate::Active);
-            current.line_up(place(x, id));
+            place(&mut x, id);
+            current.line_up(x);
         }
         None => current.line_up(x),
     }

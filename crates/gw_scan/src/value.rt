@@ -6,7 +6,7 @@ ghost use Rattle.gw_scan.specs.Deciding.{Decides, Comes};
 use crate::case::{Case, Halt, ask_name};
 use crate::notes::Notes;
 use crate::state::State;
-use gw_expr::{Expr, Node, Stop};
+use gw_expr::{Atom, Expr, Node, Stop};
 use gw_meaning::{Asker, End};
 use gw_names::{Key, Name};
 use gw_nums::Val;
@@ -15,8 +15,9 @@ use gw_nums::Val;
 const DEEPEST: u32 = 32;
 
 impl State {
-    // The value of an operand.
-    #[tactic(auto, unfolding(gw_meaning::specs::Evaluation::value_prog))]
+    // The value of an operand, most of which are constants.
+    #[inline(always)]
+    #[tactic(auto, unfolding(gw_meaning::specs::Evaluation::value_prog, gw_meaning::specs::Evaluation::term_prog, gw_meaning::specs::Evaluation::atom_prog))]
     pub(crate) fn value(
         &self,
         case: Case,
@@ -27,7 +28,10 @@ impl State {
         ensures { Decides case.entry.version.now case.entry.seed (value_prog self.now asker.now operand.now)
             result notes.old notes.new }
     {
-        self.term(case, asker, notes, DEEPEST, operand)
+        match operand.node() {
+            Node::Value(Atom::Constant(value)) => Ok(*value),
+            _ => self.term(case, asker, notes, DEEPEST, operand),
+        }
     }
 
     // The value of an operand that is there.
@@ -49,6 +53,7 @@ impl State {
     }
 
     // The value of an operand, or 0 where it is absent.
+    #[inline(always)]
     pub(crate) fn value_or_zero(
         &self,
         case: Case,
