@@ -36,6 +36,7 @@ impl State {
     }
 
     // The value of a constant, of a name that stands for a number, or of an attribute.
+    #[inline(always)]
     #[cycle(nested)]
     #[tactic(auto, unfolding(gw_meaning::specs::Evaluation::atom_prog))]
     fn atom(
@@ -67,6 +68,7 @@ impl State {
     }
 
     // The value of a VARIABLE.
+    #[inline(always)]
     #[cycle(nested)]
     #[tactic(auto, unfolding(gw_meaning::specs::Evaluation::variable_prog))]
     fn of_variable(
@@ -94,6 +96,7 @@ impl State {
     }
 
     // The value of an expression.
+    #[inline(always)]
     #[cycle(nested)]
     fn computed(
         &self,
@@ -115,6 +118,7 @@ impl State {
     }
 
     // What one part of an expression makes of the values that wait.
+    #[inline(always)]
     #[cycle(nested)]
     fn token(
         &self,
