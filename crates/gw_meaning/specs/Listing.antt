@@ -57,9 +57,11 @@ command_of line = command_of_body line.statement.body
 abbrev pub is_command : Numbered → Bool
 is_command line = is_some (command_of line)
 
--- the operands of a statement that is evaluated: those of a block, and the expression of a VARIABLE
+-- the operands of a statement that is evaluated: those of a block, the expression of a VARIABLE, and the argument of a
+-- FUNCTION
 abbrev pub operands_of_definition : Definition → List (Option Term)
 operands_of_definition (definitions.Variable expression) = Some expression ∷ []
+operands_of_definition (definitions.Function function) = Some function.argument ∷ []
 operands_of_definition definition = []
 
 abbrev pub operands_of_body : Body → List (Option Term)

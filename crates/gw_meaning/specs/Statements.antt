@@ -45,6 +45,7 @@ abbrev pub verb_of_definition : Definition → Verb
 verb_of_definition (definitions.Storage capacity) = verbs.Definition definition_verbs.Storage
 verb_of_definition (definitions.Equ value) = verbs.Definition definition_verbs.Equ
 verb_of_definition (definitions.Variable expression) = verbs.Definition definition_verbs.Variable
+verb_of_definition (definitions.Function function) = verbs.Definition definition_verbs.Function
 
 -- a command's verb
 abbrev pub verb_of_command : Command → Verb

@@ -9,6 +9,7 @@
 mod asker;
 mod destination;
 mod entity_change;
+mod function;
 mod item;
 mod laws;
 mod moves;
@@ -24,6 +25,7 @@ mod transaction_change;
 pub use asker::Asker;
 pub use destination::Destination;
 pub use entity_change::{Deed, EntityChange};
+pub use function::{Function, FunctionType, Point};
 pub use item::{End, Item, Outcome};
 pub use laws::{constants_hang_on_nothing, expressions_have_their_values};
 pub use moves::{Arrival, Change, Fate, Move};

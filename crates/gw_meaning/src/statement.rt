@@ -2,6 +2,7 @@ ghost use Rattle.std.specs.Prelude.{◌≡◌, IfOk, option_copied};
 ghost use Rattle.gw_meaning.specs.Statements.{operand, is_generate_verb, verb_of_definition, verb_of_command, verb_of_body};
 ghost use Rattle.gw_meaning.specs.Listing.{block_of, definition_of, command_of, is_block, is_command, is_generate};
 
+use crate::function::Function;
 use crate::row::Row;
 use crate::sign::Sign;
 use crate::statement_id::StatementId;
@@ -45,6 +46,8 @@ pub enum Definition {
     Equ { value: Val },
     /// The expression that is evaluated wherever the name stands behind `V$`.
     Variable { expression: Expr },
+    /// What an argument comes to, wherever the name stands behind `FN$`.
+    Function(Function),
 }
 
 /// A command.
@@ -116,11 +119,12 @@ impl Definition {
             Definition::Storage { .. } => Verb::Definition(DefinitionVerb::Storage),
             Definition::Equ { .. } => Verb::Definition(DefinitionVerb::Equ),
             Definition::Variable { .. } => Verb::Definition(DefinitionVerb::Variable),
+            Definition::Function(_) => Verb::Definition(DefinitionVerb::Function),
         }
     }
 
     /// An equal definition.
-    pub fn copy(&self) -> Result<Definition, AllocError>
+    pub fn copy(&self, alloc: Global) -> Result<Definition, AllocError>
         ensures { IfOk result (λ d. d ≡ self.now) }
     {
         match self {
@@ -131,6 +135,7 @@ impl Definition {
             Definition::Variable { expression } => Ok(Definition::Variable {
                 expression: expression.copy()?,
             }),
+            Definition::Function(function) => Ok(Definition::Function(function.copy(alloc)?)),
         }
     }
 }
@@ -177,7 +182,7 @@ impl Body {
     {
         match self {
             Body::Block(block) => Ok(Body::Block(block.copy(alloc)?)),
-            Body::Definition(definition) => Ok(Body::Definition(definition.copy()?)),
+            Body::Definition(definition) => Ok(Body::Definition(definition.copy(alloc)?)),
             Body::Command(command) => Ok(Body::Command(command.copy(alloc)?)),
         }
     }

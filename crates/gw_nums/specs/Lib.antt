@@ -1,2 +1,3 @@
+pub mod Millionths
 pub mod Range
 pub mod Ratio
