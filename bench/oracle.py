@@ -4,7 +4,7 @@ It takes all sessions but those that end for want of memory or behind too many r
 report is a run from clock zero; what an edit leaves of a recorded run goes by the items that each step read."""
 import re, sys
 
-from statements import BLOCKS, COMMANDS, DEFINITIONS, OF_BLOCKS, OF_STORAGES, OF_THE_MOMENT, OF_VARIABLES
+from statements import BLOCKS, COMMANDS, DEFINITIONS, OF_BLOCKS, OF_FUNCTIONS, OF_STORAGES, OF_THE_MOMENT, OF_VARIABLES
 from statements import Fault, is_name, statement_of_edit, statements_of
 
 MODULUS = 2147483647
@@ -26,6 +26,7 @@ class Version:
         self.capacities = {s.label: s.number(0) for s in statements if s.verb == "STORAGE"}
         self.numbers = {s.label: s.number(0) for s in statements if s.verb == "EQU"}
         self.variables = {s.label: s.tree(0) for s in statements if s.verb == "VARIABLE"}
+        self.functions = {s.label: s for s in statements if s.verb == "FUNCTION"}
 
     def block(self, id):
         return next((b for b in self.blocks if b.id == id), None)
@@ -62,9 +63,12 @@ class Version:
         variables = [name for of, name in attributes if of in OF_VARIABLES]
         if any(v not in self.variables and v not in self.numbers for v in variables):
             return "M3"
+        functions = [name for of, name in attributes if of in OF_FUNCTIONS]
+        if any(f not in self.functions and f not in self.numbers for f in functions):
+            return "M3"
         if any(name not in self.numbers for _, name in self.named("name")):
             return "M3"
-        return "M4" if any(s in self.numbers for s in storages + variables) else None
+        return "M4" if any(s in self.numbers for s in storages + variables + functions) else None
 
     def named(self, kind):
         """What the operands of all statements have of a kind."""
@@ -157,6 +161,8 @@ class Run:
             return count["entries" if of == "N" else "content"]
         if of in OF_VARIABLES:
             return self.variable(block, what)
+        if of in OF_FUNCTIONS:
+            return self.function(block, what) // 10**6
         if of in OF_STORAGES:
             return self.of_storage(of, what)
         key = what if isinstance(what, int) else self.named(what)
@@ -179,6 +185,20 @@ class Run:
         value = self.evaluate(block, self.version.variables[name])
         self.depth -= 1
         return value
+
+    def function(self, block, name):
+        """What a FUNCTION comes to, in millionths; VARIABLEs and FUNCTIONs nest 32 deep together."""
+        if self.depth == 32:
+            raise End("X10")
+        self.items.append(("function", name))
+        function = self.version.functions[name]
+        self.depth += 1
+        if function.operand(0)[:2] == "RN":
+            argument = (self.draw(function.tree(0)[2]) - 1) * 10**6 // 2147483646
+        else:
+            argument = self.evaluate(block, function.tree(0)) * 10**6
+        self.depth -= 1
+        return looked_up(function, argument)
 
     def of_storage(self, of, name):
         storage = self.storages.get(name, Storage())
@@ -210,8 +230,11 @@ class Run:
         return x
 
     def time(self, block):
-        """A time of the first operand plus or minus the second; below 0 where the second is."""
-        mean, spread = self.value(block, 0), self.value(block, 1)
+        """A time of the first operand plus or minus the second, below 0 where the second is; or as often the first as a FUNCTION says."""
+        mean, modifier = self.value(block, 0), block.operand(1) or ""
+        if modifier[:2] == "FN":
+            return within(mean * self.function(block, block.tree(1)[2]) // 10**6)
+        spread = self.value(block, 1)
         if spread < 0:
             return spread
         if spread == 0:
@@ -586,6 +609,19 @@ class Run:
         return go
 
 
+def looked_up(function, argument):
+    """What a FUNCTION comes to at an argument, both in millionths: along the lines between its points, or in steps."""
+    points = function.points
+    above = next((i for i, (x, _) in enumerate(points) if x >= argument), None)
+    if above is None:
+        return points[-1][1]
+    (x2, y2) = points[above]
+    if above == 0 or function.operand(1)[0] == "D":
+        return y2
+    (x1, y1) = points[above - 1]
+    return y1 + (y2 - y1) * (argument - x1) // (x2 - x1)
+
+
 def computed(operator, a, b=None):
     """What an operator makes of its values: `\\` goes towards zero, and `@` leaves what it leaves."""
     if b is None:
@@ -770,8 +806,8 @@ class Session:
                 items |= {("name", s.label)}
             elif s.verb == "STORAGE":
                 items |= {("asks", s.label), ("storage", s.label)}
-            elif s.verb == "VARIABLE":
-                items |= {("variable", s.label)}
+            elif s.verb in ("VARIABLE", "FUNCTION"):
+                items |= {(ITEMS[s.verb], s.label)}
             else:
                 first = sum(b.verb in COMMANDS for b in statements[: place - 1]) + 1
                 items |= {("command", j) for j in range(first, 5000)}
@@ -881,7 +917,7 @@ LINES |= {"seed": NUMBER * 2, "replicate": NUMBER * 2, "drop": NUMBER, "quit": "
 
 
 # Which item a definition answers.
-ITEMS = {"EQU": "name", "VARIABLE": "variable"}
+ITEMS = {"EQU": "name", "VARIABLE": "variable", "FUNCTION": "function"}
 
 
 def touched_by(items, item):

@@ -2,10 +2,10 @@
 import re
 
 BLOCKS = "GENERATE ADVANCE TERMINATE QUEUE DEPART SEIZE RELEASE ENTER LEAVE TRANSFER MARK PRIORITY BUFFER ASSIGN LOOP".split()
-DEFINITIONS = "STORAGE EQU VARIABLE".split()
+DEFINITIONS = "STORAGE EQU VARIABLE FUNCTION".split()
 COMMANDS = "START RMULT".split()
 # The verbs of later stages, which are no names either.
-LATER_DEFINITIONS = "TABLE FUNCTION".split()
+LATER_DEFINITIONS = ["TABLE"]
 LATER_COMMANDS = "RESET CLEAR".split()
 LATER_BLOCKS = "TEST GATE LOGIC SAVEVALUE TABULATE LINK UNLINK SPLIT".split()
 VERBS = BLOCKS + DEFINITIONS + COMMANDS + LATER_DEFINITIONS + LATER_COMMANDS + LATER_BLOCKS
@@ -30,6 +30,7 @@ FORMS = {
     "STORAGE": "count!",
     "EQU": "number!",
     "VARIABLE": "expression!",
+    "FUNCTION": "value! curve!",
     "START": "count! NP",
     "RMULT": "seed seed seed seed seed seed seed",
 }
@@ -38,7 +39,9 @@ OF_THE_MOMENT = "C1 AC1 TG1 M1 XN1 PR".split()
 OF_BLOCKS = "N W".split()
 OF_STORAGES = "S R SC SM".split()
 OF_VARIABLES = ["V"]
+OF_FUNCTIONS = ["FN"]
 OF_ENTITIES = "P F FC Q QC QM QZ".split()
+POINT = r"-?(?:[0-9]+(?:\.[0-9]{0,6})?|\.[0-9]{1,6})"
 TOKEN = re.compile(r"[A-Z0-9_$]+|[-+#\\@()]")
 DEEPEST = 32
 
@@ -52,13 +55,31 @@ class Bad(Exception):
 
 
 class Statement:
-    """A label, a verb and operands, each as a tree: its kind, and what it is of or, for an operator, the parts."""
+    """A label, a verb and operands, each as a tree: its kind, and what it is of or, for an operator, the parts. A FUNCTION has points,
+    in millionths, which further lines bring."""
 
     def __init__(self, text):
         self.label, self.verb, self.listed = parts(text)
         self.operands = self.listed.split(",") if self.listed else []
         self.trees = list(read_operands(self.verb, self.operands))
-        self.id = None
+        self.id, self.points = None, []
+
+    def wants_pairs(self):
+        return self.verb == "FUNCTION" and len(self.points) < int(self.operand(1)[1:])
+
+    def add_pairs(self, code):
+        """Adds the pairs of a further line, of which the comment with `;` is gone."""
+        listed, end = operand_list(code)
+        ascii_only(code[:end])
+        for pair in listed.removesuffix("/").split("/"):
+            point = re.fullmatch(f"({POINT}),({POINT})", pair)
+            if point is None or not self.wants_pairs():
+                raise Fault("L8")
+            x, y = map(millionths, point.groups())
+            if max(abs(x), abs(y)) > 10**15 or self.points and x <= self.points[-1][0]:
+                raise Fault("L8")
+            self.points.append((x, y))
+        self.listed += "|" + listed
 
     def operand(self, place):
         return self.operands[place] if place < len(self.operands) and self.operands[place] else None
@@ -96,6 +117,13 @@ def leaves(tree):
     return [leaf for part in tree[1:] for leaf in leaves(part)]
 
 
+def millionths(digits):
+    """A point's number, exactly."""
+    whole, _, decimals = digits.lstrip("-").partition(".")
+    number = int(whole or "0") * 10**6 + int(decimals.ljust(6, "0"))
+    return -number if digits[0] == "-" else number
+
+
 def is_name(word):
     barred = word in VERBS or re.fullmatch(f"({'|'.join(CLASSES)})[0-9]*", word)
     return re.fullmatch("[A-Z][A-Z0-9_]{0,199}", word) is not None and not barred
@@ -106,15 +134,20 @@ def is_name(word):
 
 def statements_of(text):
     """The statements of a model, numbered; the line of a fault stands in front of it."""
-    lines, statements = text.replace("\r\n", "\n").split("\n"), []
+    lines, statements, began = text.replace("\r\n", "\n").split("\n"), [], 0
     for number, line in enumerate(lines, 1):
         try:
             if len(line) > 250:
                 raise Fault("L1")
-            if code_of(line):
+            if code_of(line) and statements and statements[-1].wants_pairs():
+                statements[-1].add_pairs(code_of(line))
+            elif code_of(line):
+                began = number
                 statements.append(Statement(line))
         except Fault as fault:
             raise Fault(f"line {number} {fault}") from None
+    if statements and statements[-1].wants_pairs():
+        raise Fault(f"line {began} L8")
     for id, statement in enumerate(statements, 1):
         statement.id = id
     return statements
@@ -130,10 +163,15 @@ def statement_of_edit(text):
     try:
         statement = Statement(lines[0])
     except Fault as fault:
-        if len(lines) == 1 or str(fault)[:2] != "L6":
+        if len(lines) == 1 or str(fault)[:2] != "L6" or " FUNCTION" in lines[0].upper():
             raise
         raise Fault("L8") from None
-    if len(lines) > 1:
+    for line in lines[1:]:
+        if not statement.wants_pairs():
+            raise Fault("L8")
+        if code_of(line):
+            statement.add_pairs(code_of(line))
+    if statement.wants_pairs():
         raise Fault("L8")
     return statement
 
@@ -233,6 +271,9 @@ def as_word(form, word):
     elif form == "NP":
         if word != "NP":
             raise Bad
+    elif form == "curve":
+        if not re.fullmatch("[CD][0-9]+", word) or not 1 <= int(word[1:]) <= 1000:
+            raise Bad
     else:
         least = -(10**9) if form == "number" else 1
         constant(word, least, 2147483646 if form == "seed" else 10**9)
@@ -266,8 +307,8 @@ def attribute(word):
     if read is None:
         return None
     of, digits, name = read.groups()
-    with_names = OF_BLOCKS + OF_STORAGES + OF_VARIABLES + OF_ENTITIES
-    numbered = OF_STORAGES + OF_VARIABLES + OF_ENTITIES + ["RN"]
+    of_definitions = OF_STORAGES + OF_VARIABLES + OF_FUNCTIONS
+    with_names, numbered = OF_BLOCKS + of_definitions + OF_ENTITIES, of_definitions + OF_ENTITIES + ["RN"]
     if digits and of in numbered and 1 <= int(digits) <= (7 if of == "RN" else 10**9):
         return "attribute", of, int(digits)
     return ("attribute", of, name) if name and of in with_names and is_name(name) else None
