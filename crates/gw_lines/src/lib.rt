@@ -1,8 +1,9 @@
-//! Lines of a model: from a line's bytes to a statement or its first fault, and from a model's bytes to its
-//! statements or its first faulty line.
+//! Lines of a model: from a model's bytes to its statements or its first faulty line, and from an edit's text to a
+//! statement or its first fault.
 //!
-//! [`read_statement`] reads one line, [`read_model`] all lines, and [`read_edit`] the text of an edit, in which `|`
-//! ends a line. A line is cut into words (words), and its operand list is copied without the blanks that are skipped
+//! [`read_model`] reads all lines, and [`read_edit`] the text of an edit, in which `|`
+//! ends a line. A statement has one line, and a FUNCTION's pairs stand on further ones (pairs); no statement is handed
+//! out that wants more. A line is cut into words (words), and its operand list is copied without the blanks that are skipped
 //! (listed). What the operands of a verb may be is a list of forms (form), behind the first of which a sign may stand
 //! (sign). The list is split once, each part is read by
 //! its form (operands, operand, number, atom, attribute, expression), and the statement is made of what was read
@@ -26,12 +27,14 @@ mod model;
 mod number;
 mod operand;
 mod operands;
+mod pairs;
 mod sign;
+#[cfg(test)]
+mod tries;
 mod words;
 
 pub use edit::read_edit;
 pub use fault::{FaultyLine, LineFault};
 pub use gw_meaning::Statement;
 pub use laws::{edits_are_read, models_are_read, printed_is_read};
-pub use line::read_statement;
 pub use model::read_model;
