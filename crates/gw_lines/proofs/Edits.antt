@@ -1,28 +1,41 @@
 -- The text of an edit: what is read is spelled so, what is spelled so is read, and the same of its first fault.
-use Rattle.std.proofs.Common.{◌≡◌, ℕ, suc, ◌<◌, ◌≤◌, ◌==◌, ◌||◌, Bool, true, false, List, [], ◌∷◌, length, Option, Some, None, Result, Ok, Err, refl, sym, ap, subst, ◌∙◌, ◌⊎◌, inl, inr, arith}
-use Rattle.std.specs.Prelude.{All, Any, nat_lt}
+use Rattle.std.proofs.Common.{◌≡◌, ◌≢◌, ℕ, suc, ◌<◌, ◌≤◌, ◌==◌, ◌||◌, Bool, true, false, List, [], ◌∷◌, length, Option, Some, None, Result, Ok, Err, refl, sym, ap, subst, ◌∙◌, ◌⊎◌, inl, inr, arith}
+use Rattle.std.specs.Prelude.{All, Any, IfOk, nat_lt}
 use Rattle.std.proofs.lemmas.Bool.{both_ways, cases_Bool}
 use Rattle.std.proofs.lemmas.List.Elements.{All-cons, All-head, All-nil, All-tail}
 use Rattle.gw_meaning.specs.declared.statement.Statement.{Statement}
 use Rattle.gw_lines.specs.declared.fault.LineFault.{LineFault}
 use Rattle.gw_lines.specs.declared.fault.LineFault.TheVariants as faults
 use Rattle.gw_lines.specs.Reading.{◌>>=◌}
-use Rattle.gw_lines.specs.Classes.{are_plain}
+use Rattle.gw_lines.specs.declared.class.Class.TheVariants as class
+use Rattle.gw_lines.specs.Classes.{are_plain, rest_of, tail_of}
 use Rattle.gw_lines.specs.Lines.{line_of, wanted, statement_of}
 use Rattle.gw_lines.specs.Pairs.{wants_pairs, kept_of, further_of}
 use Rattle.gw_lines.specs.Spelling.{Spells}
 use Rattle.gw_lines.specs.Faulty.{FirstFault}
-use Rattle.gw_lines.specs.Points.{IsRemark, HasText, Adds, Completes, complete, past_remark, past_pairs, SpellsLines, spells_lines, PairsFault, too_long, wrong_byte, bad_pairs}
+use Rattle.gw_lines.specs.Points.{IsRemark, HasText, HasPairs, Completes, complete, past_remark, past_pairs, SpellsLines, spells_lines, PairsFault, too_long, wrong_byte, bad_pairs}
 use Rattle.gw_lines.specs.Edits as edits
-use Rattle.gw_lines.specs.Edits.{edit_lines, SpellsEdit, HasWrongText, HasWrongByte, in_first_line, in_further_line, AreClean, is_missing, may_miss, FaultOfLines, no_line, long_line, in_first, not_wanted, short_lines, byte_fault, plain_further, plain_lines, completed_by, followed, behind_first, first_of, edit_in, edit_of}
+use Rattle.gw_lines.specs.Edits.{edit_lines, SpellsEdit, HasWrongText, HasWrongByte, in_first_line, in_further_line, AreClean, names_function, is_missing, may_miss, FaultOfLines, no_line, long_line, in_first, not_wanted, short_lines, byte_fault, plain_further, plain_lines, completed_by, followed, behind_first, first_of, edit_in, edit_of}
 use Rattle.gw_lines.specs.Read.{EditsAreRead, EditsAreRefused}
 use Rattle.gw_lines.proofs.Results.{done, failed, ok_is, err_is}
+use Rattle.gw_lines.proofs.Fronts.{nonzero}
+use Rattle.gw_lines.proofs.Pieces.{first_part}
 use Rattle.gw_lines.proofs.Lines.{long_is, short_is, spells_found, spells_again}
 use Rattle.gw_lines.proofs.Faults.{fault_found, fault_again}
 use Rattle.gw_lines.proofs.PairsRead.{bind_ok}
 use Rattle.gw_lines.proofs.Whole.{faulty_found, wanted_err}
 use Rattle.gw_lines.proofs.Further as further
 use Rattle.gw_lines.proofs.Further.{kept_is, is_long, is_none, is_wrong, is_kept}
+
+-- ---- further lines or none
+
+-- where a further line stands, a missing operand is the fault for a FUNCTION alone
+pub may_miss_behind : (line further : List ℕ) → further ≢ [] → may_miss line (edit_lines further) ≡ names_function line
+may_miss_behind line further some = ap (may_miss line) (first_part class.Part further some) ∙ rw (nonzero (length (edit_lines (tail_of (rest_of class.Part further))))) refl
+
+-- what holds of an answer holds by an equal one
+pub answers_so : {X : Type 0} (r : Result Bool X) (x y : Bool) → x ≡ y → IfOk r (λ b. b ≡ x) → IfOk r (λ b. b ≡ y)
+answers_so r x y e h = subst (λ (z : Bool). IfOk r (λ b. b ≡ z)) e h
 
 -- ---- each line, and some line
 
@@ -120,11 +133,12 @@ first_right line further first others (in_first_line l f w) = first w
 first_right line further first others (in_further_line l f w) =
     clash (λ l. HasWrongText l → ⊥) HasWrongText further others w (λ l right wrong. right wrong)
 
+none_wrong : {lines : List (List ℕ)} → HasWrongByte lines → lines ≡ [] → ⊥
+none_wrong (in_first_line line more w) e = cc
+none_wrong (in_further_line line more w) e = cc
+
 plain_cases : (lines : List (List ℕ)) → ((plain_lines lines ≡ Ok tt) × (HasWrongByte lines → ⊥)) ⊎ ((plain_lines lines ≡ Err faults.BadByte) × HasWrongByte lines)
-plain_cases [] = inl (refl, none_wrong)
-  where
-    none_wrong : HasWrongByte [] → ⊥
-    none_wrong h = absurd cc
+plain_cases [] = inl (refl, λ h. none_wrong h refl)
 plain_cases (line ∷ more) =
     elim (byte_cases (line_of line)) [
       | inl wrong ↦ inr (rw wrong refl, in_first_line line more (faulty_found line faults.BadByte wrong))
@@ -177,7 +191,7 @@ completed_found (line ∷ lines) s t e =
 abbrev IsClean : List ℕ → Type 0
 IsClean line = IsShort line × (HasWrongText line → ⊥)
 
-adds_clean : {s t : Statement} {line : List ℕ} → Adds s line t → IsClean line
+adds_clean : {s t : Statement} {line : List ℕ} → HasPairs s line t → IsClean line
 adds_clean a = (a.has_text.cut.short, λ w. both_ways (are_plain a.text) (ap are_plain (further.one_text a.has_text w.1) ∙ w.2) a.plain)
 
 completes_clean : {s t : Statement} {lines : List (List ℕ)} → Completes s lines t → All IsClean lines

@@ -17,7 +17,7 @@ use Rattle.gw_lines.specs.Classes.{are_plain}
 use Rattle.gw_lines.specs.Listed.{listed_of}
 use Rattle.gw_lines.specs.Lines.{plain_of, operands_of, code_of, is_remark}
 use Rattle.gw_lines.specs.Pairs.{points_with, body_with, statement_with, kept_in, kept_of, kept_with, further_of}
-use Rattle.gw_lines.specs.Points.{Pairs, IsRemark, HasText, Adds, PairsFault, too_long, wrong_byte, bad_pairs}
+use Rattle.gw_lines.specs.Points.{Pairs, IsRemark, HasText, HasPairs, PairsFault, too_long, wrong_byte, bad_pairs}
 use Rattle.gw_lines.proofs.Results.{done, failed, ok_is, err_is}
 use Rattle.gw_lines.proofs.Kept.{written_of, written_kept}
 use Rattle.gw_lines.proofs.Lines.{short_is, long_is, short_again, cut_of, cut_is, front_stops}
@@ -124,7 +124,7 @@ listed_is s text (Ok body) t e = (body, refl, ok_is (listed_behind s text body) 
 listed_is s text (Err g) t e = absurd cc
 
 adds_found : (s t : Statement) {line : List ℕ} (text : List ℕ) → HasText line text → are_plain text ≡ true → statement_with s text ≡ Ok t
-    → Adds s line t
+    → HasPairs s line t
 unfolding statement_with
 adds_found s t text has plain e =
     let l = listed_is s text (body_with s.body text) t e in
@@ -140,7 +140,7 @@ adds_found s t text has plain e =
       is = sym (ap (listed_behind s text) g.is_more ∙ l.2);
     }
 
-adds_with : {s t : Statement} {line : List ℕ} (a : Adds s line t) → statement_with s a.text ≡ Ok t
+adds_with : {s t : Statement} {line : List ℕ} (a : HasPairs s line t) → statement_with s a.text ≡ Ok t
 unfolding statement_with
 adds_with {s} {t} a =
     let p = points_again a.pairs in
@@ -162,11 +162,11 @@ pub remark_leaves : (s : Statement) {line : List ℕ} → IsRemark line → furt
 unfolding further_of
 remark_leaves s r = rw (remark_kept r) refl
 
-pub adds_again : {s t : Statement} {line : List ℕ} → Adds s line t → further_of s line ≡ Ok t
+pub adds_again : {s t : Statement} {line : List ℕ} → HasPairs s line t → further_of s line ≡ Ok t
 unfolding further_of
 adds_again a = rw (plain_kept a.has_text a.plain) (adds_with a)
 
-pub further_found : (s : Statement) (line : List ℕ) (t : Statement) → further_of s line ≡ Ok t → (IsRemark line × (s ≡ t)) ⊎ Adds s line t
+pub further_found : (s : Statement) (line : List ℕ) (t : Statement) → further_of s line ≡ Ok t → (IsRemark line × (s ≡ t)) ⊎ HasPairs s line t
 unfolding further_of
 further_found s line t e =
     elim (kept_is line) [
@@ -204,7 +204,7 @@ further_fault s line f e =
           )
     ]
   where
-    never : (t : Statement) → Adds s line t → ⊥
+    never : (t : Statement) → HasPairs s line t → ⊥
     never t a = absurd (let h : done t ≡ Err f = sym (adds_again a) ∙ e in cc)
 
 pub fault_again : {s : Statement} {line : List ℕ} {f : LineFault} → PairsFault s line f → further_of s line ≡ Err f

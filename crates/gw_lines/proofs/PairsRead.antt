@@ -96,13 +96,13 @@ behind count points texts text front [] p all is s left h m e on =
     let whole : text ≡ front = is ∙ append-nil front in
     let same : points ++ p ∷ [] ≡ all = ok_is (points ++ p ∷ []) all (rw left at e) in
     subst (λ (a : List Point). Pairs count points text a) same (subst (λ (t : List ℕ). Pairs count points t (points ++ p ∷ [])) (sym whole)
-        (last_pair count points front p h m))
+    (last_pair count points front p h m))
 behind count points texts text front (b ∷ []) p all is s left h m e on =
     let slash : b ≡ 47 = eqb-true b 47 (not_false (b == 47) s) in
     let same : points ++ p ∷ [] ≡ all = ok_is (points ++ p ∷ []) all (rw left at e) in
     subst (λ (a : List Point). Pairs count points text a) same
     (subst (λ (t : List ℕ). Pairs count points t (points ++ p ∷ [])) (sym (is ∙ ap (λ (c : ℕ). front ++ c ∷ []) slash))
-        (ended_pair count points front p h m))
+    (ended_pair count points front p h m))
 behind count points texts text front (b ∷ c ∷ cs) p all is s left h m e on =
     let slash : b ≡ 47 = eqb-true b 47 (not_false (b == 47) s) in
     subst (λ (t : List ℕ). Pairs count points t all) (sym (is ∙ ap (λ (d : ℕ). front ++ d ∷ c ∷ cs) slash))

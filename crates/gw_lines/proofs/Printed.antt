@@ -31,7 +31,7 @@ use Rattle.gw_lines.specs.Lines.{is_remark}
 use Rattle.gw_lines.specs.Models.{lines_of}
 use Rattle.gw_lines.specs.Edits.{edit_lines}
 use Rattle.gw_lines.specs.Whole.{OfLines, no_lines, remark_line, statement_lines}
-use Rattle.gw_lines.specs.Points.{HasText, Adds, Completes, complete, past_remark, past_pairs, SpellsLines, spells_lines}
+use Rattle.gw_lines.specs.Points.{HasText, HasPairs, Completes, complete, past_remark, past_pairs, SpellsLines, spells_lines}
 use Rattle.gw_lines.specs.Spelling as spelling
 use Rattle.gw_lines.specs.Spelling.{Stops, Digits, first_digit, next_digit, Value, without_sign, with_sign, Rank, Multiplies, times, quotient, remainder, Adds, plus, minus, SpellsExpression, a_single, with_minus, in_parentheses, a_factor, multiplied, a_product, summed, SpellsOperand, absent, a_value, a_constant, named_value, attribute_value, computed_value, a_whole, a_key, named_entity, numbered_entity, attribute_entity, computed_entity, a_fraction, a_label, a_definition, an_expression, continuous, discrete, SpellsAll, no_form, stands, unwritten, is_part, Part, nothing, mark, opening, closing, stray, inner_comma, inner_blank, Written, none_written, last_written, never_closed, more_written, Behind, verb_alone, verb_operands, Head, first_word, second_word, Label, no_label, named, ArePlain, Numbering, unnumbered, Says, Cut, HasWords, Coded, Spells}
 use Rattle.std.specs.Prelude.{All}
@@ -221,7 +221,7 @@ no_remark : (text : List ℕ) → text ≢ [] → Pass (λ b. not (b == 42)) tex
 no_remark [] some h = absurd (some refl)
 no_remark (b ∷ bs) some h = not_true (b == 42) (and_parts (not (b == 42)) (list_all (λ c. not (c == 42)) bs) h).0
 
-text_again : {s t : Statement} {line : List ℕ} (a : Adds s line t) → HasText a.text a.text
+text_again : {s t : Statement} {line : List ℕ} (a : HasPairs s line t) → HasText a.text a.text
 text_again a =
     let has = a.has_text in
     let text = a.text in
@@ -248,7 +248,7 @@ text_again a =
       upper = sym upper;
     }
 
-adds_again : {s t : Statement} {line : List ℕ} (a : Adds s line t) → Adds s a.text t
+adds_again : {s t : Statement} {line : List ℕ} (a : HasPairs s line t) → HasPairs s a.text t
 adds_again a = record {
   text = a.text;
   has_text = text_again a;
@@ -273,7 +273,7 @@ AreTexts [] = Unit {0}
 AreTexts (text ∷ texts) = Pass is_own text × (text ≢ []) × AreTexts texts
 
 -- the lines behind a statement's first one, as they are listed
-record Behind (s t : Statement) : Type 0 where
+record BehindFirst (s t : Statement) : Type 0 where
   texts : List (List ℕ)
   are_texts : AreTexts texts
   completes : Completes s texts t
@@ -281,7 +281,7 @@ record Behind (s t : Statement) : Type 0 where
   label : t.label ≡ s.label
   verb : verb_of_body t.body ≡ verb_of_body s.body
 
-behind_of : {s t : Statement} {own_lines : List (List ℕ)} → Completes s own_lines t → Behind s t
+behind_of : {s t : Statement} {own_lines : List (List ℕ)} → Completes s own_lines t → BehindFirst s t
 behind_of (complete s whole) =
     record { texts = []; are_texts = tt; completes = complete s whole; operands = sym (append-nil s.operands); label = refl; verb = refl }
 behind_of (past_remark s line own_lines t wants r c) = behind_of c
@@ -323,7 +323,7 @@ some_operands {line} {s} spelled wants none =
     let c = spelled.coded in
     let is = verb_with c.body wants in
     given_with c.body is (ap (λ (v : Verb). part_of (bare_parts v s.operands)) is
-        ∙ ap (λ (o : List ℕ). part_of (bare_parts (verbs.Definition definition_verbs.Function) o)) none)
+    ∙ ap (λ (o : List ℕ). part_of (bare_parts (verbs.Definition definition_verbs.Function) o)) none)
 
 -- ---- what is printed
 
@@ -331,18 +331,22 @@ behind_both : (operands more : List ℕ) → operands ≢ [] → behind_text (op
 behind_both [] more some = absurd (some refl)
 behind_both (b ∷ bs) more some = refl
 
+unlabelled_more : (verb : Verb) (operands more : List ℕ) → operands ≢ []
+    → printed None verb (operands ++ more) ≡ printed None verb operands ++ more
+unlabelled_more verb operands more some =
+    ap (λ (t : List ℕ). words.word_of verb ++ t) (behind_both operands more some) ∙ sym (append_assoc (words.word_of verb) (behind_text operands) more)
+
 printed_more : (label : Option (List ℕ)) (verb : Verb) (operands more : List ℕ) → operands ≢ []
     → printed label verb (operands ++ more) ≡ printed label verb operands ++ more
-printed_more None verb operands more some =
-    ap (λ (t : List ℕ). words.word_of verb ++ t) (behind_both operands more some) ∙ sym (append_assoc (words.word_of verb) (behind_text operands) more)
+printed_more None verb operands more some = unlabelled_more verb operands more some
 printed_more (Some label) verb operands more some =
-    ap (λ (t : List ℕ). label ++ 32 ∷ t) (printed_more None verb operands more some)
+    ap (λ (t : List ℕ). label ++ 32 ∷ t) (unlabelled_more verb operands more some)
     ∙ sym (append_assoc label (32 ∷ (words.word_of verb ++ behind_text operands)) more)
 
 text_is : (s : Statement) → text_of s ≡ printed s.label (verb_of_body s.body) s.operands
 text_is s = printed_is s.label (verb_of_body s.body) s.operands
 
-text_with : {s t : Statement} (b : Behind s t) → s.operands ≢ [] → text_of t ≡ text_of s ++ barred b.texts
+text_with : {s t : Statement} (b : BehindFirst s t) → s.operands ≢ [] → text_of t ≡ text_of s ++ barred b.texts
 text_with {s} {t} b some =
     text_is t ∙ ap (λ (l : Option (List ℕ)). printed l (verb_of_body t.body) t.operands) b.label
     ∙ ap (λ (v : Verb). printed s.label v t.operands) b.verb ∙ ap (printed s.label (verb_of_body s.body)) b.operands
@@ -362,7 +366,7 @@ record IsListed (s : Statement) : Type 0 where
 some_text : (text : List ℕ) → begins_letter text ≡ true → text ≢ []
 some_text text h e = absurd (let f : begins_letter [] ≡ true = ap begins_letter (sym e) ∙ h in cc)
 
-listed_more : {line : List ℕ} {s t : Statement} → Spells line s → wants_pairs s ≡ true → Behind s t → IsListed t
+listed_more : {line : List ℕ} {s t : Statement} → Spells line s → wants_pairs s ≡ true → BehindFirst s t → IsListed t
 listed_more {line} {s} {t} spelled wants b =
     let p = spelled_is line s spelled in
     record {

@@ -15,7 +15,7 @@ use Rattle.gw_lines.specs.Pairs.{wants_pairs, further_of}
 use Rattle.gw_lines.specs.Models.{lines_of, numbered, with_line, done_of, under_way, statements_of, model_of}
 use Rattle.gw_lines.specs.Spelling.{Spells}
 use Rattle.gw_lines.specs.Faulty.{FirstFault}
-use Rattle.gw_lines.specs.Points.{IsRemark, Adds, Completes, complete, past_remark, past_pairs, SpellsLines, spells_lines, PairsFault}
+use Rattle.gw_lines.specs.Points.{IsRemark, HasPairs, Completes, complete, past_remark, past_pairs, SpellsLines, spells_lines, PairsFault}
 use Rattle.gw_lines.specs.Whole.{OfLines, no_lines, remark_line, statement_lines, begun, FirstFaulty, faulty_line, behind_remark, behind_statement, faulty_pairs, behind_pairs, pairs_missing, SpellsModel, FirstFaultOf, AnswersAt}
 use Rattle.gw_lines.specs.Read.{ModelsAreRead, ModelsAreRefused}
 use Rattle.gw_lines.proofs.Results.{done, failed, ok_is, err_is, or_memory}

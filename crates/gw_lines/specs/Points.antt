@@ -56,7 +56,7 @@ pub record HasText (line text : List ℕ) : Type 0 where
 
 -- a line's pairs make of a statement another: a FUNCTION with their points behind its own, whose operands are listed with
 -- `|` and the pairs behind them
-pub record Adds (s : Statement) (line : List ℕ) (t : Statement) : Type 0 where
+pub record HasPairs (s : Statement) (line : List ℕ) (t : Statement) : Type 0 where
   pub text : List ℕ
   pub has_text : HasText line text
   pub plain : are_plain text ≡ true
@@ -76,7 +76,7 @@ pub data Completes : Statement → List (List ℕ) → Statement → Type 0 wher
   past_remark : (s : Statement) (line : List ℕ) (lines : List (List ℕ)) (t : Statement) → wants_pairs s ≡ true
       → IsRemark line → Completes s lines t → Completes s (line ∷ lines) t
   past_pairs : (s : Statement) (line : List ℕ) (lines : List (List ℕ)) (more t : Statement) → wants_pairs s ≡ true
-      → Adds s line more → Completes more lines t → Completes s (line ∷ lines) t
+      → HasPairs s line more → Completes more lines t → Completes s (line ∷ lines) t
 
 -- lines spell a statement: the first of them its label, its verb and its operands, the others a FUNCTION's pairs
 pub data SpellsLines : List (List ℕ) → Statement → Type 0 where
@@ -89,4 +89,4 @@ pub data PairsFault : Statement → List ℕ → LineFault → Type 0 where
   wrong_byte : (s : Statement) (line text : List ℕ) → HasText line text → are_plain text ≡ false
       → PairsFault s line faults.BadByte
   bad_pairs : (s : Statement) (line text : List ℕ) → HasText line text → are_plain text ≡ true
-      → ((t : Statement) → Adds s line t → ⊥) → PairsFault s line faults.BadPairs
+      → ((t : Statement) → HasPairs s line t → ⊥) → PairsFault s line faults.BadPairs

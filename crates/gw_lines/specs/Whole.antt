@@ -10,7 +10,7 @@ use Rattle.gw_lines.specs.Reading.{OrMemory}
 use Rattle.gw_lines.specs.Models.{lines_of, under_way}
 use Rattle.gw_lines.specs.Spelling.{Spells}
 use Rattle.gw_lines.specs.Faulty.{FirstFault}
-use Rattle.gw_lines.specs.Points.{IsRemark, SpellsLines, Adds, PairsFault}
+use Rattle.gw_lines.specs.Points.{IsRemark, SpellsLines, HasPairs, PairsFault}
 
 -- the statements that lines spell, in order: each has its first line and those of its pairs
 pub data OfLines : List (List ℕ) → List Statement → Type 0 where
@@ -37,7 +37,7 @@ pub data FirstFaulty : Option Unfinished → ℕ → List (List ℕ) → FaultyL
       → PairsFault under.statement line f
       → FirstFaulty (Some under) n (line ∷ lines) (record { line = n; fault = f })
   behind_pairs : (under : Unfinished) (n : ℕ) (line : List ℕ) (lines : List (List ℕ)) (s : Statement) (e : FaultyLine)
-      → Adds under.statement line s → FirstFaulty (begun under.line s) (n + 1) lines e
+      → HasPairs under.statement line s → FirstFaulty (begun under.line s) (n + 1) lines e
       → FirstFaulty (Some under) n (line ∷ lines) e
   pairs_missing : (under : Unfinished) (n : ℕ)
       → FirstFaulty (Some under) n [] (record { line = under.line; fault = faults.BadPairs })

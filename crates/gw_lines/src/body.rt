@@ -111,11 +111,7 @@ fn definition_with(
 }
 
 // The FUNCTION with this argument, and with this type and number of points, none of which was read.
-fn function_with(
-    alloc: Global,
-    argument: Option<Operand>,
-    points: Option<Operand>,
-) -> Option<Body>
+fn function_with(alloc: Global, argument: Option<Operand>, points: Option<Operand>) -> Option<Body>
     ensures { result ≡ function_with (value_in argument) (points_in points) }
 {
     let argument = value_in(argument)?;

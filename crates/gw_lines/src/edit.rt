@@ -125,10 +125,10 @@ fn complete(alloc: Global, statement: Statement, text: &[u8]) -> Result<Statemen
     let mut statement = statement;
     let mut rest = text;
     while !rest.is_empty() {
+        let (line, further) = first_piece(Class::Part, rest);
         if !wants_pairs(&statement) {
             return Err(LineFault::BadPairs);
         }
-        let (line, further) = first_piece(Class::Part, rest);
         statement = read_further(alloc, statement, line)?;
         rest = further;
     }

@@ -29,8 +29,6 @@ mod operand;
 mod operands;
 mod pairs;
 mod sign;
-#[cfg(test)]
-mod tries;
 mod words;
 
 pub use edit::read_edit;

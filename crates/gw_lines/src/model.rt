@@ -115,7 +115,10 @@ fn keep(
 }
 
 // The statements, where none of them wants pairs at the end.
-fn ended(under: Option<Unfinished>, statements: Vec<Statement>) -> Result<Vec<Statement>, FaultyLine>
+fn ended(
+    under: Option<Unfinished>,
+    statements: Vec<Statement>,
+) -> Result<Vec<Statement>, FaultyLine>
     ensures { GivesModel (λ v. v.items) result (ended under statements.items) }
 {
     match under {

@@ -9,6 +9,7 @@ pub const LIMIT: u32 = 1_000_000_000;
 
 // One, and the greatest number of a point, in millionths.
 const MILLION: u32 = 1_000_000;
+
 const GREATEST: u64 = 1_000_000_000_000_000;
 
 /// The number that digits spell, if it is at most `most`.

@@ -130,11 +130,7 @@ fn points_with(count: u32, points: Vec<Point>, text: &[u8]) -> Result<Vec<Point>
 }
 
 // Adds a point, where it may stand behind the others.
-fn add_point(
-    count: u32,
-    points: &mut Vec<Point>,
-    point: Option<Point>,
-) -> Result<(), LineFault>
+fn add_point(count: u32, points: &mut Vec<Point>, point: Option<Point>) -> Result<(), LineFault>
     ensures { Gives (λ u. points.new.items) result (with_point count points.old.items point) }
 {
     match point {
