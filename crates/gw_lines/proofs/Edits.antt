@@ -1,6 +1,6 @@
 -- The text of an edit: what is read is spelled so, what is spelled so is read, and the same of its first fault.
 use Rattle.std.proofs.Common.{◌≡◌, ◌≢◌, ℕ, suc, ◌<◌, ◌≤◌, ◌==◌, ◌||◌, Bool, true, false, List, [], ◌∷◌, length, Option, Some, None, Result, Ok, Err, refl, sym, ap, subst, ◌∙◌, ◌⊎◌, inl, inr, arith}
-use Rattle.std.specs.Prelude.{All, Any, IfOk, nat_lt}
+use Rattle.std.specs.Prelude.{◌↔◌, All, Any, IfOk, nat_lt}
 use Rattle.std.proofs.lemmas.Bool.{both_ways, cases_Bool}
 use Rattle.std.proofs.lemmas.List.Elements.{All-cons, All-head, All-nil, All-tail}
 use Rattle.gw_meaning.specs.declared.statement.Statement.{Statement}
@@ -12,6 +12,7 @@ use Rattle.gw_lines.specs.Classes.{are_plain, rest_of, tail_of}
 use Rattle.gw_lines.specs.Lines.{line_of, wanted, statement_of}
 use Rattle.gw_lines.specs.Pairs.{wants_pairs, kept_of, further_of}
 use Rattle.gw_lines.specs.Spelling.{Spells}
+use Rattle.gw_lines.specs.Faulty as faulty
 use Rattle.gw_lines.specs.Faulty.{FirstFault}
 use Rattle.gw_lines.specs.Points.{IsRemark, HasText, HasPairs, Completes, complete, past_remark, past_pairs, SpellsLines, spells_lines, PairsFault, too_long, wrong_byte, bad_pairs}
 use Rattle.gw_lines.specs.Edits as edits
@@ -31,7 +32,9 @@ use Rattle.gw_lines.proofs.Further.{kept_is, is_long, is_none, is_wrong, is_kept
 
 -- where a further line stands, a missing operand is the fault for a FUNCTION alone
 pub may_miss_behind : (line further : List ℕ) → further ≢ [] → may_miss line (edit_lines further) ≡ names_function line
-may_miss_behind line further some = ap (may_miss line) (first_part class.Part further some) ∙ rw (nonzero (length (edit_lines (tail_of (rest_of class.Part further))))) refl
+may_miss_behind line further some =
+    ap (may_miss line) (first_part class.Part further some)
+    ∙ rw (nonzero (length (edit_lines (tail_of (rest_of class.Part further))))) refl
 
 -- what holds of an answer holds by an equal one
 pub answers_so : {X : Type 0} (r : Result Bool X) (x y : Bool) → x ≡ y → IfOk r (λ b. b ≡ x) → IfOk r (λ b. b ≡ y)
@@ -137,7 +140,8 @@ none_wrong : {lines : List (List ℕ)} → HasWrongByte lines → lines ≡ [] �
 none_wrong (in_first_line line more w) e = cc
 none_wrong (in_further_line line more w) e = cc
 
-plain_cases : (lines : List (List ℕ)) → ((plain_lines lines ≡ Ok tt) × (HasWrongByte lines → ⊥)) ⊎ ((plain_lines lines ≡ Err faults.BadByte) × HasWrongByte lines)
+plain_cases : (lines : List (List ℕ)) → ((plain_lines lines ≡ Ok tt) × (HasWrongByte lines → ⊥))
+    ⊎ ((plain_lines lines ≡ Err faults.BadByte) × HasWrongByte lines)
 plain_cases [] = inl (refl, λ h. none_wrong h refl)
 plain_cases (line ∷ more) =
     elim (byte_cases (line_of line)) [
@@ -256,14 +260,43 @@ lines_spell : (lines : List (List ℕ)) (s : Statement) → first_of lines ≡ O
 lines_spell [] s e = absurd cc
 lines_spell (line ∷ more) s e = spelled_first line more s e
 
+in_lines : (lines : List (List ℕ)) (s : Statement) → edit_in lines ≡ Ok s → SpellsLines lines s
+in_lines lines s e =
+    elim (short_cases lines) [
+      | inr p ↦ absurd (let f = rw p.0 at e in cc)
+      | inl p ↦ elim (plain_cases lines) [
+        | inr q ↦ absurd (let f = rw (p.0, q.0) at e in cc)
+        | inl q ↦ lines_spell lines s (rw (p.0, q.0) at e)
+      ]
+    ]
+
 edit_spells : (text : List ℕ) (s : Statement) → edit_of text ≡ Ok s → SpellsEdit text s
 unfolding edit_of
-edit_spells text s e =
-    elim (short_cases (edit_lines text)) [
-      | inr p ↦ absurd (let f = rw p.0 at e in cc)
-      | inl p ↦ elim (plain_cases (edit_lines text)) [
-        | inr q ↦ absurd (let f = rw (p.0, q.0) at e in cc)
-        | inl q ↦ lines_spell (edit_lines text) s (rw (p.0, q.0) at e)
+edit_spells text s e = in_lines (edit_lines text) s e
+
+-- the one line of some line is it
+of_one : (Q : List ℕ → Type 0) (line : List ℕ) → Any Q (line ∷ []) → Q line
+of_one Q line a =
+    let all : All (λ l. l ≡ line) (line ∷ []) = All-cons (λ l. l ≡ line) line [] refl (All-nil (λ l. l ≡ line)) in
+    subst Q (subst (λ (l : List ℕ). l ≡ line) a.3 (all a.0 a.1 a.2)) a.4
+
+none_of : (Q : List ℕ → Type 0) → Any Q [] → ⊥
+none_of Q a = let lt = a.2 in omega arith
+
+wrong_alone : {lines : List (List ℕ)} → HasWrongByte lines → (line : List ℕ) → lines ≡ line ∷ [] → FirstFault line faults.BadByte
+wrong_alone (in_first_line own more w) line e =
+    let same : own ≡ line = cc in subst (λ (l : List ℕ). FirstFault l faults.BadByte) same w
+wrong_alone (in_further_line own more w) line e =
+    let none : more ≡ [] = cc in absurd (none_of HasWrongText (subst (Any HasWrongText) none w))
+
+-- a line alone
+edit_alone : (line : List ℕ) → edit_in (line ∷ []) ≡ first_of (line ∷ [])
+edit_alone line =
+    elim (short_cases (line ∷ [])) [
+      | inr p ↦ rw (p.0, fault_again (faulty.too_long line (of_one IsLong line p.1))) refl
+      | inl p ↦ elim (plain_cases (line ∷ [])) [
+        | inl q ↦ rw (p.0, q.0) refl
+        | inr q ↦ rw (p.0, q.0, fault_again (wrong_alone q.1 line refl)) refl
       ]
     ]
 
@@ -371,6 +404,14 @@ fault_in (in_first line more f c h m) = clean_gives c ∙ rw (fault_again h) (ap
 fault_in (not_wanted line more n c h m) = clean_gives c ∙ rw (fault_again h) (ap failed (turns_so (may_miss line more) n m))
 fault_in (edits.bad_pairs line more s c h never) =
     clean_gives c ∙ rw (spells_again line s h) (never_completed s more (further_clean c) never)
+
+-- ---- a line alone
+
+pub alone_is_read : (line : List ℕ) (s : Statement) → (first_of (line ∷ []) ≡ Ok s) ↔ SpellsLines (line ∷ []) s
+alone_is_read line s = (lines_spell (line ∷ []) s, λ h. sym (edit_alone line) ∙ spelled_again h)
+
+pub alone_is_refused : (line : List ℕ) (f : LineFault) → (first_of (line ∷ []) ≡ Err f) ↔ FaultOfLines (line ∷ []) f
+alone_is_refused line f = (λ e. lines_fault (line ∷ []) f (edit_alone line ∙ e), λ h. sym (edit_alone line) ∙ fault_in h)
 
 -- ---- the laws
 

@@ -80,7 +80,8 @@ of_row : (verb : Verb) (sign : Sign) (forms : List Form) → have_places forms �
 of_row verb sign forms p make parts os s =
     let r = row p s in subst (λ (x : List (Option Operand)). Made verb sign x) r.1 (make r.0)
 
-makes : (body : Body) (sign : Sign) {os : List (Option Operand)} → HasSign body sign → points_of body ≡ [] → fields_of body ≡ os → Made (verb_of_body body) sign os
+makes : (body : Body) (sign : Sign) {os : List (Option Operand)} → HasSign body sign → points_of body ≡ []
+    → fields_of body ≡ os → Made (verb_of_body body) sign os
 makes body sign signed none e = record { body = body; verb_is = refl; has_sign = signed; pointless = none; fields = e }
 
 block_made : (verb : BlockVerb) (sign : Sign) (o : Option (List Form)) → forms_are_values o ≡ true → MadeOf (verbs.Block verb) sign o

@@ -281,8 +281,8 @@ fails_after : (number : ℕ) (s : Statement) (n : ℕ) (lines : List (List ℕ))
 fails_after number s n lines x e = rw e refl
 
 faulty_first : (n : ℕ) (line : List ℕ) (lines : List (List ℕ)) (x : FaultyLine)
-    → ((under : Option Unfinished) → statements_of under (n + 1) lines ≡ Err x → FirstFaulty under (n + 1) lines x) → statements_of None n (line ∷ lines) ≡ Err x
-    → FirstFaulty None n (line ∷ lines) x
+    → ((under : Option Unfinished) → statements_of under (n + 1) lines ≡ Err x → FirstFaulty under (n + 1) lines x)
+    → statements_of None n (line ∷ lines) ≡ Err x → FirstFaulty None n (line ∷ lines) x
 faulty_first n line lines x on e = by_result (line_of line) refl
   where
     by_result : (r : Result (Option Statement) LineFault) → line_of line ≡ r → FirstFaulty None n (line ∷ lines) x

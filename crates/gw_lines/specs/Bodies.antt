@@ -74,7 +74,12 @@ abbrev pub function_with : Option Term → Option (FunctionType × ℕ) → Opti
 function_with None points = None
 function_with (Some argument) None = None
 function_with (Some argument) (Some (kind, count)) =
-    Some (bodies.Definition (definitions.Function (record { argument = argument; kind = kind; count = count; points = [] })))
+    Some (bodies.Definition (definitions.Function (record {
+      argument = argument;
+      kind = kind;
+      count = count;
+      points = [];
+    })))
 
 -- the definition of a verb with these operands; no point of a FUNCTION was read
 abbrev pub definition_with : DefinitionVerb → List (Option Operand) → Option Body

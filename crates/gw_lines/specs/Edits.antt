@@ -66,8 +66,8 @@ is_missing f = false
 abbrev pub may_miss : List ℕ → List (List ℕ) → Bool
 may_miss line further = length further == 0 || names_function line
 
--- the first fault of lines: length and bytes of any line, then the first line from left to right, then pairs that are bad,
--- that are missing or that no statement wants, then a missing operand
+-- the first fault of lines: length and bytes of any line, then the first line from left to right, then pairs that are
+-- bad or missing, and further lines that no statement wants, then a missing operand
 pub data FaultOfLines : List (List ℕ) → LineFault → Type 0 where
   no_line : FaultOfLines [] faults.UnknownVerb
   long_line : (lines : List (List ℕ)) → Any (λ line. 250 < length line) lines → FaultOfLines lines faults.TooLong

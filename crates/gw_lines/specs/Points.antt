@@ -1,5 +1,5 @@
--- What the further lines of a FUNCTION spell: relations by cases on the text, apart from how they are read. (Manual: the
--- pairs. Our own: the greatest numbers, where a line ends.)
+-- What the further lines of a FUNCTION spell: relations by cases on the text, apart from how they are read. (Manual:
+-- the pairs. Our own: the greatest numbers, where a line ends.)
 use Rattle.std.specs.Prelude.{ℕ, ℤ, pos, neg_ℤ, ◌+◌, ◌*◌, ◌<◌, ◌≡◌, Bool, true, false, List, [], ◌∷◌, ◌++◌, length}
 use Rattle.gw_names.specs.Words.{upper_of}
 use Rattle.gw_meaning.specs.declared.function.Function.{Function}
@@ -54,8 +54,8 @@ pub record HasText (line text : List ℕ) : Type 0 where
   pub written : Written code kept
   pub upper : text ≡ upper_of kept
 
--- a line's pairs make of a statement another: a FUNCTION with their points behind its own, whose operands are listed with
--- `|` and the pairs behind them
+-- a line's pairs make of a statement another: a FUNCTION with their points behind its own, whose operands are listed
+-- with `|` and the pairs behind them
 pub record HasPairs (s : Statement) (line : List ℕ) (t : Statement) : Type 0 where
   pub text : List ℕ
   pub has_text : HasText line text

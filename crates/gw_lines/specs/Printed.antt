@@ -1,5 +1,5 @@
--- What `list` prints spells again what was read: a statement as the text of an edit, and statements, with a line end for
--- each `|`, as a model. (Our own.)
+-- What `list` prints spells again what was read: a statement as the text of an edit, and statements, with a line end
+-- for each `|`, as a model. (Our own.)
 use Rattle.std.specs.Prelude.{ℕ, ◌≤◌, ◌==◌, ◌≡◌, not, true, List, [], ◌∷◌, ◌++◌, Some, decimal, All, map, if◌then◌else◌}
 use Rattle.std.specs.List.{list_all}
 use Rattle.gw_names.specs.Names.{name_of}
@@ -45,11 +45,13 @@ PrintedEdits = (s : Statement) → IsSpelled s → SpellsEdit (text_of s) s
 
 -- and statements are a model, by the lines that `list` prints of them
 abbrev pub PrintedModels : Type 0
-PrintedModels = (statements : List Statement) → All IsSpelled statements → SpellsModel (listed_text statements) statements
+PrintedModels =
+    (statements : List Statement) → All IsSpelled statements → SpellsModel (listed_text statements) statements
 
 -- the statements of a model are spelled
 abbrev pub ModelsAreSpelled : Type 0
-ModelsAreSpelled = (bytes : List ℕ) (statements : List Statement) → SpellsModel bytes statements → All IsSpelled statements
+ModelsAreSpelled =
+    (bytes : List ℕ) (statements : List Statement) → SpellsModel bytes statements → All IsSpelled statements
 
 -- a storage whose capacity is in decimal digits is spelled by what `list` prints of it
 abbrev pub StoragesSpell : Type 0

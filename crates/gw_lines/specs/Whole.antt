@@ -1,5 +1,5 @@
--- What a model spells, statement by statement, and its first faulty line: relations apart from how it is read. (Our own:
--- lines and their numbers.)
+-- What a model spells, statement by statement, and its first faulty line: relations apart from how it is read. (Our
+-- own: lines and their numbers.)
 use Rattle.std.specs.Prelude.{ℕ, ◌+◌, List, [], ◌∷◌, ◌++◌, Option, Some, None}
 use Rattle.gw_meaning.specs.declared.statement.Statement.{Statement}
 use Rattle.gw_lines.specs.declared.fault.LineFault.{LineFault}
@@ -24,8 +24,8 @@ pub data OfLines : List (List ℕ) → List Statement → Type 0 where
 abbrev pub begun : ℕ → Statement → Option Unfinished
 begun number s = under_way (Some (record { line = number; statement = s }))
 
--- the first faulty one of lines, the first of which has this number, behind the statement that is under way; where that
--- wants pairs to the end, it is its own line
+-- the first faulty one of lines, the first of which has this number, behind the statement that is under way (where there
+-- is one); where that wants pairs to the end, it is its own line
 pub data FirstFaulty : Option Unfinished → ℕ → List (List ℕ) → FaultyLine → Type 0 where
   faulty_line : (n : ℕ) (line : List ℕ) (lines : List (List ℕ)) (f : LineFault) → (IsRemark line → ⊥)
       → FirstFault line f → FirstFaulty None n (line ∷ lines) (record { line = n; fault = f })
@@ -33,8 +33,8 @@ pub data FirstFaulty : Option Unfinished → ℕ → List (List ℕ) → FaultyL
       → IsRemark line → FirstFaulty (under_way under) (n + 1) lines e → FirstFaulty under n (line ∷ lines) e
   behind_statement : (n : ℕ) (line : List ℕ) (lines : List (List ℕ)) (s : Statement) (e : FaultyLine) → Spells line s
       → FirstFaulty (begun n s) (n + 1) lines e → FirstFaulty None n (line ∷ lines) e
-  faulty_pairs : (under : Unfinished) (n : ℕ) (line : List ℕ) (lines : List (List ℕ)) (f : LineFault) → (IsRemark line → ⊥)
-      → PairsFault under.statement line f
+  faulty_pairs : (under : Unfinished) (n : ℕ) (line : List ℕ) (lines : List (List ℕ)) (f : LineFault)
+      → (IsRemark line → ⊥) → PairsFault under.statement line f
       → FirstFaulty (Some under) n (line ∷ lines) (record { line = n; fault = f })
   behind_pairs : (under : Unfinished) (n : ℕ) (line : List ℕ) (lines : List (List ℕ)) (s : Statement) (e : FaultyLine)
       → HasPairs under.statement line s → FirstFaulty (begun under.line s) (n + 1) lines e

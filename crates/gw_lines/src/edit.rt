@@ -1,8 +1,9 @@
-ghost use Rattle.std.specs.Prelude.{◌≡◌, IfOk, IfErr, false};
-ghost use Rattle.gw_lines.specs.Reading.{Gives, IsFault};
+ghost use Rattle.std.specs.Prelude.{◌≡◌, ◌∷◌, [], IfOk, IfErr, Ok, Err, false};
+ghost use Rattle.gw_lines.specs.Reading.{Gives, IsFault, OrMemory};
 ghost use Rattle.gw_lines.specs.Lines.{line_of};
 ghost use Rattle.gw_lines.specs.Pairs.{kept_of, wants_pairs};
-ghost use Rattle.gw_lines.specs.Edits.{SpellsEdit, FirstFaultOfEdit, AnswersEdit, edit_lines, short_lines, byte_fault, plain_further, plain_lines, may_miss, followed, completed_by, first_of, edit_of};
+ghost use Rattle.gw_lines.specs.Points.{SpellsLines};
+ghost use Rattle.gw_lines.specs.Edits.{SpellsEdit, FaultOfLines, FirstFaultOfEdit, AnswersEdit, edit_lines, short_lines, byte_fault, plain_further, plain_lines, may_miss, followed, completed_by, first_of, edit_of};
 
 use crate::class::{Class, first_piece};
 use crate::fault::LineFault;
@@ -15,9 +16,9 @@ use std::alloc::{AllocError, Global};
 /// The statement that the text of an edit spells, or its first fault. `|` ends a line there, in a comment too,
 /// and one at the very end opens no further line. A FUNCTION's pairs stand on the further lines.
 ///
-/// A line that is too long comes first, then a wrong byte of any line (what is a comment goes on a further line as on
-/// one of pairs), then the faults of the first line from left to right, then `BadPairs` for pairs that are not lawful or
-/// are missing, and for any further line that no pairs want, and a missing operand last.
+/// A line that is too long comes first, then a wrong byte of any line (a further line has its comment as one of pairs),
+/// then the faults of the first line from left to right, then `BadPairs` for pairs that are not lawful or are missing,
+/// and for any further line that no pairs want, and a missing operand last; a FUNCTION that misses one has that fault.
 pub fn read_edit(alloc: Global, text: &[u8]) -> Result<Statement, LineFault>
     // What is read is spelled so.
     ensures found { IfOk result (λ s. SpellsEdit text.now s) }
@@ -33,6 +34,31 @@ pub fn read_edit(alloc: Global, text: &[u8]) -> Result<Statement, LineFault>
     ensures exact { Gives (λ s. s) result (edit_of text.now) }
 {
     read_lines(alloc, text)
+}
+
+/// The statement that a line spells alone, or its first fault. A FUNCTION wants pairs, and is `BadPairs`.
+pub fn read_statement(alloc: Global, line: &[u8]) -> Result<Statement, LineFault>
+    // What is read is spelled so.
+    ensures found { IfOk result (λ s. SpellsLines (line.now ∷ []) s) }
+    // What is spelled so is read, unless memory runs out.
+    ensures only { (s : Statement) → SpellsLines (line.now ∷ []) s → Gives (λ s. s) result (Ok s) }
+    // The fault that is answered is the first one, or memory ran out.
+    ensures fault { IfErr result (λ f. OrMemory f (FaultOfLines (line.now ∷ []) f)) }
+    // A line with a first fault is answered with it, unless memory runs out.
+    ensures faulty { (f : LineFault) → FaultOfLines (line.now ∷ []) f → Gives (λ s. s) result (Err f) }
+{
+    read_alone(alloc, line)
+}
+
+fn read_alone(alloc: Global, line: &[u8]) -> Result<Statement, LineFault>
+    ensures { Gives (λ s. s) result (first_of (line.now ∷ [])) }
+{
+    let statement = read_first(alloc, line)?;
+    if wants_pairs(&statement) {
+        Err(LineFault::BadPairs)
+    } else {
+        Ok(statement)
+    }
 }
 
 #[tactic(auto, unfolding(crate::specs::Edits::edit_of))]
