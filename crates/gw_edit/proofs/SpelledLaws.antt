@@ -11,7 +11,8 @@ use Rattle.gw_meaning.specs.declared.statement.Numbered.{Numbered}
 use Rattle.gw_meaning.specs.declared.statement.Statement.{Statement}
 use Rattle.gw_meaning.specs.Listing.{Listing, defines, definition_if, definition_of, has_label, nth}
 use Rattle.gw_lines.specs.declared.fault.LineFault.{LineFault}
-use Rattle.gw_lines.specs.Edits.{edit_of}
+use Rattle.gw_lines.specs.Edits.{edit_lines, edit_of}
+use Rattle.gw_lines.specs.Points.{Completes, complete, past_remark, past_pairs, SpellsLines, spells_lines}
 use Rattle.gw_lines.specs.Printed.{IsSpelled, storage_of}
 use Rattle.gw_lines.specs.Reading.{◌>>=◌}
 use Rattle.gw_lines.specs.Spelling.{Label, no_label, named, Spells}
@@ -51,7 +52,7 @@ text_gives (Ok s) f u h = (s, refl, checked_gives (f s) u h)
 text_gives (Err fault) f u h = absurd cc
 
 read_is : (text : List ℕ) (s : Statement) → edit_of text ≡ Ok s → IsSpelled s
-read_is text s e = let spelled = (edits_are_read text s).0 e in (spelled.line, spelled.spells)
+read_is text s e = (edit_lines text, (edits_are_read text s).0 e)
 
 text_is : (t u : Listing) (place : ℕ) (goes : Bool) (text : List ℕ)
     → (spelled_by text >>= (λ s. checked (with_splice t place goes (Some s)))) ≡ Ok u → AreSpelled t.lines → AreSpelled u.lines
@@ -75,13 +76,24 @@ is_labelled name line h = go (has_label name line.statement.label) (definition_o
     go true d h = refl
     go false d h = absurd cc
 
+-- the pairs of further lines leave a statement its label
+label_stays : {s t : Statement} {own : List (List ℕ)} → Completes s own t → t.label ≡ s.label
+label_stays (complete s whole) = refl
+label_stays (past_remark s line own t wants r c) = label_stays c
+label_stays (past_pairs s line own more t wants a c) = label_stays c ∙ ap (λ (x : Statement). x.label) a.is
+
+spelled_name : (name : List ℕ) {lines : List (List ℕ)} {s : Statement} → SpellsLines lines s → has_label name s.label ≡ true
+    → name_of name ≡ Some name
+spelled_name name (spells_lines line own s t spelled c) h =
+    let l = spelled.coded in
+    same_name l.word s.label l.verb name l.label (subst (λ (label : Option (List ℕ)). has_label name label ≡ true) (label_stays c) h)
+
 storage_named : (name : List ℕ) (n : ℕ) (lines : List Numbered) (place : ℕ) → storage_in name n lines ≡ Some place → AreSpelled lines
     → name_of name ≡ Some name
 storage_named name n [] place e h = absurd cc
 storage_named name n (line ∷ lines) place e h =
     elim (cases_Bool (is_capacity (defines name line))) [
-      | inl here ↦ (let c = (All-head LineIsSpelled line lines h).1 in
-          let l = c.coded in same_name l.word line.statement.label l.verb name l.label (is_labelled name line here))
+      | inl here ↦ spelled_name name (All-head LineIsSpelled line lines h).1 (is_labelled name line here)
       | inr later ↦ storage_named name (n + 1) lines place (rw later at e) (All-tail LineIsSpelled line lines h)
     ]
 
@@ -92,7 +104,8 @@ capacity_is t u name amount (Some place) is made h =
     let side = other_side (is_outside 1 1000000000 amount) _ _ u made in
     let w = place_in 1000000000 amount side.0 in
     let s = storage_of name amount in
-    let spelled : IsSpelled s = (_, storages_spell name amount (storage_named name 1 t.lines place is h) w.0 w.1) in
+    let line = storages_spell name amount (storage_named name 1 t.lines place is h) w.0 w.1 in
+    let spelled : IsSpelled s = (_, spells_lines _ [] s s line (complete s refl)) in
     subst (λ (v : Listing). AreSpelled v.lines) (checked_gives (with_splice t place true (Some s)) u side.1)
     (splice_is t.lines place true (Some s) h (λ number. come_is number s spelled))
 

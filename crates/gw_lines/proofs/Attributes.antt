@@ -77,7 +77,7 @@ behind class.Cc rest = record { read = λ of e. absurd cc; barred = λ h. rw h r
 behind class.Tc rest = record { read = λ of e. absurd cc; barred = λ h. rw h refl; value = refl; number = refl }
 behind class.Rn rest = record { read = λ of e. rw e refl; barred = λ h. rw h refl; value = refl; number = refl }
 behind class.V rest = record { read = λ of e. rw e refl; barred = λ h. rw h refl; value = refl; number = refl }
-behind class.Fn rest = record { read = λ of e. absurd cc; barred = λ h. rw h refl; value = refl; number = refl }
+behind class.Fn rest = record { read = λ of e. rw e refl; barred = λ h. rw h refl; value = refl; number = refl }
 
 -- ---- what is read is spelled so
 

@@ -1,5 +1,5 @@
 -- The body that a verb's operand list spells: what is read is said so, what is said so is read, and the same of the first fault.
-use Rattle.std.proofs.Common.{◌≡◌, ℕ, List, Option, Some, None, Ok, Err, refl, sym, ap, subst, ◌∙◌, ◌⊎◌, inl, inr}
+use Rattle.std.proofs.Common.{◌≡◌, ℕ, List, [], Option, Some, None, Ok, Err, refl, sym, ap, subst, ◌∙◌, ◌⊎◌, inl, inr}
 use Rattle.std.proofs.lemmas.Bool.{cases_Bool}
 use Rattle.gw_names.specs.declared.verb.Verb.{Verb}
 use Rattle.gw_meaning.specs.declared.sign.Sign.{Sign}
@@ -9,7 +9,7 @@ use Rattle.gw_lines.specs.declared.fault.LineFault.{LineFault}
 use Rattle.gw_lines.specs.declared.fault.LineFault.TheVariants as faults
 use Rattle.gw_lines.specs.declared.form.Form.{Form}
 use Rattle.gw_lines.specs.Reading.{◌>>=◌}
-use Rattle.gw_lines.specs.Forms.{forms_of, fields_of, lacks}
+use Rattle.gw_lines.specs.Forms.{forms_of, fields_of, points_of, lacks}
 use Rattle.gw_lines.specs.Parts.{is_given}
 use Rattle.gw_lines.specs.Signs.{HasSign, sign_of, bare_parts}
 use Rattle.gw_lines.specs.Bodies.{body_with, enough, in_forms, by_forms, body_of}
@@ -21,18 +21,18 @@ use Rattle.gw_lines.proofs.Rows.{built, made_with}
 
 -- parts that spell operands give a statement, where they lack none
 spelled_gives : (verb : Verb) (sign : Sign) (forms : List Form) (parts : List (List ℕ)) (body : Body) → SpellsAll forms parts (fields_of body)
-    → verb_of_body body ≡ verb → HasSign body sign
+    → verb_of_body body ≡ verb → HasSign body sign → points_of body ≡ []
     → in_forms verb sign forms parts ≡ (enough (lacks verb (fields_of body)) >>= λ given. done body)
 unfolding in_forms
-spelled_gives verb sign forms parts body s v signed =
+spelled_gives verb sign forms parts body s v signed none =
     let b : body_with verb sign (fields_of body) ≡ Some body =
-    ap (λ (x : Verb). body_with x sign (fields_of body)) (sym v) ∙ built body sign signed in
+    ap (λ (x : Verb). body_with x sign (fields_of body)) (sym v) ∙ built body sign signed none in
     rw (operands_spelled s, b) refl
 
 pub said_again : {verb : Verb} {sign : Sign} {parts : List (List ℕ)} {body : Body} → Says verb sign parts body
     → by_forms verb sign (forms_of verb (is_given parts)) parts ≡ Ok body
 said_again {verb} {sign} {parts} {body} s =
-    rw s.are_forms (spelled_gives verb sign s.forms parts body s.operands s.of_verb s.has_sign ∙ rw s.enough refl)
+    rw s.are_forms (spelled_gives verb sign s.forms parts body s.operands s.of_verb s.has_sign s.pointless ∙ rw s.enough refl)
 
 pub fault_again : (sign : Sign) {verb : Verb} {parts : List (List ℕ)} {f : LineFault} → OperandFault verb parts f
     → by_forms verb sign (forms_of verb (is_given parts)) parts ≡ Err f
@@ -59,6 +59,7 @@ verdict verb sign forms parts e =
                 has_sign = m.has_sign;
                 operands = rw m.fields s.1;
                 enough = rw m.fields enough;
+                pointless = m.pointless;
               },
             )
       ]

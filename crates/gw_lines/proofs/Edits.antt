@@ -1,76 +1,44 @@
--- The text of an edit: its lines, what is read is spelled so, what is spelled so is read, and the same of its first fault.
-use Rattle.std.proofs.Common.{◌≡◌, ◌≢◌, ℕ, suc, ◌<◌, ◌≤◌, ◌==◌, not, false, List, [], ◌∷◌, length, Option, None, Result, Ok, Err, refl, sym, ap, subst, ◌∙◌, ◌⊎◌, inl, inr, arith}
-use Rattle.std.specs.Prelude.{nat_lt, All, Any}
-use Rattle.std.proofs.lemmas.List.Elements.{All-nil, All-cons}
-use Rattle.std.proofs.lemmas.Bool.{cases_Bool}
+-- The text of an edit: what is read is spelled so, what is spelled so is read, and the same of its first fault.
+use Rattle.std.proofs.Common.{◌≡◌, ◌≢◌, ℕ, suc, ◌<◌, ◌≤◌, ◌==◌, ◌||◌, Bool, true, false, List, [], ◌∷◌, length, Option, Some, None, Result, Ok, Err, refl, sym, ap, subst, ◌∙◌, ◌⊎◌, inl, inr, arith}
+use Rattle.std.specs.Prelude.{◌↔◌, All, Any, IfOk, nat_lt}
+use Rattle.std.proofs.lemmas.Bool.{both_ways, cases_Bool}
+use Rattle.std.proofs.lemmas.List.Elements.{All-cons, All-head, All-nil, All-tail}
 use Rattle.gw_meaning.specs.declared.statement.Statement.{Statement}
-use Rattle.gw_lines.specs.declared.class.Class.TheVariants as class
 use Rattle.gw_lines.specs.declared.fault.LineFault.{LineFault}
 use Rattle.gw_lines.specs.declared.fault.LineFault.TheVariants as faults
-use Rattle.gw_lines.specs.Reading.{◌>>=◌, Fails, Gives}
-use Rattle.gw_lines.specs.Classes.{front_of, rest_of, tail_of}
+use Rattle.gw_lines.specs.Reading.{◌>>=◌}
+use Rattle.gw_lines.specs.declared.class.Class.TheVariants as class
+use Rattle.gw_lines.specs.Classes.{are_plain, rest_of, tail_of}
 use Rattle.gw_lines.specs.Lines.{line_of, wanted, statement_of}
-use Rattle.gw_lines.specs.Classes.{with_byte}
+use Rattle.gw_lines.specs.Pairs.{wants_pairs, kept_of, further_of}
 use Rattle.gw_lines.specs.Spelling.{Spells}
+use Rattle.gw_lines.specs.Faulty as faulty
 use Rattle.gw_lines.specs.Faulty.{FirstFault}
-use Rattle.gw_lines.specs.Edits.{edit_lines, SpellsEdit, AreClean, MayGoOn, spelled, misses, is_missing, FaultOfLines, no_line, long_line, wrong_byte, in_first, goes_on, at_the_end, short_lines, byte_fault, plain_lines, followed, first_of, edit_in, edit_of}
+use Rattle.gw_lines.specs.Points.{IsRemark, HasText, HasPairs, Completes, complete, past_remark, past_pairs, SpellsLines, spells_lines, PairsFault, too_long, wrong_byte, bad_pairs}
+use Rattle.gw_lines.specs.Edits as edits
+use Rattle.gw_lines.specs.Edits.{edit_lines, SpellsEdit, HasWrongText, HasWrongByte, in_first_line, in_further_line, AreClean, names_function, is_missing, may_miss, FaultOfLines, no_line, long_line, in_first, not_wanted, short_lines, byte_fault, plain_further, plain_lines, completed_by, followed, behind_first, first_of, edit_in, edit_of}
 use Rattle.gw_lines.specs.Read.{EditsAreRead, EditsAreRefused}
-use Rattle.gw_lines.proofs.Fronts.{put_before}
-use Rattle.gw_lines.proofs.Results.{failed, err_is}
+use Rattle.gw_lines.proofs.Results.{done, failed, ok_is, err_is}
+use Rattle.gw_lines.proofs.Fronts.{nonzero}
+use Rattle.gw_lines.proofs.Pieces.{first_part}
 use Rattle.gw_lines.proofs.Lines.{long_is, short_is, spells_found, spells_again}
 use Rattle.gw_lines.proofs.Faults.{fault_found, fault_again}
+use Rattle.gw_lines.proofs.PairsRead.{bind_ok}
 use Rattle.gw_lines.proofs.Whole.{faulty_found, wanted_err}
+use Rattle.gw_lines.proofs.Further as further
+use Rattle.gw_lines.proofs.Further.{kept_is, is_long, is_none, is_wrong, is_kept}
 
--- ---- the lines of a text
+-- ---- further lines or none
 
-one_more : (b : ℕ) (bs : List ℕ) → (b == 124) ≡ false → edit_lines (b ∷ bs) ≡ with_byte b (edit_lines bs)
-one_more b bs e = rw e refl
+-- where a further line stands, a missing operand is the fault for a FUNCTION alone
+pub may_miss_behind : (line further : List ℕ) → further ≢ [] → may_miss line (edit_lines further) ≡ names_function line
+may_miss_behind line further some =
+    ap (may_miss line) (first_part class.Part further some)
+    ∙ rw (nonzero (length (edit_lines (tail_of (rest_of class.Part further))))) refl
 
--- the lines behind the first, of what it leaves
-abbrev behind : List ℕ → List (List ℕ)
-behind rest = edit_lines (tail_of rest)
-
-first_is : (b : ℕ) (bs : List ℕ) → edit_lines (b ∷ bs) ≡ front_of class.Part (b ∷ bs) ∷ behind (rest_of class.Part (b ∷ bs))
-first_is b [] =
-    elim (cases_Bool (b == 124)) [
-      | inl bar ↦ rw bar refl
-      | inr part ↦ one_more b [] part ∙ sym (put_before class.Part behind b [] (ap not part))
-    ]
-first_is b (c ∷ cs) =
-    elim (cases_Bool (b == 124)) [
-      | inl bar ↦ rw bar refl
-      | inr part ↦ one_more b (c ∷ cs) part ∙ ap (with_byte b) (first_is c cs) ∙ sym (put_before class.Part behind b (c ∷ cs) (ap not part))
-    ]
-
--- the first line of a text that is not empty, and the lines behind it
-pub first_part : (text : List ℕ) → text ≢ [] → edit_lines text ≡ front_of class.Part text ∷ edit_lines (tail_of (rest_of class.Part text))
-first_part [] some = absurd (some refl)
-first_part (b ∷ bs) some = first_is b bs
-
--- the statement of a line that others follow
-pub followed_gives : (text line further : List ℕ) → (text ≢ [] → edit_lines text ≡ line ∷ edit_lines further) → (text ≡ [] → (line ≡ []) × (further ≡ []))
-    → further ≢ [] → first_of (edit_lines text) ≡ followed (statement_of line)
-followed_gives [] line further some none e = absurd (e (none refl).1)
-followed_gives (b ∷ bs) line further some none e = ap first_of (some (λ h. cc) ∙ ap (λ (t : List (List ℕ)). line ∷ t) (first_part further e))
-
-pub follows : (r read : Result Statement LineFault) → Gives (λ s. s) r read → Gives (λ s. s) (followed r) (followed read)
-follows (Ok s) read h = ap followed h
-follows (Err faults.Memory) read h = tt
-follows (Err faults.TooLong) read h = ap followed h
-follows (Err faults.BadByte) read h = ap followed h
-follows (Err faults.UnknownVerb) read h = ap followed h
-follows (Err faults.BadLabel) read h = ap followed h
-follows (Err (faults.BadOperand n)) read h = ap followed h
-follows (Err (faults.MissingOperand n)) read h = ap followed h
-follows (Err (faults.ExtraOperand n)) read h = ap followed h
-follows (Err faults.BadPairs) read h = ap followed h
-
--- ---- the lines, one after another
-
--- what the lines so far gave, where they leave this of the whole: it is the whole's, or the whole fails so
-abbrev pub SoFar : Result (Unit {0}) LineFault → Result (Unit {0}) LineFault → Result (Unit {0}) LineFault → Type 0
-SoFar (Ok u) left whole = left ≡ whole
-SoFar (Err f) left whole = Fails f whole
+-- what holds of an answer holds by an equal one
+pub answers_so : {X : Type 0} (r : Result Bool X) (x y : Bool) → x ≡ y → IfOk r (λ b. b ≡ x) → IfOk r (λ b. b ≡ y)
+answers_so r x y e h = subst (λ (z : Bool). IfOk r (λ b. b ≡ z)) e h
 
 -- ---- each line, and some line
 
@@ -142,121 +110,280 @@ wrong_is line h =
       | inr e ↦ e
     ]
 
-plain_cases : (lines : List (List ℕ)) → ((plain_lines lines ≡ Ok tt) × All IsRight lines) ⊎ ((plain_lines lines ≡ Err faults.BadByte) × Any IsWrong lines)
-plain_cases =
-    each_cases IsRight IsWrong plain_lines faults.BadByte refl
-    (λ line lines. elim (byte_cases (line_of line)) [
-      | inl wrong ↦ inr (rw wrong refl, faulty_found line faults.BadByte wrong)
-      | inr right ↦ inl (rw right.0 refl, λ h. right.1 (wrong_is line h))
+kept_byte_cases : (line : List ℕ) → ((byte_fault (kept_of line) ≡ Err faults.BadByte) × HasWrongText line)
+    ⊎ ((byte_fault (kept_of line) ≡ Ok tt) × (HasWrongText line → ⊥))
+kept_byte_cases line =
+    elim (kept_is line) [
+      | is_long long given ↦ inr (rw given refl, λ w. (let c = w.1.cut.short in absurd (omega arith)))
+      | is_none remark given ↦ inr (rw given refl, λ w. further.remark_plain remark w.1)
+      | is_wrong text has wrong given ↦ inl (rw given refl, (text, has, wrong))
+      | is_kept text has plain given ↦
+          inr (rw given refl, λ w. both_ways (are_plain text) (ap are_plain (further.one_text has w.1) ∙ w.2) plain)
+    ]
+
+further_cases : (lines : List (List ℕ)) → ((plain_further lines ≡ Ok tt) × All (λ line. HasWrongText line → ⊥) lines)
+    ⊎ ((plain_further lines ≡ Err faults.BadByte) × Any HasWrongText lines)
+further_cases =
+    each_cases (λ line. HasWrongText line → ⊥) HasWrongText plain_further faults.BadByte refl
+    (λ line lines. elim (kept_byte_cases line) [
+      | inl wrong ↦ inr (rw wrong.0 refl, wrong.1)
+      | inr right ↦ inl (rw right.0 refl, right.1)
     ])
+
+first_right : (line : List ℕ) (further : List (List ℕ)) → (FirstFault line faults.BadByte → ⊥) → All (λ l. HasWrongText l → ⊥) further
+    → HasWrongByte (line ∷ further) → ⊥
+first_right line further first others (in_first_line l f w) = first w
+first_right line further first others (in_further_line l f w) =
+    clash (λ l. HasWrongText l → ⊥) HasWrongText further others w (λ l right wrong. right wrong)
+
+none_wrong : {lines : List (List ℕ)} → HasWrongByte lines → lines ≡ [] → ⊥
+none_wrong (in_first_line line more w) e = cc
+none_wrong (in_further_line line more w) e = cc
+
+plain_cases : (lines : List (List ℕ)) → ((plain_lines lines ≡ Ok tt) × (HasWrongByte lines → ⊥))
+    ⊎ ((plain_lines lines ≡ Err faults.BadByte) × HasWrongByte lines)
+plain_cases [] = inl (refl, λ h. none_wrong h refl)
+plain_cases (line ∷ more) =
+    elim (byte_cases (line_of line)) [
+      | inl wrong ↦ inr (rw wrong refl, in_first_line line more (faulty_found line faults.BadByte wrong))
+      | inr right ↦ elim (further_cases more) [
+        | inl others ↦ inl (rw (right.0, others.0) refl, first_right line more (λ h. right.1 (wrong_is line h)) others.1)
+        | inr others ↦ inr (rw (right.0, others.0) refl, in_further_line line more others.1)
+      ]
+    ]
 
 no_long : (line : List ℕ) → IsShort line → IsLong line → ⊥
 no_long line short long = omega arith
 
--- clean lines give what the first of them gives
+-- clean lines give what they do from the first on
 clean_gives : {lines : List (List ℕ)} → AreClean lines → edit_in lines ≡ first_of lines
 clean_gives {lines} c =
     elim (short_cases lines) [
       | inr p ↦ absurd (clash IsShort IsLong lines c.short p.1 no_long)
       | inl p ↦ elim (plain_cases lines) [
-        | inr q ↦ absurd (clash IsRight IsWrong lines c.plain q.1 (λ line right wrong. right wrong))
+        | inr q ↦ absurd (c.plain q.1)
         | inl q ↦ rw (p.0, q.0) refl
       ]
     ]
 
--- ---- what is spelled
+-- ---- further lines
 
-never_given : (r : Result Statement LineFault) (s : Statement) → followed r ≡ Ok s → ⊥
-never_given (Ok x) s e = cc
-never_given (Err (faults.MissingOperand n)) s e = cc
-never_given (Err f) s e = cc
+completes_is : {s t : Statement} {lines : List (List ℕ)} → Completes s lines t → completed_by s lines ≡ Ok t
+completes_is (complete s whole) = rw whole refl
+completes_is (past_remark s line lines t wants r c) = rw (wants, further.remark_leaves s r) (completes_is c)
+completes_is (past_pairs s line lines more t wants a c) = rw (wants, further.adds_again a) (completes_is c)
 
-spelled_first : (text : List ℕ) (lines : List (List ℕ)) (s : Statement) → edit_lines text ≡ lines → first_of lines ≡ Ok s → SpellsEdit text s
-spelled_first text [] s l e = absurd cc
-spelled_first text (line ∷ []) s l e = record { line = line; alone = l; spells = spells_found line s e }
-spelled_first text (line ∷ next ∷ others) s l e = absurd (never_given (statement_of line) s e)
+completed_found : (lines : List (List ℕ)) (s t : Statement) → completed_by s lines ≡ Ok t → Completes s lines t
+completed_found [] s t e =
+    elim (cases_Bool (wants_pairs s)) [
+      | inl wants ↦ absurd (let f = rw wants at e in cc)
+      | inr whole ↦ subst (λ (x : Statement). Completes s [] x) (ok_is s t (rw whole at e)) (complete s whole)
+    ]
+completed_found (line ∷ lines) s t e =
+    elim (cases_Bool (wants_pairs s)) [
+      | inr whole ↦ absurd (let f = rw whole at e in cc)
+      | inl wants ↦
+          let b = bind_ok (further_of s line) (λ more. completed_by more lines) t (rw wants at e) in
+          let c = completed_found lines b.0 t b.2 in
+          elim (further.further_found s line b.0 b.1) [
+            | inl remark ↦ past_remark s line lines t wants remark.0 (subst (λ (x : Statement). Completes x lines t) (sym remark.1) c)
+            | inr adds ↦ past_pairs s line lines b.0 t wants adds c
+          ]
+    ]
 
-edit_spells : (text : List ℕ) (s : Statement) → edit_of text ≡ Ok s → SpellsEdit text s
-unfolding edit_of
-edit_spells text s e =
-    elim (short_cases (edit_lines text)) [
-      | inr p ↦ absurd (let f = rw p.0 at e in cc)
-      | inl p ↦ elim (plain_cases (edit_lines text)) [
-        | inr q ↦ absurd (let f = rw (p.0, q.0) at e in cc)
-        | inl q ↦ spelled_first text (edit_lines text) s refl (rw (p.0, q.0) at e)
+-- a further line that is clean
+abbrev IsClean : List ℕ → Type 0
+IsClean line = IsShort line × (HasWrongText line → ⊥)
+
+adds_clean : {s t : Statement} {line : List ℕ} → HasPairs s line t → IsClean line
+adds_clean a = (a.has_text.cut.short, λ w. both_ways (are_plain a.text) (ap are_plain (further.one_text a.has_text w.1) ∙ w.2) a.plain)
+
+completes_clean : {s t : Statement} {lines : List (List ℕ)} → Completes s lines t → All IsClean lines
+completes_clean (complete s whole) = All-nil IsClean
+completes_clean (past_remark s line lines t wants r c) =
+    All-cons IsClean line lines (r.cut.short, λ w. further.remark_plain r w.1) (completes_clean c)
+completes_clean (past_pairs s line lines more t wants a c) = All-cons IsClean line lines (adds_clean a) (completes_clean c)
+
+clean_further : (lines : List (List ℕ)) → All IsClean lines → All IsShort lines × All (λ line. HasWrongText line → ⊥) lines
+clean_further [] h = (All-nil IsShort, All-nil (λ line. HasWrongText line → ⊥))
+clean_further (line ∷ lines) h =
+    let here = All-head IsClean line lines h in
+    let others = clean_further lines (All-tail IsClean line lines h) in
+    (All-cons IsShort line lines here.0 others.0, All-cons (λ line. HasWrongText line → ⊥) line lines here.1 others.1)
+
+pairs_fault : {s : Statement} {line : List ℕ} {f : LineFault} → IsClean line → PairsFault s line f → f ≡ faults.BadPairs
+pairs_fault c (too_long s line long) = absurd (no_long line c.0 long)
+pairs_fault c (wrong_byte s line text has wrong) = absurd (c.1 (text, has, wrong))
+pairs_fault c (bad_pairs s line text has plain never) = refl
+
+bind_err : (r : Result Statement LineFault) (next : Statement → Result Statement LineFault) (f : LineFault) → (r >>= next) ≡ Err f
+    → (r ≡ Err f) ⊎ ((t : Statement) × (next t ≡ Err f))
+bind_err (Ok t) next f e = inr (t, e)
+bind_err (Err g) next f e = inl (ap failed (err_is (failed {A = Statement} g) g f refl e))
+
+completed_fault : (lines : List (List ℕ)) (s : Statement) (f : LineFault) → All IsClean lines → completed_by s lines ≡ Err f → f ≡ faults.BadPairs
+completed_fault [] s f c e =
+    elim (cases_Bool (wants_pairs s)) [
+      | inl wants ↦ err_is (failed {A = Statement} faults.BadPairs) f faults.BadPairs (rw wants at e) refl
+      | inr whole ↦ absurd (let g = rw whole at e in cc)
+    ]
+completed_fault (line ∷ lines) s f c e =
+    elim (cases_Bool (wants_pairs s)) [
+      | inr whole ↦ err_is (failed {A = Statement} faults.BadPairs) f faults.BadPairs (rw whole at e) refl
+      | inl wants ↦ elim (bind_err (further_of s line) (λ more. completed_by more lines) f (rw wants at e)) [
+        | inl here ↦ pairs_fault (All-head IsClean line lines c) (further.further_fault s line f here).1
+        | inr later ↦ completed_fault lines later.0 f (All-tail IsClean line lines c) later.1
       ]
     ]
 
-alone_clean : (line : List ℕ) (s : Statement) → Spells line s → AreClean (line ∷ [])
-alone_clean line s h = record {
-  short = All-cons IsShort line [] h.has_words.cut.short (All-nil IsShort);
-  plain = All-cons IsRight line [] (λ w. let f : Ok s ≡ failed faults.BadByte = sym (spells_again line s h) ∙ fault_again w in cc) (All-nil IsRight);
-}
+-- clean lines are clean one by one
+each_clean : (lines : List (List ℕ)) → All IsShort lines → (Any HasWrongText lines → ⊥) → All IsClean lines
+each_clean [] short plain = All-nil IsClean
+each_clean (line ∷ lines) short plain =
+    All-cons IsClean line lines (All-head IsShort line lines short, λ w. plain (any_here HasWrongText line lines w))
+    (each_clean lines (All-tail IsShort line lines short) (λ w. plain (any_there HasWrongText line lines w)))
+
+further_clean : {line : List ℕ} {further : List (List ℕ)} → AreClean (line ∷ further) → All IsClean further
+further_clean {line} {further} c =
+    each_clean further (All-tail IsShort line further c.short) (λ w. c.plain (in_further_line line further w))
+
+-- ---- what is spelled
+
+spelled_first : (line : List ℕ) (more : List (List ℕ)) (s : Statement) → first_of (line ∷ more) ≡ Ok s → SpellsLines (line ∷ more) s
+spelled_first line more s e = by_result (statement_of line) refl
+  where
+    by_result : (r : Result Statement LineFault) → statement_of line ≡ r → SpellsLines (line ∷ more) s
+    by_result (Err f) is = absurd (let g = rw is at e in cc)
+    by_result (Ok t) is = spells_lines line more t s (spells_found line t is) (completed_found more t s (rw is at e))
+
+lines_spell : (lines : List (List ℕ)) (s : Statement) → first_of lines ≡ Ok s → SpellsLines lines s
+lines_spell [] s e = absurd cc
+lines_spell (line ∷ more) s e = spelled_first line more s e
+
+in_lines : (lines : List (List ℕ)) (s : Statement) → edit_in lines ≡ Ok s → SpellsLines lines s
+in_lines lines s e =
+    elim (short_cases lines) [
+      | inr p ↦ absurd (let f = rw p.0 at e in cc)
+      | inl p ↦ elim (plain_cases lines) [
+        | inr q ↦ absurd (let f = rw (p.0, q.0) at e in cc)
+        | inl q ↦ lines_spell lines s (rw (p.0, q.0) at e)
+      ]
+    ]
+
+edit_spells : (text : List ℕ) (s : Statement) → edit_of text ≡ Ok s → SpellsEdit text s
+unfolding edit_of
+edit_spells text s e = in_lines (edit_lines text) s e
+
+-- the one line of some line is it
+of_one : (Q : List ℕ → Type 0) (line : List ℕ) → Any Q (line ∷ []) → Q line
+of_one Q line a =
+    let all : All (λ l. l ≡ line) (line ∷ []) = All-cons (λ l. l ≡ line) line [] refl (All-nil (λ l. l ≡ line)) in
+    subst Q (subst (λ (l : List ℕ). l ≡ line) a.3 (all a.0 a.1 a.2)) a.4
+
+none_of : (Q : List ℕ → Type 0) → Any Q [] → ⊥
+none_of Q a = let lt = a.2 in omega arith
+
+wrong_alone : {lines : List (List ℕ)} → HasWrongByte lines → (line : List ℕ) → lines ≡ line ∷ [] → FirstFault line faults.BadByte
+wrong_alone (in_first_line own more w) line e =
+    let same : own ≡ line = cc in subst (λ (l : List ℕ). FirstFault l faults.BadByte) same w
+wrong_alone (in_further_line own more w) line e =
+    let none : more ≡ [] = cc in absurd (none_of HasWrongText (subst (Any HasWrongText) none w))
+
+-- a line alone
+edit_alone : (line : List ℕ) → edit_in (line ∷ []) ≡ first_of (line ∷ [])
+edit_alone line =
+    elim (short_cases (line ∷ [])) [
+      | inr p ↦ rw (p.0, fault_again (faulty.too_long line (of_one IsLong line p.1))) refl
+      | inl p ↦ elim (plain_cases (line ∷ [])) [
+        | inl q ↦ rw (p.0, q.0) refl
+        | inr q ↦ rw (p.0, q.0, fault_again (wrong_alone q.1 line refl)) refl
+      ]
+    ]
+
+no_wrong : (line : List ℕ) (s : Statement) → Spells line s → FirstFault line faults.BadByte → ⊥
+no_wrong line s h w = let f : Ok s ≡ failed faults.BadByte = sym (spells_again line s h) ∙ fault_again w in cc
+
+spelled_again : {lines : List (List ℕ)} {s : Statement} → SpellsLines lines s → edit_in lines ≡ Ok s
+spelled_again (spells_lines line more s t h c) =
+    let clean = clean_further more (completes_clean c) in
+    clean_gives (record {
+      short = All-cons IsShort line more h.has_words.cut.short clean.0;
+      plain = first_right line more (no_wrong line s h) clean.1;
+    })
+    ∙ rw (spells_again line s h) (completes_is c)
 
 edit_again : (text : List ℕ) (s : Statement) → SpellsEdit text s → edit_of text ≡ Ok s
 unfolding edit_of
-edit_again text s h = ap edit_in h.alone ∙ clean_gives (alone_clean h.line s h.spells) ∙ spells_again h.line s h.spells
+edit_again text s h = spelled_again h
 
 -- ---- the first fault
 
-missing_cases : (f : LineFault) → ((n : ℕ) × (f ≡ faults.MissingOperand n)) ⊎ (is_missing f ≡ false)
-missing_cases (faults.MissingOperand n) = inl (n, refl)
-missing_cases f = inr refl
+-- what follows of the fault of a first line
+data Followed (may : Bool) (g f : LineFault) : Type 0 where
+  stays : g ≡ f → (is_missing f ≡ false) ⊎ (may ≡ true) → Followed may g f
+  turns : (n : ℕ) → g ≡ faults.MissingOperand n → may ≡ false → faults.BadPairs ≡ f → Followed may g f
 
-record GoesOn (r : Result Statement LineFault) : Type 0 where
-  pub why : ((s : Statement) × (r ≡ Ok s)) ⊎ ((n : ℕ) × (r ≡ Err (faults.MissingOperand n)))
+is_followed : (may : Bool) (g f : LineFault) → followed may g ≡ f → Followed may g f
+is_followed true g f e = stays e (inr refl)
+is_followed false (faults.MissingOperand n) f e = turns n refl refl e
+is_followed false g f e = stays e (inl (ap is_missing (sym e)))
 
-followed_cases : (r : Result Statement LineFault) (f : LineFault) → followed r ≡ Err f → ((f ≡ faults.BadPairs) × GoesOn r)
-    ⊎ ((r ≡ Err f) × (is_missing f ≡ false))
-followed_cases (Ok s) f e = inl (err_is (failed {A = Statement} faults.BadPairs) f faults.BadPairs e refl, record { why = inl (s, refl) })
-followed_cases (Err (faults.MissingOperand n)) f e =
-    inl (err_is (failed {A = Statement} faults.BadPairs) f faults.BadPairs e refl, record { why = inr (n, refl) })
-followed_cases (Err g) f e =
-    let same : g ≡ f = err_is (failed {A = Statement} g) g f refl e in
-    inr (ap failed same, subst (λ (x : LineFault). is_missing x ≡ false) same refl)
+stays_so : (may : Bool) (f : LineFault) → (is_missing f ≡ false) ⊎ (may ≡ true) → followed may f ≡ f
+stays_so true f h = refl
+stays_so false (faults.MissingOperand n) (inl h) = absurd cc
+stays_so false (faults.MissingOperand n) (inr h) = absurd cc
+stays_so false f h = refl
 
-may_go_on : (line : List ℕ) → GoesOn (statement_of line) → MayGoOn line
-may_go_on line g =
-    elim g.why [
-      | inl p ↦ spelled line p.0 (spells_found line p.0 p.1)
-      | inr p ↦ misses line p.0 (fault_found line (faults.MissingOperand p.0) p.1)
-    ]
+turns_so : (may : Bool) (n : ℕ) → may ≡ false → followed may (faults.MissingOperand n) ≡ faults.BadPairs
+turns_so may n h = rw h refl
+
+fault_is : (g f : LineFault) → failed {A = Statement} g ≡ Err f → g ≡ f
+fault_is g f e = err_is (failed {A = Statement} g) g f refl e
+
+fault_behind : (line : List ℕ) (more : List (List ℕ)) (f : LineFault) → AreClean (line ∷ more) → first_of (line ∷ more) ≡ Err f
+    → FaultOfLines (line ∷ more) f
+fault_behind line more f c e = by_result (statement_of line) refl
+  where
+    never : (s : Statement) → completed_by s more ≡ Err f → (t : Statement) → Completes s more t → ⊥
+    never s h t d = let g : done t ≡ Err f = sym (completes_is d) ∙ h in absurd cc
+
+    by_result : (r : Result Statement LineFault) → statement_of line ≡ r → FaultOfLines (line ∷ more) f
+    by_result (Ok s) is =
+        let h : completed_by s more ≡ Err f = rw is at e in
+        subst (FaultOfLines (line ∷ more)) (sym (completed_fault more s f (further_clean c) h))
+        (edits.bad_pairs line more s c (spells_found line s is) (never s h))
+    by_result (Err g) is =
+        elim (is_followed (may_miss line more) g f (fault_is (followed (may_miss line more) g) f (rw is at e))) [
+          | stays same h ↦ in_first line more f c (fault_found line f (is ∙ ap failed same)) h
+          | turns n same not_function bad ↦
+              subst (FaultOfLines (line ∷ more)) bad (not_wanted line more n c (fault_found line (faults.MissingOperand n) (is ∙ ap failed same)) not_function)
+        ]
 
 first_fault : (lines : List (List ℕ)) (f : LineFault) → AreClean lines → first_of lines ≡ Err f → FaultOfLines lines f
-first_fault [] f c e = subst (λ (x : LineFault). FaultOfLines [] x) (err_is (failed {A = Statement} faults.UnknownVerb) faults.UnknownVerb f refl e) no_line
-first_fault (line ∷ []) f c e =
-    elim (missing_cases f) [
-      | inl m ↦ subst (λ (x : LineFault). FaultOfLines (line ∷ []) x) (sym m.1) (at_the_end line m.0 c (fault_found line (faults.MissingOperand m.0) (e
-          ∙ ap failed m.1)))
-      | inr m ↦ in_first line [] f c (fault_found line f e) m
-    ]
-first_fault (line ∷ next ∷ others) f c e =
-    elim (followed_cases (statement_of line) f e) [
-      | inl p ↦ subst (λ (x : LineFault). FaultOfLines (line ∷ next ∷ others) x) (sym p.0) (goes_on line next others c (may_go_on line p.1))
-      | inr p ↦ in_first line (next ∷ others) f c (fault_found line f p.0) p.1
-    ]
+first_fault [] f c e = subst (FaultOfLines []) (fault_is faults.UnknownVerb f e) no_line
+first_fault (line ∷ more) f c e = fault_behind line more f c e
 
 lines_fault : (lines : List (List ℕ)) (f : LineFault) → edit_in lines ≡ Err f → FaultOfLines lines f
 lines_fault lines f e =
     elim (short_cases lines) [
       | inr p ↦
           let h : failed {A = Statement} faults.TooLong ≡ Err f = rw p.0 at e in
-          subst (λ (x : LineFault). FaultOfLines lines x) (err_is (failed {A = Statement} faults.TooLong) faults.TooLong f refl h) (long_line lines p.1)
+          subst (FaultOfLines lines) (fault_is faults.TooLong f h) (long_line lines p.1)
       | inl p ↦ elim (plain_cases lines) [
         | inr q ↦
             let h : failed {A = Statement} faults.BadByte ≡ Err f = rw (p.0, q.0) at e in
-            subst (λ (x : LineFault). FaultOfLines lines x) (err_is (failed {A = Statement} faults.BadByte) faults.BadByte f refl h) (wrong_byte lines p.1 q.1)
+            subst (FaultOfLines lines) (fault_is faults.BadByte f h) (edits.wrong_byte lines p.1 q.1)
         | inl q ↦ first_fault lines f (record { short = p.1; plain = q.1 }) (rw (p.0, q.0) at e)
       ]
     ]
 
-early : (f : LineFault) → is_missing f ≡ false → followed (Err f) ≡ Err f
-early (faults.MissingOperand n) m = absurd cc
-early f m = refl
-
-on_first : {line : List ℕ} {f : LineFault} (further : List (List ℕ)) → FirstFault line f → is_missing f ≡ false → first_of (line ∷ further) ≡ Err f
-on_first [] h m = fault_again h
-on_first {line} {f} (next ∷ others) h m = ap followed (fault_again h) ∙ early f m
+never_completed : (s : Statement) (more : List (List ℕ)) → All IsClean more → ((t : Statement) → Completes s more t → ⊥)
+    → completed_by s more ≡ Err faults.BadPairs
+never_completed s more c never = by_result (completed_by s more) refl
+  where
+    by_result : (r : Result Statement LineFault) → completed_by s more ≡ r → completed_by s more ≡ Err faults.BadPairs
+    by_result (Ok t) is = absurd (never t (completed_found more s t is))
+    by_result (Err f) is = is ∙ ap failed (completed_fault more s f c is)
 
 fault_in : {lines : List (List ℕ)} {f : LineFault} → FaultOfLines lines f → edit_in lines ≡ Err f
 fault_in no_line = refl
@@ -265,18 +392,26 @@ fault_in (long_line lines long) =
       | inl p ↦ absurd (clash IsShort IsLong lines p.1 long no_long)
       | inr p ↦ rw p.0 refl
     ]
-fault_in (wrong_byte lines short wrong) =
+fault_in (edits.wrong_byte lines short wrong) =
     elim (short_cases lines) [
       | inr p ↦ absurd (clash IsShort IsLong lines short p.1 no_long)
       | inl p ↦ elim (plain_cases lines) [
-        | inl q ↦ absurd (clash IsRight IsWrong lines q.1 wrong (λ line r w. r w))
+        | inl q ↦ absurd (q.1 wrong)
         | inr q ↦ rw (p.0, q.0) refl
       ]
     ]
-fault_in (in_first line further f c h m) = clean_gives c ∙ on_first further h m
-fault_in (goes_on line next others c (spelled l s h)) = clean_gives c ∙ ap followed (spells_again l s h)
-fault_in (goes_on line next others c (misses l n h)) = clean_gives c ∙ ap followed (fault_again h)
-fault_in (at_the_end line n c h) = clean_gives c ∙ fault_again h
+fault_in (in_first line more f c h m) = clean_gives c ∙ rw (fault_again h) (ap failed (stays_so (may_miss line more) f m))
+fault_in (not_wanted line more n c h m) = clean_gives c ∙ rw (fault_again h) (ap failed (turns_so (may_miss line more) n m))
+fault_in (edits.bad_pairs line more s c h never) =
+    clean_gives c ∙ rw (spells_again line s h) (never_completed s more (further_clean c) never)
+
+-- ---- a line alone
+
+pub alone_is_read : (line : List ℕ) (s : Statement) → (first_of (line ∷ []) ≡ Ok s) ↔ SpellsLines (line ∷ []) s
+alone_is_read line s = (lines_spell (line ∷ []) s, λ h. sym (edit_alone line) ∙ spelled_again h)
+
+pub alone_is_refused : (line : List ℕ) (f : LineFault) → (first_of (line ∷ []) ≡ Err f) ↔ FaultOfLines (line ∷ []) f
+alone_is_refused line f = (λ e. lines_fault (line ∷ []) f (edit_alone line ∙ e), λ h. sym (edit_alone line) ∙ fault_in h)
 
 -- ---- the laws
 

@@ -5,6 +5,8 @@ use Rattle.std.proofs.lemmas.Bool.{and_parts}
 use Rattle.gw_expr.specs.declared.atom.Atom.TheVariants as atoms
 use Rattle.gw_expr.specs.Expressions.{postfix}
 use Rattle.gw_expr.specs.Term.{Term, Value, Computed, Defined, Fraction, Label, Named}
+use Rattle.gw_meaning.specs.declared.function.FunctionType.{FunctionType}
+use Rattle.gw_meaning.specs.declared.function.FunctionType.TheVariants as types
 use Rattle.gw_lines.specs.declared.form.Kind.{Kind}
 use Rattle.gw_lines.specs.declared.form.Kind.TheVariants as kinds
 use Rattle.gw_lines.specs.declared.form.Presence.{Presence}
@@ -14,7 +16,7 @@ use Rattle.gw_lines.specs.declared.operand.Operand.{Operand}
 use Rattle.gw_lines.specs.declared.operand.Operand.TheVariants as operands
 use Rattle.gw_lines.specs.Forms.{value, whole}
 use Rattle.gw_lines.specs.Parts.{part_of, is_missing}
-use Rattle.gw_lines.specs.Spelling.{SpellsOperand, absent, a_value, a_constant, named_value, attribute_value, computed_value, a_whole, a_key, named_entity, numbered_entity, attribute_entity, computed_entity, a_fraction, a_label, a_definition, an_expression, SpellsAll, no_form, stands, unwritten}
+use Rattle.gw_lines.specs.Spelling.{SpellsOperand, absent, a_value, a_constant, named_value, attribute_value, computed_value, a_whole, a_key, named_entity, numbered_entity, attribute_entity, computed_entity, a_fraction, a_label, a_definition, an_expression, continuous, discrete, SpellsAll, no_form, stands, unwritten}
 
 abbrev pub Data : Kind → Type 0
 Data kinds.Value = Term
@@ -26,6 +28,7 @@ Data kinds.Fraction = Term
 Data kinds.Label = Term
 Data kinds.Defined = Term
 Data kinds.Expression = Term
+Data kinds.Points = FunctionType × ℕ
 
 abbrev pub data_operand : (kind : Kind) → Data kind → Option Operand
 data_operand kinds.Value t = Some (operands.Value t)
@@ -37,6 +40,7 @@ data_operand kinds.Fraction t = Some (operands.Value t)
 data_operand kinds.Label t = Some (operands.Value t)
 data_operand kinds.Defined t = Some (operands.Value t)
 data_operand kinds.Expression t = Some (operands.Value t)
+data_operand kinds.Points (type, n) = Some (operands.Points type n)
 
 abbrev pub Field : Presence → Kind → Type 0
 Field presences.Required kind = Data kind
@@ -53,6 +57,7 @@ maybe kinds.Fraction d = value d
 maybe kinds.Label d = value d
 maybe kinds.Defined d = value d
 maybe kinds.Expression d = value d
+maybe kinds.Points d = option_map (λ (p : FunctionType × ℕ). operands.Points p.0 p.1) d
 
 maybe_some : (kind : Kind) (d : Data kind) → maybe kind (Some d) ≡ data_operand kind d
 maybe_some kinds.Value d = refl
@@ -64,6 +69,7 @@ maybe_some kinds.Fraction d = refl
 maybe_some kinds.Label d = refl
 maybe_some kinds.Defined d = refl
 maybe_some kinds.Expression d = refl
+maybe_some kinds.Points (type, n) = refl
 
 maybe_none : (kind : Kind) → maybe kind None ≡ None
 maybe_none kinds.Value = refl
@@ -75,6 +81,7 @@ maybe_none kinds.Fraction = refl
 maybe_none kinds.Label = refl
 maybe_none kinds.Defined = refl
 maybe_none kinds.Expression = refl
+maybe_none kinds.Points = refl
 
 abbrev pub field_operand : (presence : Presence) (kind : Kind) → Field presence kind → Option Operand
 field_operand presences.Required kind d = data_operand kind d
@@ -99,6 +106,8 @@ data_of (a_fraction text n f) = inl (Fraction n, refl)
 data_of (a_label text name e) = inl (Label name, refl)
 data_of (a_definition text name e) = inl (Defined name, refl)
 data_of (an_expression text e s) = inl (Computed (postfix e), refl)
+data_of (continuous digits n h from) = inl ((types.Continuous, n), refl)
+data_of (discrete digits n h from) = inl ((types.Discrete, n), refl)
 
 maybe_field : (kind : Kind) {P : Type 0} {o : Option Operand}
     → ((d : Data kind) × (data_operand kind d ≡ o)) ⊎ (P × (None ≡ o))
@@ -198,6 +207,8 @@ one_value w (a_fraction text n f) = (Some (Fraction n), refl)
 one_value w (a_label text name e) = (Some (Label name), refl)
 one_value w (a_definition text name e) = (Some (Defined name), refl)
 one_value w (an_expression text e s) = (Some (Computed (postfix e)), refl)
+one_value w (continuous digits n h from) = absurd cc
+one_value w (discrete digits n h from) = absurd cc
 
 pub values : {forms : List Form} {parts : List (List ℕ)} {os : List (Option Operand)} → are_all is_value forms ≡ true
     → SpellsAll forms parts os → (values : List (Option Term)) × (map value values ≡ os)
@@ -225,6 +236,8 @@ one_whole w (a_fraction text n f) = absurd cc
 one_whole w (a_label text name e) = absurd cc
 one_whole w (a_definition text name e) = absurd cc
 one_whole w (an_expression text e s) = absurd cc
+one_whole w (continuous digits n h from) = absurd cc
+one_whole w (discrete digits n h from) = absurd cc
 
 pub wholes : {forms : List Form} {parts : List (List ℕ)} {os : List (Option Operand)} → are_all is_whole forms ≡ true
     → SpellsAll forms parts os → (values : List (Option ℕ)) × (map whole values ≡ os)

@@ -124,15 +124,15 @@ pointed text h =
     let e : length text ≡ length (whole ++ tail_of rest) + 1 = ap length point ∙ pointed_length whole (tail_of rest) in
     record { point = point; some_ = omega arith; places = at_most _ q.1 }
 
-parts_found : (text whole decimals : List ℕ) (m : ℕ) → text ≡ whole ++ 46 ∷ decimals → 0 < length (whole ++ decimals)
-    → length decimals ≤ 6 → millionths_of whole decimals ≡ Some m → Fraction text m
-parts_found text whole decimals m point some_ places e =
-    let b = then_found 1000000 _ (drop (length decimals) (codes "000000")) m e in
-    let a = then_found 1000000 _ decimals b.0 b.1 in
-    let n = both_found 1000000 whole decimals a.0 b.0 some_ a.1 a.2 in
+parts_found : (most : ℕ) (text whole decimals : List ℕ) (m : ℕ) → text ≡ whole ++ 46 ∷ decimals → 0 < length (whole ++ decimals)
+    → length decimals ≤ 6 → millionths_of most whole decimals ≡ Some m → Fraction most text m
+parts_found most text whole decimals m point some_ places e =
+    let b = then_found most _ (drop (length decimals) (codes "000000")) m e in
+    let a = then_found most _ decimals b.0 b.1 in
+    let n = both_found most whole decimals a.0 b.0 some_ a.1 a.2 in
     let f = filled (length decimals) in
-    let v : number_after 1000000 b.0 (zeros (6 - length decimals)) ≡ Some m =
-    subst (λ (t : List ℕ). number_after 1000000 b.0 t ≡ Some m) f b.2 in
+    let v : number_after most b.0 (zeros (6 - length decimals)) ≡ Some m =
+    subst (λ (t : List ℕ). number_after most b.0 t ≡ Some m) f b.2 in
     record {
       whole = whole;
       decimals = decimals;
@@ -140,17 +140,17 @@ parts_found text whole decimals m point some_ places e =
       number = b.0;
       digits = n.digits;
       places = places;
-      value = zeros_found 1000000 b.0 (6 - length decimals) m v;
-      small = (number_taken 1000000 b.0 (whole ++ decimals) (zeros (6 - length decimals)) m n.digits n.small v).small;
+      value = zeros_found most b.0 (6 - length decimals) m v;
+      small = (number_taken most b.0 (whole ++ decimals) (zeros (6 - length decimals)) m n.digits n.small v).small;
     }
 
-pub fraction_found : (text : List ℕ) (m : ℕ) → fraction_of text ≡ Some m → Fraction text m
-fraction_found text m e =
+pub fraction_found : (most : ℕ) (text : List ℕ) (m : ℕ) → fraction_of most text ≡ Some m → Fraction most text m
+fraction_found most text m e =
     elim (cases_Bool (is_pointed text (rest_of class.Whole text) (tail_of (rest_of class.Whole text)))) [
       | inr other ↦ absurd (let f = rw other at e in cc)
       | inl holds ↦
           let p = pointed text holds in
-          parts_found text (front_of class.Whole text) (tail_of (rest_of class.Whole text)) m p.point p.some_ p.places
+          parts_found most text (front_of class.Whole text) (tail_of (rest_of class.Whole text)) m p.point p.some_ p.places
           (rw holds at e)
     ]
 
@@ -189,33 +189,33 @@ pointed_again whole decimals some_ places =
     let e = pointed_length whole decimals in
     rw (nonzero (length decimals), longer (length (whole ++ 46 ∷ decimals)) (omega arith), within (length decimals) places) refl
 
-parts_again : (whole decimals : List ℕ) (n : ℕ) → Digits (whole ++ decimals) n → n * 10 ^ (6 - length decimals) ≤ 1000000
-    → millionths_of whole decimals ≡ Some (n * 10 ^ (6 - length decimals))
-parts_again whole decimals n d small =
+parts_again : (most : ℕ) (whole decimals : List ℕ) (n : ℕ) → Digits (whole ++ decimals) n → n * 10 ^ (6 - length decimals) ≤ most
+    → millionths_of most whole decimals ≡ Some (n * 10 ^ (6 - length decimals))
+parts_again most whole decimals n d small =
     let k = 6 - length decimals in
-    let le = more_than n (10 ^ k) 1000000 (one-le-pow k 10 (omega arith)) small in
-    ap (λ (t : List ℕ). number_then 1000000 (number_then 1000000 (number_after 1000000 0 whole) decimals) t)
+    let le = more_than n (10 ^ k) most (one-le-pow k 10 (omega arith)) small in
+    ap (λ (t : List ℕ). number_then most (number_then most (number_after most 0 whole) decimals) t)
     (filled (length decimals))
-    ∙ ap (λ (o : Option ℕ). number_then 1000000 o (zeros k)) (then_joined 1000000 0 whole decimals)
-    ∙ then_joined 1000000 0 (whole ++ decimals) (zeros k)
+    ∙ ap (λ (o : Option ℕ). number_then most o (zeros k)) (then_joined most 0 whole decimals)
+    ∙ then_joined most 0 (whole ++ decimals) (zeros k)
     ∙ number_on d (zeros k) le
-    ∙ zeros_again 1000000 n k small
+    ∙ zeros_again most n k small
 
 some_digits : {text : List ℕ} → Begins text → 0 < length text
 some_digits {text} b = let e = ap length b.is in omega arith
 
-text_again : (whole decimals : List ℕ) → AreIn class.Whole whole → 0 < length (whole ++ decimals) → length decimals ≤ 6
-    → fraction_of (whole ++ 46 ∷ decimals) ≡ millionths_of whole decimals
-text_again whole decimals apart some_ places =
+text_again : (most : ℕ) (whole decimals : List ℕ) → AreIn class.Whole whole → 0 < length (whole ++ decimals) → length decimals ≤ 6
+    → fraction_of most (whole ++ 46 ∷ decimals) ≡ millionths_of most whole decimals
+text_again most whole decimals apart some_ places =
     let f = front_again class.Whole whole (46 ∷ decimals) apart refl in
     let r = rest_again class.Whole whole (46 ∷ decimals) apart refl in
     rw (r, f, pointed_again whole decimals some_ places) refl
 
-pub fraction_again : {text : List ℕ} {m : ℕ} → Fraction text m → fraction_of text ≡ Some m
-fraction_again {text} {m} f =
+pub fraction_again : {most : ℕ} {text : List ℕ} {m : ℕ} → Fraction most text m → fraction_of most text ≡ Some m
+fraction_again {most} {text} {m} f =
     let apart = and_parts (list_all (is_in class.Whole) f.whole) (list_all (is_in class.Whole) f.decimals)
     (sym (list_all-append (is_in class.Whole) f.whole f.decimals) ∙ digits_apart f.digits) in
-    let small : f.number * 10 ^ (6 - length f.decimals) ≤ 1000000 =
-    subst (λ (x : ℕ). x ≤ 1000000) f.value f.small in
-    ap fraction_of f.point ∙ text_again f.whole f.decimals apart.0 (some_digits (begins f.digits)) f.places
-    ∙ parts_again f.whole f.decimals f.number f.digits small ∙ ap some (sym f.value)
+    let small : f.number * 10 ^ (6 - length f.decimals) ≤ most =
+    subst (λ (x : ℕ). x ≤ most) f.value f.small in
+    ap (fraction_of most) f.point ∙ text_again most f.whole f.decimals apart.0 (some_digits (begins f.digits)) f.places
+    ∙ parts_again most f.whole f.decimals f.number f.digits small ∙ ap some (sym f.value)

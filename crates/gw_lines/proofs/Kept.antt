@@ -93,7 +93,7 @@ no_more : {depth : ℕ} {text kept : List ℕ} → Part 0 text kept (suc depth) 
 no_more {text = []} p = tt
 no_more {text = b ∷ bs} p = part_begins p
 
-written_kept : {text kept : List ℕ} → Written text kept → listed_of true 0 text ≡ kept
+pub written_kept : {text kept : List ℕ} → Written text kept → listed_of true 0 text ≡ kept
 written_kept none_written = refl
 written_kept (last_written b bs kept comment p s) =
     begin_kept p comment (part_begins p) ∙ ap (λ (t : List ℕ). kept ++ t) (ends comment s) ∙ append-nil kept

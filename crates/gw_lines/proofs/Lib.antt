@@ -1,8 +1,10 @@
 pub mod Results
 pub mod Fronts
+pub mod Pieces
 pub mod Models
 pub mod Digits
 pub mod Fractions
+pub mod Coordinates
 pub mod Kept
 pub mod Closing
 pub mod Parts
@@ -20,9 +22,12 @@ pub mod Bodies
 pub mod Heads
 pub mod Lines
 pub mod Faults
+pub mod OwnBytes
+pub mod PairBytes
+pub mod PairsRead
+pub mod Further
 pub mod Whole
 pub mod Edits
-pub mod OwnBytes
 pub mod KeptAgain
 pub mod PrintedWords
 pub mod Printed

@@ -46,7 +46,7 @@ cut_is text code c =
     ∙ ap (front_of class.Code) (rest_again class.Blank c.blanks (code ++ c.comment) c.are_blanks c.begins)
     ∙ front_again class.Code code c.comment c.is_code c.is_comment
 
-front_stops : (a b : List ℕ) → Stops class.Blank (a ++ b) → Stops class.Blank a
+pub front_stops : (a b : List ℕ) → Stops class.Blank (a ++ b) → Stops class.Blank a
 front_stops [] b h = tt
 front_stops (x ∷ xs) b h = h
 

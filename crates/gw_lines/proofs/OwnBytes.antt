@@ -20,7 +20,7 @@ use Rattle.gw_lines.specs.Parts.{split, parts_of, part_of, others_of}
 use Rattle.gw_lines.specs.Signs as signing
 use Rattle.gw_lines.specs.Signs.{takes_sign, last_byte, sign_in, cut_off, bare_parts}
 use Rattle.gw_lines.specs.Spelling as spelling
-use Rattle.gw_lines.specs.Spelling.{Stops, Digits, first_digit, next_digit, Value, without_sign, with_sign, Rank, Multiplies, times, quotient, remainder, Adds, plus, minus, SpellsExpression, a_single, with_minus, in_parentheses, a_factor, multiplied, a_product, summed, SpellsOperand, absent, a_value, a_constant, named_value, attribute_value, computed_value, a_whole, a_key, named_entity, numbered_entity, attribute_entity, computed_entity, a_fraction, a_label, a_definition, an_expression, SpellsAll, no_form, stands, unwritten, is_part, Part, nothing, mark, opening, closing, stray, inner_comma, inner_blank, Written, none_written, last_written, never_closed, more_written, Behind, verb_alone, verb_operands, Head, first_word, second_word, Label, no_label, named, ArePlain, Numbering, unnumbered, Says, Cut, HasWords, Coded, Spells}
+use Rattle.gw_lines.specs.Spelling.{Stops, Digits, first_digit, next_digit, Value, without_sign, with_sign, Rank, Multiplies, times, quotient, remainder, Adds, plus, minus, SpellsExpression, a_single, with_minus, in_parentheses, a_factor, multiplied, a_product, summed, SpellsOperand, absent, a_value, a_constant, named_value, attribute_value, computed_value, a_whole, a_key, named_entity, numbered_entity, attribute_entity, computed_entity, a_fraction, a_label, a_definition, an_expression, continuous, discrete, SpellsAll, no_form, stands, unwritten, is_part, Part, nothing, mark, opening, closing, stray, inner_comma, inner_blank, Written, none_written, last_written, never_closed, more_written, Behind, verb_alone, verb_operands, Head, first_word, second_word, Label, no_label, named, ArePlain, Numbering, unnumbered, Says, Cut, HasWords, Coded, Spells}
 use Rattle.gw_lines.proofs.Fronts.{parts}
 use Rattle.gw_lines.proofs.Results.{some_is}
 use Rattle.gw_lines.proofs.Bytes.{Pass, Takes, both_pass, one_passes, next_passes, digits_pass, named_passes, attribute_passes, atom_passes}
@@ -70,7 +70,7 @@ pointed_own (b ∷ bs) decimals h =
     let a = and_parts (is_own b) (list_all is_own (bs ++ decimals)) h in
     next_passes is_own b (bs ++ 46 ∷ decimals) a.0 (pointed_own bs decimals a.1)
 
-pub fraction_own : {text : List ℕ} {n : ℕ} → spelling.Fraction text n → Pass is_own text
+pub fraction_own : {most : ℕ} {text : List ℕ} {n : ℕ} → spelling.Fraction most text n → Pass is_own text
 fraction_own f = subst (Pass is_own) (sym f.point) (pointed_own f.whole f.decimals (digits_pass own f.digits))
 
 pub operand_own : {kind : Kind} {text : List ℕ} {o : Option Operand} → SpellsOperand kind text o → Pass is_own text
@@ -90,6 +90,8 @@ operand_own (a_fraction text n f) = fraction_own f
 operand_own (a_label text name e) = named_passes own text name e
 operand_own (a_definition text name e) = named_passes own text name e
 operand_own (an_expression text e s) = expression_own s
+operand_own (continuous digits n h from) = next_passes is_own 67 digits refl (digits_pass own h.digits)
+operand_own (discrete digits n h from) = next_passes is_own 68 digits refl (digits_pass own h.digits)
 
 abbrev pub AllOwn : List (List ℕ) → Type 0
 AllOwn [] = Unit {0}

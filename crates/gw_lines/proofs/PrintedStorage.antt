@@ -83,6 +83,7 @@ storage_says amount from to =
           (stands a_count [] (decimal amount ∷ []) (Some (operands.Whole amount)) [] refl g.1
           (a_whole 1000000000 (decimal amount) amount (record { digits = d; small = to }) from) no_form);
       enough = refl;
+      pointless = refl;
     }
 
 pub storages_spell : StoragesSpell

@@ -19,7 +19,7 @@ use Rattle.gw_meaning.specs.declared.statement.Body.TheVariants as bodies
 use Rattle.gw_meaning.specs.Statements.{verb_of_body}
 use Rattle.gw_lines.specs.declared.form.Form.{Form}
 use Rattle.gw_lines.specs.declared.operand.Operand.{Operand}
-use Rattle.gw_lines.specs.Forms.{forms_of_block, forms_of_definition, forms_of_command, forms_of, value, whole, fields_of}
+use Rattle.gw_lines.specs.Forms.{forms_of_block, forms_of_definition, forms_of_command, forms_of, value, whole, fields_of, points_of}
 use Rattle.gw_lines.specs.Bodies.{value_in, whole_in, body_with}
 use Rattle.gw_lines.specs.Signs.{HasSign}
 use Rattle.gw_lines.specs.Spelling.{SpellsAll}
@@ -39,14 +39,15 @@ values_back [] = refl
 values_back (v ∷ values) = rw (value_back v, values_back values) refl
 
 -- a statement is made of its sign and its operands
-pub built : (body : Body) (sign : Sign) → HasSign body sign → body_with (verb_of_body body) sign (fields_of body) ≡ Some body
+pub built : (body : Body) (sign : Sign) → HasSign body sign → points_of body ≡ [] → body_with (verb_of_body body) sign (fields_of body) ≡ Some body
 unfolding body_with
-built (bodies.Block block) sign signed = rw (values_back block.operands, ← signed) refl
-built (bodies.Definition (definitions.Storage capacity)) sign signed = refl
-built (bodies.Definition (definitions.Equ z)) sign signed = refl
-built (bodies.Definition (definitions.Variable expression)) sign signed = refl
-built (bodies.Command (commands.Start count)) sign signed = refl
-built (bodies.Command (commands.Rmult values)) sign signed = rw (wholes_back values) refl
+built (bodies.Block block) sign signed none = rw (values_back block.operands, ← signed) refl
+built (bodies.Definition (definitions.Storage capacity)) sign signed none = refl
+built (bodies.Definition (definitions.Equ z)) sign signed none = refl
+built (bodies.Definition (definitions.Variable expression)) sign signed none = refl
+built (bodies.Definition (definitions.Function function)) sign signed none = rw none refl
+built (bodies.Command (commands.Start count)) sign signed none = refl
+built (bodies.Command (commands.Rmult values)) sign signed none = rw (wholes_back values) refl
 
 -- ---- each verb's forms make a statement
 
@@ -65,6 +66,7 @@ pub record Made (verb : Verb) (sign : Sign) (os : List (Option Operand)) : Type 
   pub body : Body
   pub verb_is : verb_of_body body ≡ verb
   pub has_sign : HasSign body sign
+  pub pointless : points_of body ≡ []
   pub fields : fields_of body ≡ os
 
 abbrev MadeOf : Verb → Sign → Option (List Form) → Type 0
@@ -78,30 +80,34 @@ of_row : (verb : Verb) (sign : Sign) (forms : List Form) → have_places forms �
 of_row verb sign forms p make parts os s =
     let r = row p s in subst (λ (x : List (Option Operand)). Made verb sign x) r.1 (make r.0)
 
-makes : (body : Body) (sign : Sign) {os : List (Option Operand)} → HasSign body sign → fields_of body ≡ os → Made (verb_of_body body) sign os
-makes body sign signed e = record { body = body; verb_is = refl; has_sign = signed; fields = e }
+makes : (body : Body) (sign : Sign) {os : List (Option Operand)} → HasSign body sign → points_of body ≡ []
+    → fields_of body ≡ os → Made (verb_of_body body) sign os
+makes body sign signed none e = record { body = body; verb_is = refl; has_sign = signed; pointless = none; fields = e }
 
 block_made : (verb : BlockVerb) (sign : Sign) (o : Option (List Form)) → forms_are_values o ≡ true → MadeOf (verbs.Block verb) sign o
 block_made verb sign None are = tt
 block_made verb sign (Some forms) are =
     λ parts os s.
-    (let vs = values are s in makes (bodies.Block (record { verb = verb; sign = sign; operands = vs.0 })) sign refl vs.1)
+    (let vs = values are s in makes (bodies.Block (record { verb = verb; sign = sign; operands = vs.0 })) sign refl refl vs.1)
 
 definition_made : (verb : DefinitionVerb) (sign : Sign) → MadeOf (verbs.Definition verb) sign (forms_of_definition verb)
 definition_made definition_verbs.Storage sign =
     of_row (verbs.Definition definition_verbs.Storage) sign _ refl
-    (λ (c, u). makes (bodies.Definition (definitions.Storage c)) sign tt refl)
+    (λ (c, u). makes (bodies.Definition (definitions.Storage c)) sign tt refl refl)
 definition_made definition_verbs.Equ sign =
-    of_row (verbs.Definition definition_verbs.Equ) sign _ refl (λ (z, u). makes (bodies.Definition (definitions.Equ z)) sign tt refl)
+    of_row (verbs.Definition definition_verbs.Equ) sign _ refl (λ (z, u). makes (bodies.Definition (definitions.Equ z)) sign tt refl refl)
 definition_made definition_verbs.Variable sign =
-    of_row (verbs.Definition definition_verbs.Variable) sign _ refl (λ (e, u). makes (bodies.Definition (definitions.Variable e)) sign tt refl)
+    of_row (verbs.Definition definition_verbs.Variable) sign _ refl (λ (e, u). makes (bodies.Definition (definitions.Variable e)) sign tt refl refl)
+definition_made definition_verbs.Function sign =
+    of_row (verbs.Definition definition_verbs.Function) sign _ refl
+    (λ (a, ((t, n), u)). makes (bodies.Definition (definitions.Function (record { argument = a; kind = t; count = n; points = [] }))) sign tt refl refl)
 definition_made verb sign = tt
 
 command_made : (verb : CommandVerb) (sign : Sign) → MadeOf (verbs.Command verb) sign (forms_of_command verb)
 command_made command_verbs.Start sign =
-    of_row (verbs.Command command_verbs.Start) sign _ refl (λ (c, (q, u)). makes (bodies.Command (commands.Start c)) sign tt refl)
+    of_row (verbs.Command command_verbs.Start) sign _ refl (λ (c, (q, u)). makes (bodies.Command (commands.Start c)) sign tt refl refl)
 command_made command_verbs.Rmult sign =
-    λ parts os s. (let vs = wholes refl s in makes (bodies.Command (commands.Rmult vs.0)) sign tt vs.1)
+    λ parts os s. (let vs = wholes refl s in makes (bodies.Command (commands.Rmult vs.0)) sign tt refl vs.1)
 command_made verb sign = tt
 
 made : (verb : Verb) (sign : Sign) (given : Bool) → MadeOf verb sign (forms_of verb given)

@@ -1,13 +1,15 @@
 -- Operands by their forms: each list of parts spells operands or has a first fault, and what it spells, or its fault, is what
 -- reading gives.
-use Rattle.std.proofs.Common.{◌≡◌, ℕ, ◌+◌, ◌≤◌, ◌<◌, true, false, List, [], ◌∷◌, ◌++◌, length, Option, Some, None, Ok, Err, refl, sym, ap, subst, ◌∙◌, ◌⊎◌, inl, inr, arith}
+use Rattle.std.proofs.Common.{◌≡◌, ℕ, ◌+◌, ◌≤◌, ◌<◌, ◌==◌, true, false, List, [], ◌∷◌, ◌++◌, length, Option, Some, None, Ok, Err, refl, sym, ap, subst, ◌∙◌, ◌⊎◌, inl, inr, arith}
 use Rattle.std.specs.Prelude.{option_map, codes}
 use Rattle.std.specs.Str.{bytes_eq}
-use Rattle.std.proofs.lemmas.Bool.{cases_Bool}
+use Rattle.std.proofs.lemmas.Bool.{cases_Bool, eqb-true}
 use Rattle.std.proofs.lemmas.Slice.Eq.{bytes_eq-Decides}
 use Rattle.gw_names.specs.Names.{name_of}
 use Rattle.gw_expr.specs.declared.atom.Atom.TheVariants as atoms
 use Rattle.gw_expr.specs.Term.{Term, Defined, Fraction, Label}
+use Rattle.gw_meaning.specs.declared.function.FunctionType.{FunctionType}
+use Rattle.gw_meaning.specs.declared.function.FunctionType.TheVariants as types
 use Rattle.gw_lines.specs.declared.fault.LineFault.{LineFault}
 use Rattle.gw_lines.specs.declared.fault.LineFault.TheVariants as faults
 use Rattle.gw_lines.specs.declared.form.Kind.{Kind}
@@ -19,9 +21,9 @@ use Rattle.gw_lines.specs.declared.operand.Operand.{Operand}
 use Rattle.gw_lines.specs.declared.operand.Operand.TheVariants as operands
 use Rattle.gw_lines.specs.Numbers.{number_of, from_one, fraction_of}
 use Rattle.gw_lines.specs.Forms.{is_listed}
-use Rattle.gw_lines.specs.Operands.{label_of, defined_of, as_value, operand_in, listed_here, each_of, missing_of, has_more, operands_of}
+use Rattle.gw_lines.specs.Operands.{label_of, defined_of, or_points, points_in, as_value, operand_in, listed_here, each_of, missing_of, has_more, operands_of}
 use Rattle.gw_lines.specs.Parts.{goes_on, part_of, others_of, is_missing}
-use Rattle.gw_lines.specs.Spelling.{SpellsOperand, absent, a_value, a_constant, named_value, attribute_value, computed_value, a_whole, a_key, named_entity, numbered_entity, attribute_entity, computed_entity, a_fraction, a_label, a_definition, an_expression, SpellsAll, no_form, stands, unwritten}
+use Rattle.gw_lines.specs.Spelling.{Number, SpellsOperand, absent, a_value, a_constant, named_value, attribute_value, computed_value, a_whole, a_key, named_entity, numbered_entity, attribute_entity, computed_entity, a_fraction, a_label, a_definition, an_expression, continuous, discrete, SpellsAll, no_form, stands, unwritten}
 use Rattle.gw_lines.specs.Faulty.{Lawful, FirstBad, bad_here, bad_later, AllLawful, FirstMissing, missing_here, missing_later, FaultOfAll, bad_operand, extra_operand, missing_operand}
 use Rattle.gw_lines.proofs.Results.{some, some_is}
 use Rattle.gw_lines.proofs.Digits.{number_found, number_again, mapped, from_one_found, from_one_again}
@@ -50,12 +52,12 @@ key_is text o h e =
     (subst (λ (x : Option Operand). SpellsOperand kinds.Quiet (codes "NP") x) (some_is none o e) a_key)
 
 fraction_is : (text : List ℕ) (o : Option Operand)
-    → as_value (option_map (λ (n : ℕ). Fraction n) (fraction_of text)) ≡ Some o → SpellsOperand kinds.Fraction text o
+    → as_value (option_map (λ (n : ℕ). Fraction n) (fraction_of 1000000 text)) ≡ Some o → SpellsOperand kinds.Fraction text o
 fraction_is text o e =
-    let m = mapped (λ (t : Term). some (operands.Value t)) (option_map (λ (n : ℕ). Fraction n) (fraction_of text)) o e in
-    let k = mapped (λ (n : ℕ). Fraction n) (fraction_of text) m.0 m.1 in
+    let m = mapped (λ (t : Term). some (operands.Value t)) (option_map (λ (n : ℕ). Fraction n) (fraction_of 1000000 text)) o e in
+    let k = mapped (λ (n : ℕ). Fraction n) (fraction_of 1000000 text) m.0 m.1 in
     subst (λ (x : Option Operand). SpellsOperand kinds.Fraction text x) (ap (λ (t : Term). some (operands.Value t)) k.2 ∙ m.2)
-    (a_fraction text k.0 (fraction_found text k.0 k.1))
+    (a_fraction text k.0 (fraction_found 1000000 text k.0 k.1))
 
 label_is : (text : List ℕ) (o : Option Operand) → as_value (label_of text) ≡ Some o → SpellsOperand kinds.Label text o
 label_is text o e =
@@ -70,6 +72,29 @@ defined_is text o e =
     let k = mapped (λ (name : List ℕ). Defined name) (name_of text) m.0 m.1 in
     subst (λ (x : Option Operand). SpellsOperand kinds.Defined text x) (ap (λ (t : Term). some (operands.Value t)) k.2 ∙ m.2)
     (a_definition text k.0 k.1)
+
+counted : (type : FunctionType) (bs : List ℕ) (o : Option Operand) → or_points (Some type) (from_one (number_of 1000 bs)) ≡ Some o
+    → (n : ℕ) × Number 1000 bs n × (1 ≤ n) × (some (operands.Points type n) ≡ o)
+counted type bs o e =
+    let m = mapped (λ n. some (operands.Points type n)) (from_one (number_of 1000 bs)) o e in
+    let f = from_one_found (number_of 1000 bs) m.0 m.1 in
+    (m.0, number_found 1000 bs m.0 f.0, f.1, m.2)
+
+points_are : (b : ℕ) (bs : List ℕ) (o : Option Operand) → points_in (b ∷ bs) ≡ Some o → SpellsOperand kinds.Points (b ∷ bs) o
+points_are b bs o e =
+    elim (cases_Bool (b == 67)) [
+      | inl c ↦
+          let k = counted types.Continuous bs o (rw c at e) in
+          subst (λ (x : ℕ). SpellsOperand kinds.Points (x ∷ bs) o) (sym (eqb-true b 67 c))
+          (subst (λ (x : Option Operand). SpellsOperand kinds.Points (67 ∷ bs) x) k.3 (continuous bs k.0 k.1 k.2))
+      | inr other ↦ elim (cases_Bool (b == 68)) [
+        | inl d ↦
+            let k = counted types.Discrete bs o (rw (other, d) at e) in
+            subst (λ (x : ℕ). SpellsOperand kinds.Points (x ∷ bs) o) (sym (eqb-true b 68 d))
+            (subst (λ (x : Option Operand). SpellsOperand kinds.Points (68 ∷ bs) x) k.3 (discrete bs k.0 k.1 k.2))
+        | inr neither ↦ absurd (let f = rw (other, neither) at e in cc)
+      ]
+    ]
 
 operand_found : (kind : Kind) (text : List ℕ) (o : Option Operand) → operand_in kind text ≡ Some o
     → SpellsOperand kind text o
@@ -87,13 +112,14 @@ operand_found kinds.Fraction (b ∷ bs) o e = fraction_is (b ∷ bs) o e
 operand_found kinds.Label (b ∷ bs) o e = label_is (b ∷ bs) o e
 operand_found kinds.Defined (b ∷ bs) o e = defined_is (b ∷ bs) o e
 operand_found kinds.Expression (b ∷ bs) o e = expression_is (b ∷ bs) o e
+operand_found kinds.Points (b ∷ bs) o e = points_are b bs o e
 
 whole_in_again : (most : ℕ) (text : List ℕ) (n : ℕ) → number_of most text ≡ Some n → 1 ≤ n
     → operand_in (kinds.Whole most) text ≡ Some (Some (operands.Whole n))
 whole_in_again most [] n e h = absurd cc
 whole_in_again most (b ∷ bs) n e h = rw (e, from_one_again n h) refl
 
-fraction_in_again : (text : List ℕ) (n : ℕ) → fraction_of text ≡ Some n
+fraction_in_again : (text : List ℕ) (n : ℕ) → fraction_of 1000000 text ≡ Some n
     → operand_in kinds.Fraction text ≡ Some (Some (operands.Value (Fraction n)))
 fraction_in_again [] n e = absurd cc
 fraction_in_again (b ∷ bs) n e = rw e refl
@@ -126,6 +152,8 @@ operand_again (a_fraction text n f) = fraction_in_again text n (fraction_again f
 operand_again (a_label text name e) = label_in_again text name e
 operand_again (a_definition text name e) = defined_in_again text name e
 operand_again (an_expression text e s) = expression_again text e s
+operand_again (continuous digits n h from) = rw (number_again 1000 digits n h, from_one_again n from) refl
+operand_again (discrete digits n h from) = rw (number_again 1000 digits n h, from_one_again n from) refl
 
 -- ---- one part
 

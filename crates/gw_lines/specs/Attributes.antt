@@ -14,8 +14,8 @@ use Rattle.gw_lines.specs.declared.attribute.Scope.{Scope}
 use Rattle.gw_lines.specs.declared.attribute.Scope.TheVariants as scopes
 use Rattle.gw_lines.specs.Numbers.{number_of, from_one}
 
--- what a class's attributes are of; a storage, a parameter and a VARIABLE are entities here, and those of later versions are
--- not read
+-- what a class's attributes are of; a storage, a parameter, a VARIABLE and a FUNCTION are entities here, and those of
+-- later versions are not read
 abbrev pub scope_of : Class → Scope
 scope_of class.C1 = scopes.Alone
 scope_of class.Ac1 = scopes.Alone
@@ -43,7 +43,7 @@ scope_of class.Cc = scopes.Later
 scope_of class.Tc = scopes.Later
 scope_of class.Rn = scopes.Stream
 scope_of class.V = scopes.Entity
-scope_of class.Fn = scopes.Later
+scope_of class.Fn = scopes.Entity
 
 -- the subject of an attribute that stands alone: the text is empty
 abbrev pub own_in : List ℕ → Option Subject

@@ -8,6 +8,7 @@ use Rattle.gw_names.specs.declared.verb.Verb.{Verb}
 use Rattle.gw_names.specs.declared.verb.Verb.TheVariants as verbs
 use Rattle.gw_expr.specs.declared.atom.Atom.TheVariants as atoms
 use Rattle.gw_expr.specs.Term.{Term, Value}
+use Rattle.gw_meaning.specs.declared.function.FunctionType.{FunctionType}
 use Rattle.gw_meaning.specs.declared.statement.Definition.TheVariants as definitions
 use Rattle.gw_meaning.specs.declared.statement.Command.TheVariants as commands
 use Rattle.gw_meaning.specs.declared.sign.Sign.{Sign}
@@ -33,6 +34,11 @@ value_in operand = None
 abbrev pub whole_in : Option Operand → Option ℕ
 whole_in (Some (operands.Whole n)) = Some n
 whole_in operand = None
+
+-- an operand as a FUNCTION's type and its number of points
+abbrev pub points_in : Option Operand → Option (FunctionType × ℕ)
+points_in (Some (operands.Points kind count)) = Some (kind, count)
+points_in operand = None
 
 -- an operand as a constant
 abbrev pub constant_of : Term → Option ℤ
@@ -64,11 +70,23 @@ abbrev pub variable_with : Option Term → Option Body
 variable_with None = None
 variable_with (Some expression) = Some (bodies.Definition (definitions.Variable expression))
 
--- the definition of a verb with these operands
+abbrev pub function_with : Option Term → Option (FunctionType × ℕ) → Option Body
+function_with None points = None
+function_with (Some argument) None = None
+function_with (Some argument) (Some (kind, count)) =
+    Some (bodies.Definition (definitions.Function (record {
+      argument = argument;
+      kind = kind;
+      count = count;
+      points = [];
+    })))
+
+-- the definition of a verb with these operands; no point of a FUNCTION was read
 abbrev pub definition_with : DefinitionVerb → List (Option Operand) → Option Body
 definition_with definition_verbs.Storage os = storage_with (whole_in (place os 0))
 definition_with definition_verbs.Equ os = equ_with (constant_in (place os 0))
 definition_with definition_verbs.Variable os = variable_with (value_in (place os 0))
+definition_with definition_verbs.Function os = function_with (value_in (place os 0)) (points_in (place os 1))
 definition_with verb os = None
 
 abbrev pub start_with : Option ℕ → Option Body

@@ -1,6 +1,6 @@
 -- Classes of bytes, and what stands at the front of a text. (Manual: blanks, words, operands, comments. Our own: a tab
 -- is a blank.)
-use Rattle.std.specs.Prelude.{ℕ, Bool, ◌==◌, ◌||◌, not, List, [], ◌∷◌, length, take, drop, nat_lt}
+use Rattle.std.specs.Prelude.{ℕ, Bool, ◌==◌, ◌||◌, not, List, [], ◌∷◌, length, take, drop, nat_lt, if◌then◌else◌}
 use Rattle.std.specs.List.{prefix_len, list_all}
 use Rattle.std.specs.Char.{is_ascii_digit}
 use Rattle.gw_lines.specs.declared.class.Class.{Class}
@@ -19,6 +19,7 @@ is_in class.Code b = not (b == 59)
 is_in class.Line b = not (b == 10)
 is_in class.Part b = not (b == 124)
 is_in class.Whole b = not (b == 46)
+is_in class.Pair b = not (b == 47)
 
 -- what stands at the front, of one class
 abbrev pub front_of : Class → List ℕ → List ℕ
@@ -47,3 +48,8 @@ are_plain bytes = list_all is_plain bytes
 abbrev pub with_byte : ℕ → List (List ℕ) → List (List ℕ)
 with_byte b [] = (b ∷ []) ∷ []
 with_byte b (line ∷ lines) = (b ∷ line) ∷ lines
+
+-- the pieces of a text: a byte that is not of the class ends one, and the last may lack it
+abbrev pub pieces_of : Class → List ℕ → List (List ℕ)
+pieces_of class [] = []
+pieces_of class (b ∷ bs) = if is_in class b then with_byte b (pieces_of class bs) else [] ∷ pieces_of class bs

@@ -1,56 +1,85 @@
--- A statement as the text of an edit, in which `|` ends a line. (Our own; no verb of the language wants further lines
--- yet.)
-use Rattle.std.specs.Prelude.{ℕ, ◌==◌, ◌<◌, ◌≤◌, ◌≡◌, Bool, true, false, List, [], ◌∷◌, length, Result, Ok, Err, if◌then◌else◌, nat_lt, All, Any}
+-- A statement as the text of an edit, in which `|` ends a line. (Our own.)
+use Rattle.std.specs.Prelude.{ℕ, ◌==◌, ◌||◌, ◌<◌, ◌≤◌, ◌≡◌, ◌⊎◌, Bool, true, false, List, [], ◌∷◌, length, Option, Some, None, Result, Ok, Err, if◌then◌else◌, nat_lt, All, Any}
+use Rattle.gw_names.specs.declared.verb.DefinitionVerb.TheVariants as definition_verbs
+use Rattle.gw_names.specs.declared.verb.Verb.{Verb}
+use Rattle.gw_names.specs.declared.verb.Verb.TheVariants as verbs
 use Rattle.gw_meaning.specs.declared.statement.Statement.{Statement}
+use Rattle.gw_lines.specs.declared.class.Class.TheVariants as class
 use Rattle.gw_lines.specs.declared.fault.LineFault.{LineFault}
 use Rattle.gw_lines.specs.declared.fault.LineFault.TheVariants as faults
 use Rattle.gw_lines.specs.Reading.{◌>>=◌, OrMemory}
-use Rattle.gw_lines.specs.Lines.{line_of, statement_of}
-use Rattle.gw_lines.specs.Classes.{with_byte}
+use Rattle.gw_lines.specs.Lines.{word_of, behind_word, verb_in, behind_number, code_of, line_of, statement_of}
+use Rattle.gw_lines.specs.Pairs.{wants_pairs, kept_of, further_of}
+use Rattle.gw_lines.specs.Classes.{are_plain, pieces_of}
 use Rattle.gw_lines.specs.Spelling.{Spells}
 use Rattle.gw_lines.specs.Faulty.{FirstFault}
+use Rattle.gw_lines.specs.Points.{HasText, Completes, SpellsLines}
 
 -- the lines of an edit's text: `|` ends a line, and the last line may lack it
 abbrev pub edit_lines : List ℕ → List (List ℕ)
-edit_lines [] = []
-edit_lines (b ∷ bs) = if b == 124 then [] ∷ edit_lines bs else with_byte b (edit_lines bs)
+edit_lines text = pieces_of class.Part text
+
+-- the first verb of two words
+abbrev pub or_verb : Option Verb → Option Verb → Option Verb
+or_verb None second = second
+or_verb (Some verb) second = Some verb
+
+abbrev pub verb_of_words : List ℕ → Option Verb
+verb_of_words words = or_verb (verb_in (word_of words)) (verb_in (word_of (behind_word words)))
+
+abbrev pub is_function : Option Verb → Bool
+is_function (Some (verbs.Definition definition_verbs.Function)) = true
+is_function verb = false
+
+-- whether a line's verb is FUNCTION
+abbrev pub names_function : List ℕ → Bool
+names_function line = is_function (verb_of_words (behind_number (code_of line)))
 
 -- ---- what is spelled, apart from how it is read
 
--- an edit's text spells a statement: it has one line, and that spells the statement
-pub record SpellsEdit (text : List ℕ) (s : Statement) : Type 0 where
-  pub line : List ℕ
-  pub alone : edit_lines text ≡ line ∷ []
-  pub spells : Spells line s
+-- an edit's text spells a statement by its lines
+abbrev pub SpellsEdit : List ℕ → Statement → Type 0
+SpellsEdit text s = SpellsLines (edit_lines text) s
 
--- no line is too long, and none has a byte of 128 or more outside comments, each line read alone
+-- a further line has a byte of 128 or more outside its comment
+abbrev pub HasWrongText : List ℕ → Type 0
+HasWrongText line = (text : List ℕ) × HasText line text × (are_plain text ≡ false)
+
+-- a line has a wrong byte outside its comment: the first one as a statement's line, a further one as a line of pairs
+pub data HasWrongByte : List (List ℕ) → Type 0 where
+  in_first_line : (line : List ℕ) (further : List (List ℕ)) → FirstFault line faults.BadByte
+      → HasWrongByte (line ∷ further)
+  in_further_line : (line : List ℕ) (further : List (List ℕ)) → Any HasWrongText further
+      → HasWrongByte (line ∷ further)
+
+-- no line is too long, and none has a wrong byte
 pub record AreClean (lines : List (List ℕ)) : Type 0 where
   pub short : All (λ line. length line ≤ 250) lines
-  pub plain : All (λ line. FirstFault line faults.BadByte → ⊥) lines
-
--- the line has a statement, but that an operand may be missing
-pub data MayGoOn : List ℕ → Type 0 where
-  spelled : (line : List ℕ) (s : Statement) → Spells line s → MayGoOn line
-  misses : (line : List ℕ) (n : ℕ) → FirstFault line (faults.MissingOperand n) → MayGoOn line
+  pub plain : HasWrongByte lines → ⊥
 
 -- whether an operand is missing, which comes last of all
 abbrev pub is_missing : LineFault → Bool
 is_missing (faults.MissingOperand n) = true
 is_missing f = false
 
--- the first fault of lines: length and bytes of any line, then the first line from left to right, then further lines,
--- then a missing operand
+-- whether a missing operand is the fault: no further line stands behind it, or those may be a FUNCTION's pairs
+abbrev pub may_miss : List ℕ → List (List ℕ) → Bool
+may_miss line further = length further == 0 || names_function line
+
+-- the first fault of lines: length and bytes of any line, then the first line from left to right, then pairs that are
+-- bad or missing, and further lines that no statement wants, then a missing operand
 pub data FaultOfLines : List (List ℕ) → LineFault → Type 0 where
   no_line : FaultOfLines [] faults.UnknownVerb
   long_line : (lines : List (List ℕ)) → Any (λ line. 250 < length line) lines → FaultOfLines lines faults.TooLong
-  wrong_byte : (lines : List (List ℕ)) → All (λ line. length line ≤ 250) lines
-      → Any (λ line. FirstFault line faults.BadByte) lines → FaultOfLines lines faults.BadByte
+  wrong_byte : (lines : List (List ℕ)) → All (λ line. length line ≤ 250) lines → HasWrongByte lines
+      → FaultOfLines lines faults.BadByte
   in_first : (line : List ℕ) (further : List (List ℕ)) (f : LineFault) → AreClean (line ∷ further) → FirstFault line f
-      → is_missing f ≡ false → FaultOfLines (line ∷ further) f
-  goes_on : (line next : List ℕ) (others : List (List ℕ)) → AreClean (line ∷ next ∷ others) → MayGoOn line
-      → FaultOfLines (line ∷ next ∷ others) faults.BadPairs
-  at_the_end : (line : List ℕ) (n : ℕ) → AreClean (line ∷ []) → FirstFault line (faults.MissingOperand n)
-      → FaultOfLines (line ∷ []) (faults.MissingOperand n)
+      → (is_missing f ≡ false) ⊎ (may_miss line further ≡ true) → FaultOfLines (line ∷ further) f
+  not_wanted : (line : List ℕ) (further : List (List ℕ)) (n : ℕ) → AreClean (line ∷ further)
+      → FirstFault line (faults.MissingOperand n) → may_miss line further ≡ false
+      → FaultOfLines (line ∷ further) faults.BadPairs
+  bad_pairs : (line : List ℕ) (further : List (List ℕ)) (s : Statement) → AreClean (line ∷ further) → Spells line s
+      → ((t : Statement) → Completes s further t → ⊥) → FaultOfLines (line ∷ further) faults.BadPairs
 
 -- the first fault of an edit's text
 abbrev pub FirstFaultOfEdit : List ℕ → LineFault → Type 0
@@ -72,24 +101,41 @@ abbrev pub byte_fault : {X : Type 0} → Result X LineFault → Result (Unit {0}
 byte_fault (Err faults.BadByte) = Err faults.BadByte
 byte_fault read = Ok tt
 
+-- the fault of a further line that has a wrong byte, if there is one
+abbrev pub plain_further : List (List ℕ) → Result (Unit {0}) LineFault
+plain_further [] = Ok tt
+plain_further (line ∷ lines) = do
+  plain ← byte_fault (kept_of line)
+  plain_further lines
+
 -- the fault of a line that has a wrong byte, if there is one
 abbrev pub plain_lines : List (List ℕ) → Result (Unit {0}) LineFault
 plain_lines [] = Ok tt
-plain_lines (line ∷ lines) = do
+plain_lines (line ∷ further) = do
   plain ← byte_fault (line_of line)
-  plain_lines lines
+  plain_further further
 
--- what the first line gives, where others follow: no verb wants them, and a missing operand comes last
-abbrev pub followed : Result Statement LineFault → Result Statement LineFault
-followed (Ok s) = Err faults.BadPairs
-followed (Err (faults.MissingOperand n)) = Err faults.BadPairs
-followed (Err f) = Err f
+-- a statement with the pairs of further lines, each of which it wants, and those alone
+abbrev pub completed_by : Statement → List (List ℕ) → Result Statement LineFault
+completed_by s [] = if wants_pairs s then Err faults.BadPairs else Ok s
+completed_by s (line ∷ lines) = if wants_pairs s then (do
+  more ← further_of s line
+  completed_by more lines) else Err faults.BadPairs
 
--- the statement on the first of lines
+-- the fault of the first line: a missing operand comes last, behind further lines that no statement wants
+abbrev pub followed : Bool → LineFault → LineFault
+followed false (faults.MissingOperand n) = faults.BadPairs
+followed may_miss f = f
+
+-- what the first line gives, with those behind it
+abbrev pub behind_first : List ℕ → List (List ℕ) → Result Statement LineFault → Result Statement LineFault
+behind_first line further (Ok s) = completed_by s further
+behind_first line further (Err f) = Err (followed (may_miss line further) f)
+
+-- the statement that clean lines are
 abbrev pub first_of : List (List ℕ) → Result Statement LineFault
 first_of [] = Err faults.UnknownVerb
-first_of (line ∷ []) = statement_of line
-first_of (line ∷ next ∷ others) = followed (statement_of line)
+first_of (line ∷ further) = behind_first line further (statement_of line)
 
 -- the statement that lines are
 abbrev pub edit_in : List (List ℕ) → Result Statement LineFault

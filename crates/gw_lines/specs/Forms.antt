@@ -11,6 +11,7 @@ use Rattle.gw_names.specs.declared.verb.Verb.{Verb}
 use Rattle.gw_names.specs.declared.verb.Verb.TheVariants as verbs
 use Rattle.gw_expr.specs.declared.atom.Atom.TheVariants as atoms
 use Rattle.gw_expr.specs.Term.{Term, Value}
+use Rattle.gw_meaning.specs.declared.function.Point.{Point}
 use Rattle.gw_meaning.specs.declared.statement.Definition.{Definition}
 use Rattle.gw_meaning.specs.declared.statement.Definition.TheVariants as definitions
 use Rattle.gw_meaning.specs.declared.statement.Command.{Command}
@@ -39,6 +40,10 @@ a_constant = record { kind = kinds.Constant; presence = presences.Required }
 -- an expression
 abbrev pub an_expression : Form
 an_expression = record { kind = kinds.Expression; presence = presences.Required }
+
+-- a FUNCTION's type and its number of points
+abbrev pub some_points : Form
+some_points = record { kind = kinds.Points; presence = presences.Required }
 
 -- how many terminations a run takes, or how many units a storage has
 abbrev pub a_count : Form
@@ -104,6 +109,7 @@ abbrev pub forms_of_definition : DefinitionVerb → Option (List Form)
 forms_of_definition definition_verbs.Storage = Some (a_count ∷ [])
 forms_of_definition definition_verbs.Equ = Some (a_constant ∷ [])
 forms_of_definition definition_verbs.Variable = Some (an_expression ∷ [])
+forms_of_definition definition_verbs.Function = Some (one_value ∷ some_points ∷ [])
 forms_of_definition verb = None
 
 abbrev pub forms_of_command : CommandVerb → Option (List Form)
@@ -122,11 +128,13 @@ value v = option_map (λ t. operands.Value t) v
 abbrev pub whole : Option ℕ → Option Operand
 whole v = option_map (λ n. operands.Whole n) v
 
--- the operands that a definition has
+-- the operands that a definition has: a FUNCTION's points stand behind them
 abbrev pub fields_of_definition : Definition → List (Option Operand)
 fields_of_definition (definitions.Storage capacity) = Some (operands.Whole capacity) ∷ []
 fields_of_definition (definitions.Equ z) = Some (operands.Value (Value (atoms.Constant z))) ∷ []
 fields_of_definition (definitions.Variable expression) = Some (operands.Value expression) ∷ []
+fields_of_definition (definitions.Function function) =
+    Some (operands.Value function.argument) ∷ Some (operands.Points function.kind function.count) ∷ []
 
 -- the operands that a command has: `NP` leaves no trace
 abbrev pub fields_of_command : Command → List (Option Operand)
@@ -138,6 +146,11 @@ abbrev pub fields_of : Body → List (Option Operand)
 fields_of (bodies.Block block) = map value block.operands
 fields_of (bodies.Definition definition) = fields_of_definition definition
 fields_of (bodies.Command command) = fields_of_command command
+
+-- the points of a FUNCTION
+abbrev pub points_of : Body → List Point
+points_of (bodies.Definition (definitions.Function function)) = function.points
+points_of body = []
 
 abbrev pub is_no_operand : Option (Option Operand) → Bool
 is_no_operand (Some (Some operand)) = false

@@ -12,9 +12,11 @@ pub mod Listed
 pub mod Expressions
 pub mod Bodies
 pub mod Lines
+pub mod Pairs
 pub mod Models
 pub mod Whole
 pub mod Spelling
+pub mod Points
 pub mod Faulty
 pub mod Edits
 pub mod Read

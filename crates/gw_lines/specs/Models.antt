@@ -1,11 +1,14 @@
 -- A model as it is read: its lines, and the statements of those that have one. (Our own: line ends, numbers of lines.)
-use Rattle.std.specs.Prelude.{ℕ, ◌+◌, ◌==◌, ◌&&◌, Bool, false, List, [], ◌∷◌, ◌++◌, Result, Ok, Err, option_to_list, if◌then◌else◌}
+use Rattle.std.specs.Prelude.{ℕ, ◌+◌, ◌==◌, ◌&&◌, Bool, false, List, [], ◌∷◌, ◌++◌, Option, Some, None, Result, Ok, Err, option_map, if◌then◌else◌}
 use Rattle.gw_meaning.specs.declared.statement.Statement.{Statement}
 use Rattle.gw_lines.specs.declared.fault.LineFault.{LineFault}
+use Rattle.gw_lines.specs.declared.fault.LineFault.TheVariants as faults
 use Rattle.gw_lines.specs.declared.fault.FaultyLine.{FaultyLine}
+use Rattle.gw_lines.specs.declared.model.Unfinished.{Unfinished}
 use Rattle.gw_lines.specs.Reading.{◌>>=◌}
 use Rattle.gw_lines.specs.Classes.{with_byte}
 use Rattle.gw_lines.specs.Lines.{line_of}
+use Rattle.gw_lines.specs.Pairs.{wants_pairs, further_of}
 
 abbrev pub begins_line_feed : List ℕ → Bool
 begins_line_feed [] = false
@@ -29,20 +32,38 @@ abbrev pub numbered : {X : Type 0} → ℕ → Result X LineFault → Result X F
 numbered line (Ok x) = Ok x
 numbered line (Err f) = Err (record { line = line; fault = f })
 
--- statements with that of a line behind them
-abbrev pub added : ℕ → List Statement → List ℕ → Result (List Statement) FaultyLine
-added number statements line = do
+-- the statement that stands behind a line: that of the line, or the one under way with the line's pairs
+abbrev pub with_line : Option Unfinished → ℕ → List ℕ → Result (Option Unfinished) FaultyLine
+with_line None number line = do
   statement ← numbered number (line_of line)
-  Ok (statements ++ option_to_list statement)
+  Ok (option_map (λ s. record { line = number; statement = s }) statement)
+with_line (Some under) number line = do
+  statement ← numbered number (further_of under.statement line)
+  Ok (Some (record { line = under.line; statement = statement }))
 
--- the statements of lines, the first of which has this number
-abbrev pub statements_of : ℕ → List (List ℕ) → Result (List Statement) FaultyLine
-statements_of number [] = Ok []
-statements_of number (line ∷ lines) = do
-  first ← numbered number (line_of line)
-  others ← statements_of (number + 1) lines
-  Ok (option_to_list first ++ others)
+-- the statement that is done, if it wants no pairs
+abbrev pub done_of : Option Unfinished → List Statement
+done_of None = []
+done_of (Some under) = if wants_pairs under.statement then [] else under.statement ∷ []
+
+-- the statement that is still under way: it wants pairs
+abbrev pub under_way : Option Unfinished → Option Unfinished
+under_way None = None
+under_way (Some under) = if wants_pairs under.statement then Some under else None
+
+-- statements at the end: a statement that is under way still wants pairs, which is the fault of its own line
+abbrev pub ended : Option Unfinished → List Statement → Result (List Statement) FaultyLine
+ended None statements = Ok statements
+ended (Some under) statements = Err (record { line = under.line; fault = faults.BadPairs })
+
+-- the statements of lines, the first of which has this number, behind the one that is under way
+abbrev pub statements_of : Option Unfinished → ℕ → List (List ℕ) → Result (List Statement) FaultyLine
+statements_of under number [] = ended under []
+statements_of under number (line ∷ lines) = do
+  here ← with_line under number line
+  others ← statements_of (under_way here) (number + 1) lines
+  Ok (done_of here ++ others)
 
 -- the statements of a model
 unfoldable pub model_of : List ℕ → Result (List Statement) FaultyLine
-model_of bytes = statements_of 1 (lines_of bytes)
+model_of bytes = statements_of None 1 (lines_of bytes)

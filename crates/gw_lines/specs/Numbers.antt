@@ -42,14 +42,30 @@ is_pointed text point decimals =
     not (is_nothing point) && (nat_lt 1 (length text) && nat_le (length decimals) 6)
 
 -- the millionths that digits before and behind a point spell: the digits with zeros behind them, up to six places
-abbrev pub millionths_of : List ℕ → List ℕ → Option ℕ
-millionths_of whole decimals =
-    number_then 1000000 (number_then 1000000 (number_after 1000000 0 whole) decimals)
+abbrev pub millionths_of : ℕ → List ℕ → List ℕ → Option ℕ
+millionths_of most whole decimals =
+    number_then most (number_then most (number_after most 0 whole) decimals)
     (drop (length decimals) (codes "000000"))
 
--- the fraction that a text spells, in millionths
-abbrev pub fraction_of : List ℕ → Option ℕ
-fraction_of text =
+-- the fraction that a text spells, in millionths, if it is at most `most`
+abbrev pub fraction_of : ℕ → List ℕ → Option ℕ
+fraction_of most text =
     if is_pointed text (rest_of class.Whole text) (tail_of (rest_of class.Whole text))
-    then millionths_of (front_of class.Whole text) (tail_of (rest_of class.Whole text))
+    then millionths_of most (front_of class.Whole text) (tail_of (rest_of class.Whole text))
     else None
+
+abbrev pub or_pointed : Option ℕ → List ℕ → Option ℕ
+or_pointed None text = fraction_of 1000000000000000 text
+or_pointed (Some n) text = Some (n * 1000000)
+
+-- the millionths that a text spells: a number, or one with a point
+abbrev pub decimal_of : List ℕ → Option ℕ
+decimal_of text = or_pointed (number_of 1000000000 text) text
+
+-- the same with one `-` before it or none
+abbrev pub coordinate_of : List ℕ → Option ℤ
+coordinate_of [] = None
+coordinate_of (b ∷ bs) =
+    if b == 45
+    then option_map (λ n. neg_ℤ (pos n)) (decimal_of bs)
+    else option_map pos (decimal_of (b ∷ bs))

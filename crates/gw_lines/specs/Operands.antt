@@ -1,11 +1,13 @@
 -- Operands as they are read: each part of a list by its form. (Manual; the forms
 -- of the profile.)
-use Rattle.std.specs.Prelude.{ℕ, pos, ◌+◌, Bool, List, [], ◌∷◌, ◌++◌, length, Option, Some, None, Result, Ok, Err, option_map, if◌then◌else◌, codes}
+use Rattle.std.specs.Prelude.{ℕ, pos, ◌+◌, ◌==◌, Bool, List, [], ◌∷◌, ◌++◌, length, Option, Some, None, Result, Ok, Err, option_map, if◌then◌else◌, codes}
 use Rattle.std.specs.Str.{bytes_eq}
 use Rattle.gw_names.specs.Names.{name_of}
 use Rattle.gw_expr.specs.declared.atom.Atom.{Atom}
 use Rattle.gw_expr.specs.declared.atom.Atom.TheVariants as atoms
 use Rattle.gw_expr.specs.Term.{Term, Value, Defined, Fraction, Label, Named}
+use Rattle.gw_meaning.specs.declared.function.FunctionType.{FunctionType}
+use Rattle.gw_meaning.specs.declared.function.FunctionType.TheVariants as types
 use Rattle.gw_lines.specs.declared.fault.LineFault.{LineFault}
 use Rattle.gw_lines.specs.declared.fault.LineFault.TheVariants as faults
 use Rattle.gw_lines.specs.declared.form.Kind.{Kind}
@@ -56,6 +58,19 @@ label_of text = option_map (λ name. Label name) (name_of text)
 abbrev pub defined_of : List ℕ → Option Term
 defined_of text = option_map (λ name. Defined name) (name_of text)
 
+-- the type of a FUNCTION that a letter is
+abbrev pub type_of : ℕ → Option FunctionType
+type_of b = if b == 67 then Some types.Continuous else if b == 68 then Some types.Discrete else None
+
+abbrev pub or_points : Option FunctionType → Option ℕ → Option (Option Operand)
+or_points None count = None
+or_points (Some kind) count = option_map (λ n. Some (operands.Points kind n)) count
+
+-- the type and the number of points that a text is
+abbrev pub points_in : List ℕ → Option (Option Operand)
+points_in [] = None
+points_in (b ∷ bs) = or_points (type_of b) (from_one (number_of 1000 bs))
+
 abbrev pub as_value : Option Term → Option (Option Operand)
 as_value value = option_map (λ t. Some (operands.Value t)) value
 
@@ -66,10 +81,11 @@ given_in kinds.Constant text = as_value (atomic (constant_of text))
 given_in (kinds.Whole most) text = option_map (λ n. Some (operands.Whole n)) (from_one (number_of most text))
 given_in kinds.Quiet text = if bytes_eq text (codes "NP") then Some None else None
 given_in kinds.Entity text = as_value (entity_of text)
-given_in kinds.Fraction text = as_value (option_map (λ n. Fraction n) (fraction_of text))
+given_in kinds.Fraction text = as_value (option_map (λ n. Fraction n) (fraction_of 1000000 text))
 given_in kinds.Label text = as_value (label_of text)
 given_in kinds.Defined text = as_value (defined_of text)
 given_in kinds.Expression text = as_value (bare_of text)
+given_in kinds.Points text = points_in text
 
 -- what a text is, if it is lawful
 abbrev pub operand_in : Kind → List ℕ → Option (Option Operand)

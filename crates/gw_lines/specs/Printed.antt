@@ -1,23 +1,29 @@
--- What `list` prints spells again what was read: a statement as a line and as the text of an edit, and statements, a
--- line each, as a model. (Our own.)
-use Rattle.std.specs.Prelude.{ℕ, ◌≤◌, ◌≡◌, List, [], ◌∷◌, ◌++◌, Some, decimal, All}
+-- What `list` prints spells again what was read: a statement as the text of an edit, and statements, with a line end
+-- for each `|`, as a model. (Our own.)
+use Rattle.std.specs.Prelude.{ℕ, ◌≤◌, ◌==◌, ◌≡◌, not, true, List, [], ◌∷◌, ◌++◌, Some, decimal, All, map, if◌then◌else◌}
+use Rattle.std.specs.List.{list_all}
 use Rattle.gw_names.specs.Names.{name_of}
 use Rattle.gw_meaning.specs.declared.statement.Definition.TheVariants as definitions
 use Rattle.gw_meaning.specs.declared.statement.Body.TheVariants as bodies
 use Rattle.gw_meaning.specs.declared.statement.Statement.{Statement}
 use Rattle.gw_meaning.specs.Texts.{text_of}
 use Rattle.gw_lines.specs.Spelling.{Spells}
+use Rattle.gw_lines.specs.Points.{SpellsLines}
 use Rattle.gw_lines.specs.Edits.{SpellsEdit}
 use Rattle.gw_lines.specs.Whole.{SpellsModel}
 
--- some line spells the statement
+-- some lines spell the statement
 abbrev pub IsSpelled : Statement → Type 0
-IsSpelled s = (line : List ℕ) × Spells line s
+IsSpelled s = (lines : List (List ℕ)) × SpellsLines lines s
 
--- statements as `list` prints them, a line each
+-- a line end for each `|`
+abbrev pub with_ends : List ℕ → List ℕ
+with_ends text = map (λ b. if b == 124 then 10 else b) text
+
+-- statements as `list` prints them, with their lines apart
 abbrev pub listed_text : List Statement → List ℕ
 listed_text [] = []
-listed_text (s ∷ statements) = text_of s ++ 10 ∷ listed_text statements
+listed_text (s ∷ statements) = with_ends (text_of s) ++ 10 ∷ listed_text statements
 
 -- the storage of a name with so many units, in decimal digits
 abbrev pub storage_of : List ℕ → ℕ → Statement
@@ -27,21 +33,25 @@ storage_of name amount = record {
   operands = decimal amount;
 }
 
--- a statement that some line spells is spelled by what `list` prints of it
+-- what one line spells is spelled by what `list` prints of it, in which no `|` stands
 abbrev pub PrintedSpells : Type 0
-PrintedSpells = (line : List ℕ) (s : Statement) → Spells line s → Spells (text_of s) s
+PrintedSpells =
+    (line : List ℕ) (s : Statement) → Spells line s →
+    Spells (text_of s) s × (list_all (λ b. not (b == 124)) (text_of s) ≡ true)
 
--- so it is as the text of an edit
+-- a statement is spelled by what `list` prints of it as the text of an edit
 abbrev pub PrintedEdits : Type 0
-PrintedEdits = (line : List ℕ) (s : Statement) → Spells line s → SpellsEdit (text_of s) s
+PrintedEdits = (s : Statement) → IsSpelled s → SpellsEdit (text_of s) s
 
--- and statements that are spelled are a model, by the lines that `list` prints of them
+-- and statements are a model, by the lines that `list` prints of them
 abbrev pub PrintedModels : Type 0
-PrintedModels = (statements : List Statement) → All IsSpelled statements → SpellsModel (listed_text statements) statements
+PrintedModels =
+    (statements : List Statement) → All IsSpelled statements → SpellsModel (listed_text statements) statements
 
 -- the statements of a model are spelled
 abbrev pub ModelsAreSpelled : Type 0
-ModelsAreSpelled = (bytes : List ℕ) (statements : List Statement) → SpellsModel bytes statements → All IsSpelled statements
+ModelsAreSpelled =
+    (bytes : List ℕ) (statements : List Statement) → SpellsModel bytes statements → All IsSpelled statements
 
 -- a storage whose capacity is in decimal digits is spelled by what `list` prints of it
 abbrev pub StoragesSpell : Type 0

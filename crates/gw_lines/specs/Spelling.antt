@@ -15,6 +15,7 @@ use Rattle.gw_expr.specs.declared.token.Operator.{Operator}
 use Rattle.gw_expr.specs.declared.token.Operator.TheVariants as operators
 use Rattle.gw_expr.specs.Expressions.{Expression, Single, Opposite, Both, postfix}
 use Rattle.gw_expr.specs.Term as terms
+use Rattle.gw_meaning.specs.declared.function.FunctionType.TheVariants as types
 use Rattle.gw_meaning.specs.declared.sign.Sign.{Sign}
 use Rattle.gw_meaning.specs.declared.statement.Body.{Body}
 use Rattle.gw_meaning.specs.declared.statement.Statement.{Statement}
@@ -30,7 +31,7 @@ use Rattle.gw_lines.specs.declared.operand.Operand.{Operand}
 use Rattle.gw_lines.specs.declared.operand.Operand.TheVariants as operands
 use Rattle.gw_lines.specs.Classes.{is_in, is_blank, are_plain}
 use Rattle.gw_lines.specs.Attributes.{scope_of}
-use Rattle.gw_lines.specs.Forms.{forms_of, fields_of, lacks, is_listed}
+use Rattle.gw_lines.specs.Forms.{forms_of, fields_of, points_of, lacks, is_listed}
 use Rattle.gw_lines.specs.Parts.{goes_on, part_of, is_given, others_of, is_missing}
 use Rattle.gw_lines.specs.Signs.{sign_of, bare_parts, HasSign}
 use Rattle.gw_lines.specs.Lines.{verb_in, is_command, needs_label, is_remark}
@@ -60,8 +61,8 @@ pub data Value : List ℕ → ℤ → Type 0 where
   without_sign : (text : List ℕ) (n : ℕ) → Number 1000000000 text n → Value text (pos n)
   with_sign : (text : List ℕ) (n : ℕ) → Number 1000000000 text n → Value (45 ∷ text) (neg_ℤ (pos n))
 
--- a fraction, in millionths: digits with a point, of which at most six behind it, and at most 1
-pub record Fraction (text : List ℕ) (millionths : ℕ) : Type 0 where
+-- a fraction, in millionths: digits with a point, of which at most six behind it, and not too large
+pub record Fraction (most : ℕ) (text : List ℕ) (millionths : ℕ) : Type 0 where
   pub whole : List ℕ
   pub decimals : List ℕ
   pub point : text ≡ whole ++ 46 ∷ decimals
@@ -69,7 +70,7 @@ pub record Fraction (text : List ℕ) (millionths : ℕ) : Type 0 where
   pub digits : Digits (whole ++ decimals) number
   pub places : length decimals ≤ 6
   pub value : millionths ≡ number * 10 ^ (6 - length decimals)
-  pub small : millionths ≤ 1000000
+  pub small : millionths ≤ most
 
 -- a numerical attribute: the word of its class alone, with a number behind it, or with `$` and a name
 pub data SpellsAttribute : List ℕ → attributes.Class → Subject → Type 0 where
@@ -151,7 +152,7 @@ pub data SpellsOperand : Kind → List ℕ → Option Operand → Type 0 where
       → SpellsOperand kinds.Value (40 ∷ (text ++ 41 ∷ [])) (Some (operands.Value (terms.Computed (postfix e))))
   computed_entity : (text : List ℕ) (e : Expression) → SpellsExpression Sum 31 text e
       → SpellsOperand kinds.Entity (40 ∷ (text ++ 41 ∷ [])) (Some (operands.Value (terms.Computed (postfix e))))
-  a_fraction : (text : List ℕ) (n : ℕ) → Fraction text n
+  a_fraction : (text : List ℕ) (n : ℕ) → Fraction 1000000 text n
       → SpellsOperand kinds.Fraction text (Some (operands.Value (terms.Fraction n)))
   a_label : (text name : List ℕ) → name_of text ≡ Some name
       → SpellsOperand kinds.Label text (Some (operands.Value (terms.Label name)))
@@ -159,6 +160,10 @@ pub data SpellsOperand : Kind → List ℕ → Option Operand → Type 0 where
       → SpellsOperand kinds.Defined text (Some (operands.Value (terms.Defined name)))
   an_expression : (text : List ℕ) (e : Expression) → SpellsExpression Sum 32 text e
       → SpellsOperand kinds.Expression text (Some (operands.Value (terms.Computed (postfix e))))
+  continuous : (digits : List ℕ) (n : ℕ) → Number 1000 digits n → 1 ≤ n
+      → SpellsOperand kinds.Points (67 ∷ digits) (Some (operands.Points types.Continuous n))
+  discrete : (digits : List ℕ) (n : ℕ) → Number 1000 digits n → 1 ≤ n
+      → SpellsOperand kinds.Points (68 ∷ digits) (Some (operands.Points types.Discrete n))
 
 -- the parts of a list spell the operands of its forms: each is listed, or a written one behind the last part is not
 pub data SpellsAll : List Form → List (List ℕ) → List (Option Operand) → Type 0 where
@@ -170,7 +175,7 @@ pub data SpellsAll : List Form → List (List ℕ) → List (Option Operand) →
   unwritten : (form : Form) (forms : List Form) (os : List (Option Operand))
       → form.presence ≡ presences.Written → SpellsAll forms [] os → SpellsAll (form ∷ forms) [] os
 
--- what a sign and the operands of a verb say: a statement that has them
+-- what a sign and the operands of a verb say: a statement that has them, and no points yet
 pub record Says (verb : Verb) (sign : Sign) (parts : List (List ℕ)) (body : Body) : Type 0 where
   pub forms : List Form
   pub are_forms : forms_of verb (is_given parts) ≡ Some forms
@@ -178,6 +183,7 @@ pub record Says (verb : Verb) (sign : Sign) (parts : List (List ℕ)) (body : Bo
   pub has_sign : HasSign body sign
   pub operands : SpellsAll forms parts (fields_of body)
   pub enough : lacks verb (fields_of body) ≡ false
+  pub pointless : points_of body ≡ []
 
 -- a byte of an operand that stands for itself: neither a blank nor a comma nor a parenthesis
 abbrev pub is_part : ℕ → Bool
@@ -260,7 +266,7 @@ pub record HasWords (text words : List ℕ) : Type 0 where
   pub is_statement : is_remark code ≡ false
   pub numbering : Numbering code words
 
--- words spell a statement
+-- words spell a statement; a FUNCTION's pairs stand on further lines
 pub record Coded (words : List ℕ) (s : Statement) : Type 0 where
   pub word : Option (List ℕ)
   pub verb : Verb

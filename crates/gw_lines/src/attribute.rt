@@ -73,12 +73,13 @@ fn scope_of(class: Class) -> Scope
         | Class::Sm
         | Class::Q
         | Class::Qc
+        | Class::Fn
         | Class::Qm
         | Class::Qz
         | Class::V => Scope::Entity,
         Class::N | Class::W => Scope::Block,
         Class::Rn => Scope::Stream,
-        Class::X | Class::Ls | Class::Ch | Class::Cc | Class::Tc | Class::Fn => Scope::Later,
+        Class::X | Class::Ls | Class::Ch | Class::Cc | Class::Tc => Scope::Later,
     }
 }
 

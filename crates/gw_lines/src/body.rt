@@ -1,8 +1,8 @@
 ghost use Rattle.std.specs.Prelude.{◌≡◌, ◌≤◌, length, IfOk};
 ghost use Rattle.gw_lines.specs.Reading.{Gives};
 ghost use Rattle.gw_lines.specs.Forms.{forms_of};
-ghost use Rattle.gw_lines.specs.Parts.{is_given, parts_of};
-ghost use Rattle.gw_lines.specs.Bodies.{body_of, by_forms, in_forms, body_with, definition_with, command_with, first_of, value_in, whole_in, constant_in, constant_of};
+ghost use Rattle.gw_lines.specs.Parts.{is_given, parts_of, others_of};
+ghost use Rattle.gw_lines.specs.Bodies.{body_of, by_forms, in_forms, body_with, definition_with, command_with, function_with, first_of, value_in, whole_in, points_in, constant_in, constant_of};
 
 use crate::fault::LineFault;
 use crate::form::{Form, forms_of, lacks};
@@ -10,7 +10,7 @@ use crate::operand::Operand;
 use crate::operands::{is_given, read_operands};
 use crate::sign::{sign_of, without_sign};
 use gw_expr::{Atom, Expr, Node};
-use gw_meaning::{Block, Body, Command, Definition, Row, Sign};
+use gw_meaning::{Block, Body, Command, Definition, Function, FunctionType, Row, Sign};
 use gw_names::{CommandVerb, DefinitionVerb, Verb};
 use gw_nums::Val;
 use std::alloc::{AllocError, Global};
@@ -78,13 +78,17 @@ fn body_with(
                 operands: Row::from_vec(operands),
             })))
         }
-        Verb::Definition(verb) => Ok(definition_with(verb, operands)),
+        Verb::Definition(verb) => Ok(definition_with(alloc, verb, operands)),
         Verb::Command(verb) => command_with(alloc, verb, operands),
     }
 }
 
 // The definition of a verb with these operands, if they have its forms.
-fn definition_with(verb: DefinitionVerb, mut operands: Vec<Option<Operand>>) -> Option<Body>
+fn definition_with(
+    alloc: Global,
+    verb: DefinitionVerb,
+    mut operands: Vec<Option<Operand>>,
+) -> Option<Body>
     ensures { result ≡ definition_with verb operands.items }
 {
     let first = first_of(&mut operands);
@@ -101,8 +105,23 @@ fn definition_with(verb: DefinitionVerb, mut operands: Vec<Option<Operand>>) -> 
             let expression = value_in(first)?;
             Some(Body::Definition(Definition::Variable { expression }))
         }
+        DefinitionVerb::Function => function_with(alloc, first, first_of(&mut operands)),
         _ => None,
     }
+}
+
+// The FUNCTION with this argument, and with this type and number of points, none of which was read.
+fn function_with(alloc: Global, argument: Option<Operand>, points: Option<Operand>) -> Option<Body>
+    ensures { result ≡ function_with (value_in argument) (points_in points) }
+{
+    let argument = value_in(argument)?;
+    let (kind, count) = points_in(points)?;
+    Some(Body::Definition(Definition::Function(Function {
+        argument,
+        kind,
+        count,
+        points: Row::from_vec(Vec::new(alloc)),
+    })))
 }
 
 // The command of a verb with these operands, if they have its forms.
@@ -132,7 +151,8 @@ fn command_with(
 
 // Takes the first operand.
 fn first_of(operands: &mut Vec<Option<Operand>>) -> Option<Operand>
-    ensures { result ≡ first_of operands.old.items }
+    ensures first { result ≡ first_of operands.old.items }
+    ensures others { operands.new.items ≡ others_of operands.old.items }
 {
     if operands.is_empty() {
         None
@@ -147,7 +167,7 @@ fn value_in(operand: Option<Operand>) -> Option<Expr>
 {
     match operand {
         Some(Operand::Value(value)) => Some(value),
-        Some(Operand::Whole(_)) | None => None,
+        Some(Operand::Whole(_) | Operand::Points(_, _)) | None => None,
     }
 }
 
@@ -157,7 +177,17 @@ fn whole_in(operand: Option<Operand>) -> Option<u32>
 {
     match operand {
         Some(Operand::Whole(n)) => Some(n),
-        Some(Operand::Value(_)) | None => None,
+        Some(Operand::Value(_) | Operand::Points(_, _)) | None => None,
+    }
+}
+
+// An operand as a FUNCTION's type and its number of points.
+fn points_in(operand: Option<Operand>) -> Option<(FunctionType, u32)>
+    ensures { result ≡ points_in operand }
+{
+    match operand {
+        Some(Operand::Points(kind, count)) => Some((kind, count)),
+        Some(Operand::Value(_) | Operand::Whole(_)) | None => None,
     }
 }
 

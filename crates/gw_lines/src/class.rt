@@ -1,5 +1,5 @@
-ghost use Rattle.std.specs.Prelude.{◌≡◌, ◌≢◌, ◌<◌, [], length, not};
-ghost use Rattle.gw_lines.specs.Classes.{is_in, front_of, rest_of, is_blank, is_nothing, tail_of, are_plain};
+ghost use Rattle.std.specs.Prelude.{◌≡◌, ◌≢◌, ◌<◌, ◌∷◌, [], length, not};
+ghost use Rattle.gw_lines.specs.Classes.{is_in, front_of, rest_of, is_blank, is_nothing, tail_of, are_plain, pieces_of};
 
 /// What the bytes of one part of a line have in common.
 #[derive(Clone, Copy, Debug, PartialEq, Eq)]
@@ -19,6 +19,8 @@ pub enum Class {
     Part,
     /// Bytes before a decimal point: all but `.`.
     Whole,
+    /// Bytes of one pair of a FUNCTION: all but `/`.
+    Pair,
 }
 
 impl Class {
@@ -35,6 +37,7 @@ impl Class {
             Class::Line => b != b'\n',
             Class::Part => b != b'|',
             Class::Whole => b != b'.',
+            Class::Pair => b != b'/',
         }
     }
 }
@@ -78,6 +81,16 @@ fn tail(bytes: &[u8]) -> &[u8]
         [] => bytes,
         [_, rest @ ..] => rest,
     }
+}
+
+/// The first piece of a text, and what follows its end.
+pub fn first_piece(class: Class, text: &[u8]) -> (&[u8], &[u8])
+    ensures pieces { text.now ≢ [] → pieces_of class text.now ≡ result.0.now ∷ pieces_of class result.1.now }
+    ensures none { text.now ≡ [] → (result.0.now ≡ []) × (result.1.now ≡ []) }
+    ensures shorter { text.now ≢ [] → length result.1.now < length text.now }
+{
+    let (front, _, behind) = piece(class, text);
+    (front, behind)
 }
 
 /// Whether each byte may stand outside comments.

@@ -1,23 +1,29 @@
-ghost use Rattle.std.specs.Prelude.{◌≡◌, ◌≢◌, ◌<◌, ◌∷◌, [], length, IfOk, OnOk, IfErr};
-ghost use Rattle.gw_lines.specs.Reading.{Fails, Gives};
+ghost use Rattle.std.specs.Prelude.{◌≡◌, ◌∷◌, [], IfOk, IfErr, Ok, Err, false};
+ghost use Rattle.gw_lines.specs.Reading.{Gives, IsFault, OrMemory};
 ghost use Rattle.gw_lines.specs.Lines.{line_of};
-ghost use Rattle.gw_lines.specs.Edits.{SpellsEdit, FirstFaultOfEdit, AnswersEdit, edit_lines, byte_fault, followed, first_of, edit_in, edit_of};
+ghost use Rattle.gw_lines.specs.Pairs.{kept_of, wants_pairs};
+ghost use Rattle.gw_lines.specs.Points.{SpellsLines};
+ghost use Rattle.gw_lines.specs.Edits.{SpellsEdit, FaultOfLines, FirstFaultOfEdit, AnswersEdit, edit_lines, short_lines, byte_fault, plain_further, plain_lines, may_miss, followed, completed_by, first_of, edit_of};
 
-use crate::class::{Class, piece};
+use crate::class::{Class, first_piece};
 use crate::fault::LineFault;
-use crate::line::{LONGEST, read_line, read_statement};
+use crate::line::{LONGEST, behind_number, code, read_first, read_line};
+use crate::pairs::{read_further, read_kept, wants_pairs};
+use crate::words::names_function;
 use gw_meaning::Statement;
-use std::alloc::Global;
+use std::alloc::{AllocError, Global};
 
 /// The statement that the text of an edit spells, or its first fault. `|` ends a line there, in a comment too,
-/// and one at the very end opens no further line.
+/// and one at the very end opens no further line. A FUNCTION's pairs stand on the further lines.
 ///
-/// A line that is too long comes first, then a wrong byte of any line, each line read alone, then the faults
-/// of the first line from left to right, then `BadPairs` for any further line, since no verb wants one yet,
-/// and a missing operand last.
+/// A line that is too long comes first, then a wrong byte of any line (a further line has its comment as one of pairs),
+/// then the faults of the first line from left to right, then `BadPairs` for pairs that are not lawful or are missing,
+/// and for any further line that no pairs want, and a missing operand last; a FUNCTION that misses one has that fault.
 pub fn read_edit(alloc: Global, text: &[u8]) -> Result<Statement, LineFault>
     // What is read is spelled so.
     ensures found { IfOk result (λ s. SpellsEdit text.now s) }
+    // It wants no more pairs.
+    ensures whole { IfOk result (λ s. wants_pairs s ≡ false) }
     // What is spelled so is read, unless memory runs out.
     ensures only { (s : Statement) → SpellsEdit text.now s → Gives (λ s. s) result (Ok s) }
     // The fault that is answered is the first one, or memory ran out.
@@ -30,33 +36,66 @@ pub fn read_edit(alloc: Global, text: &[u8]) -> Result<Statement, LineFault>
     read_lines(alloc, text)
 }
 
+/// The statement that a line spells alone, or its first fault. A FUNCTION wants pairs, and is `BadPairs`.
+pub fn read_statement(alloc: Global, line: &[u8]) -> Result<Statement, LineFault>
+    // What is read is spelled so.
+    ensures found { IfOk result (λ s. SpellsLines (line.now ∷ []) s) }
+    // What is spelled so is read, unless memory runs out.
+    ensures only { (s : Statement) → SpellsLines (line.now ∷ []) s → Gives (λ s. s) result (Ok s) }
+    // The fault that is answered is the first one, or memory ran out.
+    ensures fault { IfErr result (λ f. OrMemory f (FaultOfLines (line.now ∷ []) f)) }
+    // A line with a first fault is answered with it, unless memory runs out.
+    ensures faulty { (f : LineFault) → FaultOfLines (line.now ∷ []) f → Gives (λ s. s) result (Err f) }
+{
+    read_alone(alloc, line)
+}
+
+fn read_alone(alloc: Global, line: &[u8]) -> Result<Statement, LineFault>
+    ensures { Gives (λ s. s) result (first_of (line.now ∷ [])) }
+{
+    let statement = read_first(alloc, line)?;
+    if wants_pairs(&statement) {
+        Err(LineFault::BadPairs)
+    } else {
+        Ok(statement)
+    }
+}
+
 #[tactic(auto, unfolding(crate::specs::Edits::edit_of))]
 fn read_lines(alloc: Global, text: &[u8]) -> Result<Statement, LineFault>
     ensures { Gives (λ s. s) result (edit_of text.now) }
 {
-    clean_lines(alloc, text)?;
+    short_lines(text)?;
+    plain_lines(alloc, text)?;
     first_statement(alloc, text)
 }
 
-// Nothing, where no line is too long and none has a wrong byte. The length of any line comes first.
-fn clean_lines(alloc: Global, text: &[u8]) -> Result<(), LineFault>
-    // Where that is so, the lines give what the first of them does.
-    ensures clean { OnOk result (edit_in (edit_lines text.now) ≡ first_of (edit_lines text.now)) }
-    ensures fault { IfErr result (λ f. Fails f (edit_in (edit_lines text.now))) }
+// Nothing, where no line is too long.
+fn short_lines(text: &[u8]) -> Result<(), LineFault>
+    ensures { result ≡ short_lines (edit_lines text.now) }
 {
-    let mut plain = Ok(());
     let mut rest = text;
     while !rest.is_empty() {
-        let (line, further) = first_line(rest);
+        let (line, further) = first_piece(Class::Part, rest);
         if line.len() > LONGEST {
             return Err(LineFault::TooLong);
         }
-        if plain.is_ok() {
-            plain = plain_line(alloc, line);
-        }
         rest = further;
     }
-    plain
+    Ok(())
+}
+
+// Nothing, where no line has a wrong byte outside its comment: the first one as a statement's, a further one as one of
+// pairs.
+fn plain_lines(alloc: Global, text: &[u8]) -> Result<(), LineFault>
+    ensures { Gives (λ u. u) result (plain_lines (edit_lines text.now)) }
+{
+    if text.is_empty() {
+        return Ok(());
+    }
+    let (line, further) = first_piece(Class::Part, text);
+    plain_line(alloc, line)?;
+    plain_further(alloc, further)
 }
 
 fn plain_line(alloc: Global, line: &[u8]) -> Result<(), LineFault>
@@ -69,36 +108,84 @@ fn plain_line(alloc: Global, line: &[u8]) -> Result<(), LineFault>
     }
 }
 
-// The statement on the first line.
+fn plain_further(alloc: Global, text: &[u8]) -> Result<(), LineFault>
+    ensures { Gives (λ u. u) result (plain_further (edit_lines text.now)) }
+{
+    let mut rest = text;
+    while !rest.is_empty() {
+        let (line, further) = first_piece(Class::Part, rest);
+        plain_pairs(alloc, line)?;
+        rest = further;
+    }
+    Ok(())
+}
+
+fn plain_pairs(alloc: Global, line: &[u8]) -> Result<(), LineFault>
+    ensures { Gives (λ u. u) result (byte_fault (kept_of line.now)) }
+{
+    match read_kept(alloc, line) {
+        Err(LineFault::BadByte) => Err(LineFault::BadByte),
+        Err(LineFault::Memory) => Err(LineFault::Memory),
+        _ => Ok(()),
+    }
+}
+
+// The statement that begins on the first line, with the pairs of those behind it.
 fn first_statement(alloc: Global, text: &[u8]) -> Result<Statement, LineFault>
     ensures { Gives (λ s. s) result (first_of (edit_lines text.now)) }
 {
-    let (line, further) = first_line(text);
-    let first = read_statement(alloc, line);
-    if further.is_empty() {
-        first
+    if text.is_empty() {
+        return Err(LineFault::UnknownVerb);
+    }
+    let (line, further) = first_piece(Class::Part, text);
+    match read_first(alloc, line) {
+        Ok(statement) => complete(alloc, statement, further),
+        Err(fault) => Err(followed(alloc, line, further, fault)),
+    }
+}
+
+// A statement with the pairs of further lines, each of which it wants, and those alone.
+fn complete(alloc: Global, statement: Statement, text: &[u8]) -> Result<Statement, LineFault>
+    ensures { Gives (λ s. s) result (completed_by statement (edit_lines text.now)) }
+{
+    let mut statement = statement;
+    let mut rest = text;
+    while !rest.is_empty() {
+        let (line, further) = first_piece(Class::Part, rest);
+        if !wants_pairs(&statement) {
+            return Err(LineFault::BadPairs);
+        }
+        statement = read_further(alloc, statement, line)?;
+        rest = further;
+    }
+    if wants_pairs(&statement) {
+        Err(LineFault::BadPairs)
     } else {
-        followed(first)
+        Ok(statement)
     }
 }
 
-// What the first line gives, where others follow.
-fn followed(first: Result<Statement, LineFault>) -> Result<Statement, LineFault>
-    ensures { result ≡ followed first }
+// The first line's fault: a missing operand comes last, behind further lines that no statement wants.
+fn followed(alloc: Global, line: &[u8], further: &[u8], fault: LineFault) -> LineFault
+    ensures { IsFault result (followed (may_miss line.now (edit_lines further.now)) fault) }
 {
-    match first {
-        Ok(_) => Err(LineFault::BadPairs),
-        Err(LineFault::MissingOperand(_)) => Err(LineFault::BadPairs),
-        Err(fault) => Err(fault),
+    match fault {
+        LineFault::MissingOperand(_) => match may_miss(alloc, line, further) {
+            Ok(true) => fault,
+            Ok(false) => LineFault::BadPairs,
+            Err(_) => LineFault::Memory,
+        },
+        _ => fault,
     }
 }
 
-// The first line, and what follows its end.
-fn first_line(text: &[u8]) -> (&[u8], &[u8])
-    ensures lines { text.now ≢ [] → edit_lines text.now ≡ result.0.now ∷ edit_lines result.1.now }
-    ensures none { text.now ≡ [] → (result.0.now ≡ []) × (result.1.now ≡ []) }
-    ensures shorter { text.now ≢ [] → length result.1.now < length text.now }
+// Whether a missing operand is the fault: no further line stands there, or those may be a FUNCTION's pairs.
+fn may_miss(alloc: Global, line: &[u8], further: &[u8]) -> Result<bool, AllocError>
+    ensures { IfOk result (λ b. b ≡ may_miss line.now (edit_lines further.now)) }
 {
-    let (line, _, further) = piece(Class::Part, text);
-    (line, further)
+    if further.is_empty() {
+        Ok(true)
+    } else {
+        names_function(alloc, behind_number(code(line)))
+    }
 }

@@ -29,7 +29,7 @@ pub enum LineFault {
     /// L7: the verb has no operand with this number.
     #[error("operand {0} is one too many")]
     ExtraOperand(u8),
-    /// L8: lines stand behind a statement that wants none.
+    /// L8: a FUNCTION's pairs are not lawful or are missing, or lines stand behind a statement that wants none.
     #[error("the lines behind the statement are not lawful")]
     BadPairs,
     /// L9: memory ran out.

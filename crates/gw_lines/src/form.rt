@@ -26,6 +26,8 @@ pub enum Kind {
     Defined,
     /// An expression, without parentheses around the whole.
     Expression,
+    /// A FUNCTION's type and its number of points: `C` or `D`, and a whole number from 1 to 1,000.
+    Points,
 }
 
 /// Whether an operand may be absent.
@@ -97,6 +99,7 @@ pub fn forms_of_definition(verb: DefinitionVerb) -> Option<&'static [Form]>
         DefinitionVerb::Storage => Some(&[COUNT]),
         DefinitionVerb::Equ => Some(&[CONSTANT]),
         DefinitionVerb::Variable => Some(&[EXPRESSION]),
+        DefinitionVerb::Function => Some(&[ONE_VALUE, POINTS]),
         _ => None,
     }
 }
@@ -129,6 +132,11 @@ const CONSTANT: Form = Form {
 
 const EXPRESSION: Form = Form {
     kind: Kind::Expression,
+    presence: Presence::Required,
+};
+
+const POINTS: Form = Form {
+    kind: Kind::Points,
     presence: Presence::Required,
 };
 

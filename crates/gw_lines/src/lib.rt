@@ -1,12 +1,13 @@
-//! Lines of a model: from a line's bytes to a statement or its first fault, and from a model's bytes to its
-//! statements or its first faulty line.
+//! Lines of a model: from a model's bytes to its statements or its first faulty line, and from an edit's text to a
+//! statement or its first fault.
 //!
-//! [`read_statement`] reads one line, [`read_model`] all lines, and [`read_edit`] the text of an edit, in which `|`
-//! ends a line. A line is cut into words (words), and its operand list is copied without the blanks that are skipped
-//! (listed). What the operands of a verb may be is a list of forms (form), behind the first of which a sign may stand
-//! (sign). The list is split once, each part is read by
-//! its form (operands, operand, number, atom, attribute, expression), and the statement is made of what was read
-//! (body). What is read is a [`Statement`], which [`Statement::put_text`] lists.
+//! [`read_model`] reads all lines, [`read_edit`] the text of an edit, in which `|` ends a line, and [`read_statement`]
+//! one line. A statement has one line, and a FUNCTION's pairs stand on further ones (pairs): no statement is handed out
+//! that wants more of them. A line is cut into words (words), and its operand list is copied without the blanks that are
+//! skipped (listed). What the operands of a verb may be is a list of forms (form), behind the first of which a sign may
+//! stand (sign). The list is split once, each part is read by its form (operands, operand, number, atom, attribute,
+//! expression), and the statement is made of what was read (body). What is read is a [`Statement`], which
+//! [`Statement::put_text`] lists.
 //!
 //! All goes by the forms of a verb's operands. Where a further verb or kind of operand goes: docs/contributing.md.
 #![tactic(auto)]
@@ -26,12 +27,12 @@ mod model;
 mod number;
 mod operand;
 mod operands;
+mod pairs;
 mod sign;
 mod words;
 
-pub use edit::read_edit;
+pub use edit::{read_edit, read_statement};
 pub use fault::{FaultyLine, LineFault};
 pub use gw_meaning::Statement;
 pub use laws::{edits_are_read, models_are_read, printed_is_read};
-pub use line::read_statement;
 pub use model::read_model;

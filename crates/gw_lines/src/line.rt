@@ -13,8 +13,9 @@ use std::alloc::Global;
 /// The most bytes that a line may have.
 pub const LONGEST: usize = 250;
 
-/// The statement that a line's text spells, or its first fault. A blank or a comment spells none.
-pub fn read_statement(alloc: Global, text: &[u8]) -> Result<Statement, LineFault>
+/// The statement that a line's text spells, or its first fault. A blank or a comment spells none, and a FUNCTION has no
+/// points yet.
+pub fn read_first(alloc: Global, text: &[u8]) -> Result<Statement, LineFault>
     // What is read is spelled so.
     ensures found { IfOk result (λ s. Spells text.now s) }
     // What is spelled so is read, unless memory runs out.
@@ -60,15 +61,16 @@ fn line_in(alloc: Global, code: &[u8]) -> Result<Option<Statement>, LineFault>
     Ok(Some(read_code(alloc, behind_number(code))?))
 }
 
-// A line without the blanks before it and the comment behind its `;`.
+/// A line without the blanks before it and the comment behind its `;`.
 #[tactic(auto, unfolding(crate::specs::Lines::code_of))]
-fn code(line: &[u8]) -> &[u8]
+pub fn code(line: &[u8]) -> &[u8]
     ensures { result.now ≡ code_of line.now }
 {
     span(Class::Code, span(Class::Blank, line).1).0
 }
 
-fn is_remark(code: &[u8]) -> bool
+/// Whether there is no statement: nothing, or a comment.
+pub fn is_remark(code: &[u8]) -> bool
     ensures { result ≡ is_remark code.now }
 {
     match code {
@@ -77,9 +79,9 @@ fn is_remark(code: &[u8]) -> bool
     }
 }
 
-// What follows a line number: digits with a blank behind them.
+/// What follows a line number: digits with a blank behind them.
 #[tactic(auto, unfolding(crate::specs::Lines::behind_number))]
-fn behind_number(code: &[u8]) -> &[u8]
+pub fn behind_number(code: &[u8]) -> &[u8]
     ensures { result.now ≡ behind_number code.now }
 {
     let (digits, rest) = span(Class::Digit, code);

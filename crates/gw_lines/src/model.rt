@@ -1,18 +1,22 @@
-ghost use Rattle.std.specs.Prelude.{◌≡◌, ◌≢◌, ◌<◌, ◌∷◌, [], List, length, IfOk, IfErr};
+ghost use Rattle.std.specs.Prelude.{◌≡◌, ◌≢◌, ◌<◌, ◌∷◌, ◌++◌, [], List, length, Ok, IfOk, IfErr, All, false};
+ghost use Rattle.gw_lines.specs.Pairs.{wants_pairs};
 ghost use Rattle.gw_lines.specs.Reading.{GivesModel};
 ghost use Rattle.gw_lines.specs.Whole.{SpellsModel, FirstFaultOf, AnswersAt};
-ghost use Rattle.gw_lines.specs.Models.{lines_of, model_of, added, chomped};
+ghost use Rattle.gw_lines.specs.Models.{lines_of, model_of, with_line, done_of, under_way, ended, chomped};
 
 use crate::class::{Class, piece};
 use crate::fault::{FaultyLine, LineFault};
 use crate::line::read_line;
+use crate::pairs::{read_further, wants_pairs};
 use gw_meaning::Statement;
 use std::alloc::Global;
 
 /// The statements of a model in the order of its lines, or its first faulty line.
 pub fn read_model(alloc: Global, bytes: &[u8]) -> Result<Vec<Statement>, FaultyLine>
-    // What is read is spelled so, line by line.
+    // What is read is spelled so, each by its own lines.
     ensures found { IfOk result (λ v. SpellsModel bytes.now v.items) }
+    // None of them wants more pairs.
+    ensures whole { IfOk result (λ v. All (λ s. wants_pairs s ≡ false) v.items) }
     // What is spelled so is read, unless memory runs out.
     ensures only { (ss : List Statement) → SpellsModel bytes.now ss → GivesModel (λ v. v.items) result (Ok ss) }
     // The fault that is answered is the first one, or memory ran out.
@@ -25,40 +29,103 @@ pub fn read_model(alloc: Global, bytes: &[u8]) -> Result<Vec<Statement>, FaultyL
     read_lines(alloc, bytes)
 }
 
+// A statement under way, with the number of its first line.
+#[derive(Drop)]
+pub struct Unfinished {
+    line: u64,
+    statement: Statement,
+}
+
 #[tactic(auto, unfolding(crate::specs::Models::model_of))]
 fn read_lines(alloc: Global, bytes: &[u8]) -> Result<Vec<Statement>, FaultyLine>
     ensures { GivesModel (λ v. v.items) result (model_of bytes.now) }
 {
     let mut statements = Vec::new(alloc);
+    let mut under = None;
     let mut rest = bytes;
     let mut number = 0;
     while !rest.is_empty() {
         number += 1;
         let (line, after) = first_line(rest);
-        add_line(alloc, number, line, &mut statements)?;
+        let behind = with_line(alloc, under, number, line)?;
+        under = keep(number, behind, &mut statements)?;
         rest = after;
     }
-    Ok(statements)
+    ended(under, statements)
 }
 
-// Adds the statement of the line with this number, if it has one.
-fn add_line(
+// The statement that stands behind the line with this number: that of the line, or the one under way with its pairs.
+fn with_line(
     alloc: Global,
+    under: Option<Unfinished>,
     number: u64,
     line: &[u8],
-    statements: &mut Vec<Statement>,
-) -> Result<(), FaultyLine>
-    ensures { GivesModel (λ u. statements.new.items) result (added number statements.old.items line.now) }
+) -> Result<Option<Unfinished>, FaultyLine>
+    ensures { GivesModel (λ o. o) result (with_line under number line.now) }
 {
-    match read_line(alloc, line) {
-        Ok(None) => Ok(()),
-        Ok(Some(statement)) => statements.push(statement).map_err(|_| FaultyLine {
-            line: number,
-            fault: LineFault::Memory,
-        }),
-        Err(fault) => Err(FaultyLine {
-            line: number,
-            fault,
+    match under {
+        None => match read_line(alloc, line) {
+            Ok(Some(statement)) => Ok(Some(Unfinished {
+                line: number,
+                statement,
+            })),
+            Ok(None) => Ok(None),
+            Err(fault) => Err(FaultyLine {
+                line: number,
+                fault,
+            }),
+        },
+        Some(under) => match read_further(alloc, under.statement, line) {
+            Ok(statement) => Ok(Some(Unfinished {
+                line: under.line,
+                statement,
+            })),
+            Err(fault) => Err(FaultyLine {
+                line: number,
+                fault,
+            }),
+        },
+    }
+}
+
+// Adds the statement that stands behind the line with this number, if it is done, or else what is still under way.
+fn keep(
+    number: u64,
+    under: Option<Unfinished>,
+    statements: &mut Vec<Statement>,
+) -> Result<Option<Unfinished>, FaultyLine>
+    ensures kept { GivesModel (λ o. o) result (Ok (under_way under)) }
+    ensures done { GivesModel (λ o. statements.new.items) result (Ok (statements.old.items ++ done_of under)) }
+{
+    match under {
+        None => Ok(None),
+        Some(under) => {
+            if wants_pairs(&under.statement) {
+                return Ok(Some(under));
+            }
+            match statements.push(under.statement) {
+                Ok(()) => Ok(None),
+                Err(_) => Err(FaultyLine {
+                    line: number,
+                    fault: LineFault::Memory,
+                }),
+            }
+        }
+    }
+}
+
+// The statements, where none of them wants pairs at the end.
+fn ended(
+    under: Option<Unfinished>,
+    statements: Vec<Statement>,
+) -> Result<Vec<Statement>, FaultyLine>
+    ensures { GivesModel (λ v. v.items) result (ended under statements.items) }
+{
+    match under {
+        None => Ok(statements),
+        Some(under) => Err(FaultyLine {
+            line: under.line,
+            fault: LineFault::BadPairs,
         }),
     }
 }

@@ -1,5 +1,5 @@
 ghost use Rattle.std.specs.Prelude.{◌≡◌, IfOk};
-ghost use Rattle.gw_lines.specs.Operands.{operand_in, given_in, as_value, atomic, given_value, or_term, entity_of, numbered, label_of, defined_of};
+ghost use Rattle.gw_lines.specs.Operands.{operand_in, given_in, as_value, atomic, given_value, or_term, entity_of, numbered, label_of, defined_of, type_of, points_in};
 ghost use Rattle.gw_lines.specs.Expressions.{computed_of};
 
 use crate::atom::{atom_of, constant, or_attribute};
@@ -7,15 +7,20 @@ use crate::expression::{read_bare, read_expression};
 use crate::form::Kind;
 use crate::number::{LIMIT, fraction, from_one};
 use gw_expr::{Atom, Expr};
+use gw_meaning::FunctionType;
 use gw_names::Name;
 use gw_nums::Val;
 use std::alloc::{AllocError, Global};
+
+// The most points that a FUNCTION has.
+const MOST_POINTS: u32 = 1_000;
 
 /// An operand that was read.
 #[derive(Debug, Drop)]
 pub enum Operand {
     Value(Expr),
     Whole(u32),
+    Points(FunctionType, u32),
 }
 
 /// The operand that a text of this kind is: `None` where it is not lawful, and no operand where it is empty or says
@@ -58,6 +63,31 @@ fn given(alloc: Global, kind: Kind, text: &[u8]) -> Result<Option<Option<Operand
         Kind::Label => Ok(as_value(label(alloc, text)?)),
         Kind::Defined => Ok(as_value(defined(alloc, text)?)),
         Kind::Expression => Ok(as_value(read_bare(alloc, text)?)),
+        Kind::Points => Ok(points_in(text)),
+    }
+}
+
+// The type and the number of points that a text is.
+fn points_in(text: &[u8]) -> Option<Option<Operand>>
+    ensures { result ≡ points_in text.now }
+{
+    match text {
+        [] => None,
+        [first, digits @ ..] => {
+            let kind = type_of(*first)?;
+            let count = from_one(MOST_POINTS, digits)?;
+            Some(Some(Operand::Points(kind, count)))
+        }
+    }
+}
+
+fn type_of(b: u8) -> Option<FunctionType>
+    ensures { result ≡ type_of b }
+{
+    match b {
+        b'C' => Some(FunctionType::Continuous),
+        b'D' => Some(FunctionType::Discrete),
+        _ => None,
     }
 }
 

@@ -1,6 +1,7 @@
-ghost use Rattle.std.specs.Prelude.{◌≡◌, IfOk};
+ghost use Rattle.std.specs.Prelude.{◌≡◌, Some, IfOk};
 ghost use Rattle.gw_lines.specs.Reading.{Gives, IsFault};
 ghost use Rattle.gw_lines.specs.Lines.{word_of, behind_word, verb_in, is_command, needs_label, no_label_of, label_of, operands_of, unlabelled_of, labelled_of, fault_without_verb, coded_of};
+ghost use Rattle.gw_lines.specs.Edits.{is_function, verb_of_words};
 
 use crate::body::read_body;
 use crate::class::{Class, are_plain, span};
@@ -8,7 +9,7 @@ use crate::fault::LineFault;
 use crate::form::forms_of_definition;
 use crate::listed::{listed, upper};
 use gw_meaning::{Row, Statement};
-use gw_names::{Name, Verb};
+use gw_names::{DefinitionVerb, Name, Verb};
 use std::alloc::{AllocError, Global};
 
 /// The statement that code spells, behind a line number and without its comment.
@@ -24,6 +25,29 @@ pub fn read_code(alloc: Global, code: &[u8]) -> Result<Statement, LineFault>
     match verb(alloc, second)? {
         Some(verb) => labelled(alloc, first, verb, behind),
         None => Err(without_verb(alloc, code, first, second)),
+    }
+}
+
+/// Whether the verb among the first two words of code is FUNCTION.
+pub fn names_function(alloc: Global, code: &[u8]) -> Result<bool, AllocError>
+    ensures { IfOk result (λ b. b ≡ is_function (verb_of_words code.now)) }
+{
+    let (first, behind) = word(code);
+    match verb(alloc, first)? {
+        Some(verb) => Ok(is_function(verb)),
+        None => match verb(alloc, word(behind).0)? {
+            Some(verb) => Ok(is_function(verb)),
+            None => Ok(false),
+        },
+    }
+}
+
+fn is_function(verb: Verb) -> bool
+    ensures { result ≡ is_function (Some verb) }
+{
+    match verb {
+        Verb::Definition(DefinitionVerb::Function) => true,
+        _ => false,
     }
 }
 
@@ -73,9 +97,9 @@ fn labelled(alloc: Global, word: &[u8], verb: Verb, bytes: &[u8]) -> Result<Stat
     })
 }
 
-// The operand list behind a verb.
+/// The operand list behind a verb, or a line of pairs.
 #[tactic(auto, unfolding(crate::specs::Lines::operands_of))]
-fn operands(alloc: Global, bytes: &[u8]) -> Result<Vec<u8>, LineFault>
+pub fn operands(alloc: Global, bytes: &[u8]) -> Result<Vec<u8>, LineFault>
     ensures { Gives (λ v. v.items) result (operands_of bytes.now) }
 {
     let operands = listed(alloc, bytes)?;

@@ -24,6 +24,13 @@ impl<T> Row<T> {
         Row { items }
     }
 
+    /// The items, to be changed.
+    pub fn into_vec(self) -> Vec<T>
+        ensures { result.items ≡ self }
+    {
+        self.items
+    }
+
     /// The items, in order.
     pub fn as_slice(&self) -> &[T]
         ensures { result.now ≡ self.now }

@@ -61,13 +61,14 @@ fn add_statement(names: &mut IndexSet<Key>, line: &Numbered) -> Result<(), Alloc
     }
 }
 
-// Adds what the expression of a VARIABLE names.
+// Adds what the expression of a VARIABLE names, or the argument of a FUNCTION.
 fn add_definition(names: &mut IndexSet<Key>, definition: &Definition) -> Result<(), AllocError>
     ensures { OnOk result (names.new.keys ≡ insert_all key_eq names.old.keys
         (as_keys (flat_map names_in_operand (operands_of_definition definition.now)))) }
 {
     match definition {
         Definition::Variable { expression } => add_term(names, expression),
+        Definition::Function(function) => add_term(names, &function.argument),
         Definition::Storage { .. } | Definition::Equ { .. } => Ok(()),
     }
 }

@@ -31,7 +31,7 @@ pub record OpensVersion (model : List ℕ) (o : Options) (t : Listing) : Type 0 
   pub is_version : t ≡ opened statements o
   pub no_fault : fault_of t ≡ None
 
--- so each statement of the version is spelled by some line
+-- so each statement of the version is spelled by some lines
 abbrev pub OpenedIsSpelled : Type 0
 OpenedIsSpelled = (model : List ℕ) (o : Options) (t : Listing) → OpensVersion model o t → AreSpelled t.lines
 

@@ -3,7 +3,7 @@ use Rattle.gw_lines.specs.Faulty.{FirstFault}
 use Rattle.gw_lines.proofs.Results.{gives_found, gives_fault, gives_same}
 use Rattle.gw_lines.proofs.Lines.{spells_found, spells_again}
 use Rattle.gw_lines.proofs.Faults.{fault_found, fault_again}
-use Rattle.gw_lines.proofs.line.read_statement.Goals as goal
+use Rattle.gw_lines.proofs.line.read_first.Goals as goal
 
 pub returns-clause-found : goal.returns-clause-found
 returns-clause-found c =

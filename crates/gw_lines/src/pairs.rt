@@ -1,0 +1,172 @@
+ghost use Rattle.std.specs.Prelude.{◌≡◌, nat_lt, length, option_map};
+ghost use Rattle.gw_lines.specs.Reading.{Gives};
+ghost use Rattle.gw_lines.specs.Pairs.{wants_pairs, pair_of, is_above, last_of, may_follow, with_point, points_with, body_with, statement_with, kept_in, kept_of, further_of};
+
+use crate::class::{Class, first_piece, piece};
+use crate::fault::LineFault;
+use crate::line::{LONGEST, code, is_remark};
+use crate::number::coordinate;
+use crate::words::operands;
+use gw_meaning::{Body, Definition, Function, Point, Row, Statement};
+use gw_nums::Millionths;
+use std::alloc::Global;
+
+/// Whether a statement wants pairs on further lines: it is a FUNCTION that misses points.
+pub fn wants_pairs(statement: &Statement) -> bool
+    ensures { result ≡ wants_pairs statement.now }
+{
+    match &statement.body {
+        Body::Definition(Definition::Function(function)) => {
+            has_room(function.count, function.points.as_slice())
+        }
+        _ => false,
+    }
+}
+
+fn has_room(count: u32, points: &[Point]) -> bool
+    ensures { result ≡ nat_lt (length points.now) count }
+{
+    (points.len() as u64) < u64::from(count)
+}
+
+/// A statement that wants pairs, with those of a further line; a blank line or a comment has none. Each point stands
+/// behind those before it: an x that is not above the last one, one pair too many, or what is no pair is `BadPairs`.
+#[tactic(auto, unfolding(crate::specs::Pairs::further_of))]
+pub fn read_further(
+    alloc: Global,
+    statement: Statement,
+    line: &[u8],
+) -> Result<Statement, LineFault>
+    ensures { Gives (λ s. s) result (further_of statement line.now) }
+{
+    match read_kept(alloc, line)? {
+        None => Ok(statement),
+        Some(text) => statement_with(statement, &text),
+    }
+}
+
+/// What is kept of a line of pairs, as of an operand list: nothing of a blank line or a comment.
+#[tactic(auto, unfolding(crate::specs::Pairs::kept_of))]
+pub fn read_kept(alloc: Global, line: &[u8]) -> Result<Option<Vec<u8>>, LineFault>
+    ensures { Gives (λ o. option_map (λ v. v.items) o) result (kept_of line.now) }
+{
+    if line.len() > LONGEST {
+        return Err(LineFault::TooLong);
+    }
+    kept_in(alloc, code(line))
+}
+
+#[tactic(auto, unfolding(crate::specs::Pairs::kept_in))]
+fn kept_in(alloc: Global, code: &[u8]) -> Result<Option<Vec<u8>>, LineFault>
+    ensures { Gives (λ o. option_map (λ v. v.items) o) result (kept_in code.now) }
+{
+    if is_remark(code) {
+        return Ok(None);
+    }
+    Ok(Some(operands(alloc, code)?))
+}
+
+// A statement with the pairs of a text, which is listed behind its operands.
+#[tactic(auto, unfolding(crate::specs::Pairs::statement_with))]
+fn statement_with(statement: Statement, text: &[u8]) -> Result<Statement, LineFault>
+    ensures { Gives (λ s. s) result (statement_with statement text.now) }
+{
+    let Statement {
+        label,
+        body,
+        operands,
+    } = statement;
+    let body = body_with(body, text)?;
+    let mut operands = operands.into_vec();
+    operands.push(b'|')?;
+    operands.extend_from_slice(text)?;
+    Ok(Statement {
+        label,
+        body,
+        operands: Row::from_vec(operands),
+    })
+}
+
+// A FUNCTION with the points of a text behind its own.
+fn body_with(body: Body, text: &[u8]) -> Result<Body, LineFault>
+    ensures { Gives (λ b. b) result (body_with body text.now) }
+{
+    match body {
+        Body::Definition(Definition::Function(function)) => {
+            let Function {
+                argument,
+                kind,
+                count,
+                points,
+            } = function;
+            let points = points_with(count, points.into_vec(), text)?;
+            Ok(Body::Definition(Definition::Function(Function {
+                argument,
+                kind,
+                count,
+                points: Row::from_vec(points),
+            })))
+        }
+        _ => Err(LineFault::BadPairs),
+    }
+}
+
+// Points with those that a text spells behind them.
+#[tactic(auto, unfolding(crate::specs::Pairs::points_with))]
+fn points_with(count: u32, points: Vec<Point>, text: &[u8]) -> Result<Vec<Point>, LineFault>
+    ensures { Gives (λ v. v.items) result (points_with count points.items text.now) }
+{
+    if text.is_empty() {
+        return Err(LineFault::BadPairs);
+    }
+    let mut points = points;
+    let mut rest = text;
+    while !rest.is_empty() {
+        let (pair, further) = first_piece(Class::Pair, rest);
+        add_point(count, &mut points, pair_of(pair))?;
+        rest = further;
+    }
+    Ok(points)
+}
+
+// Adds a point, where it may stand behind the others.
+fn add_point(count: u32, points: &mut Vec<Point>, point: Option<Point>) -> Result<(), LineFault>
+    ensures { Gives (λ u. points.new.items) result (with_point count points.old.items point) }
+{
+    match point {
+        Some(point) => {
+            if may_follow(count, points, &point) {
+                Ok(points.push(point)?)
+            } else {
+                Err(LineFault::BadPairs)
+            }
+        }
+        None => Err(LineFault::BadPairs),
+    }
+}
+
+// Whether a point may stand behind others: there is room for it, and its x is above the last one's.
+fn may_follow(count: u32, points: &[Point], point: &Point) -> bool
+    ensures { result ≡ may_follow count points.now point.now }
+{
+    has_room(count, points) && is_above(points, point.x)
+}
+
+fn is_above(points: &[Point], x: Millionths) -> bool
+    ensures { result ≡ is_above (last_of points.now) x }
+{
+    match points.last() {
+        None => true,
+        Some(last) => last.x.get() < x.get(),
+    }
+}
+
+// The point that a pair is: two numbers with a comma between.
+fn pair_of(text: &[u8]) -> Option<Point>
+    ensures { result ≡ pair_of text.now }
+{
+    let (x, _, y) = piece(Class::Operand, text);
+    let x = coordinate(x)?;
+    let y = coordinate(y)?;
+    Some(Point { x, y })
+}
