@@ -7,11 +7,11 @@ use Rattle.gw_meaning.specs.declared.function.FunctionType.{FunctionType}
 use Rattle.gw_meaning.specs.declared.function.FunctionType.TheVariants.{Continuous, Discrete}
 use Rattle.gw_meaning.specs.declared.function.Point.{Point}
 use Rattle.gw_meaning.specs.declared.function.Function.{Function}
-use Rattle.gw_meaning.specs.declared.function.Sides.{Sides}
+use Rattle.gw_meaning.specs.declared.function.Neighbours.{Neighbours}
 
 -- the points on the two sides of an argument, behind one that is below it: the first that is not below it, and the one
 -- before that
-abbrev pub sides : Option Point → List Point → ℤ → Sides
+abbrev pub sides : Option Point → List Point → ℤ → Neighbours
 sides before [] x = record { before = before; next = None }
 sides before (p ∷ ps) x =
     if is_below p.x x then sides (Some p) ps x else record { before = before; next = Some p }
@@ -33,7 +33,7 @@ step_at None None = None
 step_at (Some p) None = Some p.y
 step_at before (Some q) = Some q.y
 
-abbrev pub by_type : FunctionType → Sides → ℤ → Option ℤ
+abbrev pub by_type : FunctionType → Neighbours → ℤ → Option ℤ
 by_type Continuous at x = line_at at.before at.next x
 by_type Discrete at x = step_at at.before at.next
 

@@ -25,7 +25,7 @@ pub struct Point {
 
 // The points on the two sides of an argument: the first one that is not below it, and the one before that.
 #[derive(Clone, Copy, Debug)]
-struct Sides {
+struct Neighbours {
     before: Option<Point>,
     next: Option<Point>,
 }
@@ -67,7 +67,7 @@ impl Function {
 }
 
 // The points on the two sides of an argument. They are looked at one by one.
-fn sides(points: &[Point], x: Millionths) -> Sides
+fn sides(points: &[Point], x: Millionths) -> Neighbours
     ensures points { result ≡ sides None points.now x }
     ensures before { IfSome result.before (λ p. is_below p.x x ≡ true) }
     ensures next { IfSome result.next (λ p. is_below p.x x ≡ false) }
@@ -75,18 +75,18 @@ fn sides(points: &[Point], x: Millionths) -> Sides
     let mut before = None;
     for point in points {
         if !point.x.is_below(x) {
-            return Sides {
+            return Neighbours {
                 before,
                 next: Some(*point),
             };
         }
         before = Some(*point);
     }
-    Sides { before, next: None }
+    Neighbours { before, next: None }
 }
 
 // On the line between the two points, and beyond all points at the outermost one.
-fn line_at(at: Sides, x: Millionths) -> Option<Millionths>
+fn line_at(at: Neighbours, x: Millionths) -> Option<Millionths>
     requires before { IfSome at.before (λ p. is_below p.x x ≡ true) }
     requires next { IfSome at.next (λ p. is_below p.x x ≡ false) }
     ensures { result ≡ line_at at.before at.next x }
@@ -110,7 +110,7 @@ fn between(p: Point, q: Point, x: Millionths) -> Millionths
 }
 
 // At the first point that is not below the argument, and beyond all points at the last one.
-fn step_at(at: Sides) -> Option<Millionths>
+fn step_at(at: Neighbours) -> Option<Millionths>
     ensures { result ≡ step_at at.before at.next }
 {
     match (at.next, at.before) {
