@@ -49,9 +49,8 @@ impl Millionths {
         }
     }
 
-    /// The part of 1 that is so many millionths.
+    /// So many millionths.
     pub fn part(millionths: u32) -> Millionths
-        requires { millionths < 1000000 }
         ensures { result ≡ pos millionths }
     {
         Millionths {
