@@ -18,14 +18,17 @@ use Rattle.gw_names.specs.declared.class.Class.{Class}
 use Rattle.gw_names.specs.declared.class.Class.TheVariants as class
 use Rattle.gw_expr.specs.declared.attribute.Subject.{Subject}
 use Rattle.gw_expr.specs.declared.attribute.Subject.TheVariants as subjects
+use Rattle.gw_nums.specs.Millionths.{times}
+use Rattle.gw_meaning.specs.declared.function.Function.{Function}
+use Rattle.gw_meaning.specs.Functions.{curve}
 use Rattle.gw_meaning.specs.declared.asker.Asker.{Asker}
 use Rattle.gw_meaning.specs.declared.item.Item.TheVariants as items
-use Rattle.gw_meaning.specs.Listing.{Listing, capacity_at, label_at, variable_at}
+use Rattle.gw_meaning.specs.Listing.{Listing, capacity_at, label_at, variable_at, function_at}
 use Rattle.gw_names.specs.declared.key.Key.{Key}
 use Rattle.gw_meaning.specs.Entities.{facility_at, line_at}
 use Rattle.gw_entities.specs.Parameters.{parameter_at}
 use Rattle.gw_meaning.specs.Machine.{Machine, count_at}
-use Rattle.gw_meaning.specs.Evaluation.{Eval, number_of_draw, draw, amount, numbered, named, subject_prog, storage_prog, counted, block_count, random_prog, own_value, value_held, parameter_value, entity_value, storage_value, block_value, owned, attribute_prog, number_given, atom_prog, arithmetic, token_prog, tokens_prog, last_value, value_prog, value_there, value_or_zero, entity_prog, units_prog, in_range, spread, sample_within, time_prog, left_prog, Variables, is_of_variable, of_variable, term_prog, expression_given, variable_prog, DEEPEST}
+use Rattle.gw_meaning.specs.Evaluation.{Eval, number_of_draw, draw, amount, numbered, named, subject_prog, storage_prog, counted, block_count, random_prog, random_part, own_value, value_held, parameter_value, entity_value, storage_value, block_value, owned, attribute_prog, number_given, atom_prog, arithmetic, token_prog, tokens_prog, last_value, value_prog, value_there, value_or_zero, entity_prog, units_prog, in_range, spread, sample_within, time_prog, left_prog, Definitions, is_of_variable, of_variable, is_of_function, of_function, value_of_attribute, is_random, random_of, argument_by, argument_prog, point_found, function_given, modifier_of, time_by, drawn_prog, term_prog, expression_given, definitions_prog, DEEPEST}
 use Rattle.gw_frame.proofs.Seeds.{uses_seed, one_drew}
 use Rattle.gw_frame.proofs.Keeps.{ProgKeeps, Keeps, prog_gives, prog_bind, keeps_gives, keeps_ends, keeps_asks, keeps_cond, keeps_stops, keeps_unless, keeps_bind}
 use Rattle.gw_names.specs.declared.key.Key.TheVariants as keys
@@ -101,13 +104,18 @@ module _ (t : Listing) (seed : ℕ) (s : Machine) where
   block_count_decides (subjects.Name name) f each =
       keeps_asks (items.Label name) refl (λ numbered named. tt) (counted_decides (label_at t name) f each)
 
+  drawn_decides : (of : Subject) → Decides Whatever (drawn_prog of)
+  drawn_decides subjects.Own = keeps_ends
+  drawn_decides (subjects.Number zero) = keeps_ends
+  drawn_decides (subjects.Number (suc i)) =
+      keeps_unless (not (nat_le 1 (suc i) && nat_le (suc i) 7)) _ (λ h. draw_decides i (a_stream i h))
+  drawn_decides (subjects.Name name) = keeps_ends
+
   random_decides : (of : Subject) → Decides Whatever (random_prog of)
-  random_decides subjects.Own = keeps_ends
-  random_decides (subjects.Number zero) = keeps_ends
-  random_decides (subjects.Number (suc i)) =
-      keeps_unless (not (nat_le 1 (suc i) && nat_le (suc i) 7)) _
-      (λ h. keeps_bind (draw_decides i (a_stream i h)) (λ x k. keeps_gives tt))
-  random_decides (subjects.Name name) = keeps_ends
+  random_decides of = keeps_bind (drawn_decides of) (λ x k. keeps_gives tt)
+
+  random_part_decides : (of : Subject) → Decides Whatever (random_part of)
+  random_part_decides of = keeps_bind (drawn_decides of) (λ x k. keeps_gives tt)
 
   own_decides : (q : Asker) (class : Class) → Decides Whatever (own_value s q class)
   own_decides q class.C1 = amount_decides (s.clock - s.since)
@@ -174,28 +182,36 @@ module _ (t : Listing) (seed : ℕ) (s : Machine) where
   number_given_decides None = keeps_ends
   number_given_decides (Some n) = keeps_gives tt
 
-  -- what VARIABLEs come to
-  abbrev AreDecided : Variables → Type 0
-  AreDecided vs = (name : List ℕ) → Decides Whatever (vs name)
+  -- what definitions come to
+  abbrev AreDecided : Definitions → Type 0
+  AreDecided vs = ((name : List ℕ) → Decides Whatever (vs.variable name)) × ((name : List ℕ) → Decides Whatever (vs.function name))
 
-  of_variable_decides : (vs : Variables) → AreDecided vs → (of : Subject) → Decides Whatever (of_variable vs of)
+  of_variable_decides : (vs : Definitions) → AreDecided vs → (of : Subject) → Decides Whatever (of_variable vs of)
   of_variable_decides vs each subjects.Own = keeps_ends
   of_variable_decides vs each (subjects.Number n) = keeps_ends
-  of_variable_decides vs each (subjects.Name name) = each name
+  of_variable_decides vs each (subjects.Name name) = each.0 name
 
-  atom_decides : (q : Asker) (vs : Variables) → AreDecided vs → (atom : Atom) → Decides Whatever (atom_prog s q vs atom)
+  of_function_decides : (vs : Definitions) → AreDecided vs → (of : Subject) → Decides Whatever (of_function vs of)
+  of_function_decides vs each subjects.Own = keeps_ends
+  of_function_decides vs each (subjects.Number n) = keeps_ends
+  of_function_decides vs each (subjects.Name name) = each.1 name
+
+  value_of_decides : (q : Asker) (vs : Definitions) → AreDecided vs → (class : Class) (of : Subject) → Decides Whatever (value_of_attribute s q vs class of)
+  value_of_decides q vs each class of = keeps_cond (is_of_variable class) (of_variable_decides vs each of)
+      (keeps_cond (is_of_function class) (keeps_bind (of_function_decides vs each of) (λ y h. keeps_gives tt)) (attribute_decides q class of))
+
+  atom_decides : (q : Asker) (vs : Definitions) → AreDecided vs → (atom : Atom) → Decides Whatever (atom_prog s q vs atom)
   unfolding atom_prog
   atom_decides q vs each (atoms.Constant value) = keeps_gives tt
   atom_decides q vs each (atoms.Number name) = keeps_asks (items.Name name) refl (λ numbered named. tt) (number_given_decides (number_at t name))
-  atom_decides q vs each (atoms.Attribute class of) =
-      keeps_cond (is_of_variable class) (of_variable_decides vs each of) (attribute_decides q class of)
+  atom_decides q vs each (atoms.Attribute class of) = value_of_decides q vs each class of
 
   pub arithmetic_decides : (r : Result ℤ ArithmeticFault) → Decides Whatever (arithmetic r)
   arithmetic_decides (Ok z) = keeps_gives tt
   arithmetic_decides (Err arithmetic_faults.Range) = keeps_ends
   arithmetic_decides (Err arithmetic_faults.ZeroDivisor) = keeps_ends
 
-  token_decides : (q : Asker) (vs : Variables) → AreDecided vs → (token : Token) (values : List ℤ) → Decides Whatever (token_prog s q vs token values)
+  token_decides : (q : Asker) (vs : Definitions) → AreDecided vs → (token : Token) (values : List ℤ) → Decides Whatever (token_prog s q vs token values)
   token_decides q vs each (tokens.Value atom) values = keeps_bind (atom_decides q vs each atom) (λ v h. keeps_gives tt)
   token_decides q vs each tokens.Negated [] = keeps_ends
   token_decides q vs each tokens.Negated (v ∷ values) = keeps_gives tt
@@ -204,7 +220,7 @@ module _ (t : Listing) (seed : ℕ) (s : Machine) where
   token_decides q vs each (tokens.Applied operator) (b ∷ a ∷ values) =
       keeps_bind (arithmetic_decides (applied operator a b)) (λ v h. keeps_gives tt)
 
-  tokens_decide : (q : Asker) (vs : Variables) → AreDecided vs → (ts : List Token) (values : List ℤ) → Decides Whatever (tokens_prog s q vs ts values)
+  tokens_decide : (q : Asker) (vs : Definitions) → AreDecided vs → (ts : List Token) (values : List ℤ) → Decides Whatever (tokens_prog s q vs ts values)
   tokens_decide q vs each [] values = keeps_gives tt
   tokens_decide q vs each (t ∷ ts) values = keeps_bind (token_decides q vs each t values) (λ more h. tokens_decide q vs each ts more)
 
@@ -213,7 +229,7 @@ module _ (t : Listing) (seed : ℕ) (s : Machine) where
   last_decides (v ∷ values) = keeps_gives tt
 
   -- operands
-  term_decides : (q : Asker) (vs : Variables) → AreDecided vs → (term : Term) → Decides Whatever (term_prog s q vs term)
+  term_decides : (q : Asker) (vs : Definitions) → AreDecided vs → (term : Term) → Decides Whatever (term_prog s q vs term)
   unfolding term_prog
   term_decides q vs each (Value atom) = atom_decides q vs each atom
   term_decides q vs each (Computed ts) = keeps_bind (tokens_decide q vs each ts []) (λ values h. last_decides values)
@@ -223,15 +239,38 @@ module _ (t : Listing) (seed : ℕ) (s : Machine) where
   expression_decides f each None = keeps_ends
   expression_decides f each (Some term) = each term
 
-  variable_decides : (depth : ℕ) (q : Asker) → AreDecided (variable_prog depth s q)
-  unfolding variable_prog
-  variable_decides zero q = λ name. keeps_ends
-  variable_decides (suc depth) q = λ name. keeps_asks (items.Variable name) refl (λ numbered named. tt)
-      (expression_decides (term_prog s q (variable_prog depth s q)) (term_decides q (variable_prog depth s q) (variable_decides depth q)) (variable_at t name))
+  argument_by_decides : (q : Asker) (vs : Definitions) → AreDecided vs → (argument : Term) (of : Option Subject) →
+      Decides Whatever (argument_by s q vs argument of)
+  argument_by_decides q vs each argument None = keeps_bind (term_decides q vs each argument) (λ v h. keeps_gives tt)
+  argument_by_decides q vs each argument (Some of) = random_part_decides of
+
+  argument_decides : (q : Asker) (vs : Definitions) → AreDecided vs → (argument : Term) → Decides Whatever (argument_prog s q vs argument)
+  unfolding argument_prog
+  argument_decides q vs each argument = argument_by_decides q vs each argument (random_of argument)
+
+  point_decides : (y : Option ℤ) → Decides Whatever (point_found y)
+  point_decides None = keeps_ends
+  point_decides (Some y) = keeps_gives tt
+
+  function_decides : (f : Term → Eval ℤ) → ((term : Term) → Decides Whatever (f term)) → (o : Option Function) → Decides Whatever (function_given f o)
+  function_decides f each None = keeps_ends
+  function_decides f each (Some function) = keeps_bind (each function.argument) (λ x h. point_decides (curve function x))
+
+  definitions_decide : (depth : ℕ) (q : Asker) → AreDecided (definitions_prog depth s q)
+  unfolding definitions_prog
+  definitions_decide zero q = ((λ name. keeps_ends), (λ name. keeps_ends))
+  definitions_decide (suc depth) q =
+      let vs = definitions_prog depth s q in
+      let each : AreDecided vs = definitions_decide depth q in (
+        (λ name. keeps_asks (items.Variable name) refl (λ numbered named. tt)
+            (expression_decides (term_prog s q vs) (term_decides q vs each) (variable_at t name))),
+        (λ name. keeps_asks (items.Function name) refl (λ numbered named. tt)
+            (function_decides (argument_prog s q vs) (argument_decides q vs each) (function_at t name))),
+      )
 
   pub value_decides : (q : Asker) (term : Term) → Decides Whatever (value_prog s q term)
   unfolding value_prog
-  value_decides q term = term_decides q (variable_prog DEEPEST s q) (variable_decides DEEPEST q) term
+  value_decides q term = term_decides q (definitions_prog DEEPEST s q) (definitions_decide DEEPEST q) term
 
   pub value_there_decides : (q : Asker) (term : Option Term) → Decides Whatever (value_there s q term)
   value_there_decides q None = keeps_ends
@@ -255,6 +294,11 @@ module _ (t : Listing) (seed : ℕ) (s : Machine) where
   sample_within_decides mean (suc n) =
       keeps_bind (draw_decides 0 (omega arith)) (λ x h. in_range_decides (spread mean (suc n) x))
 
-  pub time_decides : (q : Asker) (mean range : Option Term) → Decides Whatever (time_prog s q mean range)
-  time_decides q mean range = keeps_bind (value_or_zero_decides q mean)
+  time_by_decides : (q : Asker) (mean range : Option Term) (of : Option Subject) → Decides Whatever (time_by s q mean range of)
+  time_by_decides q mean range (Some of) = keeps_bind (value_or_zero_decides q mean)
+      (λ m h. keeps_bind (of_function_decides (definitions_prog DEEPEST s q) (definitions_decide DEEPEST q) of) (λ y k. in_range_decides (times m y)))
+  time_by_decides q mean range None = keeps_bind (value_or_zero_decides q mean)
       (λ m h. keeps_bind (value_or_zero_decides q range) (λ r k. keeps_cond (is_negative r) (keeps_gives tt) (sample_within_decides m (magnitude r))))
+
+  pub time_decides : (q : Asker) (mean range : Option Term) → Decides Whatever (time_prog s q mean range)
+  time_decides q mean range = time_by_decides q mean range (modifier_of range)

@@ -16,6 +16,9 @@ use Rattle.gw_names.specs.declared.class.Class.{Class}
 use Rattle.gw_names.specs.declared.class.Class.TheVariants as class
 use Rattle.gw_expr.specs.declared.attribute.Subject.{Subject}
 use Rattle.gw_expr.specs.declared.attribute.Subject.TheVariants as subjects
+use Rattle.gw_nums.specs.Millionths.{times}
+use Rattle.gw_meaning.specs.declared.function.Function.{Function}
+use Rattle.gw_meaning.specs.Functions.{curve}
 use Rattle.gw_meaning.specs.declared.asker.Asker.{Asker}
 use Rattle.gw_meaning.specs.declared.item.Item.TheVariants as items
 use Rattle.gw_names.specs.declared.key.Key.{Key}
@@ -23,7 +26,7 @@ use Rattle.gw_names.specs.declared.key.Key.TheVariants as keys
 use Rattle.gw_meaning.specs.Entities.{facility_at, line_at, store_at}
 use Rattle.gw_entities.specs.Parameters.{parameter_at}
 use Rattle.gw_meaning.specs.Machine.{Machine, count_at}
-use Rattle.gw_meaning.specs.Evaluation.{Eval, number_of_draw, draw, amount, numbered, named, subject_prog, storage_prog, counted, block_count, random_prog, own_value, value_held, parameter_value, entity_value, storage_value, block_value, owned, attribute_prog, number_given, atom_prog, arithmetic, token_prog, tokens_prog, last_value, value_prog, value_there, value_or_zero, entity_prog, units_prog, in_range, spread, sample_within, time_prog, left_prog, Variables, is_of_variable, of_variable, term_prog, expression_given, variable_prog, DEEPEST}
+use Rattle.gw_meaning.specs.Evaluation.{Eval, number_of_draw, draw, amount, numbered, named, subject_prog, storage_prog, counted, block_count, random_prog, random_part, own_value, value_held, parameter_value, entity_value, storage_value, block_value, owned, attribute_prog, number_given, atom_prog, arithmetic, token_prog, tokens_prog, last_value, value_prog, value_there, value_or_zero, entity_prog, units_prog, in_range, spread, sample_within, time_prog, left_prog, Definitions, is_of_variable, of_variable, is_of_function, of_function, value_of_attribute, is_random, random_of, argument_by, argument_prog, point_found, function_given, modifier_of, time_by, drawn_prog, term_prog, expression_given, definitions_prog, DEEPEST}
 use Rattle.gw_frame.specs.Moved.{IsMove, moved_machine}
 use Rattle.gw_frame.proofs.Follows.{ProgFollows, prog_gives, prog_asks, prog_bind, Follows, follows_gives, follows_ends, follows_asks, follows_cond, follows_stops, follows_bind}
 use Rattle.gw_frame.proofs.MovedLists.{count_at_moved}
@@ -82,11 +85,16 @@ module _ (move : ℕ → ℕ) (is : IsMove move) where
   block_count_follows (subjects.Number n) f g each = follows_ends
   block_count_follows (subjects.Name name) f g each = follows_asks (items.Label name) (λ id. counted_follows id f g each)
 
+  drawn_follows : (of : Subject) → Follows move same (drawn_prog of) (drawn_prog of)
+  drawn_follows subjects.Own = follows_ends
+  drawn_follows (subjects.Number j) = follows_stops (not (nat_le 1 j && nat_le j 7)) _ (draw_follows j)
+  drawn_follows (subjects.Name name) = follows_ends
+
   random_follows : (of : Subject) → Follows move same (random_prog of) (random_prog of)
-  random_follows subjects.Own = follows_ends
-  random_follows (subjects.Number j) =
-      follows_stops (not (nat_le 1 j && nat_le j 7)) _ (follows_bind _ (draw_follows j) (λ x. follows_gives refl))
-  random_follows (subjects.Name name) = follows_ends
+  random_follows of = follows_bind _ (drawn_follows of) (λ x. follows_gives refl)
+
+  random_part_follows : (of : Subject) → Follows move same (random_part of) (random_part of)
+  random_part_follows of = follows_bind _ (drawn_follows of) (λ x. follows_gives refl)
 
   own_follows : (s : Machine) (q : Asker) (class : Class) → Follows move same (own_value s q class) (own_value (moved_machine move s) q class)
   own_follows s q class.C1 = amount_follows (s.clock - s.since)
@@ -158,29 +166,39 @@ module _ (move : ℕ → ℕ) (is : IsMove move) where
   number_given_follows None = follows_ends
   number_given_follows (Some n) = follows_gives refl
 
-  -- two ways to evaluate VARIABLEs, of which the second follows the first
-  abbrev AreFollowed : Variables → Variables → Type 0
-  AreFollowed vs ws = (name : List ℕ) → Follows move same (vs name) (ws name)
+  -- two ways to evaluate definitions, of which the second follows the first
+  abbrev AreFollowed : Definitions → Definitions → Type 0
+  AreFollowed vs ws =
+      ((name : List ℕ) → Follows move same (vs.variable name) (ws.variable name)) × ((name : List ℕ) → Follows move same (vs.function name) (ws.function name))
 
-  of_variable_follows : (vs ws : Variables) → AreFollowed vs ws → (of : Subject) → Follows move same (of_variable vs of) (of_variable ws of)
+  of_variable_follows : (vs ws : Definitions) → AreFollowed vs ws → (of : Subject) → Follows move same (of_variable vs of) (of_variable ws of)
   of_variable_follows vs ws each subjects.Own = follows_ends
   of_variable_follows vs ws each (subjects.Number n) = follows_ends
-  of_variable_follows vs ws each (subjects.Name name) = each name
+  of_variable_follows vs ws each (subjects.Name name) = each.0 name
 
-  module _ (s : Machine) (q : Asker) (vs ws : Variables) (each : AreFollowed vs ws) where
+  of_function_follows : (vs ws : Definitions) → AreFollowed vs ws → (of : Subject) → Follows move same (of_function vs of) (of_function ws of)
+  of_function_follows vs ws each subjects.Own = follows_ends
+  of_function_follows vs ws each (subjects.Number n) = follows_ends
+  of_function_follows vs ws each (subjects.Name name) = each.1 name
+
+  module _ (s : Machine) (q : Asker) (vs ws : Definitions) (each : AreFollowed vs ws) where
+    value_of_follows : (class : Class) (of : Subject) →
+        Follows move same (value_of_attribute s q vs class of) (value_of_attribute (moved_machine move s) q ws class of)
+    value_of_follows class of = follows_cond (is_of_variable class) (of_variable_follows vs ws each of)
+        (follows_cond (is_of_function class) (follows_bind _ (of_function_follows vs ws each of) (λ y. follows_gives refl)) (attribute_follows s q class of))
+
     atom_follows : (atom : Atom) → Follows move same (atom_prog s q vs atom) (atom_prog (moved_machine move s) q ws atom)
     unfolding atom_prog
     atom_follows (atoms.Constant value) = follows_gives refl
     atom_follows (atoms.Number name) = follows_asks (items.Name name) number_given_follows
-    atom_follows (atoms.Attribute class of) =
-        follows_cond (is_of_variable class) (of_variable_follows vs ws each of) (attribute_follows s q class of)
+    atom_follows (atoms.Attribute class of) = value_of_follows class of
 
   pub arithmetic_follows : (r : Result ℤ ArithmeticFault) → Follows move same (arithmetic r) (arithmetic r)
   arithmetic_follows (Ok z) = follows_gives refl
   arithmetic_follows (Err arithmetic_faults.Range) = follows_ends
   arithmetic_follows (Err arithmetic_faults.ZeroDivisor) = follows_ends
 
-  module _ (s : Machine) (q : Asker) (vs ws : Variables) (each : AreFollowed vs ws) where
+  module _ (s : Machine) (q : Asker) (vs ws : Definitions) (each : AreFollowed vs ws) where
     token_follows : (token : Token) (values : List ℤ) →
         Follows move same (token_prog s q vs token values) (token_prog (moved_machine move s) q ws token values)
     token_follows (tokens.Value atom) values = follows_bind _ (atom_follows s q vs ws each atom) (λ v. follows_gives refl)
@@ -201,7 +219,7 @@ module _ (move : ℕ → ℕ) (is : IsMove move) where
   last_follows (v ∷ values) = follows_gives refl
 
   -- operands
-  term_follows : (s : Machine) (q : Asker) (vs ws : Variables) → AreFollowed vs ws → (term : Term) →
+  term_follows : (s : Machine) (q : Asker) (vs ws : Definitions) → AreFollowed vs ws → (term : Term) →
       Follows move same (term_prog s q vs term) (term_prog (moved_machine move s) q ws term)
   unfolding term_prog
   term_follows s q vs ws each (Value atom) = atom_follows s q vs ws each atom
@@ -213,17 +231,42 @@ module _ (move : ℕ → ℕ) (is : IsMove move) where
   expression_follows f g each None = follows_ends
   expression_follows f g each (Some term) = each term
 
-  variable_follows : (depth : ℕ) (s : Machine) (q : Asker) → AreFollowed (variable_prog depth s q) (variable_prog depth (moved_machine move s) q)
-  unfolding variable_prog
-  variable_follows zero s q = λ name. follows_ends
-  variable_follows (suc depth) s q = λ name. follows_asks (items.Variable name)
-      (expression_follows (term_prog s q (variable_prog depth s q)) (term_prog (moved_machine move s) q (variable_prog depth (moved_machine move s) q))
-      (term_follows s q (variable_prog depth s q) (variable_prog depth (moved_machine move s) q) (variable_follows depth s q)))
+  argument_by_follows : (s : Machine) (q : Asker) (vs ws : Definitions) → AreFollowed vs ws → (argument : Term) (of : Option Subject) →
+      Follows move same (argument_by s q vs argument of) (argument_by (moved_machine move s) q ws argument of)
+  argument_by_follows s q vs ws each argument None = follows_bind _ (term_follows s q vs ws each argument) (λ v. follows_gives refl)
+  argument_by_follows s q vs ws each argument (Some of) = random_part_follows of
+
+  argument_follows : (s : Machine) (q : Asker) (vs ws : Definitions) → AreFollowed vs ws → (argument : Term) →
+      Follows move same (argument_prog s q vs argument) (argument_prog (moved_machine move s) q ws argument)
+  unfolding argument_prog
+  argument_follows s q vs ws each argument = argument_by_follows s q vs ws each argument (random_of argument)
+
+  point_follows : (y : Option ℤ) → Follows move same (point_found y) (point_found y)
+  point_follows None = follows_ends
+  point_follows (Some y) = follows_gives refl
+
+  function_follows : (f g : Term → Eval ℤ) → ((term : Term) → Follows move same (f term) (g term)) → (o : Option Function) →
+      Follows move same (function_given f o) (function_given g o)
+  function_follows f g each None = follows_ends
+  function_follows f g each (Some function) = follows_bind _ (each function.argument) (λ x. point_follows (curve function x))
+
+  definitions_follow : (depth : ℕ) (s : Machine) (q : Asker) → AreFollowed (definitions_prog depth s q) (definitions_prog depth (moved_machine move s) q)
+  unfolding definitions_prog
+  definitions_follow zero s q = ((λ name. follows_ends), (λ name. follows_ends))
+  definitions_follow (suc depth) s q =
+      let vs = definitions_prog depth s q in
+      let ws = definitions_prog depth (moved_machine move s) q in
+      let each : AreFollowed vs ws = definitions_follow depth s q in (
+        (λ name. follows_asks (items.Variable name)
+            (expression_follows (term_prog s q vs) (term_prog (moved_machine move s) q ws) (term_follows s q vs ws each))),
+        (λ name. follows_asks (items.Function name)
+            (function_follows (argument_prog s q vs) (argument_prog (moved_machine move s) q ws) (argument_follows s q vs ws each))),
+      )
 
   pub value_follows : (s : Machine) (q : Asker) (term : Term) → Follows move same (value_prog s q term) (value_prog (moved_machine move s) q term)
   unfolding value_prog
   value_follows s q term =
-      term_follows s q (variable_prog DEEPEST s q) (variable_prog DEEPEST (moved_machine move s) q) (variable_follows DEEPEST s q) term
+      term_follows s q (definitions_prog DEEPEST s q) (definitions_prog DEEPEST (moved_machine move s) q) (definitions_follow DEEPEST s q) term
 
   pub value_there_follows : (s : Machine) (q : Asker) (term : Option Term) → Follows move same (value_there s q term) (value_there (moved_machine move s) q term)
   value_there_follows s q None = follows_ends
@@ -247,7 +290,14 @@ module _ (move : ℕ → ℕ) (is : IsMove move) where
   sample_within_follows mean zero = follows_gives refl
   sample_within_follows mean (suc n) = follows_bind _ (draw_follows 1) (λ x. in_range_follows (spread mean (suc n) x))
 
+  time_by_follows : (s : Machine) (q : Asker) (mean range : Option Term) (of : Option Subject) →
+      Follows move same (time_by s q mean range of) (time_by (moved_machine move s) q mean range of)
+  time_by_follows s q mean range (Some of) = follows_bind _ (value_or_zero_follows s q mean)
+      (λ m. follows_bind _ (of_function_follows (definitions_prog DEEPEST s q) (definitions_prog DEEPEST (moved_machine move s) q)
+          (definitions_follow DEEPEST s q) of) (λ y. in_range_follows (times m y)))
+  time_by_follows s q mean range None = follows_bind _ (value_or_zero_follows s q mean)
+      (λ m. follows_bind _ (value_or_zero_follows s q range) (λ r. follows_cond (is_negative r) (follows_gives refl) (sample_within_follows m (magnitude r))))
+
   pub time_follows : (s : Machine) (q : Asker) (mean range : Option Term) →
       Follows move same (time_prog s q mean range) (time_prog (moved_machine move s) q mean range)
-  time_follows s q mean range = follows_bind _ (value_or_zero_follows s q mean)
-      (λ m. follows_bind _ (value_or_zero_follows s q range) (λ r. follows_cond (is_negative r) (follows_gives refl) (sample_within_follows m (magnitude r))))
+  time_follows s q mean range = time_by_follows s q mean range (modifier_of range)

@@ -12,14 +12,14 @@ use Rattle.gw_meaning.specs.declared.item.End.{End}
 use Rattle.gw_meaning.specs.declared.item.End.TheVariants as ends
 use Rattle.gw_meaning.specs.Laws.{comes_to, ConstantsHangOnNothing}
 use Rattle.gw_meaning.specs.Machine.{Machine}
-use Rattle.gw_meaning.specs.Evaluation.{Eval, gives, ◌~>◌, Variables, atom_prog, arithmetic, expression_prog}
+use Rattle.gw_meaning.specs.Evaluation.{Eval, gives, ◌~>◌, Definitions, atom_prog, arithmetic, expression_prog}
 
 -- what evaluations in any state come to
-abbrev Settled : (Machine → Asker → Variables → Eval ℤ) → Type 0
-Settled p = (r : Result ℤ End) × ((s : Machine) (q : Asker) (v : Variables) → p s q v ≡ comes_to r)
+abbrev Settled : (Machine → Asker → Definitions → Eval ℤ) → Type 0
+Settled p = (r : Result ℤ End) × ((s : Machine) (q : Asker) (v : Definitions) → p s q v ≡ comes_to r)
 
 -- one evaluation and then another, which hangs on what the first gives alone
-settled_then : (p : Machine → Asker → Variables → Eval ℤ) (f : Machine → Asker → Variables → ℤ → Eval ℤ) → Settled p →
+settled_then : (p : Machine → Asker → Definitions → Eval ℤ) (f : Machine → Asker → Definitions → ℤ → Eval ℤ) → Settled p →
     ((z : ℤ) → Settled (λ s q v. f s q v z)) → Settled (λ s q v. p s q v ~> f s q v)
 settled_then p f (Ok z, first) second =
     let next = second z in

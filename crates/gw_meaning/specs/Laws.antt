@@ -6,19 +6,19 @@ use Rattle.gw_expr.specs.declared.atom.Atom.TheVariants as atoms
 use Rattle.gw_meaning.specs.declared.asker.Asker.{Asker}
 use Rattle.gw_meaning.specs.declared.item.End.{End}
 use Rattle.gw_meaning.specs.Machine.{Machine}
-use Rattle.gw_meaning.specs.Evaluation.{Eval, gives, ends_with, Variables, DEEPEST, term_prog, variable_prog, value_prog, expression_prog}
+use Rattle.gw_meaning.specs.Evaluation.{Eval, gives, ends_with, Definitions, DEEPEST, term_prog, definitions_prog, value_prog, expression_prog}
 
 -- an expression that is kept in postfix order has the value of the expression, by the same questions and draws
 abbrev pub ExpressionsHaveTheirValues : Type 0
 ExpressionsHaveTheirValues =
     (s : Machine) (q : Asker) (e : Expression) →
-    value_prog s q (Computed (postfix e)) ≡ expression_prog s q (variable_prog DEEPEST s q) e
+    value_prog s q (Computed (postfix e)) ≡ expression_prog s q (definitions_prog DEEPEST s q) e
 
--- so has the expression of a VARIABLE, whatever the VARIABLEs in it come to
+-- so has the expression of a VARIABLE, whatever the definitions in it come to
 abbrev pub NestedHaveTheirValues : Type 0
 NestedHaveTheirValues =
-    (s : Machine) (q : Asker) (variables : Variables) (e : Expression) →
-    term_prog s q variables (Computed (postfix e)) ≡ expression_prog s q variables e
+    (s : Machine) (q : Asker) (defined : Definitions) (e : Expression) →
+    term_prog s q defined (Computed (postfix e)) ≡ expression_prog s q defined e
 
 -- nothing stands in an expression but constants
 abbrev pub IsConstant : Expression → Type 0
@@ -37,4 +37,4 @@ comes_to (Err end) = ends_with end
 -- version has another value of it
 abbrev pub ConstantsHangOnNothing : Type 0
 ConstantsHangOnNothing = (e : Expression) → IsConstant e →
-    (r : Result ℤ End) × ((s : Machine) (q : Asker) (variables : Variables) → expression_prog s q variables e ≡ comes_to r)
+    (r : Result ℤ End) × ((s : Machine) (q : Asker) (defined : Definitions) → expression_prog s q defined e ≡ comes_to r)

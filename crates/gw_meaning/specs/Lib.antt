@@ -5,6 +5,7 @@ pub mod Listing
 pub mod Numbers
 pub mod Entities
 pub mod Machine
+pub mod Functions
 pub mod Questions
 pub mod Evaluation
 pub mod Laws
@@ -13,6 +14,7 @@ pub mod Step
 pub mod Reads
 pub mod Point
 pub use Rattle.gw_nums.specs.Range
+pub use Rattle.gw_nums.specs.Millionths
 pub use Rattle.gw_streams.specs.Draws
 pub use Rattle.gw_expr.specs.Term
 pub use Rattle.gw_expr.specs.Arithmetic

@@ -5,6 +5,7 @@ use Rattle.std.specs.Prelude.{ℕ, ℤ, zero, suc, ◌+◌, Bool, true, false, �
 use Rattle.std.specs.List.{filter_map}
 use Rattle.std.specs.Str.{bytes_eq}
 use Rattle.gw_expr.specs.Term.{Term}
+use Rattle.gw_meaning.specs.declared.function.Function.{Function}
 use Rattle.gw_meaning.specs.declared.statement.Block.{Block}
 use Rattle.gw_meaning.specs.declared.statement.Definition.{Definition}
 use Rattle.gw_meaning.specs.declared.statement.Definition.TheVariants as definitions
@@ -136,7 +137,8 @@ abbrev pub defined_in : List ℕ → List Numbered → Option Definition
 defined_in name [] = None
 defined_in name (line ∷ lines) = or_next (defines name line) (defined_in name lines)
 
--- how many units a definition gives a storage, which number it gives a name, and which expression a VARIABLE
+-- how many units a definition gives a storage, which number it gives a name, which expression a VARIABLE, and which
+-- FUNCTION it is
 abbrev pub units_of : Option Definition → Option ℕ
 units_of (Some (definitions.Storage capacity)) = Some capacity
 units_of definition = None
@@ -149,12 +151,17 @@ abbrev pub expression_of : Option Definition → Option Term
 expression_of (Some (definitions.Variable expression)) = Some expression
 expression_of definition = None
 
+abbrev pub function_of : Option Definition → Option Function
+function_of (Some (definitions.Function function)) = Some function
+function_of definition = None
+
 -- the first that statements say
 abbrev pub first_said : {X : Type 0} → (Numbered → Option X) → List Numbered → Option X
 first_said says [] = None
 first_said says (line ∷ lines) = or_next (says line) (first_said says lines)
 
--- the units of the storage of a name, the number that a name stands for, and the expression of the VARIABLE of a name
+-- the units of the storage of a name, the number that a name stands for, the expression of the VARIABLE of a name, and
+-- the FUNCTION of a name
 abbrev pub capacity_in : List ℕ → List Numbered → Option ℕ
 capacity_in name = first_said (λ line. units_of (defines name line))
 
@@ -163,6 +170,9 @@ number_in name = first_said (λ line. number_of (defines name line))
 
 abbrev pub variable_in : List ℕ → List Numbered → Option Term
 variable_in name = first_said (λ line. expression_of (defines name line))
+
+abbrev pub function_in : List ℕ → List Numbered → Option Function
+function_in name = first_said (λ line. function_of (defines name line))
 
 -- the numbers of the GENERATEs, in order
 abbrev pub generates_in : List Numbered → List ℕ
@@ -205,6 +215,10 @@ number_at t name = number_in name t.lines
 -- the expression of the VARIABLE of a name, where there is one
 abbrev pub variable_at : Listing → List ℕ → Option Term
 variable_at t name = variable_in name t.lines
+
+-- the FUNCTION of a name, where there is one
+abbrev pub function_at : Listing → List ℕ → Option Function
+function_at t name = function_in name t.lines
 
 -- the i-th statement
 abbrev pub statement_at : Listing → ℕ → Option Statement

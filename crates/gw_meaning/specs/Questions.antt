@@ -2,12 +2,13 @@
 -- with the answer; what it read is just what it asked. (Our own.)
 use Rattle.std.specs.Prelude.{ℕ, ℤ, Bool, List, [], ◌∷◌, Option, Result, Ok, Err, nat_le}
 use Rattle.gw_expr.specs.Term.{Term}
+use Rattle.gw_meaning.specs.declared.function.Function.{Function}
 use Rattle.gw_meaning.specs.declared.item.Item.{Item}
 use Rattle.gw_meaning.specs.declared.item.Item.TheVariants as items
 use Rattle.gw_meaning.specs.declared.item.End.{End}
 use Rattle.gw_meaning.specs.declared.statement.Block.{Block}
 use Rattle.gw_meaning.specs.declared.statement.Command.{Command}
-use Rattle.gw_meaning.specs.Listing.{Listing, block_at, after_at, label_at, capacity_at, number_at, variable_at, generates_in, command_at}
+use Rattle.gw_meaning.specs.Listing.{Listing, block_at, after_at, label_at, capacity_at, number_at, variable_at, function_at, generates_in, command_at}
 
 -- what a question is answered with
 abbrev pub Answer : Item → Type 0
@@ -18,6 +19,7 @@ Answer (items.Name name) = Option ℤ
 Answer (items.Fits name units) = Bool
 Answer (items.Storage name) = ℕ
 Answer (items.Variable name) = Option Term
+Answer (items.Function name) = Option Function
 Answer items.Generates = List ℕ
 Answer (items.Cmd i) = Option Command
 Answer items.Seed = ℕ
@@ -32,6 +34,7 @@ ask t seed (items.Name name) = number_at t name
 ask t seed (items.Fits name units) = nat_le units (capacity_at t name)
 ask t seed (items.Storage name) = capacity_at t name
 ask t seed (items.Variable name) = variable_at t name
+ask t seed (items.Function name) = function_at t name
 ask t seed items.Generates = generates_in t.lines
 ask t seed (items.Cmd i) = command_at t i
 ask t seed items.Seed = seed

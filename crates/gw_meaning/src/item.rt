@@ -20,6 +20,8 @@ pub enum Item {
     Storage(Name),
     /// What is the expression of the VARIABLE of this name, if there is one?
     Variable(Name),
+    /// What are the argument, the type and the points of the FUNCTION of this name, if there is one?
+    Function(Name),
     /// Which blocks are GENERATEs?
     Generates,
     /// What is the i-th command, from 1?

@@ -2,7 +2,7 @@
 ghost use Rattle.gw_meaning.specs.Laws.{ConstantsHangOnNothing, ExpressionsHaveTheirValues, NestedHaveTheirValues};
 
 /// An expression in parentheses, which is kept in postfix order, has the value that recursion on the expression gives
-/// it, by the same questions and the same draws. So has the expression of a VARIABLE, whatever the VARIABLEs in it
+/// it, by the same questions and the same draws. So has the expression of a VARIABLE, whatever the definitions in it
 /// come to.
 pub fn expressions_have_their_values()
     ensures operands { ExpressionsHaveTheirValues }

@@ -9,6 +9,8 @@ use Rattle.gw_expr.specs.declared.atom.Atom.TheVariants as atoms
 use Rattle.gw_expr.specs.declared.token.Token.{Token}
 use Rattle.gw_expr.specs.declared.token.Token.TheVariants as tokens
 use Rattle.gw_meaning.specs.Listing.{operand_of, operands_of, defined_in, expression_of, labelled_in, number_of, units_of}
+use Rattle.gw_meaning.specs.declared.function.Function.{Function}
+use Rattle.gw_meaning.specs.Evaluation.{is_of_function}
 use Rattle.gw_meaning.specs.declared.statement.Definition.{Definition}
 use Rattle.gw_meaning.specs.declared.statement.Definition.TheVariants as definitions
 use Rattle.gw_meaning.specs.declared.statement.Numbered.{Numbered}
@@ -16,7 +18,7 @@ use Rattle.gw_names.specs.declared.class.Class.{Class}
 use Rattle.gw_names.specs.declared.class.Class.TheVariants as class
 use Rattle.gw_expr.specs.declared.attribute.Subject.{Subject}
 use Rattle.gw_expr.specs.declared.attribute.Subject.TheVariants as subjects
-use Rattle.gw_model.specs.Faults.{is_of_block, is_of_storage, is_of_definition, is_storage_or_equ, is_variable_or_equ, is_wanted_or_equ, lacks_name, has_name, holds_of, holds_in, counts_unknown, has_no_value, is_of_equ, is_unknown_label, has_unknown_label, is_undefined, has_unknown_definition, is_equ_named, has_equ_named}
+use Rattle.gw_model.specs.Faults.{is_of_block, is_of_storage, is_of_definition, is_storage_or_equ, is_variable_or_equ, is_function_or_equ, is_wanted_or_equ, lacks_name, has_name, holds_of, holds_in, counts_unknown, has_no_value, is_of_equ, is_unknown_label, has_unknown_label, is_undefined, has_unknown_definition, is_equ_named, has_equ_named}
 use Rattle.gw_model.proofs.Apart.{none_of, none_from}
 
 -- the labels of these lines
@@ -152,6 +154,7 @@ storage_is None h k = absurd cc
 storage_is (Some (definitions.Storage capacity)) h k = (capacity, refl)
 storage_is (Some (definitions.Equ value)) h k = absurd cc
 storage_is (Some (definitions.Variable expression)) h k = absurd cc
+storage_is (Some (definitions.Function function)) h k = absurd cc
 
 variable_is : (o : Option Definition) → not (is_variable_or_equ o) ≡ false → is_some (number_of o) ≡ false →
     (expression : Term) × (o ≡ Some (definitions.Variable expression))
@@ -159,12 +162,22 @@ variable_is None h k = absurd cc
 variable_is (Some (definitions.Storage capacity)) h k = absurd cc
 variable_is (Some (definitions.Equ value)) h k = absurd cc
 variable_is (Some (definitions.Variable expression)) h k = (expression, refl)
+variable_is (Some (definitions.Function function)) h k = absurd cc
+
+function_is : (o : Option Definition) → not (is_function_or_equ o) ≡ false → is_some (number_of o) ≡ false →
+    (function : Function) × (o ≡ Some (definitions.Function function))
+function_is None h k = absurd cc
+function_is (Some (definitions.Storage capacity)) h k = absurd cc
+function_is (Some (definitions.Equ value)) h k = absurd cc
+function_is (Some (definitions.Variable expression)) h k = absurd cc
+function_is (Some (definitions.Function function)) h k = (function, refl)
 
 equ_is : (o : Option Definition) → not (is_some (number_of o)) ≡ false → (value : ℤ) × (o ≡ Some (definitions.Equ value))
 equ_is None h = absurd cc
 equ_is (Some (definitions.Storage capacity)) h = absurd cc
 equ_is (Some (definitions.Equ value)) h = (value, refl)
 equ_is (Some (definitions.Variable expression)) h = absurd cc
+equ_is (Some (definitions.Function function)) h = absurd cc
 
 pub storages_there : (lines : List Numbered) → has_unknown_definition lines ≡ false → has_equ_named lines ≡ false → StoragesThere lines
 unfolding has_unknown_definition has_equ_named is_undefined is_equ_named
@@ -179,7 +192,7 @@ numbers_there lines h i place line term name e o has =
     equ_is (defined_in name lines)
     (no_atom (is_undefined (definition lines)) (has_no_value (definition lines)) (λ a. refl) (λ ts. refl) term (atoms.Number name) none has)
 
--- so is each storage whose content an attribute tells, and each VARIABLE that one evaluates
+-- so is each storage whose content an attribute tells, and each VARIABLE and each FUNCTION that one evaluates
 abbrev pub ContentsThere : List Numbered → Type 0
 ContentsThere lines = (i place : ℕ) (line : Numbered) (term : Term) (class : Class) (of : Subject) → slice_get lines i ≡ Some line →
     operand_of line place ≡ Some term → HasAtom term (atoms.Attribute class of) → is_of_storage class ≡ true →
@@ -190,12 +203,21 @@ VariablesThere lines = (i place : ℕ) (line : Numbered) (term : Term) (of : Sub
     operand_of line place ≡ Some term → HasAtom term (atoms.Attribute class.V of) →
     (name : List ℕ) × (of ≡ subjects.Name name) × (expression : Term) × (defined_in name lines ≡ Some (definitions.Variable expression))
 
--- whether a name is that of a storage or of a VARIABLE, or an EQU's in the place of one; and whether it is an EQU's
+abbrev pub FunctionsThere : List Numbered → Type 0
+FunctionsThere lines = (i place : ℕ) (line : Numbered) (term : Term) (of : Subject) → slice_get lines i ≡ Some line →
+    operand_of line place ≡ Some term → HasAtom term (atoms.Attribute class.Fn of) →
+    (name : List ℕ) × (of ≡ subjects.Name name) × (function : Function) × (defined_in name lines ≡ Some (definitions.Function function))
+
+-- whether a name is that of a storage, of a VARIABLE or of a FUNCTION, or an EQU's in the place of one; and whether it is
+-- an EQU's
 abbrev of_storage : List Numbered → List ℕ → Bool
 of_storage lines name = is_storage_or_equ (defined_in name lines)
 
 abbrev of_variable : List Numbered → List ℕ → Bool
 of_variable lines name = is_variable_or_equ (defined_in name lines)
+
+abbrev of_function : List Numbered → List ℕ → Bool
+of_function lines name = is_function_or_equ (defined_in name lines)
 
 abbrev wanted : List Numbered → Class → List ℕ → Bool
 wanted lines class name = is_wanted_or_equ class (defined_in name lines)
@@ -215,15 +237,23 @@ variable_named lines subjects.Own h k = absurd cc
 variable_named lines (subjects.Number n) h k = absurd cc
 variable_named lines (subjects.Name name) h k = let there = variable_is (defined_in name lines) h k in (name, refl, there.0, there.1)
 
+function_named : (lines : List Numbered) (of : Subject) → lacks_name (of_function lines) of ≡ false → has_name (is_number lines) of ≡ false →
+    (name : List ℕ) × (of ≡ subjects.Name name) × (function : Function) × (defined_in name lines ≡ Some (definitions.Function function))
+function_named lines subjects.Own h k = absurd cc
+function_named lines (subjects.Number n) h k = absurd cc
+function_named lines (subjects.Name name) h k = let there = function_is (defined_in name lines) h k in (name, refl, there.0, there.1)
+
 -- the attributes of a storage are those of a definition, which is to be a storage
 storage_class : (class : Class) → is_of_storage class ≡ true → is_of_definition class ≡ true
 storage_class class.V h = absurd cc
+storage_class class.Fn h = absurd cc
 storage_class class h = h
 
 storage_wanted : (lines : List Numbered) (class : Class) (of : Subject) → is_of_storage class ≡ true →
     lacks_name (wanted lines class) of ≡ lacks_name (of_storage lines) of
 storage_wanted lines class of is =
-    ap (λ b. lacks_name (λ name. cond b (is_storage_or_equ (defined_in name lines)) (is_variable_or_equ (defined_in name lines))) of) is
+    ap (λ b. lacks_name (λ name. cond b (is_storage_or_equ (defined_in name lines))
+    (cond (is_of_function class) (is_function_or_equ (defined_in name lines)) (is_variable_or_equ (defined_in name lines)))) of) is
 
 -- what the scans find of the definition that an attribute is of
 pub definition_of_attribute : (lines : List Numbered) → has_unknown_definition lines ≡ false → has_equ_named lines ≡ false →
@@ -250,10 +280,15 @@ variables_there lines h k i place line term of e o has =
     let found = definition_of_attribute lines h k i place line term class.V of e o has refl in
     variable_named lines of found.0 found.1
 
+pub functions_there : (lines : List Numbered) → has_unknown_definition lines ≡ false → has_equ_named lines ≡ false → FunctionsThere lines
+functions_there lines h k i place line term of e o has =
+    let found = definition_of_attribute lines h k i place line term class.Fn of e o has refl in
+    function_named lines of found.0 found.1
+
 pub definitions_known : (lines : List Numbered) → StoragesThere lines → NumbersThere lines → ContentsThere lines → VariablesThere lines →
-    has_unknown_definition lines ≡ false
+    FunctionsThere lines → has_unknown_definition lines ≡ false
 unfolding has_unknown_definition is_undefined
-definitions_known lines f g w v = in_no_line (is_undefined (definition lines)) lines go where
+definitions_known lines f g w v u = in_no_line (is_undefined (definition lines)) lines go where
   each : (i place : ℕ) (line : Numbered) (term : Term) → slice_get lines i ≡ Some line → operand_of line place ≡ Some term → (atom : Atom) → HasAtom term atom → has_no_value (definition lines) atom ≡ false
   each i place line term e o (atoms.Constant value) has = refl
   each i place line term e o (atoms.Number name) has =
@@ -261,6 +296,9 @@ definitions_known lines f g w v = in_no_line (is_undefined (definition lines)) l
   each i place line term e o (atoms.Attribute class.V of) has =
       let h = v i place line term of e o has in
       ap (lacks_name (of_variable lines)) h.1 ∙ ap (λ (x : Option Definition). not (is_variable_or_equ x)) h.3
+  each i place line term e o (atoms.Attribute class.Fn of) has =
+      let h = u i place line term of e o has in
+      ap (lacks_name (of_function lines)) h.1 ∙ ap (λ (x : Option Definition). not (is_function_or_equ x)) h.3
   each i place line term e o (atoms.Attribute class of) has = tested (is_of_storage class) (lacks_name (wanted lines class) of)
       (λ is. (let h = w i place line term class of e o has is in
       storage_wanted lines class of is ∙
@@ -272,12 +310,16 @@ definitions_known lines f g w v = in_no_line (is_undefined (definition lines)) l
   go i place line (Computed ts) e o = in_no_atom _ (Computed ts) (each i place line (Computed ts) e o)
   go i place line term e o = refl
 
-pub none_equ_named : (lines : List Numbered) → StoragesThere lines → ContentsThere lines → VariablesThere lines → has_equ_named lines ≡ false
+pub none_equ_named : (lines : List Numbered) → StoragesThere lines → ContentsThere lines → VariablesThere lines →
+    FunctionsThere lines → has_equ_named lines ≡ false
 unfolding has_equ_named is_equ_named
-none_equ_named lines f w v = in_no_line (is_equ_named (definition lines)) lines go where
+none_equ_named lines f w v u = in_no_line (is_equ_named (definition lines)) lines go where
   each : (i place : ℕ) (line : Numbered) (term : Term) → slice_get lines i ≡ Some line → operand_of line place ≡ Some term → (atom : Atom) → HasAtom term atom → is_of_equ (definition lines) atom ≡ false
   each i place line term e o (atoms.Attribute class.V of) has =
       let h = v i place line term of e o has in
+      ap (has_name (is_number lines)) h.1 ∙ ap (λ (x : Option Definition). is_some (number_of x)) h.3
+  each i place line term e o (atoms.Attribute class.Fn of) has =
+      let h = u i place line term of e o has in
       ap (has_name (is_number lines)) h.1 ∙ ap (λ (x : Option Definition). is_some (number_of x)) h.3
   each i place line term e o (atoms.Attribute class of) has = tested (is_of_storage class) (has_name (is_number lines) of)
       (λ is. (let h = w i place line term class of e o has is in

@@ -7,7 +7,7 @@ use Rattle.gw_meaning.specs.declared.statement.Body.{Body}
 use Rattle.gw_meaning.specs.declared.statement.Body.TheVariants as bodies
 use Rattle.gw_meaning.specs.declared.statement.Definition.{Definition}
 use Rattle.gw_meaning.specs.declared.statement.Numbered.{Numbered}
-use Rattle.gw_meaning.specs.Listing.{Listing, has_label, definition_of_body, definition_if, defines, or_next, defined_in, first_said, units_of, number_of, expression_of, definition_at, capacity_at, number_at, variable_at}
+use Rattle.gw_meaning.specs.Listing.{Listing, has_label, definition_of_body, definition_if, defines, or_next, defined_in, first_said, units_of, number_of, expression_of, function_of, definition_at, capacity_at, number_at, variable_at, function_at}
 use Rattle.gw_model.specs.Faults.{is_labelled, has_label_twice}
 use Rattle.gw_model.specs.Listed.{counted_label}
 use Rattle.gw_model.specs.Well.{Well}
@@ -85,3 +85,6 @@ capacity_once t name well = ap (λ o. unwrap_or o 0) (said_once name units_of re
 
 pub variable_once : (t : Listing) (name : List ℕ) → Well t → variable_at t name ≡ expression_of (definition_at t name)
 variable_once t name well = said_once name expression_of refl t.lines (labels_once t.lines well.labels_apart)
+
+pub function_once : (t : Listing) (name : List ℕ) → Well t → function_at t name ≡ function_of (definition_at t name)
+function_once t name well = said_once name function_of refl t.lines (labels_once t.lines well.labels_apart)

@@ -9,8 +9,9 @@ use Rattle.gw_expr.specs.declared.attribute.Subject.TheVariants as subjects
 use Rattle.gw_expr.specs.Term.{Term, Defined, Label, holds_of_atom}
 use Rattle.gw_expr.specs.declared.atom.Atom.{Atom}
 use Rattle.gw_expr.specs.declared.atom.Atom.TheVariants as atoms
-use Rattle.gw_meaning.specs.Listing.{Listing, operands_of, defined_in, expression_of, units_of, has_label, labelled_in}
+use Rattle.gw_meaning.specs.Listing.{Listing, operands_of, defined_in, expression_of, function_of, units_of, has_label, labelled_in}
 use Rattle.gw_meaning.specs.Listing as listings
+use Rattle.gw_meaning.specs.Evaluation.{is_of_function}
 use Rattle.gw_model.specs.Listed.{counted_label}
 use Rattle.gw_meaning.specs.declared.statement.Definition.{Definition}
 use Rattle.gw_meaning.specs.declared.statement.Numbered.{Numbered}
@@ -72,11 +73,11 @@ abbrev pub holds_of : (Term → Bool) → Option Term → Bool
 holds_of test None = false
 holds_of test (Some term) = test term
 
--- whether a test holds of an operand of a block, or of the expression of a VARIABLE
+-- whether a test holds of an operand of a block, of the expression of a VARIABLE, or of the argument of a FUNCTION
 abbrev pub holds_in : (Term → Bool) → Numbered → Bool
 holds_in test line = list_any (holds_of test) (operands_of line)
 
--- whether the attributes of a class are of a block, of a storage, and of a storage or a VARIABLE
+-- whether the attributes of a class are of a block, of a storage, and of a storage, a VARIABLE or a FUNCTION
 abbrev pub is_of_block : Class → Bool
 is_of_block class.N = true
 is_of_block class.W = true
@@ -91,6 +92,7 @@ is_of_storage class = false
 
 abbrev pub is_of_definition : Class → Bool
 is_of_definition class.V = true
+is_of_definition class.Fn = true
 is_of_definition class = is_of_storage class
 
 -- whether a definition is a storage, or an EQU in the place of one, and whether it is what an attribute of a class is of,
@@ -101,9 +103,13 @@ is_storage_or_equ definition = is_some (units_of definition) || is_some (listing
 abbrev pub is_variable_or_equ : Option Definition → Bool
 is_variable_or_equ definition = is_some (expression_of definition) || is_some (listings.number_of definition)
 
+abbrev pub is_function_or_equ : Option Definition → Bool
+is_function_or_equ definition = is_some (function_of definition) || is_some (listings.number_of definition)
+
 abbrev pub is_wanted_or_equ : Class → Option Definition → Bool
 is_wanted_or_equ class definition =
-    if is_of_storage class then is_storage_or_equ definition else is_variable_or_equ definition
+    if is_of_storage class then is_storage_or_equ definition
+    else (if is_of_function class then is_function_or_equ definition else is_variable_or_equ definition)
 
 -- whether what an attribute is of has no name that is known, and whether it has a name of which a test holds
 abbrev pub lacks_name : (List ℕ → Bool) → Subject → Bool
@@ -127,8 +133,8 @@ is_unknown_label known term = holds_of_atom (counts_unknown known) term
 unfoldable pub has_unknown_label : List Numbered → Bool
 has_unknown_label lines = list_any (holds_in (is_unknown_label (λ name. is_some (labelled_in name lines)))) lines
 
--- a name without the definition that it needs: that of a storage or of a VARIABLE has neither that nor an EQU, or what
--- stands for a number has no EQU
+-- a name without the definition that it needs: that of a storage, of a VARIABLE or of a FUNCTION has neither that nor an
+-- EQU, or what stands for a number has no EQU
 abbrev pub has_no_value : (List ℕ → Option Definition) → Atom → Bool
 has_no_value definition (atoms.Constant value) = false
 has_no_value definition (atoms.Number name) = not (is_some (listings.number_of (definition name)))
@@ -143,7 +149,7 @@ is_undefined definition term = holds_of_atom (has_no_value definition) term
 unfoldable pub has_unknown_definition : List Numbered → Bool
 has_unknown_definition lines = list_any (holds_in (is_undefined (λ name. defined_in name lines))) lines
 
--- the name of a storage or of a VARIABLE that is an EQU's
+-- the name of a storage, of a VARIABLE or of a FUNCTION that is an EQU's
 abbrev pub is_of_equ : (List ℕ → Option Definition) → Atom → Bool
 is_of_equ definition (atoms.Attribute class of) =
     is_of_definition class && has_name (λ name. is_some (listings.number_of (definition name))) of

@@ -9,6 +9,7 @@ use Rattle.gw_expr.specs.declared.attribute.Subject.TheVariants as subjects
 use Rattle.gw_meaning.specs.Listing.{Listing, operand_of, definition_at, label_at}
 use Rattle.gw_model.specs.Listed.{counted_label}
 use Rattle.gw_model.specs.Faults.{is_of_block, is_of_storage}
+use Rattle.gw_meaning.specs.declared.function.Function.{Function}
 use Rattle.gw_meaning.specs.declared.statement.Definition.TheVariants as definitions
 use Rattle.gw_meaning.specs.declared.statement.Numbered.{Numbered}
 use Rattle.gw_meaning.specs.declared.statement.Replication.{Replication}
@@ -58,3 +59,9 @@ pub record Well (t : Listing) : Type 0 where
       HasAtom term (atoms.Attribute class.V of) →
       (name : List ℕ) × (of ≡ subjects.Name name) × (expression : Term) ×
       (definition_at t name ≡ Some (definitions.Variable expression))
+  pub functions_there :
+      (i place : ℕ) (line : Numbered) (term : Term) (of : Subject) →
+      slice_get t.lines i ≡ Some line → operand_of line place ≡ Some term →
+      HasAtom term (atoms.Attribute class.Fn of) →
+      (name : List ℕ) × (of ≡ subjects.Name name) × (function : Function) ×
+      (definition_at t name ≡ Some (definitions.Function function))

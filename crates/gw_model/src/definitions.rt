@@ -5,14 +5,16 @@ ghost use Rattle.std.specs.Cmp.Lexicographic.{slice_cmp};
 ghost use Rattle.gw_meaning.specs.Listing.{defined_in, number_of, operands_of_definition};
 ghost use Rattle.std.specs.List.{list_any};
 ghost use Rattle.gw_expr.specs.Term.{holds_of_token};
-ghost use Rattle.gw_model.specs.Faults.{has_no_value, is_of_equ, has_unknown_definition, has_equ_named, holds_in, holds_of, is_undefined, is_equ_named, is_of_storage, is_of_definition, is_storage_or_equ, is_variable_or_equ, is_wanted_or_equ, lacks_name, has_name};
+ghost use Rattle.gw_meaning.specs.Evaluation.{is_of_function};
+ghost use Rattle.gw_model.specs.Faults.{has_no_value, is_of_equ, has_unknown_definition, has_equ_named, holds_in, holds_of, is_undefined, is_equ_named, is_of_storage, is_of_definition, is_storage_or_equ, is_variable_or_equ, is_function_or_equ, is_wanted_or_equ, lacks_name, has_name};
 
 use gw_expr::{Atom, Expr, Node, Subject, Token};
 use gw_meaning::{Body, Definition, Numbered};
 use gw_names::{Class, Name};
 use std::collections::BTreeMap;
 
-/// Whether an operand of a block or the expression of a VARIABLE has a name without the definition that it needs.
+/// Whether an operand of a block, the expression of a VARIABLE or the argument of a FUNCTION has a name without the
+/// definition that it needs.
 #[tactic(auto, unfolding(crate::specs::Faults::has_unknown_definition))]
 pub fn has_unknown_definition(lines: &[Numbered], definitions: &BTreeMap<Name, Definition>) -> bool
     requires { (name : List ℕ) → tree.get (slice_cmp nat_cmp) definitions.now name ≡ defined_in name lines.now }
@@ -21,8 +23,8 @@ pub fn has_unknown_definition(lines: &[Numbered], definitions: &BTreeMap<Name, D
     lines.iter().any(|line| names_undefined(definitions, line))
 }
 
-/// Whether an operand of a block or the expression of a VARIABLE has the name of a storage or of a VARIABLE that is an
-/// EQU's.
+/// Whether an operand of a block, the expression of a VARIABLE or the argument of a FUNCTION has the name of a storage, of
+/// a VARIABLE or of a FUNCTION that is an EQU's.
 #[tactic(auto, unfolding(crate::specs::Faults::has_equ_named))]
 pub fn has_equ_named(lines: &[Numbered], definitions: &BTreeMap<Name, Definition>) -> bool
     requires { (name : List ℕ) → tree.get (slice_cmp nat_cmp) definitions.now name ≡ defined_in name lines.now }
@@ -67,6 +69,7 @@ fn is_undefined_in(definitions: &BTreeMap<Name, Definition>, definition: &Defini
 {
     match definition {
         Definition::Variable { expression } => is_undefined(definitions, expression),
+        Definition::Function(function) => is_undefined(definitions, &function.argument),
         Definition::Storage { .. } | Definition::Equ { .. } => false,
     }
 }
@@ -130,6 +133,7 @@ fn is_equ_named_in(definitions: &BTreeMap<Name, Definition>, definition: &Defini
 {
     match definition {
         Definition::Variable { expression } => is_equ_named(definitions, expression),
+        Definition::Function(function) => is_equ_named(definitions, &function.argument),
         Definition::Storage { .. } | Definition::Equ { .. } => false,
     }
 }
@@ -189,7 +193,10 @@ fn is_equ(definitions: &BTreeMap<Name, Definition>, name: &Name) -> bool
 {
     match definitions.get(name) {
         Some(Definition::Equ { .. }) => true,
-        Some(Definition::Storage { .. } | Definition::Variable { .. }) | None => false,
+        Some(
+            Definition::Storage { .. } | Definition::Variable { .. } | Definition::Function(_),
+        )
+        | None => false,
     }
 }
 
@@ -199,7 +206,7 @@ fn is_storage_or_equ(definition: Option<&Definition>) -> bool
 {
     match definition {
         Some(Definition::Storage { .. } | Definition::Equ { .. }) => true,
-        Some(Definition::Variable { .. }) | None => false,
+        Some(Definition::Variable { .. } | Definition::Function(_)) | None => false,
     }
 }
 
@@ -209,7 +216,17 @@ fn is_variable_or_equ(definition: Option<&Definition>) -> bool
 {
     match definition {
         Some(Definition::Variable { .. } | Definition::Equ { .. }) => true,
-        Some(Definition::Storage { .. }) | None => false,
+        Some(Definition::Storage { .. } | Definition::Function(_)) | None => false,
+    }
+}
+
+// Whether a definition is a FUNCTION, or an EQU in the place of one.
+fn is_function_or_equ(definition: Option<&Definition>) -> bool
+    ensures { result ≡ is_function_or_equ (option_copied definition.entry) }
+{
+    match definition {
+        Some(Definition::Function(_) | Definition::Equ { .. }) => true,
+        Some(Definition::Storage { .. } | Definition::Variable { .. }) | None => false,
     }
 }
 
@@ -219,6 +236,8 @@ fn is_wanted_or_equ(class: Class, definition: Option<&Definition>) -> bool
 {
     if is_of_storage(class) {
         is_storage_or_equ(definition)
+    } else if is_of_function(class) {
+        is_function_or_equ(definition)
     } else {
         is_variable_or_equ(definition)
     }
@@ -234,12 +253,22 @@ fn is_of_storage(class: Class) -> bool
     }
 }
 
-// Whether the attributes of a class are of a storage or of a VARIABLE.
+// Whether the attributes of a class are of a FUNCTION.
+fn is_of_function(class: Class) -> bool
+    ensures { result ≡ is_of_function class }
+{
+    match class {
+        Class::Fn => true,
+        _ => false,
+    }
+}
+
+// Whether the attributes of a class are of a storage, of a VARIABLE or of a FUNCTION.
 fn is_of_definition(class: Class) -> bool
     ensures { result ≡ is_of_definition class }
 {
     match class {
-        Class::V => true,
+        Class::V | Class::Fn => true,
         _ => is_of_storage(class),
     }
 }

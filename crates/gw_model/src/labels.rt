@@ -12,7 +12,7 @@ use gw_meaning::{Body, Definition, Numbered, StatementId};
 use gw_names::{Class, Name};
 use std::collections::BTreeMap;
 
-/// Whether an operand of a block or the expression of a VARIABLE has the label of no block.
+/// Whether an operand of a block, the expression of a VARIABLE or the argument of a FUNCTION has the label of no block.
 #[tactic(auto, unfolding(crate::specs::Faults::has_unknown_label))]
 pub fn has_unknown_label(lines: &[Numbered], labels: &BTreeMap<Name, StatementId>) -> bool
     requires { (name : List ℕ) → tree.get (slice_cmp nat_cmp) labels.now name ≡ labelled_in name lines.now }
@@ -43,6 +43,7 @@ fn is_unknown_in(labels: &BTreeMap<Name, StatementId>, definition: &Definition) 
 {
     match definition {
         Definition::Variable { expression } => is_unknown(labels, expression),
+        Definition::Function(function) => is_unknown(labels, &function.argument),
         Definition::Storage { .. } | Definition::Equ { .. } => false,
     }
 }

@@ -64,7 +64,7 @@ fn names_of(alloc: Global, lines: &[Numbered]) -> Result<Names, ModelFault>
     let mut index = lines.len();
     while index > 0 {
         index -= 1;
-        let told = names.tell(&lines[index])?;
+        let told = names.tell(alloc, &lines[index])?;
         if told {
             return Err(ModelFault::LabelTwice);
         }
@@ -74,7 +74,7 @@ fn names_of(alloc: Global, lines: &[Numbered]) -> Result<Names, ModelFault>
 
 impl Names {
     // Notes what the label of a statement stands for, in place of what it stood for. Whether it stood for something.
-    fn tell(&mut self, line: &Numbered) -> Result<bool, AllocError>
+    fn tell(&mut self, alloc: Global, line: &Numbered) -> Result<bool, AllocError>
         ensures labels { OnOk result ((name : List ℕ) → tree.get (slice_cmp nat_cmp) self.new.labels name ≡
             (if is_block line.now && has_label name line.now.statement.label then Some line.now.number
             else tree.get (slice_cmp nat_cmp) self.old.labels name)) }
@@ -91,7 +91,7 @@ impl Names {
                 Ok(told || self.definitions.get(name).is_some())
             }
             Body::Definition(definition) => {
-                let told = put(&mut self.definitions, name, definition.copy()?)?;
+                let told = put(&mut self.definitions, name, definition.copy(alloc)?)?;
                 Ok(told || self.labels.get(name).is_some())
             }
             Body::Command(_) => Ok(false),

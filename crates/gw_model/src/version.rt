@@ -1,5 +1,5 @@
 ghost use Rattle.std.specs.Prelude.{◌≡◌, ◌≤◌, ◌⊎◌, IfOk, OnOk, IfErr, IfSome, IsTrue, Some, None, option_copied, length, nat_le, if◌then◌else◌};
-ghost use Rattle.gw_meaning.specs.Listing.{block_at, after_at, position_at, label_at, command_at, definition_at, capacity_at, number_at, variable_at, generates_in, statement_at, starts, replication_at, seed_at};
+ghost use Rattle.gw_meaning.specs.Listing.{block_at, after_at, position_at, label_at, command_at, definition_at, capacity_at, number_at, variable_at, function_at, generates_in, statement_at, starts, replication_at, seed_at};
 
 use crate::fault::ModelFault;
 use crate::lines::{number, spliced};
@@ -9,7 +9,7 @@ use crate::replications::seed_of;
 use crate::settings::checked_horizon;
 use crate::tabled::Tabled;
 use gw_expr::Expr;
-use gw_meaning::{Block, Command, Definition, Numbered, Replication, Statement, StatementId};
+use gw_meaning::{Block, Command, Definition, Function, Numbered, Replication, Statement, StatementId};
 use gw_names::Name;
 use gw_nums::{Clock, Time, Val};
 use std::alloc::{AllocError, Global};
@@ -236,6 +236,17 @@ impl Version {
     {
         match self.tabled.tables.definitions.get(name) {
             Some(Definition::Variable { expression }) => Some(expression),
+            _ => None,
+        }
+    }
+
+    /// The FUNCTION of this name, if there is one.
+    #[tactic(auto, using(crate::proofs::Once::function_once))]
+    pub fn function(&self, name: &Name) -> Option<&Function>
+        ensures { option_copied result ≡ function_at self.now name.now }
+    {
+        match self.tabled.tables.definitions.get(name) {
+            Some(Definition::Function(function)) => Some(function),
             _ => None,
         }
     }

@@ -13,7 +13,7 @@ mod time;
 mod val;
 
 pub use decimal::put_decimal;
-pub use millionths::Millionths;
+pub use millionths::{Millionths, times};
 pub use ratio::thousandths;
 pub use time::{Clock, LAST_CLOCK, LAST_TIME, Time};
 pub use val::{ArithmeticFault, GREATEST, Val, add, div, mul, rem, sub};

@@ -53,6 +53,14 @@ impl Val {
         }
     }
 
+    // The number, which is a value.
+    pub(crate) fn known(value: i64) -> Val
+        requires { IsTrue (is_value value) }
+        ensures { result ≡ value }
+    {
+        Val { value }
+    }
+
     /// The number.
     pub fn get(self) -> i64
         ensures value { result ≡ self }

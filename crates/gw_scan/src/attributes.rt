@@ -1,19 +1,19 @@
 // The values of attributes: what a state says of itself, of the transaction that asks, of an entity or of a block.
 ghost use Rattle.std.specs.Prelude.{◌≡◌, pos};
 ghost use Rattle.gw_expr.specs.declared.attribute.Subject.TheVariants as subjects;
-ghost use Rattle.gw_meaning.specs.Evaluation.{amount, own_value, owned, subject_prog, parameter_value, entity_value, storage_prog, storage_value, block_count, counted, block_value, random_prog, thousandth, attribute_prog, draw, gives, ◌~>◌, left_prog, units_left};
+ghost use Rattle.gw_meaning.specs.Evaluation.{amount, own_value, owned, subject_prog, parameter_value, entity_value, storage_prog, storage_value, block_count, counted, block_value, drawn_prog, random_prog, random_part, millionths, thousandth, attribute_prog, ◌~>◌, left_prog, units_left};
 ghost use Rattle.gw_meaning.specs.Step.{for_none, for_one};
 ghost use Rattle.gw_scan.specs.Deciding.{Decides, Comes};
 
 use crate::case::{Case, Halt, ask_capacity, ask_label, ask_name};
-use crate::draws::draw;
+use crate::draws::{draw, millionths};
 use crate::notes::Notes;
 use crate::state::State;
 use crate::value::named;
 use gw_expr::{Stop, Subject};
 use gw_meaning::{Asker, End, StatementId, Transaction};
 use gw_names::{Class, Key};
-use gw_nums::{Time, Val};
+use gw_nums::{Millionths, Time, Val};
 
 impl State {
     // Operands are evaluated for a transaction.
@@ -29,7 +29,7 @@ impl State {
         }
     }
 
-    // The value of an attribute other than that of a VARIABLE.
+    // The value of an attribute other than that of a VARIABLE or of a FUNCTION.
     #[inline(never)]
     #[tactic(auto, unfolding(gw_meaning::specs::Evaluation::attribute_prog))]
     pub(crate) fn attribute(
@@ -271,18 +271,33 @@ fn entity_of(number: u32) -> Result<Key, Halt>
 fn random(case: Case, notes: &mut Notes, of: &Subject) -> Result<Val, Halt>
     ensures { Decides case.entry.version.now case.entry.seed (random_prog of.now) result notes.old notes.new }
 {
+    let number = drawn(case, notes, of)?;
+    Ok(thousandth(number))
+}
+
+// It in millionths.
+pub fn random_part(case: Case, notes: &mut Notes, of: &Subject) -> Result<Millionths, Halt>
+    ensures { Decides case.entry.version.now case.entry.seed (random_part of.now) result notes.old notes.new }
+{
+    let number = drawn(case, notes, of)?;
+    Ok(part(number))
+}
+
+// The number that is drawn from the stream that an attribute is of.
+fn drawn(case: Case, notes: &mut Notes, of: &Subject) -> Result<u32, Halt>
+    ensures { Decides case.entry.version.now case.entry.seed (drawn_prog of.now) result notes.old notes.new }
+{
     match of {
-        Subject::Number(j) if 1 <= *j && *j <= 7 => random_number(case, notes, *j as usize),
+        Subject::Number(j) if 1 <= *j && *j <= 7 => draw(case, notes, *j as usize),
         _ => Err(Halt::End(End::Error(Stop::Range))),
     }
 }
 
-fn random_number(case: Case, notes: &mut Notes, j: usize) -> Result<Val, Halt>
-    ensures { Decides case.entry.version.now case.entry.seed (draw j ~> (λ x. gives (pos (thousandth x))))
-        result notes.old notes.new }
+// A number that was drawn, as a part of 1.
+fn part(number: u32) -> Millionths
+    ensures { result ≡ pos (millionths number) }
 {
-    let number = draw(case, notes, j)?;
-    Ok(thousandth(number))
+    Millionths::part(millionths(number) as u32)
 }
 
 // A number that was drawn, as a random number from 0 to 999.

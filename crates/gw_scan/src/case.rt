@@ -1,11 +1,11 @@
 // What a step asks, of a version and a seed.
 ghost use Rattle.std.specs.Prelude.{◌≡◌, ◌++◌, ◌∷◌, [], IfOk, OnOk, OnErr, Some, None, if◌then◌else◌, option_copied, nat_le};
 ghost use Rattle.gw_meaning.specs.declared.item.Item.TheVariants as items;
-ghost use Rattle.gw_meaning.specs.Listing.{block_at, after_at, label_at, number_at, capacity_at, variable_at, command_at, generates_in};
+ghost use Rattle.gw_meaning.specs.Listing.{block_at, after_at, label_at, number_at, capacity_at, variable_at, function_at, command_at, generates_in};
 
 use crate::notes::Notes;
 use gw_expr::Expr;
-use gw_meaning::{Block, Command, End, Item, StatementId};
+use gw_meaning::{Block, Command, End, Function, Item, StatementId};
 use gw_model::Version;
 use gw_names::Name;
 use gw_nums::{Clock, Time, Val};
@@ -146,6 +146,21 @@ pub fn ask_variable<'a>(
 {
     notes.note(Item::Variable(name.clone()?))?;
     Ok(version.variable(name))
+}
+
+// What are the argument, the type and the points of the FUNCTION of this name, if there is one?
+pub fn ask_function<'a>(
+    version: &'a Version,
+    notes: &mut Notes,
+    name: &Name,
+) -> Result<Option<&'a Function>, AllocError>
+    ensures answer { IfOk result (λ function. option_copied function ≡ function_at version.now name.now) }
+    ensures ok { OnOk result (notes.new ≡
+        record notes.old { items = notes.old.items ++ items.Function name.now ∷ [] }) }
+    ensures err { OnErr result (notes.new ≡ notes.old) }
+{
+    notes.note(Item::Function(name.clone()?))?;
+    Ok(version.function(name))
 }
 
 // Which blocks are GENERATEs?

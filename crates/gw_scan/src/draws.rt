@@ -1,15 +1,18 @@
 // Draws from the random streams, and the times that are sampled by them.
-ghost use Rattle.std.specs.Prelude.{◌≡◌, ◌≤◌, if◌then◌else◌, Some, None, option_copied};
+ghost use Rattle.std.specs.Prelude.{◌≡◌, ◌≤◌, ◌<◌, ◌^◌, if◌then◌else◌, Some, None, option_copied};
+ghost use Rattle.gw_nums.specs.Millionths.{times};
 ghost use Rattle.gw_nums.specs.Range.{is_value, magnitude};
-ghost use Rattle.gw_meaning.specs.Evaluation.{draw, sample, sample_within, spread, time_prog};
-ghost use Rattle.gw_scan.specs.Deciding.{Decides};
+ghost use Rattle.gw_meaning.specs.Evaluation.{draw, in_range, millionths, modifier_of, sample, sample_within, spread, time_by, time_prog};
+ghost use Rattle.gw_scan.specs.Deciding.{Decides, Comes};
 
 use crate::case::{Case, Halt};
+use crate::expression::is_of_function;
 use crate::notes::Notes;
 use crate::state::State;
-use gw_expr::{Expr, Stop};
+use crate::value::DEEPEST;
+use gw_expr::{Atom, Expr, Node, Stop, Subject};
 use gw_meaning::{Asker, End, Item};
-use gw_nums::Val;
+use gw_nums::{Millionths, Val, times};
 
 // A draw from stream j, which reads the seed where it is the first one since the stream was set.
 #[inline(always)]
@@ -22,8 +25,16 @@ pub fn draw(case: Case, notes: &mut Notes, j: usize) -> Result<u32, Halt>
     Ok(notes.streams.draw(j, case.seed))
 }
 
+// A number that was drawn, as a part of a million.
+pub fn millionths(number: u32) -> u64
+    ensures value { result ≡ millionths number }
+    ensures bound { result < 2 ^ 32 }
+{
+    u64::from(number.saturating_sub(1)) * 1_000_000 / 2_147_483_646
+}
+
 impl State {
-    // A time of mean plus or minus range.
+    // A time of mean plus or minus range, or times the FUNCTION that stands in the place of a range.
     #[inline(always)]
     pub(crate) fn time(
         &self,
@@ -38,9 +49,70 @@ impl State {
             (option_copied range.entry))
             result notes.old notes.new }
     {
+        match modifier_of(range) {
+            Some(of) => self.time_by_function(case, asker, notes, mean, range, of),
+            None => self.time_within(case, asker, notes, mean, range),
+        }
+    }
+
+    // A time of mean times a FUNCTION, for which nothing is drawn.
+    #[inline(never)]
+    fn time_by_function(
+        &self,
+        case: Case,
+        asker: &Asker,
+        notes: &mut Notes,
+        mean: Option<&Expr>,
+        range: Option<&Expr>,
+        of: &Subject,
+    ) -> Result<Val, Halt>
+        ensures { Decides case.entry.version.now case.entry.seed
+            (time_by self.now asker.now (option_copied mean.entry) (option_copied range.entry) (Some of.now))
+            result notes.old notes.new }
+    {
+        let mean = self.value_or_zero(case, asker, notes, mean)?;
+        let by = self.of_function(case, asker, notes, DEEPEST, of)?;
+        multiplied(mean, by)
+    }
+
+    // A time of mean plus or minus range.
+    #[inline(always)]
+    fn time_within(
+        &self,
+        case: Case,
+        asker: &Asker,
+        notes: &mut Notes,
+        mean: Option<&Expr>,
+        range: Option<&Expr>,
+    ) -> Result<Val, Halt>
+        ensures { Decides case.entry.version.now case.entry.seed
+            (time_by self.now asker.now (option_copied mean.entry) (option_copied range.entry) None)
+            result notes.old notes.new }
+    {
         let mean = self.value_or_zero(case, asker, notes, mean)?;
         let range = self.value_or_zero(case, asker, notes, range)?;
         sample(case, notes, mean, range)
+    }
+}
+
+// The FUNCTION that stands in the place of a range.
+#[inline(always)]
+fn modifier_of(range: Option<&Expr>) -> Option<&Subject>
+    ensures { option_copied result ≡ modifier_of (option_copied range.entry) }
+{
+    match range?.node() {
+        Node::Value(Atom::Attribute(class, of)) if is_of_function(*class) => Some(of),
+        _ => None,
+    }
+}
+
+// A mean times a FUNCTION, where that is a value.
+fn multiplied(mean: Val, by: Millionths) -> Result<Val, Halt>
+    ensures { Comes (in_range (times mean by)) result }
+{
+    match times(mean, by) {
+        Some(time) => Ok(time),
+        None => Err(Halt::End(End::Error(Stop::Range))),
     }
 }
 

@@ -1,19 +1,20 @@
-// The values of expressions, part by part, and those of VARIABLEs within them.
-ghost use Rattle.std.specs.Prelude.{◌≡◌, []};
-ghost use Rattle.gw_meaning.specs.Evaluation.{arithmetic, negated_last, applied_last, is_of_variable, of_variable, atom_prog, token_prog, tokens_prog, last_value, term_prog, variable_prog, number_given, ◌~>◌};
+// The values of expressions, part by part, and those of VARIABLEs and FUNCTIONs within them.
+ghost use Rattle.std.specs.Prelude.{◌≡◌, [], Some, None, option_copied};
+ghost use Rattle.gw_meaning.specs.Evaluation.{arithmetic, negated_last, applied_last, is_of_variable, of_variable, is_of_function, of_function, whole_of_function, is_random, random_of, argument_by, argument_prog, point_found, function_given, atom_prog, token_prog, tokens_prog, last_value, term_prog, definitions_prog, number_given, ◌~>◌};
 ghost use Rattle.gw_scan.specs.Deciding.{Decides, Comes};
 
-use crate::case::{Case, Halt, ask_name, ask_variable};
+use crate::attributes::random_part;
+use crate::case::{Case, Halt, ask_function, ask_name, ask_variable};
 use crate::notes::Notes;
 use crate::state::State;
 use crate::waiting_values::WaitingValues;
 use gw_expr::{Atom, Expr, Node, Operator, Stop, Subject, Token};
-use gw_meaning::{Asker, End};
+use gw_meaning::{Asker, End, Function};
 use gw_names::Class;
-use gw_nums::{ArithmeticFault, Val};
+use gw_nums::{ArithmeticFault, Millionths, Val};
 
 impl State {
-    // The value of an operand, in which so many VARIABLEs may stand in each other.
+    // The value of an operand, in which so many VARIABLEs and FUNCTIONs may stand in each other.
     #[cycle(nested)]
     #[tactic(auto, unfolding(gw_meaning::specs::Evaluation::term_prog))]
     pub(crate) fn term(
@@ -25,7 +26,7 @@ impl State {
         operand: &Expr,
     ) -> Result<Val, Halt>
         ensures { Decides case.entry.version.now case.entry.seed
-            (term_prog self.now asker.now (variable_prog depth self.now asker.now) operand.now)
+            (term_prog self.now asker.now (definitions_prog depth self.now asker.now) operand.now)
             result notes.old notes.new }
     {
         match operand.node() {
@@ -48,7 +49,7 @@ impl State {
         atom: &Atom,
     ) -> Result<Val, Halt>
         ensures { Decides case.entry.version.now case.entry.seed
-            (atom_prog self.now asker.now (variable_prog depth self.now asker.now) atom.now)
+            (atom_prog self.now asker.now (definitions_prog depth self.now asker.now) atom.now)
             result notes.old notes.new }
     {
         match atom {
@@ -60,6 +61,8 @@ impl State {
             Atom::Attribute(class, of) => {
                 if is_of_variable(*class) {
                     self.of_variable(case, asker, notes, depth, of)
+                } else if is_of_function(*class) {
+                    self.whole_of_function(case, asker, notes, depth, of)
                 } else {
                     self.attribute(case, asker, notes, *class, of)
                 }
@@ -70,7 +73,7 @@ impl State {
     // The value of a VARIABLE.
     #[inline(always)]
     #[cycle(nested)]
-    #[tactic(auto, unfolding(gw_meaning::specs::Evaluation::variable_prog))]
+    #[tactic(auto, unfolding(gw_meaning::specs::Evaluation::definitions_prog))]
     fn of_variable(
         &self,
         case: Case,
@@ -80,7 +83,7 @@ impl State {
         of: &Subject,
     ) -> Result<Val, Halt>
         ensures { Decides case.entry.version.now case.entry.seed
-            (of_variable (variable_prog depth self.now asker.now) of.now)
+            (of_variable (definitions_prog depth self.now asker.now) of.now)
             result notes.old notes.new }
     {
         let Subject::Name(name) = of else {
@@ -95,6 +98,108 @@ impl State {
         }
     }
 
+    // The greatest value that is not above what a FUNCTION comes to.
+    #[inline(never)]
+    #[cycle(nested)]
+    fn whole_of_function(
+        &self,
+        case: Case,
+        asker: &Asker,
+        notes: &mut Notes,
+        depth: u32,
+        of: &Subject,
+    ) -> Result<Val, Halt>
+        ensures { Decides case.entry.version.now case.entry.seed
+            (whole_of_function (definitions_prog depth self.now asker.now) of.now)
+            result notes.old notes.new }
+    {
+        let y = self.of_function(case, asker, notes, depth, of)?;
+        Ok(y.whole())
+    }
+
+    // What a FUNCTION comes to.
+    #[cycle(nested)]
+    #[tactic(auto, unfolding(gw_meaning::specs::Evaluation::definitions_prog))]
+    pub(crate) fn of_function(
+        &self,
+        case: Case,
+        asker: &Asker,
+        notes: &mut Notes,
+        depth: u32,
+        of: &Subject,
+    ) -> Result<Millionths, Halt>
+        ensures { Decides case.entry.version.now case.entry.seed
+            (of_function (definitions_prog depth self.now asker.now) of.now)
+            result notes.old notes.new }
+    {
+        let Subject::Name(name) = of else {
+            return Err(Halt::End(End::Error(Stop::Range)));
+        };
+        if depth == 0 {
+            return Err(Halt::End(End::Error(Stop::VariableDepth)));
+        }
+        match ask_function(case.version, notes, name)? {
+            Some(function) => self.function(case, asker, notes, depth - 1, function),
+            None => Err(Halt::End(End::Error(Stop::Range))),
+        }
+    }
+
+    // What a FUNCTION comes to at its argument.
+    #[cycle(nested)]
+    fn function(
+        &self,
+        case: Case,
+        asker: &Asker,
+        notes: &mut Notes,
+        depth: u32,
+        function: &Function,
+    ) -> Result<Millionths, Halt>
+        ensures { Decides case.entry.version.now case.entry.seed
+            (function_given (argument_prog self.now asker.now (definitions_prog depth self.now asker.now))
+            (Some function.now)) result notes.old notes.new }
+    {
+        let x = self.argument(case, asker, notes, depth, &function.argument)?;
+        point_found(function.at(x))
+    }
+
+    // The argument of a FUNCTION.
+    #[cycle(nested)]
+    #[tactic(auto, unfolding(gw_meaning::specs::Evaluation::argument_prog))]
+    fn argument(
+        &self,
+        case: Case,
+        asker: &Asker,
+        notes: &mut Notes,
+        depth: u32,
+        argument: &Expr,
+    ) -> Result<Millionths, Halt>
+        ensures { Decides case.entry.version.now case.entry.seed
+            (argument_prog self.now asker.now (definitions_prog depth self.now asker.now) argument.now)
+            result notes.old notes.new }
+    {
+        match random_of(argument) {
+            Some(of) => random_part(case, notes, of),
+            None => self.whole_argument(case, asker, notes, depth, argument),
+        }
+    }
+
+    // An argument that is a value.
+    #[cycle(nested)]
+    fn whole_argument(
+        &self,
+        case: Case,
+        asker: &Asker,
+        notes: &mut Notes,
+        depth: u32,
+        argument: &Expr,
+    ) -> Result<Millionths, Halt>
+        ensures { Decides case.entry.version.now case.entry.seed (argument_by self.now asker.now
+            (definitions_prog depth self.now asker.now) argument.now None) result notes.old notes.new }
+    {
+        let value = self.term(case, asker, notes, depth, argument)?;
+        Ok(Millionths::of_value(value))
+    }
+
     // The value of an expression.
     #[inline(always)]
     #[cycle(nested)]
@@ -107,7 +212,7 @@ impl State {
         tokens: &[Token],
     ) -> Result<Val, Halt>
         ensures { Decides case.entry.version.now case.entry.seed
-            (tokens_prog self.now asker.now (variable_prog depth self.now asker.now) tokens.now [] ~> last_value)
+            (tokens_prog self.now asker.now (definitions_prog depth self.now asker.now) tokens.now [] ~> last_value)
             result notes.old notes.new }
     {
         let mut values = WaitingValues::new(case.alloc);
@@ -130,7 +235,7 @@ impl State {
         values: WaitingValues,
     ) -> Result<WaitingValues, Halt>
         ensures { Decides case.entry.version.now case.entry.seed
-            (token_prog self.now asker.now (variable_prog depth self.now asker.now) token.now values)
+            (token_prog self.now asker.now (definitions_prog depth self.now asker.now) token.now values)
             result notes.old notes.new }
     {
         match token {
@@ -151,6 +256,46 @@ fn is_of_variable(class: Class) -> bool
     match class {
         Class::V => true,
         _ => false,
+    }
+}
+
+// Whether an attribute of a class is what a FUNCTION comes to.
+pub fn is_of_function(class: Class) -> bool
+    ensures { result ≡ is_of_function class }
+{
+    match class {
+        Class::Fn => true,
+        _ => false,
+    }
+}
+
+// Whether an attribute of a class is a random number.
+fn is_random(class: Class) -> bool
+    ensures { result ≡ is_random class }
+{
+    match class {
+        Class::Rn => true,
+        _ => false,
+    }
+}
+
+// The random number that an operand is as it is written.
+fn random_of(operand: &Expr) -> Option<&Subject>
+    ensures { option_copied result ≡ random_of operand.now }
+{
+    match operand.node() {
+        Node::Value(Atom::Attribute(class, of)) if is_random(*class) => Some(of),
+        _ => None,
+    }
+}
+
+// What a FUNCTION comes to, where it has points.
+fn point_found(y: Option<Millionths>) -> Result<Millionths, Halt>
+    ensures { Comes (point_found y) result }
+{
+    match y {
+        Some(y) => Ok(y),
+        None => Err(Halt::End(End::Error(Stop::Range))),
     }
 }
 

@@ -9,7 +9,7 @@ ghost use Rattle.gw_meaning.specs.Step.{by_fraction, go_to, lead_to, transfer_pr
 ghost use Rattle.gw_scan.specs.Deciding.{Decides, Comes};
 
 use crate::case::{Case, Halt, ask_label};
-use crate::draws::draw;
+use crate::draws::{draw, millionths};
 use crate::notes::Notes;
 use gw_expr::{Expr, Node, Stop};
 use gw_meaning::operands::{A, B, C};
@@ -87,13 +87,6 @@ fn chosen<'a>(
     } else {
         near
     }
-}
-
-// A number that was drawn, as a part of a million.
-fn millionths(number: u32) -> u64
-    ensures { result ≡ millionths number }
-{
-    u64::from(number.saturating_sub(1)) * 1_000_000 / 2_147_483_646
 }
 
 // To the block with a label, or to the next block where there is none.

@@ -11,8 +11,8 @@ use gw_meaning::{Asker, End};
 use gw_names::{Key, Name};
 use gw_nums::Val;
 
-// How many VARIABLEs may stand in each other.
-const DEEPEST: u32 = 32;
+// How many VARIABLEs and FUNCTIONs may stand in each other.
+pub const DEEPEST: u32 = 32;
 
 impl State {
     // The value of an operand, most of which are constants.

@@ -1,12 +1,15 @@
-use Rattle.std.proofs.Common.{◌≡◌, ◌+◌, [], ◌∷◌, ℤ, List, Ok, Err, ap, drop, refl, rules, ◌==◌, false, Some}
+use Rattle.std.proofs.Common.{◌≡◌, ◌+◌, [], ◌∷◌, ℤ, List, Ok, Err, ap, drop, refl, rules, ◌==◌, false, Option, Some, subst}
 use Rattle.std.proofs.lemmas.List.{drop_all}
 use Rattle.gw_scan.proofs.ChainLaws.{item_drop}
 use Rattle.std.proofs.lemmas.Result.{err_from_is_err_and}
-use Rattle.gw_meaning.specs.Evaluation.{Eval, gives, atom_prog, token_prog, tokens_prog, last_value, variable_prog, ◌~>◌}
+use Rattle.gw_nums.specs.Millionths.{of_value, whole}
+use Rattle.gw_meaning.specs.Functions.{curve}
+use Rattle.gw_meaning.specs.Evaluation.{Eval, gives, atom_prog, token_prog, tokens_prog, last_value, term_prog, argument_prog, point_found, of_function, definitions_prog, ◌~>◌}
+use Rattle.gw_scan.specs.Deciding.{Comes}
 use Rattle.gw_scan.proofs.Binding.{decides_exit, decides_whole, decides_comes, decides_then, decides_gives}
-use Rattle.gw_meaning.specs.Listing.{variable_at}
+use Rattle.gw_meaning.specs.Listing.{variable_at, function_at}
 use Rattle.gw_expr.specs.declared.attribute.Subject.TheVariants as subjects
-use Rattle.gw_scan.proofs.Nested.{variable_decides}
+use Rattle.gw_scan.proofs.Nested.{variable_decides, function_decides}
 use Rattle.gw_scan.proofs.state.State.+nested.Goals as goal
 
 pub token-returns-in_err-value-in-Value : goal.token-returns-in_err-value-in-Value
@@ -15,9 +18,9 @@ token-returns-in_err-value-in-Value n c =
     let t = c.args.case.version.now in
     let seed = c.args.case.seed in
     let s = c.args.self.now in
-    let first = atom_prog s c.args.asker.now (variable_prog c.args.depth s c.args.asker.now) c.in-Value.atom in
+    let first = atom_prog s c.args.asker.now (definitions_prog c.args.depth s c.args.asker.now) c.in-Value.atom in
     let rest : ℤ → Eval (List ℤ) = λ v. gives (v ∷ c.args.values) in
-    let whole : token_prog s c.args.asker.now (variable_prog c.args.depth s c.args.asker.now) c.args.token.now c.args.values ≡ (first ~> rest) = search rules in
+    let whole : token_prog s c.args.asker.now (definitions_prog c.args.depth s c.args.asker.now) c.args.token.now c.args.values ≡ (first ~> rest) = search rules in
     decides_exit t seed first rest _ _ _ c.in_err-value-in-Value.field-0.0 _ _ whole p.1 p.2 c.in_err-value-in-Value.ensures
 
 pub token-returns-in_ok-with-in-Value : goal.token-returns-in_ok-with-in-Value
@@ -25,9 +28,9 @@ token-returns-in_ok-with-in-Value n c =
     let t = c.args.case.version.now in
     let seed = c.args.case.seed in
     let s = c.args.self.now in
-    let first = atom_prog s c.args.asker.now (variable_prog c.args.depth s c.args.asker.now) c.in-Value.atom in
+    let first = atom_prog s c.args.asker.now (definitions_prog c.args.depth s c.args.asker.now) c.in-Value.atom in
     let rest : ℤ → Eval (List ℤ) = λ v. gives (v ∷ c.args.values) in
-    let whole : token_prog s c.args.asker.now (variable_prog c.args.depth s c.args.asker.now) c.args.token.now c.args.values ≡ (first ~> rest) = search rules in
+    let whole : token_prog s c.args.asker.now (definitions_prog c.args.depth s c.args.asker.now) c.args.token.now c.args.values ≡ (first ~> rest) = search rules in
     let more : List ℤ = c.in_ok-with-in-Value.field-0 in
     let here : rest c.in_ok-value-in-Value.value ≡ gives more = rw c.in_ok-with-in-Value.ensures refl in
     decides_whole t seed first rest _ c.in_ok-value-in-Value.value (Ok more) c.args.notes.now c.atom.new.notes c.atom.new.notes whole
@@ -41,7 +44,7 @@ computed-returns-in_err-values n c =
     let seed = c.args.case.seed in
     let s = c.args.self.now in
     let q = c.args.asker.now in
-    let vs = variable_prog c.args.depth s q in
+    let vs = definitions_prog c.args.depth s q in
     let ts = c.args.tokens.now in
     let i = c.loop-token.token-index in
     let here = c.token-item.result in
@@ -60,7 +63,7 @@ computed-loop-token-preserved n c = λ r all h.
     let seed = c.args.case.seed in
     let s = c.args.self.now in
     let q = c.args.asker.now in
-    let vs = variable_prog c.args.depth s q in
+    let vs = definitions_prog c.args.depth s q in
     let ts = c.args.tokens.now in
     let i = c.loop-token.token-index in
     let here = c.token-item.result in
@@ -77,7 +80,7 @@ computed-returns n c =
     let seed = c.args.case.seed in
     let s = c.args.self.now in
     let q = c.args.asker.now in
-    let vs = variable_prog c.args.depth s q in
+    let vs = definitions_prog c.args.depth s q in
     let ts = c.args.tokens.now in
     let values = c.loop-token.values in
     let done : drop c.loop-token.token-index ts ≡ [] = drop_all c.loop-token.token-index ts c.loop-token-test.false in
@@ -97,3 +100,87 @@ of_variable-returns-in-Some n c =
     let of : c.args.of.now ≡ subjects.Name name = search rules in
     rw of (variable_decides t seed s q c.args.depth name (Some c.in-Some.expression.now) c.term.result c.args.notes.now _ c.term.new.notes
     deep at c.in_ok-expression.ensures.ok c.term.ensures)
+
+-- what a FUNCTION comes to, with one less to nest
+pub of_function-returns-in-Some : goal.of_function-returns-in-Some
+of_function-returns-in-Some n c =
+    let t = c.args.case.version.now in
+    let seed = c.args.case.seed in
+    let s = c.args.self.now in
+    let q = c.args.asker.now in
+    let name = c.in-Name.name in
+    let deep : (c.args.depth == 0) ≡ false = search rules in
+    let at : function_at t name ≡ Some c.in-Some.function.now = search rules in
+    let of : c.args.of.now ≡ subjects.Name name = search rules in
+    rw of (function_decides t seed s q c.args.depth name (Some c.in-Some.function.now) c.function.result c.args.notes.now _ c.function.new.notes
+    deep at c.in_ok-function.ensures.ok c.function.ensures)
+
+pub function-returns-in_err-x : goal.function-returns-in_err-x
+function-returns-in_err-x n c =
+    let p = err_from_is_err_and c.from_residual.result c.from_residual.ensures.1 in
+    let t = c.args.case.version.now in
+    let seed = c.args.case.seed in
+    let s = c.args.self.now in
+    let q = c.args.asker.now in
+    let first = argument_prog s q (definitions_prog c.args.depth s q) c.args.function.now.argument in
+    let rest : ℤ → Eval ℤ = λ x. point_found (curve c.args.function.now x) in
+    decides_exit t seed first rest _ _ _ c.in_err-x.field-0.0 _ _ refl p.1 p.2 c.in_err-x.ensures
+
+pub function-returns : goal.function-returns
+function-returns n c =
+    let t = c.args.case.version.now in
+    let seed = c.args.case.seed in
+    let s = c.args.self.now in
+    let q = c.args.asker.now in
+    let first = argument_prog s q (definitions_prog c.args.depth s q) c.args.function.now.argument in
+    let rest : ℤ → Eval ℤ = λ x. point_found (curve c.args.function.now x) in
+    let here : Comes (rest c.in_ok-x.x) c.point_found.result =
+    subst (λ (o : Option ℤ). Comes (point_found o) c.point_found.result) c.at.ensures c.point_found.ensures in
+    decides_then t seed first rest c.in_ok-x.x c.point_found.result _ _ _ c.in_ok-x.ensures
+    (decides_comes t seed (rest c.in_ok-x.x) c.point_found.result c.argument.new.notes here)
+
+pub whole_argument-returns-in_err-value : goal.whole_argument-returns-in_err-value
+whole_argument-returns-in_err-value n c =
+    let p = err_from_is_err_and c.from_residual.result c.from_residual.ensures.1 in
+    let t = c.args.case.version.now in
+    let seed = c.args.case.seed in
+    let s = c.args.self.now in
+    let q = c.args.asker.now in
+    let first = term_prog s q (definitions_prog c.args.depth s q) c.args.argument.now in
+    let rest : ℤ → Eval ℤ = λ v. gives (of_value v) in
+    decides_exit t seed first rest _ _ _ c.in_err-value.field-0.0 _ _ refl p.1 p.2 c.in_err-value.ensures
+
+pub whole_argument-returns : goal.whole_argument-returns
+whole_argument-returns n c =
+    let t = c.args.case.version.now in
+    let seed = c.args.case.seed in
+    let s = c.args.self.now in
+    let q = c.args.asker.now in
+    let first = term_prog s q (definitions_prog c.args.depth s q) c.args.argument.now in
+    let rest : ℤ → Eval ℤ = λ v. gives (of_value v) in
+    let here : rest c.in_ok-value.value ≡ gives c.of_value.result = rw c.of_value.ensures refl in
+    decides_then t seed first rest c.in_ok-value.value (Ok c.of_value.result) _ _ _ c.in_ok-value.ensures
+    (decides_comes t seed (rest c.in_ok-value.value) (Ok c.of_value.result) c.term.new.notes here)
+
+pub whole_of_function-returns-in_err-y : goal.whole_of_function-returns-in_err-y
+whole_of_function-returns-in_err-y n c =
+    let p = err_from_is_err_and c.from_residual.result c.from_residual.ensures.1 in
+    let t = c.args.case.version.now in
+    let seed = c.args.case.seed in
+    let s = c.args.self.now in
+    let q = c.args.asker.now in
+    let first = of_function (definitions_prog c.args.depth s q) c.args.of.now in
+    let rest : ℤ → Eval ℤ = λ y. gives (whole y) in
+    decides_exit t seed first rest _ _ _ c.in_err-y.field-0.0 _ _ refl p.1 p.2 c.in_err-y.ensures
+
+pub whole_of_function-returns : goal.whole_of_function-returns
+whole_of_function-returns n c =
+    let t = c.args.case.version.now in
+    let seed = c.args.case.seed in
+    let s = c.args.self.now in
+    let q = c.args.asker.now in
+    let first = of_function (definitions_prog c.args.depth s q) c.args.of.now in
+    let rest : ℤ → Eval ℤ = λ y. gives (whole y) in
+    let here : rest c.in_ok-y.y ≡ gives c.whole.result = rw c.whole.ensures refl in
+    decides_then t seed first rest c.in_ok-y.y (Ok c.whole.result) _ _ _ c.in_ok-y.ensures
+    (decides_comes t seed (rest c.in_ok-y.y) (Ok c.whole.result) c.of_function.new.notes here)
