@@ -7,7 +7,7 @@ use Rattle.gw_meaning.specs.Listing.{Listing, variable_at}
 use Rattle.gw_meaning.specs.Machine.{Machine}
 use Rattle.gw_meaning.specs.Evaluation.{Eval, expression_given, term_prog, variable_prog}
 use Rattle.gw_scan.specs.declared.case.Halt.{Halt}
-use Rattle.gw_scan.specs.Noted.{Noted}
+use Rattle.gw_scan.specs.Noted.{Noted, Asks}
 use Rattle.gw_scan.specs.Deciding.{Decides}
 use Rattle.gw_scan.proofs.Binding.{decides_asked}
 
@@ -19,7 +19,7 @@ one_less : (m : ℕ) → suc m - 1 ≡ m
 one_less m = omega arith
 
 pub variable_decides : (t : Listing) (seed : ℕ) (s : Machine) (q : Asker) (depth : ℕ) (name : List ℕ) (o : Option Term) (r : Result ℤ Halt) (xs ys zs : Noted)
-    → (depth == 0) ≡ false → variable_at t name ≡ o → ys ≡ record xs { items = xs.items ++ items.Variable name ∷ [] }
+    → (depth == 0) ≡ false → variable_at t name ≡ o → Asks xs (items.Variable name) ys
     → Decides t seed (with_one_less s q depth o) r ys zs → Decides t seed (variable_prog depth s q name) r xs zs
 unfolding variable_prog
 variable_decides t seed s q zero name o r xs ys zs deep at noted h = absurd cc
