@@ -5,7 +5,7 @@ use Rattle.gw_meaning.specs.declared.item.Item.TheVariants as items
 use Rattle.gw_meaning.specs.declared.statement.Replication.{Replication}
 use Rattle.gw_meaning.specs.Numbers.{AreNumbered}
 use Rattle.gw_meaning.specs.Listing.{Listing, seed_in}
-use Rattle.gw_record.specs.Uses.{first_in, nothing_used}
+use Rattle.gw_uses.specs.Uses.{first_in, nothing_used}
 use Rattle.gw_record.specs.Tape.{Records, blank}
 use Rattle.gw_desk.specs.Book.{IsBook, run_in, IsRunOf, blank_runs}
 

@@ -13,7 +13,7 @@ use Rattle.gw_meaning.specs.declared.statement.Numbered.{Numbered}
 use Rattle.gw_meaning.specs.Listing.{Listing, nth, has_label, definition_of_body, definition_if, defines, or_next, units_of, capacity_in, capacity_at}
 use Rattle.gw_model.specs.Faults.{is_outside}
 use Rattle.gw_model.specs.Spliced.{with_splice}
-use Rattle.gw_record.specs.Asks.{differs, is_other}
+use Rattle.gw_uses.specs.Asks.{differs, is_other}
 use Rattle.gw_frame.specs.Alike.{SameAnswer}
 use Rattle.gw_edit.specs.declared.touch.Probe.TheVariants.{Amounts}
 use Rattle.gw_lines.specs.Printed.{storage_of}

@@ -19,7 +19,7 @@ use Rattle.std.proofs.lemmas.Bool.Decides.{Decides-int_eq}
 use Rattle.gw_edit.proofs.LineLaws.{command_none, line_alike}
 use Rattle.std.specs.Str.{bytes_eq}
 use Rattle.std.proofs.lemmas.Slice.Eq.{bytes_eq-Decides}
-use Rattle.gw_record.specs.Asks.{differs, is_ask, is_other}
+use Rattle.gw_uses.specs.Asks.{differs, is_ask, is_other}
 use Rattle.gw_meaning.specs.declared.statement.Body.{Body}
 use Rattle.gw_meaning.specs.declared.statement.Definition.{Definition}
 use Rattle.std.specs.Ordering.{int_eq}

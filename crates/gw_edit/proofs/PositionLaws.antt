@@ -14,7 +14,7 @@ use Rattle.gw_model.proofs.Numbers.{numbered_spliced}
 use Rattle.gw_frame.specs.Alike.{SameAnswer}
 use Rattle.gw_frame.specs.Positions.{IsSplice}
 use Rattle.gw_frame.proofs.PositionFrame.{frame_in_positions}
-use Rattle.gw_record.proofs.FirstLaws.{IsFirstReading, first_is}
+use Rattle.gw_uses.proofs.FirstLaws.{IsFirstReading, first_is}
 use Rattle.gw_edit.specs.declared.edit.Edit.{Edit}
 use Rattle.gw_edit.specs.Applied.{applied}
 use Rattle.gw_edit.specs.Touching.{touch_of, is_touched, lines_before}

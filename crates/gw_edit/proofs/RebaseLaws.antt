@@ -10,7 +10,7 @@ use Rattle.gw_meaning.specs.Reads.{first_reading, reads}
 use Rattle.gw_frame.specs.Alike.{SameAnswer}
 use Rattle.gw_record.specs.Tape.{Tape, Records}
 use Rattle.gw_record.specs.Carrying.{Carries}
-use Rattle.gw_record.proofs.FirstLaws.{IsFirstReading, first_is}
+use Rattle.gw_uses.proofs.FirstLaws.{IsFirstReading, first_is}
 use Rattle.gw_edit.specs.declared.edit.Edit.{Edit}
 use Rattle.gw_edit.specs.declared.touch.Probe.{Probe}
 use Rattle.gw_edit.specs.Applied.{applied}

@@ -8,10 +8,10 @@ use Rattle.std.proofs.Math.Seq.{take-suc}
 use Rattle.gw_meaning.specs.declared.item.Item.{Item}
 use Rattle.gw_meaning.specs.Listing.{Listing}
 use Rattle.gw_meaning.specs.Reads.{or_later, first_reading, reads}
-use Rattle.gw_record.proofs.FirstLaws.{IsFirstReading, first_is, first_same}
+use Rattle.gw_uses.proofs.FirstLaws.{IsFirstReading, first_is, first_same}
 use Rattle.gw_edit.specs.declared.touch.Probe.{Probe}
 use Rattle.gw_edit.specs.Touching.{is_probed, is_touched, given}
-use Rattle.gw_record.specs.Asks.{earlier}
+use Rattle.gw_uses.specs.Asks.{earlier}
 
 -- properties that agree have the same first reading
 any_same : (p q : Item → Bool) → ((i : Item) → p i ≡ q i) → (is : List Item) → list_any p is ≡ list_any q is

@@ -17,7 +17,7 @@ use Rattle.gw_edit.specs.declared.edit.Edit.{Edit}
 use Rattle.gw_edit.specs.declared.edit.Edit.TheVariants as edits
 use Rattle.gw_edit.specs.declared.touch.Probe.{Probe}
 use Rattle.gw_edit.specs.declared.touch.Probe.TheVariants.{One, CommandsFrom, Beyond, Amounts}
-use Rattle.gw_record.specs.Asks.{is_ask}
+use Rattle.gw_uses.specs.Asks.{is_ask}
 use Rattle.gw_edit.specs.Applied.{storage_place}
 use Rattle.gw_expr.specs.Term.{Term}
 use Rattle.gw_edit.specs.Same.{same_statement, same_label, same_term}

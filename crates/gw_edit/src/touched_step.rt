@@ -2,13 +2,14 @@
 ghost use Rattle.std.specs.Prelude.{◌≡◌, ◌∷◌, [], ℕ};
 ghost use Rattle.gw_meaning.specs.Listing.{Listing};
 ghost use Rattle.gw_meaning.specs.Reads.{first_reading};
-ghost use Rattle.gw_record.specs.Asks.{earlier};
+ghost use Rattle.gw_uses.specs.Asks.{earlier};
 ghost use Rattle.gw_record.specs.Tape.{Records};
 ghost use Rattle.gw_edit.specs.Touching.{touched_in, given, is_probed};
 ghost use Rattle.gw_edit.specs.Touched.{touched_step};
 
 use crate::touch::{Probe, Touch, seed_probe};
-use gw_record::{Recorded, earlier};
+use gw_record::Recorded;
+use gw_uses::earlier;
 
 /// The first recorded step, from 0, that read something that is touched in the replication with this number, if any
 /// did. It takes no memory.

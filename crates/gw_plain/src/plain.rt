@@ -22,7 +22,6 @@ pub fn plain_run(alloc: Global, version: &Version, seed: u64) -> Result<PlainRun
     let mut notes = Notes::new(alloc, &state);
     let mut tally = Tally::new();
     for _moment in 0..version.limit() {
-        notes.truncate(0);
         match step(alloc, version, seed, &mut state, &mut notes, &mut tally)? {
             Turn::Moved => (),
             Turn::Ended(end) => {

@@ -11,13 +11,13 @@ use Rattle.gw_meaning.specs.Machine.{Machine}
 use Rattle.gw_meaning.specs.Step.{run}
 use Rattle.gw_meaning.specs.Reads.{is_use}
 use Rattle.gw_record.specs.declared.kept.Kept.{Kept}
-use Rattle.gw_record.specs.declared.first_uses.FirstUses.{FirstUses}
+use Rattle.gw_uses.specs.declared.first_uses.FirstUses.{FirstUses}
 use Rattle.gw_record.specs.Parting.{AreInOrder, AreUntil, AreBefore}
-use Rattle.gw_record.specs.Steps.{below, AreBelow}
-use Rattle.gw_record.specs.Uses.{first_in}
+use Rattle.gw_uses.specs.Steps.{below, AreBelow}
+use Rattle.gw_uses.specs.Uses.{first_in}
 use Rattle.gw_record.specs.Tape.{Tape, Records, IsStartEnd, IsWanted, IsThere, IsLastKept, IsKept}
 use Rattle.gw_record.specs.Cutting.{WentBack}
-use Rattle.gw_record.proofs.UseLaws.{reading_cut}
+use Rattle.gw_uses.proofs.UseLaws.{reading_cut}
 
 slice_get_take : {X : Type 0} (xs : List X) (n i : ℕ) (x : X) → i < n → slice_get xs i ≡ Some x → slice_get (take n xs) i ≡ Some x
 slice_get_take [] n i x less is = absurd cc

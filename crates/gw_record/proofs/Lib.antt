@@ -1,9 +1,4 @@
-pub mod ClockLaws
-pub mod UseLaws
 pub mod RecordLaws
 pub mod ReachLaws
 pub mod CutLaws
-pub mod LeastLaws
-pub mod FirstLaws
-pub mod AskLaws
 pub mod CarryLaws

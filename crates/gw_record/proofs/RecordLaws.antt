@@ -20,20 +20,24 @@ use Rattle.gw_meaning.specs.declared.moves.Change.TheVariants as changes
 use Rattle.gw_meaning.specs.declared.moves.Fate.{Fate}
 use Rattle.gw_meaning.specs.declared.moves.Fate.TheVariants as fates
 use Rattle.gw_meaning.specs.Changes.{moved, decided, fated, let_in, one_let_in, some_let_in, admitted, changed, with_active, picked}
-use Rattle.gw_meaning.specs.Step.{step, step_items, run}
+use Rattle.gw_meaning.specs.Step.{decide, step, step_items, run}
+use Rattle.gw_meaning.specs.Questions.{result_of}
+use Rattle.gw_meaning.specs.declared.item.End.{End}
+use Rattle.gw_scan.proofs.StepLaws.{step_goes, step_ends}
+use Rattle.std.specs.Prelude.{IfOk, Result, Err, ⊥}
 use Rattle.gw_meaning.specs.Reads.{or_later, is_use, read_from, first_use}
 use Rattle.gw_meaning.proofs.Programs.{run_on}
 use Rattle.gw_record.specs.declared.kept.Kept.{Kept}
-use Rattle.gw_record.specs.declared.first_uses.FirstUses.{FirstUses}
-use Rattle.gw_record.specs.Steps.{below, AreBelow}
-use Rattle.gw_record.specs.Uses.{first_in}
+use Rattle.gw_uses.specs.declared.first_uses.FirstUses.{FirstUses}
+use Rattle.gw_uses.specs.Steps.{below, AreBelow}
+use Rattle.gw_uses.specs.Uses.{first_in}
 use Rattle.gw_record.specs.Tape.{Tape, blank, Records, IsKeptUp, IsStartEnd, IsWanted, IsThere, IsOfRun, IsEndThere}
-use Rattle.gw_record.proofs.UseLaws.{reading_cut}
+use Rattle.gw_uses.proofs.UseLaws.{reading_cut}
 use Rattle.gw_meaning.specs.declared.item.Item.TheVariants as items
 use Rattle.gw_meaning.specs.contracts.item.ItemEq.TheImpl.Laws as laws
-use Rattle.gw_record.specs.Uses.{nothing_used, first_in, AreFirstUses}
+use Rattle.gw_uses.specs.Uses.{nothing_used, first_in, AreFirstUses}
 use Rattle.gw_meaning.specs.Reads.{same_item}
-use Rattle.gw_record.specs.Steps.{step_of}
+use Rattle.gw_uses.specs.Steps.{step_of}
 
 -- nothing is used yet
 nothing_yet : (item : Item) → first_in nothing_used item ≡ None
@@ -66,25 +70,6 @@ blank_records t seed every = record {
   tip_end = omega arith;
   firsts = blank_firsts t seed;
 }
-
--- a step that notes an item, of which none was noted
-lookup_same : (es : List (Item × ℕ)) (item q : Item) → same_item item q ≡ true → step_of es q ≡ step_of es item
-lookup_same [] item q same = refl
-lookup_same (e ∷ es) item q same =
-    let one : same_item q e.0 ≡ same_item item e.0 = sym (laws.laws-law.congr item q e.0 same) in
-    ap₂ (λ b o. cond b (Some e.1) o) one (lookup_same es item q same)
-
-pub noted_new : (old new : List (Item × ℕ)) (item q : Item) (step : ℕ) → step_of old item ≡ None →
-    step_of new q ≡ cond (same_item item q) (Some step) (step_of old q) →
-    step_of new q ≡ or_later (step_of old q) (cond (same_item item q) (Some step) None)
-noted_new old new item q step none is = go (same_item item q) refl is where
-  or_none : (o : Option ℕ) → o ≡ or_later o None
-  or_none None = refl
-  or_none (Some n) = refl
-
-  go : (b : Bool) → same_item item q ≡ b → step_of new q ≡ cond b (Some step) (step_of old q) → step_of new q ≡ or_later (step_of old q) (cond b (Some step) None)
-  go true same e = e ∙ sym (ap (λ o. or_later o (Some step)) (lookup_same old item q same ∙ none))
-  go false other e = e ∙ or_none (step_of old q)
 
 -- the last of a longer list, or one of those before
 pushed_at :
@@ -257,12 +242,24 @@ complete_moved s moves.Pick = complete_picked s s.current
 complete_moved s (moves.Clock time) = omega arith
 
 -- a step is made, and the items that it read are noted
+-- a step completes one START at most
+complete_step : (t : Listing) (seed : ℕ) (s u : Machine) → step t seed s ≡ Ok u → u.complete ≤ s.complete + 1
+complete_step t seed s u is = go (result_of t seed (decide s)) refl where
+  go : (r : Result (Move × List Stream) End) → result_of t seed (decide s) ≡ r → u.complete ≤ s.complete + 1
+  go (Ok d) goes =
+      let same : Ok u ≡ Ok (decided s d.0 d.1) = sym is ∙ step_goes t seed s d goes in
+      let F : Result Machine End → Type 0 = λ r. IfOk r (λ v. v.complete ≤ s.complete + 1) in
+      subst F (sym same) (complete_moved s d.0)
+  go (Err end) ends = absurd (ok_is_no_err (sym is ∙ step_ends t seed s end ends)) where
+    ok_is_no_err : Ok u ≡ Err end → ⊥
+    ok_is_no_err h = absurd cc
+
 pub made :
-    (t : Listing) (seed : ℕ) (r : Tape) (m : Move) (streams : List Stream) (f : FirstUses) → Records t seed r → IsKeptUp t seed r → r.moment < t.limit →
-    step t seed r.tip ≡ Ok (decided r.tip m streams) →
+    (t : Listing) (seed : ℕ) (r : Tape) (u : Machine) (f : FirstUses) → Records t seed r → IsKeptUp t seed r → r.moment < t.limit →
+    step t seed r.tip ≡ Ok u →
     ((item : Item) → first_in f item ≡ or_later (first_in r.firsts item) (cond (list_any (is_use item) (step_items t seed r.tip)) (Some r.moment) None)) →
-    AreBelow (r.moment + 1) f.clock_steps → Records t seed (record r { moment = r.moment + 1; tip = decided r.tip m streams; firsts = f })
-made t seed r m streams f h up room goes noted clock =
+    AreBelow (r.moment + 1) f.clock_steps → Records t seed (record r { moment = r.moment + 1; tip = u; firsts = f })
+made t seed r u f h up room goes noted clock =
     let one : r.moment + 1 ≡ suc r.moment = omega arith in
     record {
       tip = ap (λ n. run t seed n) one ∙ (run_on t seed r.moment r.tip h.tip ∙ goes);
@@ -273,7 +270,7 @@ made t seed r m streams f h up room goes noted clock =
       ends = λ i e is. let o = h.ends i e is in let l = o.below in record { end = o.end; below = omega (arith, l); kept = o.kept };
       ends_rise = h.ends_rise;
       all_ends = λ i u less is. before i u less is (nat_eq i r.moment) refl;
-      tip_end = let c = complete_moved r.tip m in let e = up.end in omega (arith, c, e);
+      tip_end = let c = complete_step t seed r.tip u goes in let e = up.end in omega (arith, c, e);
       firsts = record { each = λ item. noted item ∙ each item; clock = clock };
     } where
       each : (item : Item) →

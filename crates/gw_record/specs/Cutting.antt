@@ -3,8 +3,8 @@ use Rattle.std.specs.Prelude.{◌≡◌, ℕ, ◌≤◌, length, take}
 use Rattle.gw_meaning.specs.declared.item.Item.{Item}
 use Rattle.gw_record.specs.declared.kept.Kept.{Kept}
 use Rattle.gw_record.specs.Parting.{AreMoments, AreBefore}
-use Rattle.gw_record.specs.Steps.{below, AreBelow}
-use Rattle.gw_record.specs.Uses.{first_in}
+use Rattle.gw_uses.specs.Steps.{below, AreBelow}
+use Rattle.gw_uses.specs.Uses.{first_in}
 use Rattle.gw_record.specs.Tape.{Tape}
 
 -- the START ends before the moment gone back to stay, and of the first uses those of the steps below it

@@ -1,11 +1,8 @@
 pub mod Parting
-pub mod Steps
-pub mod Uses
 pub mod Tape
 pub mod Extending
 pub mod Cutting
 pub mod Reaching
-pub mod Asks
 pub mod Lookups
 pub mod Carrying
 pub use Rattle.gw_meaning.specs.Reads

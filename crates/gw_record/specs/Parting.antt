@@ -1,7 +1,6 @@
 -- Where a list in order is parted: so many of its first lie before a bound, and none of the rest does. (Our own.)
 use Rattle.std.specs.Prelude.{◌≡◌, ℕ, List, true, false, nat_le, nat_lt}
 use Rattle.std.specs.List.Sorted.{IsNonDecreasingBy, IsPartitionPoint}
-use Rattle.gw_record.specs.declared.clock_steps.ClockStep.{ClockStep}
 use Rattle.gw_record.specs.declared.kept.Kept.{Kept}
 
 -- kept states in the order of their moments
@@ -19,13 +18,3 @@ AreMoments moments = IsNonDecreasingBy (λ (m : ℕ). m) moments
 -- just the first n of these moments lie before another
 abbrev pub AreBefore : List ℕ → ℕ → ℕ → Type 0
 AreBefore moments m n = IsPartitionPoint (λ (i : ℕ). nat_lt i m ≡ true) (λ i. nat_lt i m ≡ false) moments n
-
--- just the first n of these Clock steps are to a time or to one before it
-abbrev pub AreUpTo : List ClockStep → ℕ → ℕ → Type 0
-AreUpTo steps time n =
-    IsPartitionPoint (λ (s : ClockStep). nat_le s.time time ≡ true) (λ s. nat_le s.time time ≡ false) steps n
-
--- just the first n of these Clock steps lie below a step
-abbrev pub AreFirst : List ClockStep → ℕ → ℕ → Type 0
-AreFirst steps step n =
-    IsPartitionPoint (λ (s : ClockStep). nat_lt s.step step ≡ true) (λ s. nat_lt s.step step ≡ false) steps n

@@ -5,9 +5,9 @@ use Rattle.gw_meaning.specs.Machine.{Machine, zero_state}
 use Rattle.gw_meaning.specs.Step.{run}
 use Rattle.gw_meaning.specs.Point.{IsFirst}
 use Rattle.gw_record.specs.declared.kept.Kept.{Kept}
-use Rattle.gw_record.specs.declared.first_uses.FirstUses.{FirstUses}
+use Rattle.gw_uses.specs.declared.first_uses.FirstUses.{FirstUses}
 use Rattle.gw_record.specs.Parting.{AreInOrder, AreMoments}
-use Rattle.gw_record.specs.Uses.{AreFirstUses, nothing_used}
+use Rattle.gw_uses.specs.Uses.{AreFirstUses, nothing_used}
 
 -- what is recorded of a run: the state at the tip, after so many steps; states kept on the way, in order; the moments
 -- of START ends, in order; and the first uses of items

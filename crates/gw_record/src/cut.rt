@@ -32,7 +32,7 @@ impl Recorded {
     {
         let count = count_before(self.ends.as_slice(), to.moment);
         self.ends.truncate(count);
-        self.firsts.forget(to.moment);
+        self.notes.go_back(to.moment, &to.state);
         self.moment = to.moment;
         self.tip = to.state;
     }

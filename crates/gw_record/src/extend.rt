@@ -5,15 +5,14 @@ ghost use Rattle.gw_meaning.specs.Changes.{decided};
 ghost use Rattle.gw_meaning.specs.Machine.{raised};
 ghost use Rattle.gw_meaning.specs.Step.{step, step_items};
 ghost use Rattle.gw_scan.specs.Stepping.{Counts};
-ghost use Rattle.gw_record.specs.Steps.{AreBelow};
+ghost use Rattle.gw_uses.specs.Steps.{AreBelow};
 ghost use Rattle.gw_record.specs.Tape.{Records, IsKeptUp, IsWanted, IsThere};
 ghost use Rattle.gw_record.specs.Extending.{Goes, Extends, tallied};
 
 use crate::kept::Kept;
 use crate::recorded::Recorded;
-use gw_meaning::Move;
 use gw_model::Version;
-use gw_scan::{Halt, Notes, Tally, Turn, next_step};
+use gw_scan::{Tally, Turn, step};
 use std::alloc::{AllocError, Global};
 
 impl Recorded {
@@ -36,12 +35,11 @@ impl Recorded {
         ensures bound { self.new.moment ≤ self.old.moment + steps }
         ensures tally { tally.new ≡ tallied tally.old (self.new.moment - self.old.moment) }
     {
-        let mut notes = Notes::new(alloc, &self.tip);
         for made in 0..steps {
             if self.moment >= version.limit() {
                 return Ok(made);
             }
-            match self.go(alloc, version, seed, &mut notes, tally)? {
+            match self.go(alloc, version, seed, tally)? {
                 Turn::Moved => (),
                 Turn::Ended(_) => return Ok(made),
             }
@@ -50,35 +48,31 @@ impl Recorded {
     }
 
     // One step further, if the run goes on.
+    #[inline(always)]
     pub(crate) fn go(
         &mut self,
         alloc: Global,
         version: &Version,
         seed: u64,
-        notes: &mut Notes,
         tally: &mut Tally,
     ) -> Result<Turn, AllocError>
         requires records { Records version.now seed self.old }
         requires room { self.old.moment < version.now.limit }
         requires bound { self.old.moment < 1000000 }
-        requires streams { notes.old.streams ≡ self.old.tip.streams }
         ensures records { Records version.now seed self.new }
-        ensures streams { OnOk result (notes.new.streams ≡ self.new.tip.streams) }
         ensures every { self.new.every ≡ self.old.every }
         ensures told { IfOk result (λ turn. Goes version.now seed turn self.old self.new) }
         ensures tally { IfOk result (λ turn. Counts turn tally.old tally.new) }
         ensures err { OnErr result ((self.new.moment ≡ self.old.moment) × (tally.new ≡ tally.old)) }
     {
         self.keep()?;
-        notes.truncate(0);
-        match next_step(alloc, version, seed, &self.tip, notes) {
-            Ok(next) => {
-                self.make(next, notes, tally)?;
-                Ok(Turn::Moved)
-            }
-            Err(Halt::End(end)) => Ok(Turn::Ended(end)),
-            Err(Halt::Memory) => Err(AllocError),
+        self.notes.begin(self.moment);
+        let turn = step(alloc, version, seed, &mut self.tip, &mut self.notes, tally)?;
+        self.notes.rise();
+        if let Turn::Moved = turn {
+            self.moment += 1;
         }
+        Ok(turn)
     }
 
     // Keeps the tip where it stands at a multiple of the spacing or a START is complete there, so that the run may
@@ -153,34 +147,6 @@ impl Recorded {
         if (self.ends.len() as u64) < self.tip.complete() {
             self.ends.push(self.moment)?;
         }
-        Ok(())
-    }
-
-    // Makes a step that reads these items, and notes them first.
-    fn make(&mut self, next: Move, notes: &Notes, tally: &mut Tally) -> Result<(), AllocError>
-        requires room { self.old.moment < 1000000 }
-        requires noted { AreBelow (self.old.moment + 1) self.old.firsts.clock_steps }
-        ensures ok { OnOk result ((t : Listing) (seed : ℕ) →
-            Records t seed self.old → IsKeptUp t seed self.old → self.old.moment < t.limit →
-            notes.now.items ≡ step_items t seed self.old.tip →
-            step t seed self.old.tip ≡ Ok (decided self.old.tip next notes.now.streams) →
-            Records t seed self.new) }
-        ensures streams { OnOk result (notes.now.streams ≡ self.new.tip.streams) }
-        ensures moment { OnOk result (self.new.moment ≡ self.old.moment + 1) }
-        ensures every { self.new.every ≡ self.old.every }
-        ensures tally { OnOk result (tally.new ≡ raised tally.old) }
-        ensures err { OnErr result ((t : Listing) (seed : ℕ) → Records t seed self.old → Records t seed self.new) }
-        ensures still { OnErr result ((self.new.moment ≡ self.old.moment) × (tally.new ≡ tally.old)) }
-    {
-        if let Err(error) = self.firsts.note_all(notes.items(), self.moment) {
-            self.firsts.forget(self.moment);
-            return Err(error);
-        }
-        if let Err(error) = self.tip.make(next, notes, tally) {
-            self.firsts.forget(self.moment);
-            return Err(error);
-        }
-        self.moment += 1;
         Ok(())
     }
 }

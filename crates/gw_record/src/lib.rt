@@ -5,21 +5,13 @@
 //! and no later. [`Recorded::cut`] goes back to the last kept moment, without memory.
 #![tactic(auto)]
 
-mod clock_steps;
 mod cut;
 mod extend;
-mod first_steps;
-mod first_uses;
-mod item_steps;
 mod kept;
 mod lookup;
 mod reach;
 mod recorded;
 
-pub use clock_steps::{ClockStep, ClockSteps};
-pub use first_steps::FirstSteps;
-pub use first_uses::FirstUses;
-pub use item_steps::{ItemSteps, earlier};
 pub use kept::Kept;
 pub use reach::Reach;
 pub use recorded::Recorded;

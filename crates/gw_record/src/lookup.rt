@@ -4,7 +4,7 @@ ghost use Rattle.gw_meaning.specs.Listing.{Listing};
 ghost use Rattle.gw_meaning.specs.Reads.{first_reading, first_use, is_command_use};
 ghost use Rattle.gw_meaning.specs.declared.item.Item.TheVariants as items;
 ghost use Rattle.gw_record.specs.Tape.{Records};
-ghost use Rattle.gw_record.specs.Asks.{is_ask};
+ghost use Rattle.gw_uses.specs.Asks.{is_ask};
 ghost use Rattle.gw_record.specs.Lookups.{IsStateAt, IsEndOf};
 
 use crate::kept::state_in;
@@ -58,7 +58,7 @@ impl Recorded {
         ensures { (t : Listing) (seed : ℕ) → Records t seed self.now →
             result ≡ first_reading (is_command_use i) t seed self.now.moment }
     {
-        self.firsts.commands.least_from(i)
+        self.notes.firsts().commands.least_from(i)
     }
 
     /// The first step below the tip, from 0, that asked of the storage of this name an amount that fits one of two
@@ -68,6 +68,6 @@ impl Recorded {
         ensures { (t : Listing) (seed : ℕ) → Records t seed self.now →
             result ≡ first_reading (is_ask name.now from to) t seed self.now.moment }
     {
-        self.firsts.others.first_ask(name, from, to)
+        self.notes.firsts().others.first_ask(name, from, to)
     }
 }

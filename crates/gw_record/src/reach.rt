@@ -7,7 +7,7 @@ ghost use Rattle.gw_record.specs.Reaching.{Reaches, AreWanted};
 use crate::recorded::Recorded;
 use gw_meaning::End;
 use gw_model::Version;
-use gw_scan::{Notes, Tally, Turn, end_at};
+use gw_scan::{Tally, Turn, end_at};
 use std::alloc::{AllocError, Global};
 
 /// What stops a recorded run on its way to the end of a START.
@@ -40,12 +40,11 @@ impl Recorded {
         ensures tally { tally.new ≡ tallied tally.old (self.new.moment - self.old.moment) }
         ensures reached { IfOk result (Reaches version.now seed k self.new) }
     {
-        let mut notes = Notes::new(alloc, &self.tip);
         for _moment in self.moment..version.limit() {
             if self.tip.complete() >= k {
                 return Ok(Reach::Complete);
             }
-            match self.go(alloc, version, seed, &mut notes, tally)? {
+            match self.go(alloc, version, seed, tally)? {
                 Turn::Moved => (),
                 Turn::Ended(end) => return Ok(Reach::Ended(end)),
             }

@@ -5,10 +5,9 @@ ghost use Rattle.gw_meaning.specs.Reads.{first_use};
 ghost use Rattle.gw_record.specs.Carrying.{Carries};
 ghost use Rattle.gw_record.specs.Tape.{blank, Records};
 
-use crate::first_uses::FirstUses;
 use crate::kept::Kept;
 use gw_meaning::Item;
-use gw_scan::State;
+use gw_scan::{Notes, State};
 use std::alloc::{AllocError, Global};
 use std::marker::Model;
 
@@ -21,11 +20,12 @@ pub struct Recorded {
     pub(crate) tip: State,
     pub(crate) kept: Vec<Kept>,
     pub(crate) ends: Vec<u64>,
-    pub(crate) firsts: FirstUses,
+    // The first uses, and the streams of the tip.
+    pub(crate) notes: Notes,
 }
 
 impl Model for Recorded {
-    ghost use Rattle.std.specs.Prelude.{◌≤◌};
+    ghost use Rattle.std.specs.Prelude.{◌≡◌, ◌≤◌};
     ghost use Rattle.gw_record.specs.Tape.{Tape};
 
     ghost Value = { Tape };
@@ -36,10 +36,10 @@ impl Model for Recorded {
       tip = r.tip;
       kept = r.kept.items;
       ends = r.ends.items;
-      firsts = r.firsts;
+      firsts = r.notes.firsts;
     } };
 
-    ghost invariant = { λ r. 1 ≤ r.every };
+    ghost invariant = { λ r. (1 ≤ r.every) × (r.notes.streams ≡ r.tip.streams) };
 }
 
 impl Recorded {
@@ -50,13 +50,15 @@ impl Recorded {
         ensures value { result ≡ blank every }
         ensures records { (t : Listing) (seed : ℕ) → Records t seed result }
     {
+        let tip = State::zero(alloc);
+        let notes = Notes::new(alloc, &tip);
         Recorded {
             every,
             moment: 0,
-            tip: State::zero(alloc),
+            tip,
             kept: Vec::new(alloc),
             ends: Vec::new(alloc),
-            firsts: FirstUses::new(alloc),
+            notes,
         }
     }
 
@@ -80,7 +82,7 @@ impl Recorded {
         ensures { (t : Listing) (seed : ℕ) → Records t seed self.now →
             result ≡ first_use item.now t seed self.now.moment }
     {
-        self.firsts.get(item)
+        self.notes.firsts().get(item)
     }
 
     /// The record of one version's run is, as it stands, that of another version's that answers alike all that the

@@ -1,22 +1,55 @@
 -- A step is the move that is decided, made.
-use Rattle.std.proofs.Common.{◌≡◌, ℕ, List, [], None, Result, Ok, Err, refl, ap, ◌∙◌, append-nil, length, take}
-use Rattle.std.proofs.lemmas.List.{take_at}
+use Rattle.std.specs.Prelude.{IfOk, OnErr}
+use Rattle.std.proofs.Common.{◌≡◌, ℕ, List, [], ◌∷◌, None, Some, Result, Ok, Err, refl, ap, sym, subst, ◌∙◌, append-nil}
 use Rattle.gw_streams.specs.declared.stream.Stream.{Stream}
 use Rattle.gw_meaning.specs.declared.item.Item.{Item}
 use Rattle.gw_meaning.specs.declared.item.End.{End}
 use Rattle.gw_meaning.specs.declared.moves.Move.{Move}
+use Rattle.gw_meaning.specs.declared.moves.Move.TheVariants as moves
+use Rattle.gw_meaning.specs.declared.transaction.Transaction.{Transaction}
 use Rattle.gw_meaning.specs.Listing.{Listing}
 use Rattle.gw_meaning.specs.Machine.{Machine}
 use Rattle.gw_meaning.specs.Questions.{Prog, Gives, result_of, items_of}
-use Rattle.gw_meaning.specs.Changes.{decided}
+use Rattle.gw_meaning.specs.Changes.{decided, moved, picked}
 use Rattle.gw_meaning.specs.Evaluation.{Eval}
 use Rattle.gw_meaning.specs.Step.{decide, move_prog, step, step_prog, step_items, items_if_moved}
 use Rattle.gw_scan.specs.declared.case.Halt.{Halt}
 use Rattle.gw_scan.specs.declared.case.Halt.TheVariants as halts
-use Rattle.gw_scan.specs.Noted.{Noted}
+use Rattle.gw_scan.specs.Noted.{Noted, Reads, Keeps, Forgets}
 use Rattle.gw_scan.specs.Deciding.{Decides}
-use Rattle.gw_scan.specs.Stepping.{EndsAs, Foretells}
+use Rattle.gw_scan.specs.Stepping.{EndsAs, Foretells, Follows, LeavesNotes, IsIdle}
+use Rattle.gw_scan.specs.declared.steps.Turn.{Turn}
+use Rattle.gw_scan.specs.declared.steps.Turn.TheVariants as turns
+use Rattle.gw_scan.proofs.Binding.{reads_keep}
 use Rattle.gw_meaning.proofs.Programs.{bind_gives, bind_ends}
+
+-- who picks or sets the clock leaves the streams
+pub idle_undrawn : (s : Machine) (m : Move) → IsIdle m → decided s m s.streams ≡ moved s m
+idle_undrawn s moves.Pick h = go s.current where
+  go : (xs : List Transaction) → record (picked s xs) { streams = s.streams } ≡ picked s xs
+  go [] = refl
+  go (x ∷ xs) = refl
+idle_undrawn s (moves.Clock time) h = refl
+idle_undrawn s (moves.Start count arrivals) h = absurd h
+idle_undrawn s moves.Command h = absurd h
+idle_undrawn s (moves.Enter id change fate) h = absurd h
+idle_undrawn s (moves.Refuse id key units) h = absurd h
+
+-- what was noted of earlier steps stays, and what follows is forgotten
+pub forgets_then : (old mid new : Noted) (streams : List Stream) → Keeps old mid → Forgets mid.step streams mid new → Forgets old.step streams old new
+forgets_then old mid new streams kept h =
+    let F : ℕ → Type 0 = λ n. Forgets n streams mid new in
+    let there = subst F kept.now h in record {
+      drawn = there.drawn;
+      now = there.now;
+      each = λ q. there.each q ∙ kept.each q;
+      clock = there.clock;
+    }
+
+pub decides_keeps : {A : Type 0} (t : Listing) (seed : ℕ) (p : Eval A) (r : Result A Halt) (old new : Noted) → Decides t seed p r old new → Keeps old new
+decides_keeps t seed p (Ok a) old new h = reads_keep old new (items_of t seed (p old.streams)) h.1
+decides_keeps t seed p (Err (halts.End end)) old new h = reads_keep old new (items_of t seed (p old.streams)) h.1
+decides_keeps t seed p (Err halts.Memory) old new h = h
 
 module _ (t : Listing) (seed : ℕ) (s : Machine) where
   abbrev made : Move × List Stream → Prog Machine
@@ -36,26 +69,48 @@ module _ (t : Listing) (seed : ℕ) (s : Machine) where
   pub step_ends_items : (end : End) → step t seed s ≡ Err end → step_items t seed s ≡ []
   step_ends_items end is = ap (λ r. items_if_moved r (items_of t seed (step_prog s))) is
 
-  -- where no move was found
-  pub step_halts :
-      (halt : Halt) (old new : Noted) (streams : List Stream) → old.streams ≡ s.streams → Decides t seed (move_prog s s.remaining) (Err halt) old new →
-      Foretells t seed s streams (Err halt)
-  step_halts (halts.End end) old new streams same h = step_ends end (rw same at h.0)
-  step_halts halts.Memory old new streams same h = tt
+  -- what was decided, and what comes next
+  pub foretold :
+      (r : Result Move Halt) (old new : Noted) → old.streams ≡ s.streams → Decides t seed (move_prog s s.remaining) r old new →
+      Foretells t seed s new.streams r
+  foretold (Ok m) old new same h = let told = rw same at h.0 in step_goes (m, new.streams) told
+  foretold (Err (halts.End end)) old new same h = step_ends end (rw same at h.0)
+  foretold (Err halts.Memory) old new same h = tt
 
--- what was noted before stands in front
-pub stays :
-    {A : Type 0} (t : Listing) (seed : ℕ) (p : Eval A) (halt : Halt) (old new : Noted) → Decides t seed p (Err halt) old new →
-    take (length old.items) new.items ≡ old.items
-stays t seed p (halts.End end) old new h =
-    ap (λ is. take (length old.items) is) h.1 ∙ take_at old.items (items_of t seed (p old.streams)) (length old.items) refl
-stays t seed p halts.Memory old new h = h
+  -- what is noted behind it
+  pub followed :
+      (r : Result Move Halt) (turn : Turn) (old mid new : Noted) → old.streams ≡ s.streams → Decides t seed (move_prog s s.remaining) r old mid →
+      LeavesNotes r turn s.streams mid new → Follows turn (step_items t seed s) old new
+  followed (Ok m) turns.Moved old mid new same h left =
+      let told = rw same at h.0 in
+      let read = subst (λ (is : List Stream). Reads old (items_of t seed (move_prog s s.remaining is)) mid) same h.1 in
+      let F : Noted → Type 0 = λ n. Reads old (step_items t seed s) n in
+      subst F (sym left) (subst (λ is. Reads old is mid) (sym (step_goes_items (m, mid.streams) told)) read)
+  followed (Ok m) (turns.Ended end) old mid new same h left = absurd left
+  followed (Err halt) turns.Moved old mid new same h left = absurd left
+  followed (Err halt) (turns.Ended end) old mid new same h left =
+      subst (λ is. Forgets old.step is old new) (sym same) (forgets_then old mid new s.streams (decides_keeps t seed (move_prog s s.remaining) (Err halt) old mid h) left)
 
--- the notes as they were
-pub same_notes : (items : List Item) (streams : List Stream) (old new : Noted) → new ≡ record { items = items; streams = streams } → items ≡ old.items →
-    old.streams ≡ streams → new ≡ old
-same_notes items streams old new is same drawn = is ∙ rw (same, ← drawn) refl
+  pub follows_if_ok :
+      {E : Type 0} (r : Result Move Halt) (result : Result Turn E) (old mid new : Noted) → old.streams ≡ s.streams →
+      Decides t seed (move_prog s s.remaining) r old mid → IfOk result (λ turn. LeavesNotes r turn s.streams mid new) →
+      IfOk result (λ turn. Follows turn (step_items t seed s) old new)
+  follows_if_ok r (Ok turn) old mid new same h left = followed r turn old mid new same h left
+  follows_if_ok r (Err error) old mid new same h left = tt
+
+  pub forgets_if_err :
+      {E : Type 0} (r : Result Move Halt) (result : Result Turn E) (old mid new : Noted) → old.streams ≡ s.streams →
+      Decides t seed (move_prog s s.remaining) r old mid → OnErr result (Forgets mid.step s.streams mid new) →
+      OnErr result (Forgets old.step old.streams old new)
+  forgets_if_err r (Ok turn) old mid new same h left = tt
+  forgets_if_err r (Err error) old mid new same h left =
+      subst (λ (is : List Stream). Forgets old.step is old new) (sym same)
+      (forgets_then old mid new s.streams (decides_keeps t seed (move_prog s s.remaining) r old mid h) left)
 
 pub goes_on : (r : Result Machine End) (s : Machine) → r ≡ Ok s → EndsAs r None
 goes_on (Ok u) s is = refl
 goes_on (Err end) s is = absurd cc
+
+pub ends_as : (r : Result Machine End) (end : End) → r ≡ Err end → EndsAs r (Some end)
+ends_as (Ok u) end is = absurd cc
+ends_as (Err e) end is = let same : end ≡ e = cc in ap (λ x. Some x) same

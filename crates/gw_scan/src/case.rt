@@ -1,6 +1,7 @@
 // What a step asks, of a version and a seed.
-ghost use Rattle.std.specs.Prelude.{◌≡◌, ◌++◌, ◌∷◌, [], IfOk, OnOk, OnErr, Some, None, if◌then◌else◌, option_copied, nat_le};
+ghost use Rattle.std.specs.Prelude.{◌≡◌, IfOk, OnOk, OnErr, Some, None, if◌then◌else◌, option_copied, nat_le};
 ghost use Rattle.gw_meaning.specs.declared.item.Item.TheVariants as items;
+ghost use Rattle.gw_scan.specs.Noted.{Asks};
 ghost use Rattle.gw_meaning.specs.Listing.{block_at, after_at, label_at, number_at, capacity_at, variable_at, function_at, command_at, generates_in};
 
 use crate::notes::Notes;
@@ -55,10 +56,10 @@ pub fn ask_block<'a>(
     id: StatementId,
 ) -> Result<Option<&'a Block>, AllocError>
     ensures answer { IfOk result (λ block. option_copied block ≡ block_at version.now id) }
-    ensures ok { OnOk result (notes.new ≡ record notes.old { items = notes.old.items ++ items.Block id ∷ [] }) }
+    ensures ok { OnOk result (Asks notes.old (items.Block id) notes.new) }
     ensures err { OnErr result (notes.new ≡ notes.old) }
 {
-    notes.note(Item::Block(id))?;
+    notes.note(&Item::Block(id))?;
     Ok(version.block(id))
 }
 
@@ -69,10 +70,10 @@ pub fn ask_after(
     id: StatementId,
 ) -> Result<Option<StatementId>, AllocError>
     ensures answer { IfOk result (λ after. after ≡ after_at version.now id) }
-    ensures ok { OnOk result (notes.new ≡ record notes.old { items = notes.old.items ++ items.After id ∷ [] }) }
+    ensures ok { OnOk result (Asks notes.old (items.After id) notes.new) }
     ensures err { OnErr result (notes.new ≡ notes.old) }
 {
-    notes.note(Item::After(id))?;
+    notes.note(&Item::After(id))?;
     Ok(version.after(id))
 }
 
@@ -83,11 +84,10 @@ pub fn ask_label(
     name: &Name,
 ) -> Result<Option<StatementId>, AllocError>
     ensures answer { IfOk result (λ id. id ≡ label_at version.now name.now) }
-    ensures ok { OnOk result (notes.new ≡
-        record notes.old { items = notes.old.items ++ items.Label name.now ∷ [] }) }
+    ensures ok { OnOk result (Asks notes.old (items.Label name.now) notes.new) }
     ensures err { OnErr result (notes.new ≡ notes.old) }
 {
-    notes.note(Item::Label(name.clone()?))?;
+    notes.note(&Item::Label(name.clone()?))?;
     Ok(version.label(name))
 }
 
@@ -98,11 +98,10 @@ pub fn ask_name(
     name: &Name,
 ) -> Result<Option<Val>, AllocError>
     ensures answer { IfOk result (λ number. number ≡ number_at version.now name.now) }
-    ensures ok { OnOk result (notes.new ≡
-        record notes.old { items = notes.old.items ++ items.Name name.now ∷ [] }) }
+    ensures ok { OnOk result (Asks notes.old (items.Name name.now) notes.new) }
     ensures err { OnErr result (notes.new ≡ notes.old) }
 {
-    notes.note(Item::Name(name.clone()?))?;
+    notes.note(&Item::Name(name.clone()?))?;
     Ok(version.number_of(name))
 }
 
@@ -114,22 +113,20 @@ pub fn ask_fits(
     units: u64,
 ) -> Result<bool, AllocError>
     ensures answer { IfOk result (λ fits. fits ≡ nat_le units (capacity_at version.now name.now)) }
-    ensures ok { OnOk result (notes.new ≡
-        record notes.old { items = notes.old.items ++ items.Fits name.now units ∷ [] }) }
+    ensures ok { OnOk result (Asks notes.old (items.Fits name.now units) notes.new) }
     ensures err { OnErr result (notes.new ≡ notes.old) }
 {
-    notes.note(Item::Fits(name.clone()?, units))?;
+    notes.note(&Item::Fits(name.clone()?, units))?;
     Ok(version.fits(name, units))
 }
 
 // How many units does the storage of this name have?
 pub fn ask_capacity(version: &Version, notes: &mut Notes, name: &Name) -> Result<u64, AllocError>
     ensures answer { IfOk result (λ capacity. capacity ≡ capacity_at version.now name.now) }
-    ensures ok { OnOk result (notes.new ≡
-        record notes.old { items = notes.old.items ++ items.Storage name.now ∷ [] }) }
+    ensures ok { OnOk result (Asks notes.old (items.Storage name.now) notes.new) }
     ensures err { OnErr result (notes.new ≡ notes.old) }
 {
-    notes.note(Item::Storage(name.clone()?))?;
+    notes.note(&Item::Storage(name.clone()?))?;
     Ok(version.capacity(name))
 }
 
@@ -140,11 +137,10 @@ pub fn ask_variable<'a>(
     name: &Name,
 ) -> Result<Option<&'a Expr>, AllocError>
     ensures answer { IfOk result (λ expression. option_copied expression ≡ variable_at version.now name.now) }
-    ensures ok { OnOk result (notes.new ≡
-        record notes.old { items = notes.old.items ++ items.Variable name.now ∷ [] }) }
+    ensures ok { OnOk result (Asks notes.old (items.Variable name.now) notes.new) }
     ensures err { OnErr result (notes.new ≡ notes.old) }
 {
-    notes.note(Item::Variable(name.clone()?))?;
+    notes.note(&Item::Variable(name.clone()?))?;
     Ok(version.variable(name))
 }
 
@@ -155,11 +151,10 @@ pub fn ask_function<'a>(
     name: &Name,
 ) -> Result<Option<&'a Function>, AllocError>
     ensures answer { IfOk result (λ function. option_copied function ≡ function_at version.now name.now) }
-    ensures ok { OnOk result (notes.new ≡
-        record notes.old { items = notes.old.items ++ items.Function name.now ∷ [] }) }
+    ensures ok { OnOk result (Asks notes.old (items.Function name.now) notes.new) }
     ensures err { OnErr result (notes.new ≡ notes.old) }
 {
-    notes.note(Item::Function(name.clone()?))?;
+    notes.note(&Item::Function(name.clone()?))?;
     Ok(version.function(name))
 }
 
@@ -169,10 +164,10 @@ pub fn ask_generates<'a>(
     notes: &mut Notes,
 ) -> Result<&'a [StatementId], AllocError>
     ensures answer { IfOk result (λ ids. ids.now ≡ generates_in version.now.lines) }
-    ensures ok { OnOk result (notes.new ≡ record notes.old { items = notes.old.items ++ items.Generates ∷ [] }) }
+    ensures ok { OnOk result (Asks notes.old items.Generates notes.new) }
     ensures err { OnErr result (notes.new ≡ notes.old) }
 {
-    notes.note(Item::Generates)?;
+    notes.note(&Item::Generates)?;
     Ok(version.generates())
 }
 
@@ -183,10 +178,10 @@ pub fn ask_command<'a>(
     i: u64,
 ) -> Result<Option<&'a Command>, AllocError>
     ensures answer { IfOk result (λ command. option_copied command ≡ command_at version.now i) }
-    ensures ok { OnOk result (notes.new ≡ record notes.old { items = notes.old.items ++ items.Cmd i ∷ [] }) }
+    ensures ok { OnOk result (Asks notes.old (items.Cmd i) notes.new) }
     ensures err { OnErr result (notes.new ≡ notes.old) }
 {
-    notes.note(Item::Cmd(i))?;
+    notes.note(&Item::Cmd(i))?;
     Ok(version.command(i))
 }
 
@@ -197,9 +192,9 @@ pub fn ask_within(
     time: Time,
 ) -> Result<Option<Clock>, AllocError>
     ensures answer { IfOk result (λ clock. clock ≡ (if nat_le time version.now.horizon then Some time else None)) }
-    ensures ok { OnOk result (notes.new ≡ record notes.old { items = notes.old.items ++ items.Within time ∷ [] }) }
+    ensures ok { OnOk result (Asks notes.old (items.Within time) notes.new) }
     ensures err { OnErr result (notes.new ≡ notes.old) }
 {
-    notes.note(Item::Within(time))?;
+    notes.note(&Item::Within(time))?;
     Ok(version.within(time))
 }

@@ -2,6 +2,7 @@
 ghost use Rattle.std.specs.Prelude.{◌≡◌, ◌<◌, ◌≤◌, ◌+◌, Some, None, OnOk, OnErr};
 ghost use Rattle.gw_meaning.specs.Machine.{Machine, raised};
 ghost use Rattle.gw_meaning.specs.Changes.{moved, decided, fated, own_marked, placed, bound};
+ghost use Rattle.gw_scan.specs.Stepping.{IsIdle};
 ghost use Rattle.gw_meaning.specs.declared.moves.Change.TheVariants as changes;
 ghost use Rattle.gw_meaning.specs.declared.moves.Move.TheVariants as moves;
 ghost use Rattle.gw_meaning.specs.declared.transaction.Transaction.{Transaction};
@@ -35,6 +36,20 @@ impl State {
     {
         self.apply(step)?;
         self.streams = notes.streams;
+        tally.raise();
+        Ok(())
+    }
+
+    // Picks or sets the clock, which draws nothing, and counts it; or changes nothing where a growth is refused.
+    #[inline(always)]
+    #[tactic(auto, using(crate::proofs::StepLaws::idle_undrawn))]
+    pub(crate) fn go_on(&mut self, step: Move, tally: &mut Tally) -> Result<(), AllocError>
+        requires { IsIdle step }
+        ensures ok { OnOk result (self.new ≡ decided self.old step self.old.streams) }
+        ensures tally { OnOk result (tally.new ≡ raised tally.old) }
+        ensures err { OnErr result ((self.new ≡ self.old) × (tally.new ≡ tally.old)) }
+    {
+        self.apply(step)?;
         tally.raise();
         Ok(())
     }

@@ -70,6 +70,7 @@ impl Counts {
 
     // A transaction leaves a block.
     #[tactic(auto, using(crate::proofs::CountLaws::count_in_is, crate::proofs::CountLaws::with_count_is))]
+    #[inline(always)]
     fn leave(&mut self, id: StatementId)
         ensures entries { self.new.entries ≡ left self.old.entries id }
         ensures limit { self.new.limit ≡ self.old.limit }
@@ -85,6 +86,7 @@ impl Counts {
 
     // A transaction leaves a block and enters another, in which it stays or where it is destroyed.
     #[tactic(auto, using(crate::proofs::CountLaws::with_count_is))]
+    #[inline(always)]
     pub fn cross(&mut self, from: StatementId, to: StatementId, fate: &Fate)
         requires { to < self.old.limit }
         ensures entries { self.new.entries ≡ crossed fate.now self.old.entries from to }
@@ -102,6 +104,7 @@ impl Counts {
 
     // A GENERATE made one more.
     #[tactic(auto, using(crate::proofs::CountLaws::with_count_is))]
+    #[inline(always)]
     pub fn count_made(&mut self, id: StatementId)
         requires { id < self.old.limit }
         ensures entries { self.new.entries ≡ made_one self.old.entries id }

@@ -1,8 +1,9 @@
 // Which move a step is: ask and test, and change nothing.
-ghost use Rattle.std.specs.Prelude.{◌≡◌, ◌≤◌, None, Some, option_copied};
+ghost use Rattle.std.specs.Prelude.{◌≡◌, ◌<◌, ◌≤◌, None, Some, option_copied, IsTrue, IfOk};
 ghost use Rattle.gw_meaning.specs.Step.{move_prog, command_prog, start_prog, first_arrivals_prog, rmult_prog, attempt_prog, try_prog, meet_prog, generate_prog, delay_of, advance_prog, terminate_prog, pick_prog};
 ghost use Rattle.gw_meaning.specs.Statements.{A, B, D, E, operand};
 ghost use Rattle.gw_scan.specs.Deciding.{Decides};
+ghost use Rattle.gw_scan.specs.Stepping.{IsIdle};
 
 use crate::attributes::for_none;
 use crate::case::{Case, Halt, ask_after, ask_block, ask_command, ask_generates, ask_within};
@@ -31,6 +32,27 @@ impl State {
             Some(x) => self.attempt(case, notes, x),
             None => self.pick_or_clock(case, notes),
         }
+    }
+
+    // Whether a START is under way and none is active.
+    #[inline(always)]
+    pub(crate) fn is_idle(&self) -> bool
+        ensures { IsTrue result → (0 < self.now.remaining) × (self.now.active ≡ None) }
+    {
+        self.progress.remaining() != 0 && self.active.is_none()
+    }
+
+    // The move of the next step, where a START is under way and none is active.
+    #[inline(always)]
+    pub(crate) fn decide_idle(&self, case: Case, notes: &mut Notes) -> Result<Move, Halt>
+        requires remaining { 0 < self.now.remaining }
+        requires active { self.now.active ≡ None }
+        ensures told { Decides case.entry.version.now case.entry.seed (move_prog self.now self.now.remaining)
+            result notes.old notes.new }
+        ensures idle { IfOk result (λ move. IsIdle move) }
+        ensures streams { notes.new.streams ≡ notes.old.streams }
+    {
+        self.pick_or_clock(case, notes)
     }
 
     // No START is under way: the next command.
@@ -296,8 +318,10 @@ impl State {
     // None is active: the first of the current chain, or else the least future time.
     #[inline(always)]
     fn pick_or_clock(&self, case: Case, notes: &mut Notes) -> Result<Move, Halt>
-        ensures { Decides case.entry.version.now case.entry.seed (pick_prog self.now self.now.current)
+        ensures told { Decides case.entry.version.now case.entry.seed (pick_prog self.now self.now.current)
             result notes.old notes.new }
+        ensures idle { IfOk result (λ move. IsIdle move) }
+        ensures streams { notes.new.streams ≡ notes.old.streams }
     {
         if !self.current.is_empty() {
             return Ok(Move::Pick);

@@ -20,7 +20,7 @@ pub fn draw(case: Case, notes: &mut Notes, j: usize) -> Result<u32, Halt>
     ensures { Decides case.entry.version.now case.entry.seed (draw j) result notes.old notes.new }
 {
     if notes.streams.wants_seed(j) {
-        notes.note(Item::Seed)?;
+        notes.note(&Item::Seed)?;
     }
     Ok(notes.streams.draw(j, case.seed))
 }

@@ -115,6 +115,7 @@ impl FutureChain {
     }
 
     // Puts a transaction on it.
+    #[inline(always)]
     pub(crate) fn put(&mut self, event: Event)
         requires { 0 < self.old.room }
         ensures items { self.new.items ≡ self.old.items ++ event ∷ [] }

@@ -43,5 +43,5 @@ pub use entities::Entities;
 pub use future::FutureChain;
 pub use notes::Notes;
 pub use state::State;
-pub use steps::{Turn, end_at, next_step, step};
+pub use steps::{Turn, end_at, step};
 pub use tally::Tally;

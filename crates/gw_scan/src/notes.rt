@@ -1,65 +1,101 @@
-ghost use Rattle.std.specs.Prelude.{◌≡◌, ◌++◌, ◌∷◌, [], length, take, ◌==◌, OnOk, OnErr};
+ghost use Rattle.std.specs.Prelude.{◌≡◌, ◌+◌, ◌<◌, ◌^◌, ◌-◌, OnOk, OnErr};
+ghost use Rattle.gw_uses.specs.Steps.{AreBelow};
+ghost use Rattle.gw_uses.specs.Uses.{nothing_used};
+ghost use Rattle.gw_scan.specs.Noted.{Asks, Forgets};
 
 use crate::state::State;
 use gw_meaning::Item;
 use gw_streams::Streams;
+use gw_uses::FirstUses;
 use std::alloc::{AllocError, Global};
 use std::marker::Model;
 
-/// What steps note on their way: the items that they read, in the order of reading, and the streams behind their draws.
+/// What steps note on their way: for each item the first step that read it, and the streams behind their draws.
 #[derive(Debug, Drop)]
 pub struct Notes {
-    items: Vec<Item>,
+    firsts: FirstUses,
+    step: u64,
+    // The block that asks, or 0: an item that is not kept by number is looked for first where its block found it.
+    reader: u64,
     pub(crate) streams: Streams,
 }
 
 impl Model for Notes {
+    ghost use Rattle.std.specs.Prelude.{◌+◌, ◌<◌, ◌^◌, ◌-◌};
+    ghost use Rattle.gw_uses.specs.Steps.{AreBelow};
     ghost use Rattle.gw_scan.specs.Noted.{Noted};
 
     ghost Value = { Noted };
 
-    ghost view = { λ n. record { items = n.items.items; streams = n.streams } };
+    ghost view = { λ n. record { firsts = n.firsts; step = n.step; streams = n.streams } };
+
+    ghost invariant = { λ n. (n.step < 2 ^ 64 - 1) × AreBelow (n.step + 1) n.firsts.clock_steps };
 }
 
 impl Notes {
-    /// Nothing read yet, in front of a step from this state.
+    /// Nothing read yet, in front of step 0 from this state.
     pub fn new(alloc: Global, state: &State) -> Notes
-        ensures { result ≡ record { items = []; streams = state.now.streams } }
+        ensures { result ≡ record { firsts = nothing_used; step = 0; streams = state.now.streams } }
     {
         Notes {
-            items: Vec::new(alloc),
+            firsts: FirstUses::new(alloc),
+            step: 0,
+            reader: 0,
             streams: state.streams,
         }
     }
 
-    /// The items, in the order of reading.
-    pub fn items(&self) -> &[Item]
-        ensures { result.now ≡ self.now.items }
+    /// The first step that read each item.
+    pub fn firsts(&self) -> &FirstUses
+        ensures { result.now ≡ self.now.firsts }
     {
-        self.items.as_slice()
+        &self.firsts
     }
 
-    /// Forgets all items but the first `count`.
-    pub fn truncate(&mut self, count: usize)
-        ensures { self.new ≡ record self.old { items = take count self.old.items } }
+    /// No Clock step that is noted comes after the step that reads.
+    pub fn rise(&self)
+        ensures { AreBelow (self.now.step + 1) self.now.firsts.clock_steps }
     {
-        self.items.truncate(count);
+        let _ = &self.firsts;
     }
 
-    // Forgets all items but the first `count`, and the draws behind this state.
-    pub(crate) fn go_back(&mut self, count: usize, state: &State)
-        ensures { self.new ≡ record { items = take count self.old.items; streams = state.now.streams } }
+    /// What is read from now on is read by this step, below 2^64 - 1, no earlier than those that are noted.
+    pub fn begin(&mut self, step: u64)
+        requires step { step < 2 ^ 64 - 1 }
+        requires clock { AreBelow (step + 1) self.old.firsts.clock_steps }
+        ensures { self.new ≡ record self.old { step = step } }
     {
-        self.items.truncate(count);
+        self.step = step;
+    }
+
+    /// Forgets the steps from one on, that one too, which reads from now on, and the draws behind this state.
+    pub fn go_back(&mut self, step: u64, state: &State)
+        requires { step < 2 ^ 64 - 1 }
+        ensures { Forgets step state.now.streams self.old self.new }
+    {
+        self.firsts.forget(step);
+        self.step = step;
         self.streams = state.streams;
     }
 
-    // Notes one item more.
-    pub(crate) fn note(&mut self, item: Item) -> Result<(), AllocError>
-        ensures ok { OnOk result (self.new ≡ record self.old { items = self.old.items ++ item ∷ [] }) }
+    // Forgets the step that reads, and its draws behind this state.
+    #[cold]
+    #[inline(never)]
+    pub(crate) fn forget(&mut self, state: &State)
+        ensures { Forgets self.old.step state.now.streams self.old self.new }
+    {
+        self.go_back(self.step, state);
+    }
+
+    // Notes an item that the step reads.
+    #[inline(always)]
+    pub(crate) fn note(&mut self, item: &Item) -> Result<(), AllocError>
+        ensures ok { OnOk result (Asks self.old item.now self.new) }
         ensures err { OnErr result (self.new ≡ self.old) }
     {
-        self.items.push(item)?;
-        Ok(())
+        if let Item::Block(id) = item {
+            self.reader = id.number();
+        }
+        self.firsts.note(item, self.step, self.reader)
     }
 }

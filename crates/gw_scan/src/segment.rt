@@ -84,6 +84,7 @@ impl Segment {
     }
 
     // Puts a transaction on it.
+    #[inline(always)]
     pub(crate) fn put(&mut self, event: Event)
         requires { 0 < self.old.room }
         ensures items { self.new.items ≡ self.old.items ++ event ∷ [] }
@@ -94,6 +95,7 @@ impl Segment {
     }
 
     // Moves the transactions of a time to the current chain, in the order in which they came.
+    #[inline(always)]
     pub(crate) fn take_due(&mut self, current: &mut PriorityChain, time: Time)
         requires { length self.old.items ≤ current.old.room }
         ensures current { current.new.items ≡ all_lined_up (due time self.old.items) current.old.items }
@@ -129,6 +131,7 @@ pub(crate) fn is_later(least: Option<Time>, time: Time) -> bool
 }
 
 // Moves the transactions of a time to the current chain, and keeps the others in their order: the least time of these.
+#[inline(always)]
 fn take_due(events: &mut Vec<Event>, current: &mut PriorityChain, time: Time) -> Option<Time>
     requires { length events.old.items ≤ current.old.room }
     ensures current { current.new.items ≡ all_lined_up (due time events.old.items) current.old.items }

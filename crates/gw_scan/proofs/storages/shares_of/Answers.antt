@@ -4,7 +4,10 @@ use Rattle.gw_meaning.specs.Evaluation.{Eval, asks}
 use Rattle.gw_meaning.specs.Step.{beside, share_of, in_use, shares_prog}
 use Rattle.gw_scan.specs.Deciding.{Decides}
 use Rattle.gw_scan.proofs.ChainLaws.{item_drop}
-use Rattle.gw_scan.proofs.Binding.{decides_asked, decides_gives}
+use Rattle.std.specs.Prelude.{Result, Err}
+use Rattle.std.proofs.lemmas.Result.{err_from_is_err_and}
+use Rattle.gw_scan.specs.declared.case.Halt.TheVariants as halts
+use Rattle.gw_scan.proofs.Binding.{decides_asked, decides_gives, decides_memory, reads_one, reads_keep}
 use Rattle.gw_scan.proofs.storages.shares_of.Goals as goal
 
 pub loop-i-preserved : goal.loop-i-preserved
@@ -35,3 +38,13 @@ returns c =
     let end : drop c.loop-i.i F ≡ [] = drop_of_length-le F (omega (arith, last)) in
     rw c.from_vec.ensures (c.loop-i.invariant (Ok c.loop-i.shares.items) c.loop-i.notes
     (rw end (decides_gives c.args.case.version.now c.args.case.seed c.loop-i.shares.items c.loop-i.notes)))
+
+pub returns-in_err-push : goal.returns-in_err-push
+returns-in_err-push c =
+    let t = c.args.case.version.now in
+    let seed = c.args.case.seed in
+    let p = err_from_is_err_and c.from_residual-in_err-push.result c.from_residual-in_err-push.ensures.1 in
+    let noted = c.in_ok-fits.ensures.ok in
+    let read = reads_one c.loop-i.notes _ c.ask_fits.new.notes noted in
+    let kept = c.loop-i.invariant (Err halts.Memory) c.ask_fits.new.notes (reads_keep c.loop-i.notes c.ask_fits.new.notes _ read) in
+    decides_memory t seed (shares_prog c.args.name.now c.args.content [] c.args.chain.now.items) _ _ c.args.notes.now c.ask_fits.new.notes p.1 p.2 kept

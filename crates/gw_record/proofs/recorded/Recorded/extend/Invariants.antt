@@ -6,7 +6,6 @@ use Rattle.gw_record.proofs.recorded.Recorded.extend.Given as goal
 abbrev pub invariant-loop-made : goal.invariant-loop-made
 invariant-loop-made l = record {
   records : Records l.version l.seed l.self;
-  streams : l.notes.streams ≡ l.self.tip.streams;
   every : l.self.every ≡ l.fn.self.every;
   moment : l.self.moment ≡ l.fn.self.moment + l.made;
   tally : l.tally ≡ tallied l.fn.tally l.made;

@@ -1,9 +1,9 @@
 use Rattle.std.proofs.Common.{◌≡◌, true, sym, ◌∙◌}
 use Rattle.gw_meaning.specs.declared.item.Item.{Item}
 use Rattle.gw_meaning.specs.Reads.{first_use}
-use Rattle.gw_record.specs.Steps.{step_of}
-use Rattle.gw_record.specs.Asks.{is_ask}
-use Rattle.gw_record.proofs.AskLaws.{asked_noted, first_asked}
+use Rattle.gw_uses.specs.Steps.{step_of}
+use Rattle.gw_uses.specs.Asks.{is_ask}
+use Rattle.gw_uses.proofs.AskLaws.{asked_noted, first_asked}
 use Rattle.gw_record.proofs.recorded.Recorded.first_ask.Goals as goal
 
 pub returns : goal.returns

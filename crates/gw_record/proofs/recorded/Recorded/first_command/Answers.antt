@@ -1,5 +1,5 @@
 use Rattle.gw_meaning.specs.declared.item.Item.TheVariants as items
-use Rattle.gw_record.proofs.FirstLaws.{first_command}
+use Rattle.gw_uses.proofs.FirstLaws.{first_command}
 use Rattle.gw_record.proofs.recorded.Recorded.first_command.Goals as goal
 
 pub returns : goal.returns

@@ -19,7 +19,6 @@ loop-moment-preserved c =
     let counted = (rw c.in-Moved.is at c.in_ok-go.ensures.tally) in
     record {
       records = c.in_ok-go.ensures.records;
-      streams = c.in_ok-go.ensures.streams;
       every = c.in_ok-go.ensures.every ∙ i.every;
       moment = search rules;
       grows = search rules;

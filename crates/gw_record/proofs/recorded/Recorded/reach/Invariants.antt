@@ -7,7 +7,6 @@ use Rattle.gw_record.proofs.recorded.Recorded.reach.Given as goal
 abbrev pub invariant-loop-moment : goal.invariant-loop-moment
 invariant-loop-moment l = record {
   records : Records l.version l.seed l.self;
-  streams : l.notes.streams ≡ l.self.tip.streams;
   every : l.self.every ≡ l.fn.self.every;
   moment : l.self.moment ≡ l._moment;
   grows : l.fn.self.moment ≤ l.self.moment;

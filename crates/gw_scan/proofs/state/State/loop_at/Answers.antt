@@ -33,5 +33,5 @@ returns c =
     let rest : ℤ → Eval Move = λ left. loop_with c.args.id c.args.key left (option_copied c.args.label) in
     let same : c.get-was.result ≡ parameter_at s.parameters q.number c.args.key = search rules in
     let F : Option ℤ → Type 0 = λ was. Comes (left_of was) (Ok c.in_ok-left.left) in
-    decides_then t seed first rest c.in_ok-left.left _ _ _ _
-    (decides_comes t seed first (Ok c.in_ok-left.left) _ (subst F same c.in_ok-left.ensures)) c.loop_with.ensures
+    decides_then t seed first rest c.in_ok-left.left _ c.args.notes.now c.args.notes.now c.loop_with.new.notes
+    (decides_comes t seed first (Ok c.in_ok-left.left) c.args.notes.now (subst F same c.in_ok-left.ensures)) c.loop_with.ensures

@@ -1,9 +1,0 @@
-use Rattle.std.proofs.Common.{sym, ◌∙◌}
-use Rattle.gw_record.proofs.ClockLaws.{first_beyond_at}
-use Rattle.gw_record.proofs.clock_steps.ClockSteps.first_beyond.Goals as goal
-
-pub returns : goal.returns
-returns c =
-    let until = rw c.as_slice-steps.ensures.value at c.count_until.ensures in
-    let found = rw c.as_slice-steps.ensures.value at c.step_of.ensures in
-    rw (← c.self.view_is) (found ∙ sym (first_beyond_at c.args.time c.self.inside.steps.items _ until.0 until.1))

@@ -1,0 +1,6 @@
+pub mod ClockLaws
+pub mod LeastLaws
+pub mod FirstLaws
+pub mod AskLaws
+pub mod NoteLaws
+pub mod UseLaws

@@ -1,0 +1,116 @@
+ghost use Rattle.std.specs.Prelude.{◌≡◌, ◌+◌, ◌<◌, ℕ, [], Some, None, if◌then◌else◌, nat_lt, OnOk, OnErr, IsTrue, IsFalse, ◌≤◌, ◌-◌, length, slice_index_or, option_map, slice_get};
+ghost use Rattle.std.specs.List.Sorted.{IsNonDecreasingBy};
+ghost use Rattle.gw_uses.specs.declared.clock_steps.ClockStep.{ClockStep};
+ghost use Rattle.gw_meaning.specs.Reads.{or_later};
+ghost use Rattle.gw_uses.specs.Parting.{AreUpTo, AreFirst};
+ghost use Rattle.gw_uses.specs.Steps.{first_beyond, below, AreBelow, IsReached};
+
+use gw_nums::Time;
+use std::alloc::{AllocError, Global};
+use std::marker::Model;
+
+/// A Clock step: its number in the run, and the time to which it set the clock.
+#[derive(Clone, Copy, Debug)]
+pub struct ClockStep {
+    pub step: u64,
+    pub time: Time,
+}
+
+/// The Clock steps of a run that set the clock later than all before them, in order.
+#[derive(Debug, Drop)]
+pub struct ClockSteps {
+    steps: Vec<ClockStep>,
+}
+
+impl Model for ClockSteps {
+    ghost use Rattle.std.specs.Prelude.{List};
+    ghost use Rattle.gw_uses.specs.declared.clock_steps.ClockStep.{ClockStep};
+    ghost use Rattle.gw_uses.specs.Steps.{AreRising};
+
+    ghost Value = { List ClockStep };
+
+    ghost view = { λ c. c.steps.items };
+
+    ghost invariant = { λ c. AreRising c.steps.items };
+}
+
+impl ClockSteps {
+    /// No Clock step yet.
+    pub fn new(alloc: Global) -> ClockSteps
+        ensures { result ≡ [] }
+    {
+        ClockSteps {
+            steps: Vec::new(alloc),
+        }
+    }
+
+    /// The first Clock step to a time later than this one, if there is one.
+    pub fn first_beyond(&self, time: Time) -> Option<u64>
+        ensures { result ≡ first_beyond time self.now }
+    {
+        let steps = self.steps.as_slice();
+        step_of(steps, count_until(steps, time))
+    }
+
+    /// Notes a Clock step no earlier in the run than those that are noted. Where memory is refused, nothing
+    /// changes.
+    pub fn note(&mut self, step: u64, time: Time) -> Result<(), AllocError>
+        requires { AreBelow (step + 1) self.old }
+        ensures ok { OnOk result ((t : ℕ) →
+            first_beyond t self.new ≡ or_later (first_beyond t self.old) (if nat_lt t time then Some step else None)) }
+        ensures below { OnOk result (AreBelow (step + 1) self.new) }
+        ensures err { OnErr result (self.new ≡ self.old) }
+    {
+        if self.goes_beyond(time) {
+            self.steps.push(ClockStep { step, time })?;
+        }
+        Ok(())
+    }
+
+    // Whether the clock was never set to this time or a later one.
+    fn goes_beyond(&self, time: Time) -> bool
+        ensures last { IsTrue result → (d : ClockStep) → 0 < length self.now →
+            (slice_index_or self.now (length self.now - 1) d).time ≤ time }
+        ensures known { IsFalse result → IsReached time self.now }
+    {
+        match self.steps.last() {
+            Some(last) => last.time < time,
+            None => true,
+        }
+    }
+
+    /// Forgets the steps from one on, that one too.
+    pub fn forget(&mut self, from: u64)
+        ensures value { (t : ℕ) → first_beyond t self.new ≡ below from (first_beyond t self.old) }
+        ensures below { AreBelow from self.new }
+    {
+        let count = count_below(self.steps.as_slice(), from);
+        self.steps.truncate(count);
+    }
+}
+
+// How many of these Clock steps are to no time later than this one.
+fn count_until(steps: &[ClockStep], time: Time) -> usize
+    requires { IsNonDecreasingBy (λ (s : ClockStep). s.time) steps.now }
+    ensures { AreUpTo steps.now time result }
+{
+    steps.partition_point(|s| s.time <= time)
+}
+
+// How many of these Clock steps lie below a step.
+fn count_below(steps: &[ClockStep], step: u64) -> usize
+    requires { IsNonDecreasingBy (λ (s : ClockStep). s.step) steps.now }
+    ensures { AreFirst steps.now step result }
+{
+    steps.partition_point(|s| s.step < step)
+}
+
+// The step of the Clock step at an index.
+fn step_of(steps: &[ClockStep], at: usize) -> Option<u64>
+    ensures { result ≡ option_map (λ (s : ClockStep). s.step) (slice_get steps.now at) }
+{
+    match steps.get(at) {
+        Some(found) => Some(found.step),
+        None => None,
+    }
+}

@@ -1,0 +1,171 @@
+ghost use Rattle.std.specs.Prelude.{◌≡◌, [], Some, None, if◌then◌else◌, OnOk, OnErr, nat_lt, IsTrue, IsSome};
+ghost use Rattle.gw_meaning.specs.declared.item.Item.{Item};
+ghost use Rattle.gw_meaning.specs.Reads.{same_item, or_later};
+ghost use Rattle.gw_uses.specs.Asks.{differs, earlier, is_ask, is_other, least_in};
+ghost use Rattle.gw_uses.specs.Steps.{step_of, below};
+ghost use Rattle.std.specs.List.{IsDistinct};
+ghost use Rattle.std.specs.Map.{keys_of};
+
+use gw_meaning::Item;
+use gw_names::Name;
+use indexmap::IndexMap;
+use std::alloc::{AllocError, Global};
+use std::marker::Model;
+
+// How many places are kept at which items were found.
+const NEAR: usize = 64;
+
+/// For each item of any kind the first step that used it, if any did, in the order in which they were noted.
+#[derive(Debug, Drop)]
+pub struct ItemSteps {
+    steps: IndexMap<Item, u64>,
+    // Where an item was found last, by what read it: it is looked for there first.
+    near: [usize; NEAR],
+}
+
+impl Model for ItemSteps {
+    ghost use Rattle.std.specs.Prelude.{List, ℕ};
+    ghost use Rattle.std.specs.List.{IsDistinct};
+    ghost use Rattle.std.specs.Map.{keys_of};
+    ghost use Rattle.gw_meaning.specs.declared.item.Item.{Item};
+    ghost use Rattle.gw_meaning.specs.Reads.{same_item};
+
+    ghost Value = { List (Item × ℕ) };
+
+    ghost view = { λ m. m.steps.entries };
+
+    ghost invariant = { λ m. IsDistinct same_item (keys_of m.steps.entries) };
+}
+
+impl ItemSteps {
+    /// Nothing used yet.
+    pub fn new(alloc: Global) -> ItemSteps
+        ensures { result ≡ [] }
+    {
+        ItemSteps {
+            steps: IndexMap::new(alloc),
+            near: [0; NEAR],
+        }
+    }
+
+    /// The first step that used this item, if any did.
+    pub fn get(&self, item: &Item) -> Option<u64>
+        ensures { result ≡ step_of self.now item.now }
+    {
+        match self.steps.get(item) {
+            Some(step) => Some(*step),
+            None => None,
+        }
+    }
+
+    /// The first step that asked of the storage of this name an amount that two capacities answer in two ways, or the
+    /// capacity where it is another one, if any did. Without a storage before or behind it is any amount.
+    pub fn first_ask(&self, name: &Name, from: Option<u64>, to: Option<u64>) -> Option<u64>
+        ensures least { result ≡ least_in (is_ask name.now from to) self.now }
+        ensures apart { IsDistinct same_item (keys_of self.now) }
+    {
+        let mut first = None;
+        for i in 0..self.steps.len() {
+            match self.steps.get_index(i) {
+                Some((item, step)) => {
+                    first = earlier(first, asked_at(name, from, to, item, *step));
+                }
+                None => unreachable!(),
+            }
+        }
+        first
+    }
+
+    /// Notes that a step used this item, unless one is noted already, which takes no memory. Where memory is refused,
+    /// nothing changes. `reader`, a statement id or 0, only says where it is looked for first.
+    pub fn note(&mut self, item: &Item, step: u64, reader: u64) -> Result<(), AllocError>
+        ensures ok { OnOk result ((q : Item) →
+            step_of self.new q ≡ or_later (step_of self.old q) (if same_item item.now q then Some step else None)) }
+        ensures err { OnErr result (self.new ≡ self.old) }
+    {
+        let slot = (reader % NEAR as u64) as usize;
+        if self.is_at(self.near[slot], item) {
+            return Ok(());
+        }
+        match self.steps.get_index_of(item) {
+            Some(index) => self.near[slot] = index,
+            None => {
+                self.steps.insert(item.clone()?, step)?;
+            }
+        }
+        Ok(())
+    }
+
+    // Whether this item is noted at an index.
+    fn is_at(&self, index: usize, item: &Item) -> bool
+        ensures { IsTrue result → IsSome (step_of self.now item.now) }
+    {
+        match self.steps.get_index(index) {
+            Some((kept, _)) => kept == item,
+            None => false,
+        }
+    }
+
+    /// Forgets the steps from one on, that one too. It takes no memory.
+    pub fn forget(&mut self, from: u64)
+        ensures { (q : Item) → step_of self.new q ≡ below from (step_of self.old q) }
+    {
+        self.steps.retain(
+            |_item: &Item, step: &mut u64| -> bool
+                ensures { (result ≡ nat_lt step.old from) × (step.new ≡ step.old) }
+            { *step < from },
+        );
+    }
+}
+
+// The step that noted an item, where that is asked of the storage.
+fn asked_at(name: &Name, from: Option<u64>, to: Option<u64>, item: &Item, step: u64) -> Option<u64>
+    ensures { result ≡ (if is_ask name.now from to item.now then Some step else None) }
+{
+    if is_ask(name, from, to, item) {
+        Some(step)
+    } else {
+        None
+    }
+}
+
+// Whether an amount is asked of the storage of this name that two capacities answer in two ways, or the capacity.
+fn is_ask(name: &Name, from: Option<u64>, to: Option<u64>, item: &Item) -> bool
+    ensures { result ≡ is_ask name.now from to item.now }
+{
+    match item {
+        Item::Fits(other, amount) => name == other && differs(from, to, *amount),
+        Item::Storage(other) => name == other && is_other(from, to),
+        _ => false,
+    }
+}
+
+// Whether two capacities are two numbers.
+fn is_other(from: Option<u64>, to: Option<u64>) -> bool
+    ensures { result ≡ is_other from to }
+{
+    match (from, to) {
+        (Some(from), Some(to)) => from != to,
+        _ => true,
+    }
+}
+
+fn differs(from: Option<u64>, to: Option<u64>, amount: u64) -> bool
+    ensures { result ≡ differs from to amount }
+{
+    match (from, to) {
+        (Some(from), Some(to)) => (amount <= from) != (amount <= to),
+        _ => true,
+    }
+}
+
+/// The earlier of two steps, of which either may be none.
+pub fn earlier(a: Option<u64>, b: Option<u64>) -> Option<u64>
+    ensures { result ≡ earlier a b }
+{
+    match (a, b) {
+        (Some(a), Some(b)) => Some(a.min(b)),
+        (Some(a), None) => Some(a),
+        (None, b) => b,
+    }
+}
