@@ -48,6 +48,7 @@ nothing_yet (items.Name name) = refl
 nothing_yet (items.Fits name units) = refl
 nothing_yet (items.Storage name) = refl
 nothing_yet (items.Variable name) = refl
+nothing_yet (items.Function name) = refl
 nothing_yet items.Generates = refl
 nothing_yet (items.Cmd i) = refl
 nothing_yet items.Seed = refl
