@@ -1,5 +1,5 @@
 -- The steps on the way to the end of a START.
-use Rattle.std.proofs.Common.{◌≡◌, ℕ, suc, ◌+◌, ◌-◌, ◌<◌, ◌≤◌, nat_eq, Bool, true, false, None, Result, Ok, Err, refl, sym, ap, ◌∙◌, arith}
+use Rattle.std.proofs.Common.{◌≡◌, ℕ, suc, ◌+◌, ◌-◌, ◌<◌, ◌≤◌, nat_eq, Bool, true, false, Some, None, Result, Ok, Err, refl, sym, ap, ◌∙◌, arith}
 use Rattle.std.proofs.lemmas.Bool.Decides.{nat_tests}
 use Rattle.gw_meaning.specs.declared.item.End.{End}
 use Rattle.gw_meaning.specs.Listing.{Listing}
@@ -29,3 +29,8 @@ tallied_more tally from to low = let e : to + 1 - from ≡ suc (to - from) = ome
 pub goes_on : (r : Result Machine End) → EndsAs r None → (u : Machine) × (r ≡ Ok u)
 goes_on (Ok u) is = (u, refl)
 goes_on (Err end) is = absurd cc
+
+-- where an end is answered the run ends
+pub ends_on : (r : Result Machine End) (end : End) → EndsAs r (Some end) → r ≡ Err end
+ends_on (Ok u) end is = absurd cc
+ends_on (Err e) end is = let same : e ≡ end = cc in ap (λ (x : End). Err x) same

@@ -24,7 +24,7 @@ use Rattle.gw_meaning.specs.Step.{decide, step, step_items, run}
 use Rattle.gw_meaning.specs.Questions.{result_of}
 use Rattle.gw_meaning.specs.declared.item.End.{End}
 use Rattle.gw_scan.proofs.StepLaws.{step_goes, step_ends}
-use Rattle.std.specs.Prelude.{IfOk, Result, Err, ⊥}
+use Rattle.std.specs.Prelude.{IfOk, Result, Err}
 use Rattle.gw_meaning.specs.Reads.{or_later, is_use, read_from, first_use}
 use Rattle.gw_meaning.proofs.Programs.{run_on}
 use Rattle.gw_record.specs.declared.kept.Kept.{Kept}

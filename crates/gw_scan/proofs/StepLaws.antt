@@ -41,7 +41,6 @@ forgets_then old mid new streams kept h =
     let F : ℕ → Type 0 = λ n. Forgets n streams mid new in
     let there = subst F kept.now h in record {
       drawn = there.drawn;
-      now = there.now;
       each = λ q. there.each q ∙ kept.each q;
       clock = there.clock;
     }

@@ -34,9 +34,8 @@ pub record Keeps (old new : Noted) : Type 0 where
   pub now : new.step ≡ old.step
   pub each : (q : Item) → below old.step (first_in new.firsts q) ≡ below old.step (first_in old.firsts q)
 
--- what is noted of earlier steps than this one stays, and no more; this step reads from now on, from these streams
+-- what is noted of earlier steps than this one stays, and no more, in front of these streams
 pub record Forgets (step : ℕ) (streams : List Stream) (old new : Noted) : Type 0 where
   pub drawn : new.streams ≡ streams
-  pub now : new.step ≡ step
   pub each : (q : Item) → first_in new.firsts q ≡ below step (first_in old.firsts q)
   pub clock : AreBelow step new.firsts.clock_steps

@@ -10,6 +10,9 @@ use gw_uses::FirstUses;
 use std::alloc::{AllocError, Global};
 use std::marker::Model;
 
+/// The last step that may read: what comes behind it stands for none.
+const LAST: u64 = u64::MAX - 1;
+
 /// What steps note on their way: for each item the first step that read it, and the streams behind their draws.
 #[derive(Debug, Drop)]
 pub struct Notes {
@@ -68,13 +71,12 @@ impl Notes {
         self.step = step;
     }
 
-    /// Forgets the steps from one on, that one too, which reads from now on, and the draws behind this state.
+    /// Forgets the steps from one on, that one too, and the draws behind this state.
     pub fn go_back(&mut self, step: u64, state: &State)
-        requires { step < 2 ^ 64 - 1 }
         ensures { Forgets step state.now.streams self.old self.new }
     {
         self.firsts.forget(step);
-        self.step = step;
+        self.step = step.min(LAST);
         self.streams = state.streams;
     }
 

@@ -10,8 +10,9 @@ pub returns : goal.returns
 returns c = λ t seed h.
     let kept = rw (← c.self.view_is) at h in
     let name = c.args.name.now in
-    let firsts = c.self.inside.firsts in
+    let firsts = c.self.inside.notes.firsts in
+    let asked = rw c.firsts.ensures at c.first_ask.ensures in
     let noted : (q : Item) → is_ask name c.args.from c.args.to q ≡ true → step_of firsts.others q ≡ first_use q t seed c.self.inside.moment =
     λ q asks. sym (asked_noted name c.args.from c.args.to firsts q asks) ∙ kept.firsts.each q in
     rw (← c.self.view_is)
-    (c.first_ask.ensures.least ∙ first_asked name c.args.from c.args.to t seed c.self.inside.moment firsts.others c.first_ask.ensures.apart noted)
+    (asked.least ∙ first_asked name c.args.from c.args.to t seed c.self.inside.moment firsts.others asked.apart noted)

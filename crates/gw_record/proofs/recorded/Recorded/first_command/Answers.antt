@@ -5,4 +5,5 @@ use Rattle.gw_record.proofs.recorded.Recorded.first_command.Goals as goal
 pub returns : goal.returns
 returns c = λ t seed h.
     let kept = rw (← c.self.view_is) at h in
-    rw (← c.self.view_is) (first_command c.args.i c.self.inside.moment t seed _ _ c.least_from.ensures (λ k. kept.firsts.each (items.Cmd k)))
+    let least = rw c.firsts.ensures at c.least_from.ensures in
+    rw (← c.self.view_is) (first_command c.args.i c.self.inside.moment t seed _ _ least (λ k. kept.firsts.each (items.Cmd k)))

@@ -14,6 +14,6 @@ returns c =
       few = few;
       ends = c.truncate.ensures.items;
       before = parts;
-      firsts = c.forget.ensures.value;
-      clock = c.forget.ensures.clock;
+      firsts = c.go_back.ensures.each;
+      clock = c.go_back.ensures.clock;
     })

@@ -1,11 +1,13 @@
-use Rattle.std.proofs.Common.{◌-◌, ◌<◌, None, rules, ap, sym, subst, ◌∙◌}
+use Rattle.std.proofs.Common.{◌-◌, ◌<◌, Option, Some, None, rules, ap, sym, subst, ◌∙◌}
 use Rattle.gw_meaning.specs.Machine.{raised}
 use Rattle.gw_meaning.specs.Step.{step}
 use Rattle.gw_scan.specs.Stepping.{EndsAs}
 use Rattle.gw_record.specs.Tape.{Tape}
 use Rattle.gw_record.specs.Extending.{tallied}
 use Rattle.gw_record.specs.Reaching.{AreWanted}
-use Rattle.gw_record.proofs.ReachLaws.{wanted_more, tallied_more, goes_on}
+use Rattle.gw_record.proofs.ReachLaws.{wanted_more, tallied_more, goes_on, ends_on}
+use Rattle.gw_record.proofs.recorded.Recorded.reach.Goals.{in-Some, in-None}
+use Rattle.gw_meaning.specs.declared.item.End.{End}
 use Rattle.gw_record.proofs.recorded.Recorded.reach.Goals as goal
 
 pub loop-moment-preserved : goal.loop-moment-preserved
@@ -30,5 +32,15 @@ loop-moment-preserved c =
 
 pub returns-clause-reached : goal.returns-clause-reached
 returns-clause-reached c =
-    let Ends : Tape → Type 0 = λ r. EndsAs (step c.args.version.now c.args.seed r.tip) None in
-    (search rules, search rules, goes_on _ (subst Ends c.self-2.view_is (rw c.in-None.is at c.in_ok-end.ensures)))
+    let t = c.args.version.now in
+    let Ends : Option End → Tape → Type 0 = λ end r. EndsAs (step t c.args.seed r.tip) end in
+    let fewer : c.loop-moment.self.tip.complete < c.args.k = search rules in
+    elim c.match-branch-4.branch [
+        in-Some w ↦
+            let end = w.in-Some.end in
+            let ends = subst (Ends (Some end)) c.self-2.view_is (rw w.in-Some.is at c.in_ok-end.ensures) in
+            rw w.result-is (fewer, ends_on (step t c.args.seed c.loop-moment.self.tip) end ends)
+      | in-None w ↦
+            let goes = subst (Ends None) c.self-2.view_is (rw w.in-None.is at c.in_ok-end.ensures) in
+            rw w.result-is (fewer, search rules, goes_on _ goes)
+    ]
