@@ -1,14 +1,14 @@
 -- A FUNCTION comes to the value of each of its points there.
-use Rattle.std.proofs.Common.{◌≡◌, ℕ, zero, suc, ◌+◌, ◌-◌, ◌*◌, ◌/◌, ◌<◌, ◌≤◌, ℤ, pos, negsuc, neg_ℤ, ◌+ℤ◌, ◌-ℤ◌, ◌*ℤ◌, Bool, true, false, cond, List, [], ◌∷◌, Option, Some, None, IfSome, slice_get, refl, sym, ap, ◌∙◌, subst, arith}
+use Rattle.std.proofs.Common.{◌≡◌, ℕ, zero, suc, ◌+◌, ◌-◌, ◌*◌, ◌/◌, ◌<◌, ◌≤◌, ℤ, pos, negsuc, neg_ℤ, ◌+ℤ◌, ◌-ℤ◌, ◌*ℤ◌, true, false, cond, List, [], ◌∷◌, Option, Some, None, IfSome, slice_get, refl, sym, ap, ◌∙◌, subst, arith}
 use Rattle.std.proofs.Math.Nat.{div-lt_iff_lt-mul, le-div_iff_mul-le, mul-div_cancel}
 use Rattle.std.proofs.lemmas.Int.{ints}
 use Rattle.gw_nums.specs.Range.{is_below}
-use Rattle.gw_nums.specs.Millionths.{quotient_down, distance, toward}
+use Rattle.gw_nums.specs.Millionths.{quotient_down, distance}
 use Rattle.gw_meaning.specs.declared.function.FunctionType.{FunctionType}
 use Rattle.gw_meaning.specs.declared.function.FunctionType.TheVariants.{Continuous, Discrete}
 use Rattle.gw_meaning.specs.declared.function.Point.{Point}
 use Rattle.gw_meaning.specs.declared.function.Neighbours.{Neighbours}
-use Rattle.gw_meaning.specs.Functions.{sides, line_at, step_at, by_type, curve, between}
+use Rattle.gw_meaning.specs.Functions.{sides, line_at, step_at, by_type, between}
 use Rattle.gw_meaning.specs.Laws.{PointsHaveTheirValues}
 use Rattle.gw_meaning.proofs.Distances.{distance_some}
 
@@ -26,9 +26,12 @@ own_side : (ps : List Point) (before : Option Point) (i : ℕ) (p : Point) → s
 own_side [] before i p at rise below = absurd cc
 own_side (q ∷ ps) before zero p at rise below =
     let same : q ≡ p = cc in
-    let not_below : is_below q.x p.x ≡ false = subst (λ (r : Point). is_below r.x p.x ≡ false) (sym same) (not_itself p.x) in
-    (before, ap (λ b. cond b (sides (Some q) ps p.x) (record { before = before; next = Some q })) not_below ∙
-    ap (λ (r : Point). record { before = before; next = Some r }) same, below)
+    let not_below : is_below q.x p.x ≡ false = subst (λ (r : Point). is_below r.x p.x ≡ false) (sym same) (not_itself p.x) in (
+      before,
+      ap (λ b. cond b (sides (Some q) ps p.x) (record { before = before; next = Some q })) not_below ∙
+          ap (λ (r : Point). record { before = before; next = Some r }) same,
+      below,
+    )
 own_side (q ∷ ps) before (suc i) p at rise below =
     let under : is_below q.x p.x ≡ true = rise 0 q (omega arith) refl in
     let rest = own_side ps (Some q) i p at (λ j r less there. rise (suc j) r (omega arith) there) under in

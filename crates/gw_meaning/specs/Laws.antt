@@ -1,5 +1,5 @@
 -- Laws of evaluation. (Our own.)
-use Rattle.std.specs.Prelude.{ℕ, ℤ, ◌≡◌, ◌<◌, true, List, Option, Some, slice_get, Result, Ok, Err}
+use Rattle.std.specs.Prelude.{ℕ, ℤ, ◌≡◌, ◌<◌, true, List, Some, slice_get, Result, Ok, Err}
 use Rattle.gw_nums.specs.Range.{is_below}
 use Rattle.gw_expr.specs.Term.{Computed}
 use Rattle.gw_expr.specs.Expressions.{Expression, Single, Opposite, Both, postfix}
