@@ -16,7 +16,7 @@ use Rattle.gw_meaning.specs.declared.statement.Body.{Body}
 use Rattle.gw_meaning.specs.declared.statement.Body.TheVariants as bodies
 use Rattle.gw_meaning.specs.declared.statement.Statement.{Statement}
 use Rattle.gw_meaning.specs.declared.statement.Numbered.{Numbered}
-use Rattle.gw_meaning.specs.Listing.{Listing, block_of_body, is_block, is_generate, is_generate_body, has_label, labelled_in, generates_in, capacity_in, command_of_body, defines, definition_if, definition_of, definition_of_body, first_said, is_command, number_of, expression_of, or_next, units_of}
+use Rattle.gw_meaning.specs.Listing.{Listing, block_of_body, is_block, is_generate, is_generate_body, has_label, labelled_in, generates_in, capacity_in, command_of_body, defines, definition_if, definition_of, definition_of_body, first_said, is_command, number_of, expression_of, function_of, or_next, units_of}
 use Rattle.gw_meaning.specs.Questions.{Answer, ask}
 use Rattle.gw_meaning.specs.Reads.{is_use}
 use Rattle.gw_edit.specs.Same.{same_statement, same_label}
@@ -24,6 +24,7 @@ use Rattle.gw_edit.specs.declared.touch.Probe.{Probe}
 use Rattle.gw_edit.specs.declared.touch.Probe.TheVariants.{CommandsFrom}
 use Rattle.gw_edit.specs.Touching.{block_before, command_from, given, one_if, label_if, block_places, block_probes, line_probes, change_places, label_places, block_change, is_probed, is_touched, definition_place, definition_probes, rest_probes}
 use Rattle.gw_edit.proofs.SameBlocks.{statement_same, label_same}
+use Rattle.gw_meaning.specs.declared.function.Function.{Function}
 use Rattle.gw_meaning.specs.declared.statement.Definition.{Definition}
 use Rattle.gw_meaning.specs.declared.statement.Definition.TheVariants as definitions
 
@@ -249,6 +250,8 @@ module _ (name : List ℕ) where
       ap (λ b. number_of (definition_if b (Some (definitions.Equ value)))) (other_name label h)
   no_number (Some label) (Some (definitions.Variable expression)) h =
       elim (has_label name (Some label)) as (λ b. number_of (definition_if b (Some (definitions.Variable expression))) ≡ None) [ true ↦ refl | false ↦ refl ]
+  no_number (Some label) (Some (definitions.Function function)) h =
+      elim (has_label name (Some label)) as (λ b. number_of (definition_if b (Some (definitions.Function function))) ≡ None) [ true ↦ refl | false ↦ refl ]
 
   -- the expression of the VARIABLE
   pub no_expression : IsSilent expression_of refl (items.Variable name)
@@ -261,6 +264,22 @@ module _ (name : List ℕ) where
       elim (has_label name (Some label)) as (λ b. expression_of (definition_if b (Some (definitions.Equ value))) ≡ None) [ true ↦ refl | false ↦ refl ]
   no_expression (Some label) (Some (definitions.Variable expression)) h =
       ap (λ b. expression_of (definition_if b (Some (definitions.Variable expression)))) (other_name label h)
+  no_expression (Some label) (Some (definitions.Function function)) h =
+      elim (has_label name (Some label)) as (λ b. expression_of (definition_if b (Some (definitions.Function function))) ≡ None) [ true ↦ refl | false ↦ refl ]
+
+  -- the FUNCTION
+  pub no_function : IsSilent function_of refl (items.Function name)
+  no_function None None h = refl
+  no_function None (Some definition) h = refl
+  no_function (Some label) None h = ap function_of (nothing_defined (Some label))
+  no_function (Some label) (Some (definitions.Storage capacity)) h =
+      elim (has_label name (Some label)) as (λ b. function_of (definition_if b (Some (definitions.Storage capacity))) ≡ None) [ true ↦ refl | false ↦ refl ]
+  no_function (Some label) (Some (definitions.Equ value)) h =
+      elim (has_label name (Some label)) as (λ b. function_of (definition_if b (Some (definitions.Equ value))) ≡ None) [ true ↦ refl | false ↦ refl ]
+  no_function (Some label) (Some (definitions.Variable expression)) h =
+      elim (has_label name (Some label)) as (λ b. function_of (definition_if b (Some (definitions.Variable expression))) ≡ None) [ true ↦ refl | false ↦ refl ]
+  no_function (Some label) (Some (definitions.Function function)) h =
+      ap (λ b. function_of (definition_if b (Some (definitions.Function function)))) (other_name label h)
 
   -- whether so many units fit
   abbrev pub fitting : ℕ → Option Definition → Option Bool
@@ -277,6 +296,9 @@ module _ (name : List ℕ) where
   no_units units (Some label) (Some (definitions.Variable expression)) h =
       elim (has_label name (Some label)) as (λ b. fitting units (definition_if b (Some (definitions.Variable expression))) ≡ None)
       [ true ↦ refl | false ↦ refl ]
+  no_units units (Some label) (Some (definitions.Function function)) h =
+      elim (has_label name (Some label)) as (λ b. fitting units (definition_if b (Some (definitions.Function function))) ≡ None)
+      [ true ↦ refl | false ↦ refl ]
 
   -- how many units it has
   pub no_capacity : IsSilent units_of refl (items.Storage name)
@@ -289,6 +311,9 @@ module _ (name : List ℕ) where
       elim (has_label name (Some label)) as (λ b. units_of (definition_if b (Some (definitions.Equ value))) ≡ None) [ true ↦ refl | false ↦ refl ]
   no_capacity (Some label) (Some (definitions.Variable expression)) h =
       elim (has_label name (Some label)) as (λ b. units_of (definition_if b (Some (definitions.Variable expression))) ≡ None)
+      [ true ↦ refl | false ↦ refl ]
+  no_capacity (Some label) (Some (definitions.Function function)) h =
+      elim (has_label name (Some label)) as (λ b. units_of (definition_if b (Some (definitions.Function function))) ≡ None)
       [ true ↦ refl | false ↦ refl ]
 
 -- of the storage of a name the first that is defined tells whether so many units fit
@@ -370,6 +395,14 @@ by_lines (items.Variable name) listed = record {
   is = λ t seed. said_listed (λ line. expression_of (defines name line)) t.lines;
   line = silent_line name expression_of refl (items.Variable name) (no_expression name);
   change = λ line s was is h. silent_blocks name expression_of refl line (changed_line line s) was is;
+}
+by_lines (items.Function name) listed = record {
+  X = Function;
+  says = λ line. function_of (defines name line);
+  made = λ horizon seed fs. leading fs;
+  is = λ t seed. said_listed (λ line. function_of (defines name line)) t.lines;
+  line = silent_line name function_of refl (items.Function name) (no_function name);
+  change = λ line s was is h. silent_blocks name function_of refl line (changed_line line s) was is;
 }
 by_lines item listed = record {
   X = Unit {0};

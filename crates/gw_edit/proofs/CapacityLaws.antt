@@ -53,6 +53,7 @@ gives name n (line ∷ lines) place h = go (defines name line) refl h (gives nam
   go None is k rest = later (ap units_of is) (rest k)
   go (Some (definitions.Equ value)) is k rest = later (ap units_of is) (rest k)
   go (Some (definitions.Variable expression)) is k rest = later (ap units_of is) (rest k)
+  go (Some (definitions.Function function)) is k rest = later (ap units_of is) (rest k)
   go (Some (definitions.Storage from)) is k rest = record {
     index = 0;
     at = (let same : n ≡ place = cc in omega (arith, same));
@@ -129,6 +130,7 @@ answered t u a b name from to was is (items.Storage other) h same = go (bytes_eq
       let alike : capacity_at u name ≡ capacity_at t name = rw here same in
       two_capacities from to there (sym is ∙ (alike ∙ was))
 answered t u a b name from to was is (items.Variable other) h same = absurd cc
+answered t u a b name from to was is (items.Function other) h same = absurd cc
 answered t u a b name from to was is (items.Block id) h same = absurd cc
 answered t u a b name from to was is (items.After id) h same = absurd cc
 answered t u a b name from to was is (items.Label label) h same = absurd cc

@@ -7,13 +7,13 @@ use Rattle.gw_meaning.specs.declared.item.Item.{Item}
 use Rattle.gw_meaning.specs.declared.item.Item.TheVariants as items
 use Rattle.gw_meaning.specs.declared.statement.Statement.{Statement}
 use Rattle.gw_meaning.specs.declared.statement.Numbered.{Numbered}
-use Rattle.gw_meaning.specs.Listing.{Listing, line_in, block_of, block_of_body, is_block, command_of, first_block, after_in, nth, command_of_body, defines, definition_if, definition_of, definition_of_body, has_label, is_generate_body, number_of, expression_of, units_of}
+use Rattle.gw_meaning.specs.Listing.{Listing, line_in, block_of, block_of_body, is_block, command_of, first_block, after_in, nth, command_of_body, defines, definition_if, definition_of, definition_of_body, has_label, is_generate_body, number_of, expression_of, function_of, units_of}
 use Rattle.gw_meaning.specs.Questions.{ask}
 use Rattle.gw_model.proofs.Numbers.{other_way}
-use Rattle.gw_edit.specs.Same.{same_statement, same_term}
-use Rattle.gw_edit.specs.Touching.{lines_before, one_if, line_probes, change_places, block_change, splice_probes, is_touched, one_name, other_change, same_number, same_expression}
+use Rattle.gw_edit.specs.Same.{same_statement, same_term, same_function}
+use Rattle.gw_edit.specs.Touching.{lines_before, one_if, line_probes, change_places, block_change, splice_probes, is_touched, one_name, other_change, same_number, same_expression, same_curve}
 use Rattle.gw_edit.proofs.Fronts.{block_in, block_behind, after_behind, commands_behind}
-use Rattle.gw_edit.proofs.SameBlocks.{statement_same, term_same}
+use Rattle.gw_edit.proofs.SameBlocks.{statement_same, term_same, function_same}
 use Rattle.gw_edit.proofs.ByLines.{untouched_both, probed_at, untouched_at, changed_line, change_parts, by_lines, changed_alike, IsListed, bytes_other, fitting, generate_none, generate_of, label_of}
 use Rattle.std.proofs.lemmas.Bool.Decides.{Decides-int_eq}
 use Rattle.gw_edit.proofs.LineLaws.{command_none, line_alike}
@@ -21,6 +21,7 @@ use Rattle.std.specs.Str.{bytes_eq}
 use Rattle.std.proofs.lemmas.Slice.Eq.{bytes_eq-Decides}
 use Rattle.gw_uses.specs.Asks.{differs, is_ask, is_other}
 use Rattle.gw_meaning.specs.declared.statement.Body.{Body}
+use Rattle.gw_meaning.specs.declared.function.Function.{Function}
 use Rattle.gw_meaning.specs.declared.statement.Definition.{Definition}
 use Rattle.std.specs.Ordering.{int_eq}
 use Rattle.gw_meaning.specs.declared.statement.Definition.TheVariants as definitions
@@ -125,6 +126,30 @@ variable_unitless : (b : Bool) (e : Term) → units_of (definition_if b (Some (d
 variable_unitless true e = refl
 variable_unitless false e = refl
 
+storage_functionless : (b : Bool) (c : ℕ) → function_of (definition_if b (Some (definitions.Storage c))) ≡ None
+storage_functionless true c = refl
+storage_functionless false c = refl
+
+equ_functionless : (b : Bool) (z : ℤ) → function_of (definition_if b (Some (definitions.Equ z))) ≡ None
+equ_functionless true z = refl
+equ_functionless false z = refl
+
+variable_functionless : (b : Bool) (e : Term) → function_of (definition_if b (Some (definitions.Variable e))) ≡ None
+variable_functionless true e = refl
+variable_functionless false e = refl
+
+function_numberless : (b : Bool) (f : Function) → number_of (definition_if b (Some (definitions.Function f))) ≡ None
+function_numberless true f = refl
+function_numberless false f = refl
+
+function_unitless : (b : Bool) (f : Function) → units_of (definition_if b (Some (definitions.Function f))) ≡ None
+function_unitless true f = refl
+function_unitless false f = refl
+
+function_unexpressed : (b : Bool) (f : Function) → expression_of (definition_if b (Some (definitions.Function f))) ≡ None
+function_unexpressed true f = refl
+function_unexpressed false f = refl
+
 -- two definitions of one name that say nothing of another kind
 nothing_said : {X : Type 0} (f : Option Definition → Option X) (line other : Numbered) (label : List ℕ) (d e : Definition) (name : List ℕ) →
     line.statement.label ≡ Some label → other.statement.label ≡ Some label → definition_of line ≡ Some d → definition_of other ≡ Some e →
@@ -162,6 +187,8 @@ units_said (items.Storage name) label from to line other l m was is no_block non
     (capacity_alike (bytes_eq label name) from to h ∙ sym (ap units_of (defines_it line label _ name l was)))
 units_said (items.Variable name) label from to line other l m was is no_block none h listed =
     nothing_said expression_of line other label _ _ name l m was is (λ b. storage_unexpressed b from) (λ b. storage_unexpressed b to)
+units_said (items.Function name) label from to line other l m was is no_block none h listed =
+    nothing_said function_of line other label _ _ name l m was is (λ b. storage_functionless b from) (λ b. storage_functionless b to)
 units_said items.Seed label from to line other l m was is no_block none h listed = refl
 units_said (items.Within time) label from to line other l m was is no_block none h listed = refl
 
@@ -198,6 +225,8 @@ number_said (items.Storage name) label x y same line other e l m was is no_block
     nothing_said units_of line other label _ _ name l m was is (λ b. unitless b x) (λ b. unitless b y)
 number_said (items.Variable name) label x y same line other e l m was is no_block none h listed =
     nothing_said expression_of line other label _ _ name l m was is (λ b. equ_unexpressed b x) (λ b. equ_unexpressed b y)
+number_said (items.Function name) label x y same line other e l m was is no_block none h listed =
+    nothing_said function_of line other label _ _ name l m was is (λ b. equ_functionless b x) (λ b. equ_functionless b y)
 number_said items.Seed label x y same line other e l m was is no_block none h listed = refl
 number_said (items.Within time) label x y same line other e l m was is no_block none h listed = refl
 
@@ -237,8 +266,51 @@ expression_said (items.Variable name) label x y same line other e l m was is no_
         let apart : bytes_eq label name ≡ false = bytes_other name label untouched in
         ap (λ b. expression_of (definition_if b (Some (definitions.Variable y)))) apart ∙
         sym (ap (λ b. expression_of (definition_if b (Some (definitions.Variable x)))) apart)
+expression_said (items.Function name) label x y same line other e l m was is no_block none h listed =
+    nothing_said function_of line other label _ _ name l m was is (λ b. variable_functionless b x) (λ b. variable_functionless b y)
 expression_said items.Seed label x y same line other e l m was is no_block none h listed = refl
 expression_said (items.Within time) label x y same line other e l m was is no_block none h listed = refl
+
+-- two FUNCTIONs of one name, which are touched where they are not the same
+curves_alike : (same : Bool) (old new : Statement) (x y : Function) → same_curve old new x y ≡ same → same ≡ true → x ≡ y
+curves_alike same old new x y is yes' = function_same x y ((and_parts (bytes_eq old.operands new.operands) (same_function x y) (is ∙ yes')).1)
+
+function_said : (i : Item) (label : List ℕ) (x y : Function) (same : Bool) (line other : Numbered) →
+    same_curve line.statement other.statement x y ≡ same → line.statement.label ≡ Some label → other.statement.label ≡ Some label →
+    definition_of line ≡ Some (definitions.Function x) → definition_of other ≡ Some (definitions.Function y) → block_of line ≡ None →
+    block_of other ≡ None → probed_at (one_if (not same) (items.Function label)) i ≡ false →
+    (listed : IsListed i) → (by_lines i listed).says other ≡ (by_lines i listed).says line
+unfolding by_lines
+function_said (items.Block k) label x y same line other e l m was is no_block none h listed = absurd listed
+function_said (items.After k) label x y same line other e l m was is no_block none h listed = absurd listed
+function_said (items.Cmd j) label x y same line other e l m was is no_block none h listed = absurd listed
+function_said items.Generates label x y same line other e l m was is no_block none h listed = generates_said line other no_block none
+function_said (items.Label name) label x y same line other e l m was is no_block none h listed = label_said name line other no_block none
+function_said (items.Name name) label x y same line other e l m was is no_block none h listed =
+    nothing_said number_of line other label _ _ name l m was is (λ b. function_numberless b x) (λ b. function_numberless b y)
+function_said (items.Fits name amount) label x y same line other e l m was is no_block none h listed =
+    let nothing : Option ℕ → Option Bool = option_map (λ c. nat_le amount c) in
+    nothing_said (fitting name amount) line other label _ _ name l m was is (λ b. ap nothing (function_unitless b x))
+    (λ b. ap nothing (function_unitless b y))
+function_said (items.Storage name) label x y same line other e l m was is no_block none h listed =
+    nothing_said units_of line other label _ _ name l m was is (λ b. function_unitless b x) (λ b. function_unitless b y)
+function_said (items.Variable name) label x y same line other e l m was is no_block none h listed =
+    nothing_said expression_of line other label _ _ name l m was is (λ b. function_unexpressed b x) (λ b. function_unexpressed b y)
+function_said (items.Function name) label x y same line other e l m was is no_block none h listed =
+    ap function_of (defines_it other label _ name m is) ∙ (go same e h ∙ sym (ap function_of (defines_it line label _ name l was)))
+  where
+    go : (b : Bool) → same_curve line.statement other.statement x y ≡ b → probed_at (one_if (not b) (items.Function label)) (items.Function name) ≡ false →
+        function_of (definition_if (bytes_eq label name) (Some (definitions.Function y))) ≡
+        function_of (definition_if (bytes_eq label name) (Some (definitions.Function x)))
+    go true k untouched =
+        ap (λ z. function_of (definition_if (bytes_eq label name) (Some (definitions.Function z))))
+        (sym (curves_alike true line.statement other.statement x y k refl))
+    go false k untouched =
+        let apart : bytes_eq label name ≡ false = bytes_other name label untouched in
+        ap (λ b. function_of (definition_if b (Some (definitions.Function y)))) apart ∙
+        sym (ap (λ b. function_of (definition_if b (Some (definitions.Function x)))) apart)
+function_said items.Seed label x y same line other e l m was is no_block none h listed = refl
+function_said (items.Within time) label x y same line other e l m was is no_block none h listed = refl
 
 -- a version and the version with the other statement
 pub record IsChanged (t u : Listing) (place : ℕ) (line : Numbered) (s : Statement) (back : List Numbered) : Type 0 where
@@ -330,6 +402,13 @@ module _ (t u : Listing) (place : ℕ) (line : Numbered) (s : Statement) (back :
         defined_alike none.0 no_more.0 none.1 no_more.1 i
         (expression_said i name x y (same_expression line.statement s x y) line (changed_line line s) refl labels.0 labels.1 was is none.0 no_more.0
         (untouched_at (one_if (not (same_expression line.statement s x y)) (items.Variable name) ∷ []) 0 _ i refl h))
+    other_alike absent (Some name) named (Some (definitions.Function x)) (Some (definitions.Function y)) was is i h =
+        let none = defined_parts line (definitions.Function x) was in
+        let no_more = defined_parts (changed_line line s) (definitions.Function y) is in
+        let labels = labels_are line.statement.label s.label name named in
+        defined_alike none.0 no_more.0 none.1 no_more.1 i
+        (function_said i name x y (same_curve line.statement s x y) line (changed_line line s) refl labels.0 labels.1 was is none.0 no_more.0
+        (untouched_at (one_if (not (same_curve line.statement s x y)) (items.Function name) ∷ []) 0 _ i refl h))
     other_alike absent name named before behind was is i h = kind_alike absent i h
 
     by_kinds : line_in (lines_before t place ++ back) line.number ≡ None → (was is : Bool) → is_block line ≡ was → is_block (changed_line line s) ≡ is →

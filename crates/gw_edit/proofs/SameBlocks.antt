@@ -1,5 +1,5 @@
 -- Statements that are the same are the same block.
-use Rattle.std.proofs.Common.{◌≡◌, ℕ, zero, suc, ◌==◌, ◌&&◌, ◌≤◌, ◌<◌, true, false, length, arith, List, [], ◌∷◌, Option, Some, None, refl, sym, ap, ap₂, ◌∙◌, rules}
+use Rattle.std.proofs.Common.{◌≡◌, ℕ, ℤ, zero, suc, ◌==◌, ◌&&◌, ◌≤◌, ◌<◌, true, false, length, arith, List, [], ◌∷◌, Option, Some, None, refl, sym, ap, ap₂, ◌∙◌, rules}
 use denote.Enum.Bare.{same_true, sameb}
 use Rattle.std.specs.Str.{bytes_eq}
 use Rattle.std.proofs.lemmas.Bool.{and_parts, eqb-true}
@@ -7,6 +7,10 @@ use Rattle.std.proofs.lemmas.Bool.Decides.{Decides-int_eq}
 use Rattle.std.proofs.lemmas.Slice.Eq.{bytes_eq-Decides}
 use Rattle.gw_names.specs.contracts.verb.BlockVerb.{the_type}
 use Rattle.gw_meaning.specs.contracts.sign.Sign.{the_type as sign_type}
+use Rattle.gw_meaning.specs.contracts.function.FunctionType.{the_type as function_type}
+use Rattle.gw_meaning.specs.declared.function.FunctionType.{FunctionType}
+use Rattle.gw_meaning.specs.declared.function.Point.{Point}
+use Rattle.gw_meaning.specs.declared.function.Function.{Function}
 use Rattle.gw_meaning.specs.declared.sign.Sign.{Sign}
 use Rattle.gw_names.specs.contracts.class.Class as classes
 use Rattle.gw_names.specs.declared.class.Class.{Class}
@@ -25,7 +29,7 @@ use Rattle.gw_meaning.specs.declared.statement.Statement.{Statement}
 use Rattle.gw_meaning.specs.declared.statement.Block.{Block}
 use Rattle.gw_meaning.specs.declared.statement.Body.{Body}
 use Rattle.gw_meaning.specs.declared.statement.Body.TheVariants as bodies
-use Rattle.gw_edit.specs.Same.{same_atom, same_value, same_part, same_parts, kind_of, atom_of, parts_of, number_of, bytes_of, same_term, same_operand, same_operands, same_verb, same_sign, same_block, same_body, same_statement, same_label}
+use Rattle.gw_edit.specs.Same.{same_atom, same_value, same_part, same_parts, same_type, same_point, same_points, same_function, kind_of, atom_of, parts_of, number_of, bytes_of, same_term, same_operand, same_operands, same_verb, same_sign, same_block, same_body, same_statement, same_label}
 
 -- the operand that is told so
 abbrev told : ℕ → Option Atom → List Token → ℕ → List ℕ → Term
@@ -173,3 +177,32 @@ label_same None None h = refl
 label_same None (Some b) h = absurd cc
 label_same (Some a) None h = absurd cc
 label_same (Some a) (Some b) h = ap (λ name. Some name) ((bytes_eq-Decides a b).0 h)
+
+-- so are FUNCTIONs
+type_same : (a b : FunctionType) → same_type a b ≡ true → a ≡ b
+unfolding same_type
+type_same a b h = same_true function_type (search rules) a b h
+
+point_same : (p q : Point) → same_point p q ≡ true → p ≡ q
+unfolding same_point
+point_same p q h =
+    let w = and_parts _ _ h in
+    ap₂ (λ (x y : ℤ). record { x = x; y = y }) ((Decides-int_eq p.x q.x).0 w.0) ((Decides-int_eq p.y q.y).0 w.1)
+
+points_same : (ps qs : List Point) → same_points ps qs ≡ true → ps ≡ qs
+points_same [] [] h = refl
+points_same [] (q ∷ qs) h = absurd cc
+points_same (p ∷ ps) [] h = absurd cc
+points_same (p ∷ ps) (q ∷ qs) h =
+    let w = and_parts (same_point p q) (same_points ps qs) h in
+    ap₂ (λ z zs. z ∷ zs) (point_same p q w.0) (points_same ps qs w.1)
+
+pub function_same : (f g : Function) → same_function f g ≡ true → f ≡ g
+function_same f g h =
+    let but_argument = and_parts (same_term f.argument g.argument) _ h in
+    let but_type = and_parts (same_type f.kind g.kind) _ but_argument.1 in
+    let last = and_parts (f.count == g.count) (same_points f.points g.points) but_type.1 in
+    ap₂ (λ (t : Term) (k : FunctionType). record { argument = t; kind = k; count = f.count; points = f.points })
+    (term_same f.argument g.argument but_argument.0) (type_same f.kind g.kind but_type.0) ∙
+    ap₂ (λ (n : ℕ) (ps : List Point). record { argument = g.argument; kind = g.kind; count = n; points = ps })
+    (eqb-true f.count g.count last.0) (points_same f.points g.points last.1)

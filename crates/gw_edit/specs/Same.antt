@@ -1,10 +1,16 @@
 -- When a block is the block that it was: it has the same verb, sign and operands, as they are listed and as they are
--- read. Its label does not count. (Our own.)
+-- read. Its label does not count. And when a FUNCTION is the one that it was. (Our own.)
 use Rattle.std.specs.Prelude.{ℕ, ◌==◌, Bool, true, false, ◌&&◌, List, [], ◌∷◌, Option, Some, None}
 use Rattle.std.specs.Str.{bytes_eq}
+use Rattle.std.specs.Cmp.Lexicographic.{pointwise}
 use denote.Enum.Bare.{sameb}
 use Rattle.gw_names.specs.contracts.verb.BlockVerb.{the_type}
 use Rattle.gw_meaning.specs.contracts.sign.Sign.{the_type as sign_type}
+use Rattle.gw_meaning.specs.contracts.function.FunctionType.{the_type as function_type}
+use Rattle.gw_meaning.specs.contracts.function.PointPartialEq.TheImpl as point_comparison
+use Rattle.gw_meaning.specs.declared.function.FunctionType.{FunctionType}
+use Rattle.gw_meaning.specs.declared.function.Point.{Point}
+use Rattle.gw_meaning.specs.declared.function.Function.{Function}
 use Rattle.gw_expr.specs.contracts.atom.AtomPartialEq.TheImpl as atom_comparison
 use Rattle.gw_expr.specs.contracts.token.TokenPartialEq.TheImpl as token_comparison
 use Rattle.gw_expr.specs.declared.atom.Atom.{Atom}
@@ -110,3 +116,18 @@ same_label None None = true
 same_label None (Some b) = false
 same_label (Some a) None = false
 same_label (Some a) (Some b) = bytes_eq a b
+
+-- two FUNCTIONs: their argument, their type, how many points they have, and the points
+unfoldable pub same_type : FunctionType → FunctionType → Bool
+same_type = sameb function_type
+
+unfoldable pub same_point : Point → Point → Bool
+same_point = point_comparison.ghosts.eq
+
+abbrev pub same_points : List Point → List Point → Bool
+same_points ps qs = pointwise same_point ps qs
+
+abbrev pub same_function : Function → Function → Bool
+same_function f g =
+    same_term f.argument g.argument && (same_type f.kind g.kind && ((f.count == g.count)
+    && same_points f.points g.points))

@@ -7,6 +7,7 @@ use Rattle.gw_meaning.specs.declared.item.Item.TheVariants.{After, Generates, Se
 use Rattle.gw_meaning.specs.declared.item.Item.TheVariants as items
 use Rattle.std.specs.Ordering.{int_eq}
 use Rattle.std.specs.Str.{bytes_eq}
+use Rattle.gw_meaning.specs.declared.function.Function.{Function}
 use Rattle.gw_meaning.specs.declared.statement.Definition.{Definition}
 use Rattle.gw_meaning.specs.declared.statement.Definition.TheVariants as definitions
 use Rattle.gw_meaning.specs.declared.statement.Statement.{Statement}
@@ -20,7 +21,7 @@ use Rattle.gw_edit.specs.declared.touch.Probe.TheVariants.{One, CommandsFrom, Be
 use Rattle.gw_uses.specs.Asks.{is_ask}
 use Rattle.gw_edit.specs.Applied.{storage_place}
 use Rattle.gw_expr.specs.Term.{Term}
-use Rattle.gw_edit.specs.Same.{same_statement, same_label, same_term}
+use Rattle.gw_edit.specs.Same.{same_statement, same_label, same_term, same_function}
 
 -- whether a probe is of an item: of that one, of a command from the first one on, of a later time than the last one, of
 -- an amount that two capacities answer in two ways, or the capacity itself
@@ -79,11 +80,12 @@ abbrev pub block_probes : Listing → ℕ → Numbered → List Probe
 block_probes t place line = given (block_places (block_before t place) line)
 
 -- a definition that comes in or goes out: what its name is asked, a storage how many units fit and how many it has, a
--- name with a number which number that is, and a VARIABLE its expression
+-- name with a number which number that is, a VARIABLE its expression, and a FUNCTION what it is
 abbrev pub definition_place : Option (List ℕ) → Option Definition → Option Probe
 definition_place (Some name) (Some (definitions.Storage capacity)) = Some (Amounts name None None)
 definition_place (Some name) (Some (definitions.Equ value)) = Some (One (items.Name name))
 definition_place (Some name) (Some (definitions.Variable expression)) = Some (One (items.Variable name))
+definition_place (Some name) (Some (definitions.Function function)) = Some (One (items.Function name))
 definition_place label definition = None
 
 abbrev pub definition_probes : Numbered → List Probe
@@ -126,9 +128,14 @@ same_number old new a b = bytes_eq old.operands new.operands && int_eq a b
 abbrev pub same_expression : Statement → Statement → Term → Term → Bool
 same_expression old new a b = bytes_eq old.operands new.operands && same_term a b
 
+-- whether two FUNCTIONs are one, as it is written and as it is read
+abbrev pub same_curve : Statement → Statement → Function → Function → Bool
+same_curve old new a b = bytes_eq old.operands new.operands && same_function a b
+
 -- a statement that is another one, of which not both are blocks: of a storage of one name the amounts that the two
 -- capacities answer in two ways, of an EQU of one name the number where it is another one, of a VARIABLE of one name the
--- expression where it is another one; else what the one touches that goes, and what the one that comes in
+-- expression and of a FUNCTION of one name the FUNCTION where it is another one; else what the one touches that goes, and
+-- what the one that comes in
 abbrev pub other_change :
     Option (List ℕ) → Option Definition → Option Definition → Listing → ℕ → Numbered → Numbered → List Probe
 other_change (Some name) (Some (definitions.Storage from)) (Some (definitions.Storage to)) t place old new =
@@ -137,6 +144,8 @@ other_change (Some name) (Some (definitions.Equ a)) (Some (definitions.Equ b)) t
     given (one_if (not (same_number old.statement new.statement a b)) (items.Name name) ∷ [])
 other_change (Some name) (Some (definitions.Variable a)) (Some (definitions.Variable b)) t place old new =
     given (one_if (not (same_expression old.statement new.statement a b)) (items.Variable name) ∷ [])
+other_change (Some name) (Some (definitions.Function a)) (Some (definitions.Function b)) t place old new =
+    given (one_if (not (same_curve old.statement new.statement a b)) (items.Function name) ∷ [])
 other_change name before behind t place old new = line_probes t place old ++ line_probes t place new
 
 -- of a statement, where there is one

@@ -1,9 +1,9 @@
 ghost use Rattle.std.specs.Prelude.{◌≡◌, option_copied};
-ghost use Rattle.gw_edit.specs.Same.{same_term, same_operand, same_operands, same_verb, same_sign, same_block, same_body, same_statement, same_label, same_atom, same_value, same_part, same_parts, kind_of, atom_of, parts_of, number_of, bytes_of};
+ghost use Rattle.gw_edit.specs.Same.{same_term, same_operand, same_operands, same_verb, same_sign, same_block, same_body, same_statement, same_label, same_atom, same_value, same_part, same_parts, same_type, same_points, same_function, kind_of, atom_of, parts_of, number_of, bytes_of};
 ghost use Rattle.gw_expr.specs.Term.{term_of};
 
 use gw_expr::{Atom, Expr, Node, Token};
-use gw_meaning::{Block, Body, Sign, Statement};
+use gw_meaning::{Block, Body, Function, FunctionType, Point, Sign, Statement};
 use gw_names::{BlockVerb, Name};
 
 /// Whether both are blocks with the same verb, sign and operands. Labels do not count.
@@ -173,4 +173,28 @@ pub fn same_label(old: &Option<Name>, new: &Option<Name>) -> bool
         (Some(old), Some(new)) => old == new,
         _ => false,
     }
+}
+
+/// Whether two FUNCTIONs have the same argument, type and points.
+pub fn same_function(old: &Function, new: &Function) -> bool
+    ensures { result ≡ same_function old.now new.now }
+{
+    same_term(&old.argument, &new.argument)
+        && same_type(old.kind, new.kind)
+        && old.count == new.count
+        && same_points(old.points.as_slice(), new.points.as_slice())
+}
+
+#[tactic(auto, unfolding(crate::specs::Same::same_type))]
+fn same_type(old: FunctionType, new: FunctionType) -> bool
+    ensures { result ≡ same_type old new }
+{
+    old == new
+}
+
+#[tactic(auto, unfolding(crate::specs::Same::same_point))]
+fn same_points(old: &[Point], new: &[Point]) -> bool
+    ensures { result ≡ same_points old.now new.now }
+{
+    old == new
 }

@@ -1,12 +1,12 @@
 ghost use Rattle.std.specs.Prelude.{◌≡◌, IfOk, ◌++◌, [], ◌∷◌, Some, None, option_copied};
 ghost use Rattle.gw_meaning.specs.Listing.{definition_of};
-ghost use Rattle.gw_edit.specs.Touching.{touching_of, capacity_probes, definition_place, other_change, one_name, same_number, same_expression, rest_probes, seed_touching, seed_probes, everywhere, given, one_if, label_if, block_places, block_before, command_from, line_probes, probes_of, splice_probes, block_change, same_seed};
+ghost use Rattle.gw_edit.specs.Touching.{touching_of, capacity_probes, definition_place, other_change, one_name, same_number, same_expression, same_curve, rest_probes, seed_touching, seed_probes, everywhere, given, one_if, label_if, block_places, block_before, command_from, line_probes, probes_of, splice_probes, block_change, same_seed};
 
 use crate::edit::Edit;
 use crate::lines::{count_commands, last_block, line_at, lines_before, storage_place};
-use crate::same::{same_label, same_statement, same_term};
+use crate::same::{same_function, same_label, same_statement, same_term};
 use gw_expr::Expr;
-use gw_meaning::{Body, Definition, Item, Numbered, Statement, StatementId};
+use gw_meaning::{Body, Definition, Function, Item, Numbered, Statement, StatementId};
 use gw_model::Version;
 use gw_names::Name;
 use gw_nums::{Time, Val};
@@ -201,6 +201,9 @@ fn definition_place(line: &Numbered) -> Result<Option<Probe>, AllocError>
         (Some(name), Some(Definition::Variable { .. })) => {
             Ok(Some(Probe::One(Item::Variable(name.clone()?))))
         }
+        (Some(name), Some(Definition::Function(_))) => {
+            Ok(Some(Probe::One(Item::Function(name.clone()?))))
+        }
         _ => Ok(None),
     }
 }
@@ -301,6 +304,10 @@ fn definition_change(
             let same = same_expression(&old.statement, &new.statement, a, b);
             Ok(alone(one_if(!same, Item::Variable(name.clone()?))))
         }
+        (Definition::Function(a), Definition::Function(b)) => {
+            let same = same_curve(&old.statement, &new.statement, a, b);
+            Ok(alone(one_if(!same, Item::Function(name.clone()?))))
+        }
         _ => both_touch(version, place, old, new),
     }
 }
@@ -341,6 +348,12 @@ fn same_expression(old: &Statement, new: &Statement, before: &Expr, behind: &Exp
     ensures { result ≡ same_expression old.now new.now before.now behind.now }
 {
     old.operands.as_slice() == new.operands.as_slice() && same_term(before, behind)
+}
+
+fn same_curve(old: &Statement, new: &Statement, before: &Function, behind: &Function) -> bool
+    ensures { result ≡ same_curve old.now new.now before.now behind.now }
+{
+    old.operands.as_slice() == new.operands.as_slice() && same_function(before, behind)
 }
 
 // The storage at a place, if any, with another capacity.

@@ -28,7 +28,7 @@ use Rattle.gw_names.specs.declared.key.Key.{Key}
 use Rattle.gw_meaning.specs.Entities.{facility_at, line_at}
 use Rattle.gw_entities.specs.Parameters.{parameter_at}
 use Rattle.gw_meaning.specs.Machine.{Machine, count_at}
-use Rattle.gw_meaning.specs.Evaluation.{Eval, number_of_draw, draw, amount, numbered, named, subject_prog, storage_prog, counted, block_count, random_prog, random_part, own_value, value_held, parameter_value, entity_value, storage_value, block_value, owned, attribute_prog, number_given, atom_prog, arithmetic, token_prog, tokens_prog, last_value, value_prog, value_there, value_or_zero, entity_prog, units_prog, in_range, spread, sample_within, time_prog, left_prog, Definitions, is_of_variable, of_variable, is_of_function, of_function, value_of_attribute, is_random, random_of, argument_by, argument_prog, point_found, function_given, modifier_of, time_by, drawn_prog, term_prog, expression_given, definitions_prog, DEEPEST}
+use Rattle.gw_meaning.specs.Evaluation.{Eval, number_of_draw, draw, amount, numbered, named, subject_prog, storage_prog, counted, block_count, random_prog, random_part, own_value, value_held, parameter_value, entity_value, storage_value, block_value, owned, attribute_prog, number_given, atom_prog, arithmetic, token_prog, tokens_prog, last_value, value_prog, value_there, value_or_zero, entity_prog, units_prog, in_range, spread, sample_within, time_prog, left_prog, Definitions, is_of_variable, of_variable, is_of_function, of_function, value_of_attribute, random_of, argument_by, argument_prog, point_found, function_given, modifier_of, time_by, drawn_prog, term_prog, expression_given, definitions_prog, DEEPEST}
 use Rattle.gw_frame.proofs.Seeds.{uses_seed, one_drew}
 use Rattle.gw_frame.proofs.Keeps.{ProgKeeps, Keeps, prog_gives, prog_bind, keeps_gives, keeps_ends, keeps_asks, keeps_cond, keeps_stops, keeps_unless, keeps_bind}
 use Rattle.gw_names.specs.declared.key.Key.TheVariants as keys

@@ -26,7 +26,7 @@ use Rattle.gw_names.specs.declared.key.Key.TheVariants as keys
 use Rattle.gw_meaning.specs.Entities.{facility_at, line_at, store_at}
 use Rattle.gw_entities.specs.Parameters.{parameter_at}
 use Rattle.gw_meaning.specs.Machine.{Machine, count_at}
-use Rattle.gw_meaning.specs.Evaluation.{Eval, number_of_draw, draw, amount, numbered, named, subject_prog, storage_prog, counted, block_count, random_prog, random_part, own_value, value_held, parameter_value, entity_value, storage_value, block_value, owned, attribute_prog, number_given, atom_prog, arithmetic, token_prog, tokens_prog, last_value, value_prog, value_there, value_or_zero, entity_prog, units_prog, in_range, spread, sample_within, time_prog, left_prog, Definitions, is_of_variable, of_variable, is_of_function, of_function, value_of_attribute, is_random, random_of, argument_by, argument_prog, point_found, function_given, modifier_of, time_by, drawn_prog, term_prog, expression_given, definitions_prog, DEEPEST}
+use Rattle.gw_meaning.specs.Evaluation.{Eval, number_of_draw, draw, amount, numbered, named, subject_prog, storage_prog, counted, block_count, random_prog, random_part, own_value, value_held, parameter_value, entity_value, storage_value, block_value, owned, attribute_prog, number_given, atom_prog, arithmetic, token_prog, tokens_prog, last_value, value_prog, value_there, value_or_zero, entity_prog, units_prog, in_range, spread, sample_within, time_prog, left_prog, Definitions, is_of_variable, of_variable, is_of_function, of_function, value_of_attribute, random_of, argument_by, argument_prog, point_found, function_given, modifier_of, time_by, drawn_prog, term_prog, expression_given, definitions_prog, DEEPEST}
 use Rattle.gw_frame.specs.Moved.{IsMove, moved_machine}
 use Rattle.gw_frame.proofs.Follows.{ProgFollows, prog_gives, prog_asks, prog_bind, Follows, follows_gives, follows_ends, follows_asks, follows_cond, follows_stops, follows_bind}
 use Rattle.gw_frame.proofs.MovedLists.{count_at_moved}
@@ -294,7 +294,7 @@ module _ (move : ℕ → ℕ) (is : IsMove move) where
       Follows move same (time_by s q mean range of) (time_by (moved_machine move s) q mean range of)
   time_by_follows s q mean range (Some of) = follows_bind _ (value_or_zero_follows s q mean)
       (λ m. follows_bind _ (of_function_follows (definitions_prog DEEPEST s q) (definitions_prog DEEPEST (moved_machine move s) q)
-          (definitions_follow DEEPEST s q) of) (λ y. in_range_follows (times m y)))
+      (definitions_follow DEEPEST s q) of) (λ y. in_range_follows (times m y)))
   time_by_follows s q mean range None = follows_bind _ (value_or_zero_follows s q mean)
       (λ m. follows_bind _ (value_or_zero_follows s q range) (λ r. follows_cond (is_negative r) (follows_gives refl) (sample_within_follows m (magnitude r))))
 

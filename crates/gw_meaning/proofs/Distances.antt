@@ -1,5 +1,5 @@
 -- How far the points on the two sides of an argument are apart.
-use Rattle.std.proofs.Common.{◌≡◌, ℕ, zero, suc, ◌≤◌, ◌<◌, ℤ, pos, negsuc, ◌-ℤ◌, ◌<ℤ◌, ◌≤ℤ◌, true, false, refl, arith}
+use Rattle.std.proofs.Common.{◌≡◌, ◌≤◌, ◌<◌, ℤ, pos, negsuc, ◌-ℤ◌, ◌<ℤ◌, ◌≤ℤ◌, true, false, refl, arith}
 use Rattle.std.proofs.lemmas.Int.{ints}
 use Rattle.gw_nums.specs.Range.{is_below, magnitude}
 use Rattle.gw_nums.specs.Millionths.{distance}

@@ -1,5 +1,6 @@
 pub mod Chains
 mod Constants
+mod Curves
 mod Distances
 mod Expressions
 pub mod Programs

@@ -1,10 +1,14 @@
 -- Laws of evaluation. (Our own.)
-use Rattle.std.specs.Prelude.{ℤ, ◌≡◌, Result, Ok, Err}
+use Rattle.std.specs.Prelude.{ℕ, ℤ, ◌≡◌, ◌<◌, true, List, Some, slice_get, Result, Ok, Err}
+use Rattle.gw_nums.specs.Range.{is_below}
 use Rattle.gw_expr.specs.Term.{Computed}
 use Rattle.gw_expr.specs.Expressions.{Expression, Single, Opposite, Both, postfix}
 use Rattle.gw_expr.specs.declared.atom.Atom.TheVariants as atoms
 use Rattle.gw_meaning.specs.declared.asker.Asker.{Asker}
+use Rattle.gw_meaning.specs.declared.function.Function.{Function}
+use Rattle.gw_meaning.specs.declared.function.Point.{Point}
 use Rattle.gw_meaning.specs.declared.item.End.{End}
+use Rattle.gw_meaning.specs.Functions.{curve}
 use Rattle.gw_meaning.specs.Machine.{Machine}
 use Rattle.gw_meaning.specs.Evaluation.{Eval, gives, ends_with, Definitions, DEEPEST, term_prog, definitions_prog, value_prog, expression_prog}
 
@@ -38,3 +42,13 @@ comes_to (Err end) = ends_with end
 abbrev pub ConstantsHangOnNothing : Type 0
 ConstantsHangOnNothing = (e : Expression) → IsConstant e →
     (r : Result ℤ End) × ((s : Machine) (q : Asker) (defined : Definitions) → expression_prog s q defined e ≡ comes_to r)
+
+-- points that rise: each has a greater argument than those before it
+abbrev pub AreRising : List Point → Type 0
+AreRising ps = (i j : ℕ) (p q : Point) → i < j → slice_get ps i ≡ Some p → slice_get ps j ≡ Some q →
+    is_below p.x q.x ≡ true
+
+-- at each of its points, which rise, a FUNCTION comes to the point's value, whatever its type
+abbrev pub PointsHaveTheirValues : Type 0
+PointsHaveTheirValues = (f : Function) (i : ℕ) (p : Point) → AreRising f.points → slice_get f.points i ≡ Some p →
+    curve f p.x ≡ Some p.y

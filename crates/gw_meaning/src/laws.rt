@@ -1,5 +1,5 @@
-// Laws above the definitions of evaluation.
-ghost use Rattle.gw_meaning.specs.Laws.{ConstantsHangOnNothing, ExpressionsHaveTheirValues, NestedHaveTheirValues};
+// Laws above the definitions of evaluation and of FUNCTIONs.
+ghost use Rattle.gw_meaning.specs.Laws.{ConstantsHangOnNothing, ExpressionsHaveTheirValues, NestedHaveTheirValues, PointsHaveTheirValues};
 
 /// An expression in parentheses, which is kept in postfix order, has the value that recursion on the expression gives
 /// it, by the same questions and the same draws. So has the expression of a VARIABLE, whatever the definitions in it
@@ -12,4 +12,9 @@ pub fn expressions_have_their_values()
 /// An expression of constants has one value, or one stop, whatever the version, the state and the transaction.
 pub fn constants_hang_on_nothing()
     ensures { ConstantsHangOnNothing }
+{}
+
+/// At each of its points, which rise, a FUNCTION of either type comes to the point's value.
+pub fn points_have_their_values()
+    ensures { PointsHaveTheirValues }
 {}

@@ -27,7 +27,9 @@ pub use destination::Destination;
 pub use entity_change::{Deed, EntityChange};
 pub use function::{Function, FunctionType, Point};
 pub use item::{End, Item, Outcome};
-pub use laws::{constants_hang_on_nothing, expressions_have_their_values};
+pub use laws::{
+    constants_hang_on_nothing, expressions_have_their_values, points_have_their_values,
+};
 pub use moves::{Arrival, Change, Fate, Move};
 pub use row::Row;
 pub use sign::Sign;

@@ -193,9 +193,7 @@ fn is_equ(definitions: &BTreeMap<Name, Definition>, name: &Name) -> bool
 {
     match definitions.get(name) {
         Some(Definition::Equ { .. }) => true,
-        Some(
-            Definition::Storage { .. } | Definition::Variable { .. } | Definition::Function(_),
-        )
+        Some(Definition::Storage { .. } | Definition::Variable { .. } | Definition::Function(_))
         | None => false,
     }
 }

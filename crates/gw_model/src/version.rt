@@ -9,7 +9,9 @@ use crate::replications::seed_of;
 use crate::settings::checked_horizon;
 use crate::tabled::Tabled;
 use gw_expr::Expr;
-use gw_meaning::{Block, Command, Definition, Function, Numbered, Replication, Statement, StatementId};
+use gw_meaning::{
+    Block, Command, Definition, Function, Numbered, Replication, Statement, StatementId,
+};
 use gw_names::Name;
 use gw_nums::{Clock, Time, Val};
 use std::alloc::{AllocError, Global};

@@ -1,5 +1,5 @@
 -- Quotients that are divided downwards, and how far they go.
-use Rattle.std.proofs.Common.{◌≡◌, ℕ, zero, suc, ◌+◌, ◌-◌, ◌*◌, ◌/◌, ◌≤◌, ◌<◌, ℤ, pos, negsuc, neg_ℤ, ◌+ℤ◌, ◌-ℤ◌, ◌*ℤ◌, ◌≤ℤ◌, FitsSigned, to_z, of_z, w64, IsTrue, IsSome, IfSome, ◌↔◌, Bool, true, false, Option, Some, None, if◌then◌else◌, refl, sym, ap, ◌∙◌, subst, nat_le, nat_lt, arith}
+use Rattle.std.proofs.Common.{◌≡◌, ℕ, zero, suc, ◌+◌, ◌-◌, ◌*◌, ◌/◌, ◌≤◌, ◌<◌, ℤ, pos, negsuc, neg_ℤ, ◌+ℤ◌, ◌-ℤ◌, ◌*ℤ◌, ◌≤ℤ◌, FitsSigned, to_z, of_z, w64, IsTrue, IsSome, IfSome, ◌↔◌, Option, Some, None, if◌then◌else◌, refl, sym, ap, ◌∙◌, subst, arith}
 use mir.Syntax.{w128}
 use Rattle.std.proofs.Math.Nat.{div-eq_of_lt, mul_comm, div-le_of_le-mul, mul-le-mul_left, mul-le-mul, div-lt_iff_lt-mul}
 use Rattle.std.specs.Int.RustNames.{unsigned_abs}
@@ -44,7 +44,7 @@ part_up_to (negsuc d) part all h some = part_down d all (suc d * part) some (mul
 
 -- one that goes between two numbers in range is in range
 pub goes_between : (a b z q : ℤ) → z ≡ b -ℤ a → IsTrue (is_millionths a) → IsTrue (is_millionths b) → IsUpTo z q → IsTrue (is_millionths (a +ℤ q))
-goes_between a b (pos d) q e h k up = 
+goes_between a b (pos d) q e h k up =
     let low = bounds_of a h in let high = bounds_of b k in within_bounds (a +ℤ q) (omega (arith, ints)) (omega (arith, ints))
 goes_between a b (negsuc d) q e h k up =
     let low = bounds_of a h in let high = bounds_of b k in within_bounds (a +ℤ q) (omega (arith, ints)) (omega (arith, ints))

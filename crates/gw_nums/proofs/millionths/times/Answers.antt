@@ -1,7 +1,6 @@
-use Rattle.std.proofs.Common.{rules, ◌≡◌, pos, ℤ, ◌*ℤ◌, FitsSigned, to_z, of_z, w64, arith, IsTrue, ◌∙◌, ap, subst, sym}
+use Rattle.std.proofs.Common.{rules, ◌≡◌, ℤ, ◌*ℤ◌, FitsSigned, to_z, of_z, w64, arith, IsTrue, ◌∙◌, ap, subst, sym}
 use mir.Syntax.{w128}
-use Rattle.std.proofs.lemmas.Int.{ints, to_z-of_z}
-use Rattle.gw_nums.specs.Range.{is_value}
+use Rattle.std.proofs.lemmas.Int.{ints}
 use Rattle.gw_nums.specs.Millionths.{quotient_down, times, is_millionths}
 use Rattle.gw_nums.proofs.Quotients.{value_if, product_is, quotient_is, times_fits}
 use Rattle.gw_nums.proofs.millionths.times.Goals as goal
@@ -17,4 +16,4 @@ returns c =
     let fits : FitsSigned w64 c.quotient_down.result =
     subst (λ z. FitsSigned w64 z) (sym q) (times_fits c.args.value c.args.by c.get.ensures.in_range in_range) in
     value_if (to_z w64 (of_z w64 (to_z w128 (of_z w128 c.quotient_down.result)))) (times c.args.value c.args.by) c.new.result
-        c.new.ensures.in_range c.new.ensures.value (let same : to_z w64 (of_z w64 (to_z w128 (of_z w128 c.quotient_down.result))) ≡ c.quotient_down.result = omega (arith, ints) in same ∙ q)
+    c.new.ensures.in_range c.new.ensures.value (let same : to_z w64 (of_z w64 (to_z w128 (of_z w128 c.quotient_down.result))) ≡ c.quotient_down.result = omega (arith, ints) in same ∙ q)

@@ -1,6 +1,6 @@
-use Rattle.std.proofs.Common.{rules, ◌≡◌, pos, negsuc, ℤ, ◌+ℤ◌, ◌-ℤ◌, ◌*ℤ◌, ◌≤ℤ◌, FitsSigned, to_z, of_z, w64, arith, IsTrue, ◌∙◌, ap, subst, sym}
+use Rattle.std.proofs.Common.{rules, ◌≡◌, pos, ℤ, ◌+ℤ◌, ◌-ℤ◌, ◌*ℤ◌, to_z, of_z, w64, arith, IsTrue, ◌∙◌, ap, subst}
 use mir.Syntax.{w128}
-use Rattle.std.proofs.lemmas.Int.{ints, to_z-of_z}
+use Rattle.std.proofs.lemmas.Int.{ints}
 use Rattle.gw_nums.specs.Millionths.{quotient_down, toward, is_millionths}
 use Rattle.gw_nums.proofs.Quotients.{bounds_of, within_bounds, way_is, comes_within}
 use Rattle.gw_nums.proofs.millionths.Millionths.toward.Goals as goal
@@ -9,7 +9,7 @@ pub overflow_cast-result : goal.overflow_cast-result
 overflow_cast-result c =
     let a = c.self.inside.value in let b = c.other.inside.value in let q = c.quotient_down-way.result in
     let e : q ≡ quotient_down ((b -ℤ a) *ℤ pos c.args.part) c.args.all = way_is a b c.product.result q c.args.part c.args.all c.self.invariant c.other.invariant
-        c.requires.within c.requires.few (search rules) c.product.ensures c.quotient_down-way.ensures in
+    c.requires.within c.requires.few (search rules) c.product.ensures c.quotient_down-way.ensures in
     let from = bounds_of a c.self.invariant in
     let to = comes_within a b q c.args.part c.args.all c.self.invariant c.other.invariant c.requires.within c.requires.some e in
     omega (arith, ints)
@@ -18,7 +18,7 @@ pub overflow_add-result : goal.overflow_add-result
 overflow_add-result c =
     let a = c.self.inside.value in let b = c.other.inside.value in let q = c.quotient_down-way.result in
     let e : q ≡ quotient_down ((b -ℤ a) *ℤ pos c.args.part) c.args.all = way_is a b c.product.result q c.args.part c.args.all c.self.invariant c.other.invariant
-        c.requires.within c.requires.few (search rules) c.product.ensures c.quotient_down-way.ensures in
+    c.requires.within c.requires.few (search rules) c.product.ensures c.quotient_down-way.ensures in
     let from = bounds_of a c.self.invariant in
     let to = comes_within a b q c.args.part c.args.all c.self.invariant c.other.invariant c.requires.within c.requires.some e in
     omega (arith, ints)
@@ -27,7 +27,7 @@ pub invariant_of-result : goal.invariant_of-result
 invariant_of-result c =
     let a = c.self.inside.value in let b = c.other.inside.value in let q = c.quotient_down-way.result in
     let e : q ≡ quotient_down ((b -ℤ a) *ℤ pos c.args.part) c.args.all = way_is a b c.product.result q c.args.part c.args.all c.self.invariant c.other.invariant
-        c.requires.within c.requires.few (search rules) c.product.ensures c.quotient_down-way.ensures in
+    c.requires.within c.requires.few (search rules) c.product.ensures c.quotient_down-way.ensures in
     let from = bounds_of a c.self.invariant in
     let to = comes_within a b q c.args.part c.args.all c.self.invariant c.other.invariant c.requires.within c.requires.some e in
     let same : a +ℤ q ≡ to_z w64 (of_z w64 (to_z w64 (of_z w64 a) +ℤ to_z w64 (of_z w64 (to_z w128 (of_z w128 q))))) = omega (arith, ints) in
@@ -37,7 +37,7 @@ pub returns : goal.returns
 returns c =
     let a = c.self.inside.value in let b = c.other.inside.value in let q = c.quotient_down-way.result in
     let e : q ≡ quotient_down ((b -ℤ a) *ℤ pos c.args.part) c.args.all = way_is a b c.product.result q c.args.part c.args.all c.self.invariant c.other.invariant
-        c.requires.within c.requires.few (search rules) c.product.ensures c.quotient_down-way.ensures in
+    c.requires.within c.requires.few (search rules) c.product.ensures c.quotient_down-way.ensures in
     let from = bounds_of a c.self.invariant in
     let to = comes_within a b q c.args.part c.args.all c.self.invariant c.other.invariant c.requires.within c.requires.some e in
     let same : to_z w64 (of_z w64 (to_z w64 (of_z w64 a) +ℤ to_z w64 (of_z w64 (to_z w128 (of_z w128 q))))) ≡ a +ℤ q = omega (arith, ints) in
