@@ -36,11 +36,11 @@ returns-clause-reached c =
     let Ends : Option End → Tape → Type 0 = λ end r. EndsAs (step t c.args.seed r.tip) end in
     let fewer : c.loop-moment.self.tip.complete < c.args.k = search rules in
     elim c.match-branch-4.branch [
-        in-Some w ↦
-            let end = w.in-Some.end in
-            let ends = subst (Ends (Some end)) c.self-2.view_is (rw w.in-Some.is at c.in_ok-end.ensures) in
-            rw w.result-is (fewer, ends_on (step t c.args.seed c.loop-moment.self.tip) end ends)
+      | in-Some w ↦
+          let end = w.in-Some.end in
+          let ends = subst (Ends (Some end)) c.self-2.view_is (rw w.in-Some.is at c.in_ok-end.ensures) in
+          rw w.result-is (fewer, ends_on (step t c.args.seed c.loop-moment.self.tip) end ends)
       | in-None w ↦
-            let goes = subst (Ends None) c.self-2.view_is (rw w.in-None.is at c.in_ok-end.ensures) in
-            rw w.result-is (fewer, search rules, goes_on _ goes)
+          let goes = subst (Ends None) c.self-2.view_is (rw w.in-None.is at c.in_ok-end.ensures) in
+          rw w.result-is (fewer, search rules, goes_on _ goes)
     ]
