@@ -160,12 +160,17 @@ def statement_of_edit(text):
         lines.pop()
     if any(len(line) > 250 for line in lines):
         raise Fault("L1")
+    fault = None
     try:
         statement = Statement(lines[0])
-    except Fault as fault:
-        if len(lines) == 1 or str(fault)[:2] != "L6" or " FUNCTION" in lines[0].upper():
-            raise
-        raise Fault("L8") from None
+    except Fault as found:
+        fault = found
+    if str(fault) != "L2":
+        for code in filter(None, map(code_of, lines[1:])):
+            ascii_only(code[: operand_list(code)[1]])
+    if fault:
+        may_miss = len(lines) == 1 or " FUNCTION" in lines[0].upper()
+        raise Fault("L8") if str(fault)[:2] == "L6" and not may_miss else fault
     for line in lines[1:]:
         if not statement.wants_pairs():
             raise Fault("L8")
