@@ -5,7 +5,7 @@ use Rattle.std.specs.Char.{is_ascii_digit}
 use Rattle.std.proofs.lemmas.Bool.{cases_Bool, eqb-true}
 use Rattle.std.proofs.lemmas.Bool.Decides.{nat_tests}
 use Rattle.gw_lines.specs.Numbers.{number_after, number_of, or_pointed, decimal_of, coordinate_of}
-use Rattle.gw_lines.specs.Spelling.{Digits, Fraction}
+use Rattle.gw_lines.specs.Spelling.{Digits}
 use Rattle.gw_lines.specs.Points.{Decimal, without_point, with_point, Coordinate, not_negative, negative}
 use Rattle.gw_lines.proofs.Results.{some_is}
 use Rattle.gw_lines.proofs.Digits.{begins, mapped, number_found, number_again}

@@ -1,5 +1,5 @@
 -- A further line of a statement: what is read is spelled so, what is spelled so is read, and the same of its first fault.
-use Rattle.std.proofs.Common.{◌≡◌, ℕ, ◌<◌, true, false, List, [], ◌∷◌, ◌++◌, length, Option, Some, None, Result, Ok, Err, refl, sym, ap, subst, ◌∙◌, ◌⊎◌, inl, inr, arith}
+use Rattle.std.proofs.Common.{◌≡◌, ℕ, ◌<◌, true, false, List, ◌∷◌, ◌++◌, length, Some, None, Result, Ok, Err, refl, sym, ap, subst, ◌∙◌, ◌⊎◌, inl, inr, arith}
 use Rattle.std.specs.Prelude.{nat_lt}
 use Rattle.std.proofs.lemmas.Bool.{both_ways, cases_Bool}
 use Rattle.std.proofs.lemmas.Bool.Decides.{nat_tests}
@@ -16,12 +16,12 @@ use Rattle.gw_lines.specs.Reading.{◌>>=◌}
 use Rattle.gw_lines.specs.Classes.{are_plain}
 use Rattle.gw_lines.specs.Listed.{listed_of}
 use Rattle.gw_lines.specs.Lines.{plain_of, operands_of, code_of, is_remark}
-use Rattle.gw_lines.specs.Pairs.{points_with, body_with, statement_with, kept_in, kept_of, kept_with, further_of}
+use Rattle.gw_lines.specs.Pairs.{points_with, body_with, statement_with, kept_in, kept_of, further_of}
 use Rattle.gw_lines.specs.Points.{Pairs, IsRemark, HasText, HasPairs, PairsFault, too_long, wrong_byte, bad_pairs}
 use Rattle.gw_lines.proofs.Results.{done, failed, ok_is, err_is}
 use Rattle.gw_lines.proofs.Kept.{written_of, written_kept}
 use Rattle.gw_lines.proofs.Lines.{short_is, long_is, short_again, cut_of, cut_is, front_stops}
-use Rattle.gw_lines.proofs.PairsRead.{bind_ok, points_found, points_again, points_fault}
+use Rattle.gw_lines.proofs.PairsRead.{points_found, points_again, points_fault}
 
 -- ---- what is kept of a line
 

@@ -7,7 +7,6 @@ use Rattle.gw_names.specs.Names.{is_name_byte}
 use Rattle.gw_meaning.specs.declared.function.Point.{Point}
 use Rattle.gw_lines.specs.declared.class.Class.TheVariants as class
 use Rattle.gw_lines.specs.Classes.{is_in}
-use Rattle.gw_lines.specs.Spelling.{Fraction}
 use Rattle.gw_lines.specs.Points.{Decimal, without_point, with_point, Coordinate, not_negative, negative, Pair, a_pair, Pairs, last_pair, ended_pair, more_pairs}
 use Rattle.gw_lines.proofs.Bytes.{Pass, Takes, both_pass, next_passes, digits_pass}
 use Rattle.gw_lines.proofs.OwnBytes.{is_own, own}

@@ -1,5 +1,5 @@
 -- Pairs: what is read is spelled so, and what is spelled so is read.
-use Rattle.std.proofs.Common.{◌≡◌, ◌≢◌, ℕ, ◌==◌, not, true, false, List, [], ◌∷◌, ◌++◌, length, Option, Some, None, Result, Ok, Err, refl, sym, ap, subst, ◌∙◌, inl, inr}
+use Rattle.std.proofs.Common.{◌≡◌, ◌≢◌, ℕ, ◌==◌, true, List, [], ◌∷◌, ◌++◌, length, Option, Some, None, Result, Ok, Err, refl, sym, ap, subst, ◌∙◌, inl, inr}
 use Rattle.std.specs.Prelude.{ℤ}
 use Rattle.std.proofs.lemmas.Bool.{cases_Bool, eqb-true}
 use Rattle.std.proofs.lemmas.List.{append-nil}
@@ -13,7 +13,7 @@ use Rattle.gw_lines.specs.Numbers.{coordinate_of}
 use Rattle.gw_lines.specs.Spelling.{Stops}
 use Rattle.gw_lines.specs.Pairs.{point_with, pair_of, may_follow, with_point, with_pairs, points_with}
 use Rattle.gw_lines.specs.Points.{Pair, a_pair, Pairs, last_pair, ended_pair, more_pairs}
-use Rattle.gw_lines.proofs.Results.{done, failed, ok_is, err_is}
+use Rattle.gw_lines.proofs.Results.{failed, ok_is, err_is}
 use Rattle.gw_lines.proofs.Fronts.{nonzero, not_false, front_again, rest_again, parts, rest_stops}
 use Rattle.gw_lines.proofs.Pieces.{first_part, alone, before}
 use Rattle.gw_lines.proofs.Coordinates.{coordinate_found, coordinate_again}

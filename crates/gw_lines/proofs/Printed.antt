@@ -12,7 +12,6 @@ use Rattle.gw_names.specs.Words as words
 use Rattle.gw_names.specs.Words.{upper_of, verb_of, is_class}
 use Rattle.gw_names.proofs.InUpperCase.{upper_of-upper_of}
 use Rattle.gw_meaning.specs.declared.sign.Sign.{Sign}
-use Rattle.gw_meaning.specs.declared.function.Point.{Point}
 use Rattle.gw_meaning.specs.declared.statement.Definition.TheVariants as definitions
 use Rattle.gw_meaning.specs.declared.statement.Body.{Body}
 use Rattle.gw_meaning.specs.declared.statement.Body.TheVariants as bodies

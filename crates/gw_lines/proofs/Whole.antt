@@ -1,6 +1,6 @@
 -- A model: what is read is spelled so, what is spelled so is read, and the same of its first faulty line.
-use Rattle.std.proofs.Common.{◌≡◌, ℕ, ◌+◌, Bool, true, false, List, [], ◌∷◌, ◌++◌, length, Option, Some, None, Result, Ok, Err, refl, sym, ap, subst, ◌∙◌, ◌⊎◌, inl, inr, arith, append_assoc}
-use Rattle.std.specs.Prelude.{IfOk, IfErr, All, option_map}
+use Rattle.std.proofs.Common.{◌≡◌, ℕ, ◌+◌, true, false, List, [], ◌∷◌, ◌++◌, length, Option, Some, None, Result, Ok, Err, refl, sym, ap, subst, ◌∙◌, ◌⊎◌, inl, inr, arith}
+use Rattle.std.specs.Prelude.{IfOk, IfErr, All}
 use Rattle.std.specs.Global.{Vec}
 use Rattle.std.proofs.lemmas.Bool.{cases_Bool}
 use Rattle.std.proofs.lemmas.List.Elements.{All-cons, All-nil}
@@ -12,10 +12,10 @@ use Rattle.gw_lines.specs.declared.model.Unfinished.{Unfinished}
 use Rattle.gw_lines.specs.Reading.{◌>>=◌, GivesModel}
 use Rattle.gw_lines.specs.Lines.{coded_of, code_of, line_in, line_of, wanted, statement_of}
 use Rattle.gw_lines.specs.Pairs.{wants_pairs, further_of}
-use Rattle.gw_lines.specs.Models.{lines_of, numbered, with_line, done_of, under_way, statements_of, model_of}
+use Rattle.gw_lines.specs.Models.{lines_of, numbered, done_of, under_way, statements_of, model_of}
 use Rattle.gw_lines.specs.Spelling.{Spells}
 use Rattle.gw_lines.specs.Faulty.{FirstFault}
-use Rattle.gw_lines.specs.Points.{IsRemark, HasPairs, Completes, complete, past_remark, past_pairs, SpellsLines, spells_lines, PairsFault}
+use Rattle.gw_lines.specs.Points.{IsRemark, Completes, complete, past_remark, past_pairs, SpellsLines, spells_lines}
 use Rattle.gw_lines.specs.Whole.{OfLines, no_lines, remark_line, statement_lines, begun, FirstFaulty, faulty_line, behind_remark, behind_statement, faulty_pairs, behind_pairs, pairs_missing, SpellsModel, FirstFaultOf, AnswersAt}
 use Rattle.gw_lines.specs.Read.{ModelsAreRead, ModelsAreRefused}
 use Rattle.gw_lines.proofs.Results.{done, failed, ok_is, err_is, or_memory}

@@ -1,6 +1,6 @@
 -- What the further lines of a FUNCTION spell: relations by cases on the text, apart from how they are read. (Manual:
 -- the pairs. Our own: the greatest numbers, where a line ends.)
-use Rattle.std.specs.Prelude.{ℕ, ℤ, pos, neg_ℤ, ◌+◌, ◌*◌, ◌<◌, ◌≡◌, Bool, true, false, List, [], ◌∷◌, ◌++◌, length}
+use Rattle.std.specs.Prelude.{ℕ, ℤ, pos, neg_ℤ, ◌*◌, ◌<◌, ◌≡◌, true, false, List, [], ◌∷◌, ◌++◌, length}
 use Rattle.gw_names.specs.Words.{upper_of}
 use Rattle.gw_meaning.specs.declared.function.Function.{Function}
 use Rattle.gw_meaning.specs.declared.function.Point.{Point}
