@@ -50,17 +50,19 @@ impl<V: Copy> ByKey<V> {
     }
 
     /// The value of an entity.
+    #[inline(always)]
     pub fn get(&self, key: &Key) -> Option<V>
         ensures { result ≡ value_of self.now.entries key.now }
     {
         match self.map.get_index(self.near) {
-            Some((kept, value)) if kept == key => Some(*value),
+            Some((kept, value)) if *kept == *key => Some(*value),
             _ => self.map.get(key).copied(),
         }
     }
 
     /// Makes room for an entity: it needs no memory where the entity has a value, and never fails there. It changes no
     /// value. Room for another entity that has none is gone, unless it fails: then all is as it was.
+    #[inline(always)]
     pub fn reserve(&mut self, key: &Key) -> Result<(), AllocError>
         ensures ok { OnOk result (HasRoom self.new key.now) }
         ensures err { OnErr result (value_of self.old.entries key.now ≡ None) }
@@ -83,17 +85,19 @@ impl<V: Copy> ByKey<V> {
     }
 
     // Where an entity lies, if room was made for it last and it has a value.
+    #[inline(always)]
     fn near(&self, key: &Key) -> Option<usize>
         ensures there { IfSome result (λ i. (value : V) × (slice_get self.now.entries i ≡ Some (key.now, value))) }
         ensures value { IsSome result → IsSome (value_of self.now.entries key.now) }
     {
         match self.map.get_index(self.near) {
-            Some((kept, _)) if kept == key => Some(self.near),
+            Some((kept, _)) if *kept == *key => Some(self.near),
             _ => None,
         }
     }
 
     /// Sets the value of an entity: in place where it has one, else behind the others.
+    #[inline(always)]
     pub fn set(&mut self, key: &Key, value: V)
         requires { HasRoom self.old key.now }
         ensures { self.new.entries ≡ with_value self.old.entries key.now value }

@@ -35,6 +35,7 @@ impl PartialEq for Key {
 
     ghost laws = { Prim.search (comparing, rules) };
 
+    #[inline(always)]
     fn eq(&self, other: &Key) -> bool {
         match (self, other) {
             (Key::Num(a), Key::Num(b)) => a == b,

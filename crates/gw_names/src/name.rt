@@ -61,6 +61,7 @@ impl Name {
 
     // Whether the two are the same name. Heads that differ tell at once, and so do equal heads of short names.
     #[tactic(auto, using(crate::proofs::SameHeads::short_by_heads, crate::proofs::SameHeads::others_by_heads))]
+    #[inline(always)]
     fn is(&self, other: &Name) -> bool
         ensures value { result ≡ bytes_eq self.now other.now }
     {
@@ -89,6 +90,7 @@ impl PartialEq for Name {
 
     ghost laws = { Prim.search (comparing, rules) };
 
+    #[inline(always)]
     fn eq(&self, other: &Name) -> bool {
         self.is(other)
     }

@@ -74,6 +74,7 @@ impl Entities {
     }
 
     // A facility, which is free where nothing touched it yet.
+    #[inline(always)]
     pub(crate) fn facility(&self, key: &Key) -> Facility
         ensures { result ≡ facility_at (entities_of self.now) key.now }
     {
@@ -84,6 +85,7 @@ impl Entities {
     }
 
     // A queue, which is empty where nothing touched it yet.
+    #[inline(always)]
     pub(crate) fn queue(&self, key: &Key) -> Queue
         ensures { result ≡ line_at (entities_of self.now) key.now }
     {
@@ -94,6 +96,7 @@ impl Entities {
     }
 
     // A storage, of which no unit is in use where nothing touched it yet.
+    #[inline(always)]
     pub(crate) fn storage(&self, key: &Key) -> Storage
         ensures { result ≡ store_at (entities_of self.now) key.now }
     {

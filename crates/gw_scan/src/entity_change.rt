@@ -17,7 +17,7 @@ use gw_nums::Clock;
 use std::alloc::AllocError;
 
 // Makes room for a change, and for one more on the current chain: the transaction that enters the block may go there.
-#[inline(never)]
+#[inline(always)]
 pub fn reserve_change(
     entities: &mut Entities,
     delays: &DelayChains,
@@ -125,7 +125,7 @@ fn reserve_block(x: &Transaction, counts: &mut Counts) -> Result<(), AllocError>
 }
 
 // What a change does at a clock, where the transaction with a number enters the block.
-#[inline(never)]
+#[inline(always)]
 pub fn change_entity(
     entities: &mut Entities,
     delays: &mut DelayChains,

@@ -57,6 +57,7 @@ impl<V: Copy> Table<V> {
     }
 
     /// The value at a number.
+    #[inline(always)]
     pub fn get(&self, number: u64) -> Option<V>
         ensures { result ≡ value_in self.now.entries number }
     {
@@ -100,6 +101,7 @@ impl<V: Copy> Table<V> {
     }
 
     /// Sets the value at a number: in place where the number has a pair, else as the last pair.
+    #[inline(always)]
     pub fn set(&mut self, number: u64, value: V)
         requires { HasRoom self.old number }
         ensures entries { self.new.entries ≡ with_value self.old.entries number value }
@@ -134,6 +136,7 @@ impl<V: Copy> Table<V> {
     }
 
     // Where the pair of a number lies.
+    #[inline(always)]
     fn place_of(&self, number: u64) -> Option<usize>
         ensures { IsPlaceIn self.now.entries number result }
     {

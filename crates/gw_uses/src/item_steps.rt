@@ -101,7 +101,7 @@ impl ItemSteps {
         ensures { IsTrue result → IsSome (step_of self.now item.now) }
     {
         match self.steps.get_index(index) {
-            Some((kept, _)) => kept == item,
+            Some((kept, _)) => *kept == *item,
             None => false,
         }
     }
