@@ -21,3 +21,8 @@ abbrev pub Comes : {A : Type 0} → Eval A → Result A Halt → Type 0
 Comes p (Ok a) = p ≡ gives a
 Comes p (Err (halts.End end)) = p ≡ ends_with end
 Comes p (Err halts.Memory) = Unit {0}
+
+-- the result of a function that changes a value in place, with the value that stands there behind it
+abbrev pub in_place : {A : Type 0} → Result (Unit {0}) Halt → A → Result A Halt
+in_place (Ok u) a = Ok a
+in_place (Err halt) a = Err halt

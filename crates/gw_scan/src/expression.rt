@@ -1,7 +1,7 @@
 // The values of expressions, part by part, and those of VARIABLEs and FUNCTIONs within them.
 ghost use Rattle.std.specs.Prelude.{◌≡◌, [], Some, None, option_copied};
 ghost use Rattle.gw_meaning.specs.Evaluation.{arithmetic, negated_last, applied_last, is_of_variable, of_variable, is_of_function, of_function, whole_of_function, is_random, random_of, argument_by, argument_prog, point_found, function_given, atom_prog, token_prog, tokens_prog, last_value, term_prog, definitions_prog, number_given, ◌~>◌};
-ghost use Rattle.gw_scan.specs.Deciding.{Decides, Comes};
+ghost use Rattle.gw_scan.specs.Deciding.{Decides, Comes, in_place};
 
 use crate::attributes::random_part;
 use crate::case::{Case, Halt, ask_function, ask_name, ask_variable};
@@ -217,9 +217,9 @@ impl State {
     {
         let mut values = WaitingValues::new(case.alloc);
         for token in tokens {
-            values = self.token(case, asker, notes, depth, token, values)?;
+            self.token(case, asker, notes, depth, token, &mut values)?;
         }
-        last_value(values)
+        last_value(&mut values)
     }
 
     // What one part of an expression makes of the values that wait.
@@ -232,16 +232,17 @@ impl State {
         notes: &mut Notes,
         depth: u32,
         token: &Token,
-        values: WaitingValues,
-    ) -> Result<WaitingValues, Halt>
+        values: &mut WaitingValues,
+    ) -> Result<(), Halt>
         ensures { Decides case.entry.version.now case.entry.seed
-            (token_prog self.now asker.now (definitions_prog depth self.now asker.now) token.now values)
-            result notes.old notes.new }
+            (token_prog self.now asker.now (definitions_prog depth self.now asker.now) token.now values.old)
+            (in_place result values.new) notes.old notes.new }
     {
         match token {
             Token::Value(atom) => {
                 let value = self.atom(case, asker, notes, depth, atom)?;
-                Ok(values.with(value)?)
+                values.push(value)?;
+                Ok(())
             }
             Token::Negated => negated_last(values),
             Token::Applied(operator) => applied_last(*operator, values),
@@ -310,27 +311,29 @@ fn number_given(number: Option<Val>) -> Result<Val, Halt>
 }
 
 // The last value with the other sign.
-fn negated_last(values: WaitingValues) -> Result<WaitingValues, Halt>
-    ensures { Comes (negated_last values) result }
+fn negated_last(values: &mut WaitingValues) -> Result<(), Halt>
+    ensures { Comes (negated_last values.old) (in_place result values.new) }
 {
-    match values.split_last() {
-        Some((value, values)) => Ok(values.with(value.negated())?),
-        None => Err(Halt::End(End::Error(Stop::Range))),
-    }
+    let Some(value) = values.pop() else {
+        return Err(Halt::End(End::Error(Stop::Range)));
+    };
+    values.push(value.negated())?;
+    Ok(())
 }
 
 // What an operator makes of the last two values.
-fn applied_last(operator: Operator, values: WaitingValues) -> Result<WaitingValues, Halt>
-    ensures { Comes (applied_last operator values) result }
+fn applied_last(operator: Operator, values: &mut WaitingValues) -> Result<(), Halt>
+    ensures { Comes (applied_last operator values.old) (in_place result values.new) }
 {
-    let Some((b, values)) = values.split_last() else {
+    let Some(b) = values.pop() else {
         return Err(Halt::End(End::Error(Stop::Range)));
     };
-    let Some((a, values)) = values.split_last() else {
+    let Some(a) = values.pop() else {
         return Err(Halt::End(End::Error(Stop::Range)));
     };
     let value = arithmetic(operator.apply(a, b))?;
-    Ok(values.with(value)?)
+    values.push(value)?;
+    Ok(())
 }
 
 // What an operator comes to.
@@ -345,11 +348,11 @@ pub fn arithmetic(found: Result<Val, ArithmeticFault>) -> Result<Val, Halt>
 }
 
 // The value that is left.
-fn last_value(values: WaitingValues) -> Result<Val, Halt>
-    ensures { Comes (last_value values) result }
+fn last_value(values: &mut WaitingValues) -> Result<Val, Halt>
+    ensures { Comes (last_value values.old) result }
 {
-    match values.split_last() {
-        Some((value, _others)) => Ok(value),
+    match values.pop() {
+        Some(value) => Ok(value),
         None => Err(Halt::End(End::Error(Stop::Range))),
     }
 }

@@ -1,5 +1,5 @@
-ghost use Rattle.std.specs.Prelude.{◌≡◌, ◌∷◌, [], IfOk};
-ghost use Rattle.gw_scan.specs.WaitingValues.{split_last};
+ghost use Rattle.std.specs.Prelude.{◌≡◌, ◌∷◌, [], OnOk};
+ghost use Rattle.gw_scan.specs.WaitingValues.{Pops};
 
 use gw_nums::Val;
 use smallvec::SmallVec;
@@ -33,19 +33,18 @@ impl WaitingValues {
         }
     }
 
-    // With one value more.
-    pub(crate) fn with(mut self, value: Val) -> Result<WaitingValues, AllocError>
-        ensures { IfOk result (λ w. w ≡ value ∷ self) }
+    // One value more waits.
+    pub(crate) fn push(&mut self, value: Val) -> Result<(), AllocError>
+        ensures ok { OnOk result (self.new ≡ value ∷ self.old) }
     {
         self.values.push(value)?;
-        Ok(self)
+        Ok(())
     }
 
-    // The last value, and those before it.
-    pub(crate) fn split_last(mut self) -> Option<(Val, WaitingValues)>
-        ensures { result ≡ split_last self }
+    // Takes the last value, if any waits.
+    pub(crate) fn pop(&mut self) -> Option<Val>
+        ensures { Pops self.old result self.new }
     {
-        let last = self.values.pop()?;
-        Some((last, self))
+        self.values.pop()
     }
 }

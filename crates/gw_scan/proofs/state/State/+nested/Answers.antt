@@ -5,7 +5,7 @@ use Rattle.std.proofs.lemmas.Result.{err_from_is_err_and}
 use Rattle.gw_nums.specs.Millionths.{of_value, whole}
 use Rattle.gw_meaning.specs.Functions.{curve}
 use Rattle.gw_meaning.specs.Evaluation.{Eval, gives, atom_prog, token_prog, tokens_prog, last_value, term_prog, argument_prog, point_found, of_function, definitions_prog, ◌~>◌}
-use Rattle.gw_scan.specs.Deciding.{Comes}
+use Rattle.gw_scan.specs.Deciding.{Comes, in_place}
 use Rattle.gw_scan.proofs.Binding.{decides_exit, decides_whole, decides_comes, decides_then, decides_gives}
 use Rattle.gw_meaning.specs.Listing.{variable_at, function_at}
 use Rattle.gw_expr.specs.declared.attribute.Subject.TheVariants as subjects
@@ -18,27 +18,29 @@ token-returns-in_err-value-in-Value n c =
     let t = c.args.case.version.now in
     let seed = c.args.case.seed in
     let s = c.args.self.now in
+    let values = c.args.values.now in
     let first = atom_prog s c.args.asker.now (definitions_prog c.args.depth s c.args.asker.now) c.in-Value.atom in
-    let rest : ℤ → Eval (List ℤ) = λ v. gives (v ∷ c.args.values) in
-    let whole : token_prog s c.args.asker.now (definitions_prog c.args.depth s c.args.asker.now) c.args.token.now c.args.values ≡ (first ~> rest) = search rules in
-    decides_exit t seed first rest _ _ _ c.in_err-value-in-Value.field-0.0 _ _ whole p.1 p.2 c.in_err-value-in-Value.ensures
+    let rest : ℤ → Eval (List ℤ) = λ v. gives (v ∷ values) in
+    let whole : token_prog s c.args.asker.now (definitions_prog c.args.depth s c.args.asker.now) c.args.token.now values ≡ (first ~> rest) = search rules in
+    decides_exit t seed first rest _ _ _ c.in_err-value-in-Value.field-0.0 _ _ whole (ap (λ r. in_place r values) p.1) p.2 c.in_err-value-in-Value.ensures
 
-pub token-returns-in_ok-with-in-Value : goal.token-returns-in_ok-with-in-Value
-token-returns-in_ok-with-in-Value n c =
+pub token-returns-in_ok-push-in-Value : goal.token-returns-in_ok-push-in-Value
+token-returns-in_ok-push-in-Value n c =
     let t = c.args.case.version.now in
     let seed = c.args.case.seed in
     let s = c.args.self.now in
+    let values = c.args.values.now in
     let first = atom_prog s c.args.asker.now (definitions_prog c.args.depth s c.args.asker.now) c.in-Value.atom in
-    let rest : ℤ → Eval (List ℤ) = λ v. gives (v ∷ c.args.values) in
-    let whole : token_prog s c.args.asker.now (definitions_prog c.args.depth s c.args.asker.now) c.args.token.now c.args.values ≡ (first ~> rest) = search rules in
-    let more : List ℤ = c.in_ok-with-in-Value.field-0 in
-    let here : rest c.in_ok-value-in-Value.value ≡ gives more = rw c.in_ok-with-in-Value.ensures refl in
+    let rest : ℤ → Eval (List ℤ) = λ v. gives (v ∷ values) in
+    let whole : token_prog s c.args.asker.now (definitions_prog c.args.depth s c.args.asker.now) c.args.token.now values ≡ (first ~> rest) = search rules in
+    let more : List ℤ = c.push.new.self in
+    let here : rest c.in_ok-value-in-Value.value ≡ gives more = rw c.in_ok-push-in-Value.ensures.ok refl in
     decides_whole t seed first rest _ c.in_ok-value-in-Value.value (Ok more) c.args.notes.now c.atom.new.notes c.atom.new.notes whole
     c.in_ok-value-in-Value.ensures (decides_comes t seed (rest c.in_ok-value-in-Value.value) (Ok more) c.atom.new.notes here)
 
 -- the value of the rest from the part that stands here on
-pub computed-returns-in_err-values : goal.computed-returns-in_err-values
-computed-returns-in_err-values n c =
+pub computed-returns-in_err-token : goal.computed-returns-in_err-token
+computed-returns-in_err-token n c =
     let p = err_from_is_err_and c.from_residual.result c.from_residual.ensures.1 in
     let t = c.args.case.version.now in
     let seed = c.args.case.seed in
@@ -52,8 +54,8 @@ computed-returns-in_err-values n c =
     let rest : List ℤ → Eval (List ℤ) = λ more. tokens_prog s q vs (drop (i + 1) ts) more in
     let whole : tokens_prog s q vs (drop i ts) c.loop-token.values ≡ (first ~> rest) =
     ap (λ us. tokens_prog s q vs us c.loop-token.values) (item_drop ts i here c.loop-token-test.true c.token-item.is) in
-    let e = c.in_err-values.field-0.0 in
-    let behind = decides_exit t seed first rest (tokens_prog s q vs (drop i ts) c.loop-token.values) (Err e) e e _ _ whole refl refl c.in_err-values.ensures in
+    let e = c.in_err-token.field-0.0 in
+    let behind = decides_exit t seed first rest (tokens_prog s q vs (drop i ts) c.loop-token.values) (Err e) e e _ _ whole refl refl c.in_err-token.ensures in
     let all = c.loop-token.invariant (Err e) c.token.new.notes behind in
     decides_exit t seed (tokens_prog s q vs ts []) last_value _ c.from_residual.result _ e _ _ refl p.1 p.2 all
 
@@ -72,7 +74,7 @@ computed-loop-token-preserved n c = λ r all h.
     let whole : tokens_prog s q vs (drop i ts) c.loop-token.values ≡ (first ~> rest) =
     ap (λ us. tokens_prog s q vs us c.loop-token.values) (item_drop ts i here c.loop-token-test.true c.token-item.is) in
     c.loop-token.invariant r all
-    (decides_whole t seed first rest _ c.in_ok-values.values r c.loop-token.notes c.token.new.notes all whole c.in_ok-values.ensures h)
+    (decides_whole t seed first rest _ c.token.new.values r c.loop-token.notes c.token.new.notes all whole c.in_ok-token.ensures h)
 
 pub computed-returns : goal.computed-returns
 computed-returns n c =
