@@ -294,7 +294,7 @@ impl State {
         ensures err { OnErr result (self.new ≡ self.old) }
     {
         self.current.reserve(self.future.len())?;
-        self.future.take_due(&mut self.current, clock.time());
+        self.future.take_due(&mut self.current, clock.time())?;
         self.entities.go_on(self.clocks.clock(), clock);
         self.clocks.advance(clock);
         Ok(())

@@ -1,15 +1,17 @@
-ghost use Rattle.std.specs.Prelude.{◌≡◌, ◌+◌, ◌++◌, ◌∷◌, ◌≤◌, ◌<◌, [], length, take, drop, filter, not, IfOk, OnOk, ◌^◌};
+ghost use Rattle.std.specs.Prelude.{◌≡◌, ◌+◌, ◌++◌, ◌∷◌, ◌≤◌, ◌<◌, [], length, take, drop, filter, not, IfOk, OnOk, OnErr, All, ◌^◌};
 ghost use Rattle.gw_meaning.specs.Changes.{all_lined_up, due, is_due};
 ghost use Rattle.gw_meaning.specs.Step.{least_time};
-ghost use Rattle.gw_scan.specs.Segments.{all_items, is_in_use};
+ghost use Rattle.gw_scan.specs.Segments.{all_items, is_in_use, IsReady};
 
 use crate::chain::PriorityChain;
+use crate::closed::ClosedSegment;
 use crate::segment::{Segment, is_later, soonest};
 use gw_meaning::Event;
 use gw_nums::Time;
 use std::alloc::{AllocError, Global};
 use std::marker::Model;
 use std::mem;
+use std::sync::Arc;
 
 /// How many transactions close a segment. A clock step goes over the least times of all segments, and over the
 /// transactions of those with one that is due, so a segment of many and many segments both cost. A block makes room
@@ -22,7 +24,7 @@ const LIMIT: usize = 9_223_372_036_854_775_807;
 /// The future chain of a run, in the order of coming onto it: the closed segments, which take no more, and the last.
 #[derive(Drop)]
 pub struct FutureChain {
-    closed: Vec<Segment>,
+    closed: Vec<ClosedSegment>,
     // The least time on the closed segments: a clock step before it passes over them.
     least: Option<Time>,
     last: Segment,
@@ -76,9 +78,10 @@ impl FutureChain {
     {
         let mut left = index;
         for i in 0..self.closed.len() {
-            let len = self.closed[i].len();
+            let segment = self.closed[i].segment();
+            let len = segment.len();
             if left < len {
-                return self.closed[i].from(left);
+                return segment.from(left);
             }
             left -= len;
         }
@@ -106,12 +109,21 @@ impl FutureChain {
         ensures { self.new.items ≡ self.old.items }
     {
         self.closed.reserve(1)?;
-        let mut fresh = Segment::new(*self.closed.allocator());
+        let alloc = *self.closed.allocator();
+        let mut fresh = Segment::new(alloc);
         fresh.reserve(count)?;
         let full = mem::replace(&mut self.last, fresh);
-        self.least = soonest(self.least, full.least_time());
-        self.closed.push_reserved(full);
-        Ok(())
+        match Arc::new(alloc, full) {
+            Ok(full) => {
+                self.least = soonest(self.least, full.least_time());
+                self.closed.push_reserved(ClosedSegment::new(alloc, full));
+                Ok(())
+            }
+            Err(refused) => {
+                self.last = refused.value;
+                Err(AllocError)
+            }
+        }
     }
 
     // Puts a transaction on it.
@@ -133,15 +145,21 @@ impl FutureChain {
     }
 
     // Moves the transactions of a time to the current chain, in the order in which they came.
-    pub(crate) fn take_due(&mut self, current: &mut PriorityChain, time: Time)
+    pub(crate) fn take_due(
+        &mut self,
+        current: &mut PriorityChain,
+        time: Time,
+    ) -> Result<(), AllocError>
         requires { length self.old.items ≤ current.old.room }
-        ensures current { current.new.items ≡ all_lined_up (due time self.old.items) current.old.items }
-        ensures future { self.new.items ≡ filter (λ e. not (is_due time e)) self.old.items }
+        ensures ok { OnOk result ((current.new.items ≡ all_lined_up (due time self.old.items) current.old.items) ×
+            (self.new.items ≡ filter (λ e. not (is_due time e)) self.old.items)) }
+        ensures err { OnErr result ((current.new.items ≡ current.old.items) × (self.new.items ≡ self.old.items)) }
     {
         let before = current.len();
-        take_closed(&mut self.closed, &mut self.least, current, time);
+        take_closed(&mut self.closed, &mut self.least, current, time)?;
         self.last.take_due(current, time);
         self.len -= current.len() - before;
+        Ok(())
     }
 
     // An equal chain.
@@ -163,29 +181,47 @@ impl FutureChain {
 // that hold something stay.
 #[inline(always)]
 fn take_closed(
-    segments: &mut Vec<Segment>,
+    segments: &mut Vec<ClosedSegment>,
     least: &mut Option<Time>,
     current: &mut PriorityChain,
     time: Time,
-)
+) -> Result<(), AllocError>
     requires room { length (all_items segments.old.items) ≤ current.old.room }
     requires least { least.old ≡ least_time (all_items segments.old.items) }
-    ensures current { current.new.items ≡ all_lined_up (due time (all_items segments.old.items)) current.old.items }
-    ensures future { all_items segments.new.items ≡ filter (λ e. not (is_due time e)) (all_items segments.old.items) }
+    ensures current { OnOk result
+        (current.new.items ≡ all_lined_up (due time (all_items segments.old.items)) current.old.items) }
+    ensures future { OnOk result
+        (all_items segments.new.items ≡ filter (λ e. not (is_due time e)) (all_items segments.old.items)) }
+    ensures err { OnErr result ((current.new.items ≡ current.old.items) ×
+        (all_items segments.new.items ≡ all_items segments.old.items)) }
     ensures room { current.old.room ≤ current.new.room + length (all_items segments.old.items) }
     ensures least { least.new ≡ least_time (all_items segments.new.items) }
 {
     if is_later(*least, time) {
-        return;
+        return Ok(());
     }
+    get_ready(segments, time)?;
     take_and_drop(segments, current, time);
     *least = least_time(segments);
+    Ok(())
 }
 
-// The same, where some are due.
+// Gets the segments ready for a clock step to a time.
+fn get_ready(segments: &mut Vec<ClosedSegment>, time: Time) -> Result<(), AllocError>
+    ensures items { all_items segments.new.items ≡ all_items segments.old.items }
+    ensures ok { OnOk result (All (IsReady time) segments.new.items) }
+{
+    for index in 0..segments.len() {
+        segments[index].get_ready(time)?;
+    }
+    Ok(())
+}
+
+// Moves the transactions of a time from segments that are ready, where some are due.
 #[inline(never)]
-fn take_and_drop(segments: &mut Vec<Segment>, current: &mut PriorityChain, time: Time)
-    requires { length (all_items segments.old.items) ≤ current.old.room }
+fn take_and_drop(segments: &mut Vec<ClosedSegment>, current: &mut PriorityChain, time: Time)
+    requires room { length (all_items segments.old.items) ≤ current.old.room }
+    requires ready { All (IsReady time) segments.old.items }
     ensures current { current.new.items ≡ all_lined_up (due time (all_items segments.old.items)) current.old.items }
     ensures future { all_items segments.new.items ≡ filter (λ e. not (is_due time e)) (all_items segments.old.items) }
     ensures room { current.old.room ≤ current.new.room + length (all_items segments.old.items) }
@@ -195,8 +231,9 @@ fn take_and_drop(segments: &mut Vec<Segment>, current: &mut PriorityChain, time:
 }
 
 // Moves the transactions of a time from each segment to the current chain, from the first segment on.
-fn take_due(segments: &mut Vec<Segment>, current: &mut PriorityChain, time: Time)
-    requires { length (all_items segments.old.items) ≤ current.old.room }
+fn take_due(segments: &mut Vec<ClosedSegment>, current: &mut PriorityChain, time: Time)
+    requires room { length (all_items segments.old.items) ≤ current.old.room }
+    requires ready { All (IsReady time) segments.old.items }
     ensures current { current.new.items ≡ all_lined_up (due time (all_items segments.old.items)) current.old.items }
     ensures future { all_items segments.new.items ≡ filter (λ e. not (is_due time e)) (all_items segments.old.items) }
     ensures room { current.old.room ≤ current.new.room + length (all_items segments.old.items) }
@@ -207,25 +244,25 @@ fn take_due(segments: &mut Vec<Segment>, current: &mut PriorityChain, time: Time
 }
 
 // The segments that hold something stay, in their order.
-fn drop_empty(segments: &mut Vec<Segment>)
+fn drop_empty(segments: &mut Vec<ClosedSegment>)
     ensures { segments.new.items ≡ filter is_in_use segments.old.items }
 {
-    segments.retain(|segment| !segment.is_empty());
+    segments.retain(|closed| !closed.segment().is_empty());
 }
 
 // The least time on segments.
-fn least_time(segments: &[Segment]) -> Option<Time>
+fn least_time(segments: &[ClosedSegment]) -> Option<Time>
     ensures { result ≡ least_time (all_items segments.now) }
 {
     let mut least = None;
     for i in (0..segments.len()).rev() {
-        least = soonest(segments[i].least_time(), least);
+        least = soonest(segments[i].segment().least_time(), least);
     }
     least
 }
 
 // Equal segments.
-fn copy(segments: &Vec<Segment>) -> Result<Vec<Segment>, AllocError>
+fn copy(segments: &Vec<ClosedSegment>) -> Result<Vec<ClosedSegment>, AllocError>
     ensures { IfOk result (λ ss. all_items ss.items ≡ all_items segments.now.items) }
 {
     let len = segments.len();

@@ -11,6 +11,7 @@ mod case;
 mod chain;
 mod changes;
 mod clocks;
+mod closed;
 mod copy;
 mod counts;
 mod decide;

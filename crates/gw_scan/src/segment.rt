@@ -45,6 +45,11 @@ impl Segment {
         }
     }
 
+    // Where its memory comes from.
+    pub(crate) fn allocator(&self) -> Global {
+        *self.events.allocator()
+    }
+
     // How many transactions are on it.
     pub(crate) fn len(&self) -> usize
         ensures len { result ≡ length self.now.items }

@@ -11,6 +11,6 @@ loop-i-preserved c =
     let s = c.index-segments-i.result in
     let one : c.loop-i.i ≡ k + 1 = omega arith in
     let within : k < length ss = omega arith in
-    c.soonest-least.ensures ∙ (ap (λ o. soonest o c.loop-i.least) c.least_time.ensures ∙
+    c.soonest-least.ensures ∙ (ap (λ o. soonest o c.loop-i.least) (c.least_time.ensures ∙ ap least_time c.segment.ensures) ∙
     (ap (soonest (least_time s.items)) (c.loop-i.invariant ∙ ap (λ n. least_time (all_items (drop n ss))) one) ∙
     sym (least_next ss k s within c.index-segments-i.is)))

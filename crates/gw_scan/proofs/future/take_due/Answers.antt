@@ -1,6 +1,6 @@
 use Rattle.std.proofs.Common.{◌+◌, ◌<◌, length, length-append, drop, ap, ◌∙◌, arith}
 use Rattle.gw_scan.specs.Segments.{all_items}
-use Rattle.gw_scan.proofs.SegmentLaws.{next_segment, taken_one}
+use Rattle.gw_scan.proofs.SegmentLaws.{next_segment, taken_one, ready_next}
 use Rattle.gw_scan.proofs.future.take_due.Goals as goal
 
 pub loop-i-preserved : goal.loop-i-preserved
@@ -21,3 +21,12 @@ loop-i-preserved c =
       room = omega (arith, room, long, c.take_due.ensures.room);
       taken = omega (arith, taken, long, c.take_due.ensures.room);
     }
+
+pub take_due-requires-clause-ready : goal.take_due-requires-clause-ready
+take_due-requires-clause-ready c =
+    let S = c.args.segments.now.items in
+    let i = c.loop-i.i in
+    let s = c.index_mut.result.now in
+    let h : i < length S = omega arith in
+    let next = next_segment S c.loop-i.segments.items i s h c.loop-i.invariant.taking.long c.loop-i.invariant.taking.rest c.index_mut.ensures.value in
+    ready_next c.args.time S i s h next c.requires.ready
