@@ -1,1 +1,2 @@
+pub mod FirstAt
 pub mod Least

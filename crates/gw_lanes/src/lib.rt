@@ -1,11 +1,11 @@
-//! The least of many numbers, eight at a time.
+//! The least of many numbers, and the first place of a number among many, eight at a time.
 //!
-//! [`least`] reads whole blocks of a slice by vectors of eight lanes, and the rest number by number. It takes
-//! no memory, and answers what the plain recursion over the list answers, for every length.
+//! [`least`] and [`first_at`] read whole blocks of a slice by vectors of eight lanes, and the rest number by number.
+//! They take no memory, and answer what the plain recursion over the list answers, for every length.
 #![tactic(auto)]
 
 mod lanes;
 #[cfg(test)]
 mod tests;
 
-pub use lanes::least;
+pub use lanes::{first_at, least};
