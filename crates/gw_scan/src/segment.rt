@@ -1,4 +1,5 @@
 ghost use Rattle.std.specs.Prelude.{◌≡◌, ◌+◌, ◌++◌, ◌∷◌, ◌≤◌, ◌<◌, [], length, drop, filter, not, Some, IfOk, OnOk, ◌^◌, ◌==◌};
+ghost use Rattle.std.specs.List.{swap};
 ghost use Rattle.gw_meaning.specs.Changes.{all_lined_up, due, is_due};
 ghost use Rattle.gw_meaning.specs.Step.{least_time, sooner};
 ghost use Rattle.gw_scan.specs.Segments.{soonest, is_later};
@@ -152,12 +153,26 @@ fn take_due(events: &mut Vec<Event>, current: &mut PriorityChain, time: Time) ->
             current.line_up(same(&event.transaction));
         } else {
             least = Some(sooner(event.time, least));
-            events.swap(kept, i);
+            bring(events, kept, i);
             kept += 1;
         }
     }
     events.truncate(kept);
     least
+}
+
+// Brings an event to a place at or before its own, for the one that stands there. Where nobody before it is due that is
+// its own.
+#[inline(always)]
+#[tactic(auto, using(indexmap::proofs::IndexTableLemmas::Indexes::swap_self))]
+fn bring(events: &mut Vec<Event>, to: usize, from: usize)
+    requires order { to ≤ from }
+    requires within { from < length events.old.items }
+    ensures { events.new.items ≡ swap events.old.items to from }
+{
+    if to < from {
+        events.swap(to, from);
+    }
 }
 
 // The sooner of two times, where there are any.

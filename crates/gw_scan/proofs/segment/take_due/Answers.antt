@@ -34,10 +34,10 @@ loop-i-preserved c =
       | else-eq w ↦
           let later : is_due t e ≡ false = sym c.eq.ensures ∙ w.if-eq.false in
           record {
-            sorting = rw (w.current-is, w.kept-is, w.events-is, w.swap.ensures.items)
+            sorting = rw (w.current-is, w.kept-is, w.events-is, w.bring.ensures)
                 (sorted_kept t F C i c.loop-i.kept e c.loop-i.events.items c.loop-i.current.items h c.index-event.ensures later s);
             room = rw w.current-is (omega (arith, room));
-            least = rw (w.kept-is, w.events-is, w.least-is, w.swap.ensures.items)
+            least = rw (w.kept-is, w.events-is, w.least-is, w.bring.ensures)
                 (w.sooner.ensures ∙ (ap (sooner e.time) least ∙ sym (kept_least c.loop-i.events.items c.loop-i.kept i e few within c.index-event.ensures)));
             taken = rw w.current-is (omega (arith, taken));
           }
