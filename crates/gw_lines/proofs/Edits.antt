@@ -1,14 +1,13 @@
 -- The text of an edit: what is read is spelled so, what is spelled so is read, and the same of its first fault.
-use Rattle.std.proofs.Common.{◌≡◌, ◌≢◌, ℕ, suc, ◌<◌, ◌≤◌, Bool, true, false, List, [], ◌∷◌, length, Option, None, Result, Ok, Err, refl, sym, ap, subst, ◌∙◌, ◌⊎◌, inl, inr, arith}
-use Rattle.std.specs.Prelude.{◌↔◌, All, Any, IfOk, nat_lt}
+use Rattle.std.proofs.Common.{◌≡◌, ℕ, suc, ◌<◌, ◌≤◌, ◌==◌, false, List, [], ◌∷◌, length, Option, None, Result, Ok, Err, refl, sym, ap, subst, ◌∙◌, ◌⊎◌, inl, inr, arith}
+use Rattle.std.specs.Prelude.{◌↔◌, All, Any, nat_lt}
 use Rattle.std.proofs.lemmas.Bool.{both_ways, cases_Bool}
 use Rattle.std.proofs.lemmas.List.Elements.{All-cons, All-head, All-nil, All-tail}
 use Rattle.gw_meaning.specs.declared.statement.Statement.{Statement}
 use Rattle.gw_lines.specs.declared.fault.LineFault.{LineFault}
 use Rattle.gw_lines.specs.declared.fault.LineFault.TheVariants as faults
 use Rattle.gw_lines.specs.Reading.{◌>>=◌}
-use Rattle.gw_lines.specs.declared.class.Class.TheVariants as class
-use Rattle.gw_lines.specs.Classes.{are_plain, rest_of, tail_of}
+use Rattle.gw_lines.specs.Classes.{are_plain}
 use Rattle.gw_lines.specs.Lines.{line_of, wanted, statement_of}
 use Rattle.gw_lines.specs.Pairs.{wants_pairs, kept_of, further_of}
 use Rattle.gw_lines.specs.Spelling.{Spells}
@@ -16,29 +15,17 @@ use Rattle.gw_lines.specs.Faulty as faulty
 use Rattle.gw_lines.specs.Faulty.{FirstFault}
 use Rattle.gw_lines.specs.Points.{HasPairs, Completes, complete, past_remark, past_pairs, SpellsLines, spells_lines, PairsFault, too_long, wrong_byte, bad_pairs}
 use Rattle.gw_lines.specs.Edits as edits
-use Rattle.gw_lines.specs.Edits.{edit_lines, SpellsEdit, HasWrongText, HasWrongByte, in_first_line, in_further_line, AreClean, names_function, is_missing, may_miss, FaultOfLines, no_line, long_line, in_first, not_wanted, short_lines, byte_fault, plain_further, plain_lines, completed_by, followed, behind_first, first_of, edit_in, edit_of}
+use Rattle.gw_lines.specs.Edits.{edit_lines, SpellsEdit, HasWrongText, HasWrongByte, in_first_line, in_further_line, AreClean, names_function, is_missing, MayMiss, no_further, pairs_behind, may_miss, FaultOfLines, no_line, long_line, in_first, not_wanted, short_lines, byte_fault, plain_further, plain_lines, completed_by, followed, behind_first, first_of, edit_in, edit_of}
 use Rattle.gw_lines.specs.Read.{EditsAreRead, EditsAreRefused}
 use Rattle.gw_lines.proofs.Results.{done, failed, ok_is, err_is}
 use Rattle.gw_lines.proofs.Fronts.{nonzero}
-use Rattle.gw_lines.proofs.Pieces.{first_part}
 use Rattle.gw_lines.proofs.Lines.{long_is, short_is, spells_found, spells_again}
 use Rattle.gw_lines.proofs.Faults.{fault_found, fault_again}
 use Rattle.gw_lines.proofs.PairsRead.{bind_ok}
 use Rattle.gw_lines.proofs.Whole.{faulty_found, wanted_err}
+use Rattle.gw_lines.proofs.OpenPairs.{IsClean, may_be_found, may_be_again, open_fault}
 use Rattle.gw_lines.proofs.Further as further
 use Rattle.gw_lines.proofs.Further.{kept_is, is_long, is_none, is_wrong, is_kept}
-
--- ---- further lines or none
-
--- where a further line stands, a missing operand is the fault for a FUNCTION alone
-pub may_miss_behind : (line further : List ℕ) → further ≢ [] → may_miss line (edit_lines further) ≡ names_function line
-may_miss_behind line further some =
-    ap (may_miss line) (first_part class.Part further some)
-    ∙ rw (nonzero (length (edit_lines (tail_of (rest_of class.Part further))))) refl
-
--- what holds of an answer holds by an equal one
-pub answers_so : {X : Type 0} (r : Result Bool X) (x y : Bool) → x ≡ y → IfOk r (λ b. b ≡ x) → IfOk r (λ b. b ≡ y)
-answers_so r x y e h = subst (λ (z : Bool). IfOk r (λ b. b ≡ z)) e h
 
 -- ---- each line, and some line
 
@@ -191,10 +178,6 @@ completed_found (line ∷ lines) s t e =
           ]
     ]
 
--- a further line that is clean
-abbrev IsClean : List ℕ → Type 0
-IsClean line = IsShort line × (HasWrongText line → ⊥)
-
 adds_clean : {s t : Statement} {line : List ℕ} → HasPairs s line t → IsClean line
 adds_clean a = (a.has_text.cut.short, λ w. both_ways (are_plain a.text) (ap are_plain (further.one_text a.has_text w.1) ∙ w.2) a.plain)
 
@@ -318,24 +301,57 @@ edit_again text s h = spelled_again h
 
 -- ---- the first fault
 
+-- where a missing operand is the fault
+may_found : (line : List ℕ) (more : List (List ℕ)) → may_miss line more ≡ Ok tt → MayMiss line more
+may_found line [] e = no_further line
+may_found line (next ∷ others) e =
+    elim (cases_Bool (names_function line)) [
+      | inl function ↦
+          pairs_behind line (next ∷ others) function
+          (may_be_found (next ∷ others) (λ n. absurd cc) (rw (nonzero (length others), function) at e))
+      | inr other ↦ absurd (let f = rw (nonzero (length others), other) at e in cc)
+    ]
+
+may_again : {line : List ℕ} {more : List (List ℕ)} → MayMiss line more → may_miss line more ≡ Ok tt
+may_again (no_further line) = refl
+may_again (pairs_behind line further function m) =
+    elim (cases_Bool (length further == 0)) [
+      | inl none ↦ rw none refl
+      | inr some ↦ rw (some, function) (may_be_again m)
+    ]
+
+may_fault : (line : List ℕ) (more : List (List ℕ)) (f : LineFault) → All IsClean more → may_miss line more ≡ Err f → f ≡ faults.BadPairs
+may_fault line more f c e =
+    elim (cases_Bool (length more == 0)) [
+      | inl none ↦ absurd (let g = rw none at e in cc)
+      | inr some ↦ elim (cases_Bool (names_function line)) [
+        | inl function ↦ open_fault more [] f c (rw (some, function) at e)
+        | inr other ↦ err_is (failed {A = Unit {0}} faults.BadPairs) f faults.BadPairs (rw (some, other) at e) refl
+      ]
+    ]
+
 -- what follows of the fault of a first line
-data Followed (may : Bool) (g f : LineFault) : Type 0 where
-  stays : g ≡ f → (is_missing f ≡ false) ⊎ (may ≡ true) → Followed may g f
-  turns : (n : ℕ) → g ≡ faults.MissingOperand n → may ≡ false → faults.BadPairs ≡ f → Followed may g f
+data Followed (may : Result (Unit {0}) LineFault) (g f : LineFault) : Type 0 where
+  stays : g ≡ f → (is_missing f ≡ false) ⊎ (may ≡ Ok tt) → Followed may g f
+  turns : (n : ℕ) → g ≡ faults.MissingOperand n → may ≡ Err f → Followed may g f
 
-is_followed : (may : Bool) (g f : LineFault) → followed may g ≡ f → Followed may g f
-is_followed true g f e = stays e (inr refl)
-is_followed false (faults.MissingOperand n) f e = turns n refl refl e
-is_followed false g f e = stays e (inl (ap is_missing (sym e)))
+is_followed : (may : Result (Unit {0}) LineFault) (g f : LineFault) → followed may g ≡ f → Followed may g f
+is_followed (Ok u) g f e = stays e (inr refl)
+is_followed (Err bad) (faults.MissingOperand n) f e = turns n refl (ap failed e)
+is_followed (Err bad) g f e = stays e (inl (ap is_missing (sym e)))
 
-stays_so : (may : Bool) (f : LineFault) → (is_missing f ≡ false) ⊎ (may ≡ true) → followed may f ≡ f
-stays_so true f h = refl
-stays_so false (faults.MissingOperand n) (inl h) = absurd cc
-stays_so false (faults.MissingOperand n) (inr h) = absurd cc
-stays_so false f h = refl
+stays_so : (may : Result (Unit {0}) LineFault) (f : LineFault) → (is_missing f ≡ false) ⊎ (may ≡ Ok tt) → followed may f ≡ f
+stays_so (Ok u) f h = refl
+stays_so (Err bad) (faults.MissingOperand n) (inl h) = absurd cc
+stays_so (Err bad) (faults.MissingOperand n) (inr h) = absurd cc
+stays_so (Err bad) f h = refl
 
-turns_so : (may : Bool) (n : ℕ) → may ≡ false → followed may (faults.MissingOperand n) ≡ faults.BadPairs
-turns_so may n h = rw h refl
+turns_so : (may : Result (Unit {0}) LineFault) (n : ℕ) (f : LineFault) → may ≡ Err f → followed may (faults.MissingOperand n) ≡ f
+turns_so may n f h = rw h refl
+
+either_so : {A B C : Type 0} → (B → C) → A ⊎ B → A ⊎ C
+either_so on (inl a) = inl a
+either_so on (inr b) = inr (on b)
 
 fault_is : (g f : LineFault) → failed {A = Statement} g ≡ Err f → g ≡ f
 fault_is g f e = err_is (failed {A = Statement} g) g f refl e
@@ -347,6 +363,9 @@ fault_behind line more f c e = by_result (statement_of line) refl
     never : (s : Statement) → completed_by s more ≡ Err f → (t : Statement) → Completes s more t → ⊥
     never s h t d = let g : done t ≡ Err f = sym (completes_is d) ∙ h in absurd cc
 
+    never_miss : may_miss line more ≡ Err f → MayMiss line more → ⊥
+    never_miss h m = let g : done tt ≡ Err f = sym (may_again m) ∙ h in absurd cc
+
     by_result : (r : Result Statement LineFault) → statement_of line ≡ r → FaultOfLines (line ∷ more) f
     by_result (Ok s) is =
         let h : completed_by s more ≡ Err f = rw is at e in
@@ -354,9 +373,10 @@ fault_behind line more f c e = by_result (statement_of line) refl
         (edits.bad_pairs line more s c (spells_found line s is) (never s h))
     by_result (Err g) is =
         elim (is_followed (may_miss line more) g f (fault_is (followed (may_miss line more) g) f (rw is at e))) [
-          | stays same h ↦ in_first line more f c (fault_found line f (is ∙ ap failed same)) h
-          | turns n same not_function bad ↦
-              subst (FaultOfLines (line ∷ more)) bad (not_wanted line more n c (fault_found line (faults.MissingOperand n) (is ∙ ap failed same)) not_function)
+          | stays same h ↦ in_first line more f c (fault_found line f (is ∙ ap failed same)) (either_so (may_found line more) h)
+          | turns n same bad ↦
+              subst (FaultOfLines (line ∷ more)) (sym (may_fault line more f (further_clean c) bad))
+              (not_wanted line more n c (fault_found line (faults.MissingOperand n) (is ∙ ap failed same)) (never_miss bad))
         ]
 
 first_fault : (lines : List (List ℕ)) (f : LineFault) → AreClean lines → first_of lines ≡ Err f → FaultOfLines lines f
@@ -385,6 +405,13 @@ never_completed s more c never = by_result (completed_by s more) refl
     by_result (Ok t) is = absurd (never t (completed_found more s t is))
     by_result (Err f) is = is ∙ ap failed (completed_fault more s f c is)
 
+never_missed : (line : List ℕ) (more : List (List ℕ)) → All IsClean more → (MayMiss line more → ⊥) → may_miss line more ≡ Err faults.BadPairs
+never_missed line more c never = by_result (may_miss line more) refl
+  where
+    by_result : (r : Result (Unit {0}) LineFault) → may_miss line more ≡ r → may_miss line more ≡ Err faults.BadPairs
+    by_result (Ok tt) is = absurd (never (may_found line more is))
+    by_result (Err f) is = is ∙ ap failed (may_fault line more f c is)
+
 fault_in : {lines : List (List ℕ)} {f : LineFault} → FaultOfLines lines f → edit_in lines ≡ Err f
 fault_in no_line = refl
 fault_in (long_line lines long) =
@@ -400,8 +427,10 @@ fault_in (edits.wrong_byte lines short wrong) =
         | inr q ↦ rw (p.0, q.0) refl
       ]
     ]
-fault_in (in_first line more f c h m) = clean_gives c ∙ rw (fault_again h) (ap failed (stays_so (may_miss line more) f m))
-fault_in (not_wanted line more n c h m) = clean_gives c ∙ rw (fault_again h) (ap failed (turns_so (may_miss line more) n m))
+fault_in (in_first line more f c h m) = clean_gives c ∙ rw (fault_again h) (ap failed (stays_so (may_miss line more) f (either_so may_again m)))
+fault_in (not_wanted line more n c h m) =
+    clean_gives c
+    ∙ rw (fault_again h) (ap failed (turns_so (may_miss line more) n faults.BadPairs (never_missed line more (further_clean c) m)))
 fault_in (edits.bad_pairs line more s c h never) =
     clean_gives c ∙ rw (spells_again line s h) (never_completed s more (further_clean c) never)
 

@@ -26,6 +26,7 @@ pub mod OwnBytes
 pub mod PairBytes
 pub mod PairsRead
 pub mod Further
+pub mod OpenPairs
 pub mod Whole
 pub mod Edits
 pub mod KeptAgain

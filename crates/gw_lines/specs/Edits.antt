@@ -1,5 +1,5 @@
 -- A statement as the text of an edit, in which `|` ends a line. (Our own.)
-use Rattle.std.specs.Prelude.{ℕ, ◌==◌, ◌||◌, ◌<◌, ◌≤◌, ◌≡◌, ◌⊎◌, Bool, true, false, List, [], ◌∷◌, length, Option, Some, None, Result, Ok, Err, if◌then◌else◌, nat_lt, All, Any}
+use Rattle.std.specs.Prelude.{ℕ, ◌==◌, ◌<◌, ◌≤◌, ◌≡◌, ◌⊎◌, Bool, true, false, List, [], ◌∷◌, length, Option, Some, None, Result, Ok, Err, if◌then◌else◌, nat_lt, All, Any}
 use Rattle.gw_names.specs.declared.verb.DefinitionVerb.TheVariants as definition_verbs
 use Rattle.gw_names.specs.declared.verb.Verb.{Verb}
 use Rattle.gw_names.specs.declared.verb.Verb.TheVariants as verbs
@@ -9,11 +9,11 @@ use Rattle.gw_lines.specs.declared.fault.LineFault.{LineFault}
 use Rattle.gw_lines.specs.declared.fault.LineFault.TheVariants as faults
 use Rattle.gw_lines.specs.Reading.{◌>>=◌, OrMemory}
 use Rattle.gw_lines.specs.Lines.{word_of, behind_word, verb_in, behind_number, code_of, line_of, statement_of}
-use Rattle.gw_lines.specs.Pairs.{wants_pairs, kept_of, further_of}
+use Rattle.gw_lines.specs.Pairs.{wants_pairs, kept_of, further_of, open_lines}
 use Rattle.gw_lines.specs.Classes.{are_plain, pieces_of}
 use Rattle.gw_lines.specs.Spelling.{Spells}
 use Rattle.gw_lines.specs.Faulty.{FirstFault}
-use Rattle.gw_lines.specs.Points.{HasText, Completes, SpellsLines}
+use Rattle.gw_lines.specs.Points.{HasText, Completes, MayBePairs, SpellsLines}
 
 -- the lines of an edit's text: `|` ends a line, and the last line may lack it
 abbrev pub edit_lines : List ℕ → List (List ℕ)
@@ -62,21 +62,25 @@ abbrev pub is_missing : LineFault → Bool
 is_missing (faults.MissingOperand n) = true
 is_missing f = false
 
--- whether a missing operand is the fault: no further line stands behind it, or those may be a FUNCTION's pairs
-abbrev pub may_miss : List ℕ → List (List ℕ) → Bool
-may_miss line further = length further == 0 || names_function line
+-- whether a line's missing operand is the fault: no further line stands behind it, or its verb is FUNCTION and those
+-- behind it may be pairs
+pub data MayMiss : List ℕ → List (List ℕ) → Type 0 where
+  no_further : (line : List ℕ) → MayMiss line []
+  pairs_behind : (line : List ℕ) (further : List (List ℕ)) → names_function line ≡ true → MayBePairs further
+      → MayMiss line further
 
 -- the first fault of lines: length and bytes of any line, then the first line from left to right, then pairs that are
--- bad or missing, and further lines that no statement wants, then a missing operand
+-- bad or missing, and further lines that no statement wants, then a missing operand. Behind a FUNCTION that misses one,
+-- pairs are bad where they would be with any count
 pub data FaultOfLines : List (List ℕ) → LineFault → Type 0 where
   no_line : FaultOfLines [] faults.UnknownVerb
   long_line : (lines : List (List ℕ)) → Any (λ line. 250 < length line) lines → FaultOfLines lines faults.TooLong
   wrong_byte : (lines : List (List ℕ)) → All (λ line. length line ≤ 250) lines → HasWrongByte lines
       → FaultOfLines lines faults.BadByte
   in_first : (line : List ℕ) (further : List (List ℕ)) (f : LineFault) → AreClean (line ∷ further) → FirstFault line f
-      → (is_missing f ≡ false) ⊎ (may_miss line further ≡ true) → FaultOfLines (line ∷ further) f
+      → (is_missing f ≡ false) ⊎ MayMiss line further → FaultOfLines (line ∷ further) f
   not_wanted : (line : List ℕ) (further : List (List ℕ)) (n : ℕ) → AreClean (line ∷ further)
-      → FirstFault line (faults.MissingOperand n) → may_miss line further ≡ false
+      → FirstFault line (faults.MissingOperand n) → (MayMiss line further → ⊥)
       → FaultOfLines (line ∷ further) faults.BadPairs
   bad_pairs : (line : List ℕ) (further : List (List ℕ)) (s : Statement) → AreClean (line ∷ further) → Spells line s
       → ((t : Statement) → Completes s further t → ⊥) → FaultOfLines (line ∷ further) faults.BadPairs
@@ -122,9 +126,14 @@ completed_by s (line ∷ lines) = if wants_pairs s then (do
   more ← further_of s line
   completed_by more lines) else Err faults.BadPairs
 
--- the fault of the first line: a missing operand comes last, behind further lines that no statement wants
-abbrev pub followed : Bool → LineFault → LineFault
-followed false (faults.MissingOperand n) = faults.BadPairs
+-- the fault of further lines behind one that misses an operand, if they have one
+abbrev pub may_miss : List ℕ → List (List ℕ) → Result (Unit {0}) LineFault
+may_miss line further = if length further == 0 then Ok tt
+    else (if names_function line then open_lines [] further else Err faults.BadPairs)
+
+-- the fault of the first line: a missing operand comes last, behind that of further lines
+abbrev pub followed : Result (Unit {0}) LineFault → LineFault → LineFault
+followed (Err bad) (faults.MissingOperand n) = bad
 followed may_miss f = f
 
 -- what the first line gives, with those behind it

@@ -1,6 +1,6 @@
 -- A FUNCTION's pairs as they are read, line by line. (Manual: the pairs. Our own: the greatest numbers, where a line
 -- ends.)
-use Rattle.std.specs.Prelude.{ℕ, ℤ, ◌-◌, ◌&&◌, Bool, true, false, List, [], ◌∷◌, ◌++◌, length, Option, Some, None, Result, Ok, Err, if◌then◌else◌, nat_lt, slice_get}
+use Rattle.std.specs.Prelude.{ℕ, ℤ, ◌-◌, ◌==◌, ◌&&◌, Bool, true, false, List, [], ◌∷◌, ◌++◌, length, Option, Some, None, Result, Ok, Err, if◌then◌else◌, nat_lt, slice_get}
 use Rattle.gw_nums.specs.Range.{is_below}
 use Rattle.gw_meaning.specs.declared.function.Point.{Point}
 use Rattle.gw_meaning.specs.declared.statement.Definition.TheVariants as definitions
@@ -94,3 +94,20 @@ unfoldable pub further_of : Statement → List ℕ → Result Statement LineFaul
 further_of s line = do
   kept ← kept_of line
   kept_with s kept
+
+-- points with those of what is kept of a further line, where any count may be meant; the last line has pairs
+abbrev pub open_with : Bool → List Point → Option (List ℕ) → Result (List Point) LineFault
+open_with is_last points None = if is_last then Err faults.BadPairs else Ok points
+open_with is_last points (Some text) = points_with 1000 points text
+
+unfoldable pub open_line : Bool → List Point → List ℕ → Result (List Point) LineFault
+open_line is_last points line = do
+  kept ← kept_of line
+  open_with is_last points kept
+
+-- the fault of lines of pairs, where any count may be meant, if they have one
+abbrev pub open_lines : List Point → List (List ℕ) → Result (Unit {0}) LineFault
+open_lines points [] = Ok tt
+open_lines points (line ∷ lines) = do
+  more ← open_line (length lines == 0) points line
+  open_lines more lines

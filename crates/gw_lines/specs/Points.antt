@@ -1,6 +1,6 @@
 -- What the further lines of a FUNCTION spell: relations by cases on the text, apart from how they are read. (Manual:
 -- the pairs. Our own: the greatest numbers, where a line ends.)
-use Rattle.std.specs.Prelude.{ℕ, ℤ, pos, neg_ℤ, ◌*◌, ◌<◌, ◌≡◌, true, false, List, [], ◌∷◌, ◌++◌, length}
+use Rattle.std.specs.Prelude.{ℕ, ℤ, pos, neg_ℤ, ◌*◌, ◌<◌, ◌≤◌, ◌≡◌, true, false, List, [], ◌∷◌, ◌++◌, length}
 use Rattle.gw_names.specs.Words.{upper_of}
 use Rattle.gw_meaning.specs.declared.function.Function.{Function}
 use Rattle.gw_meaning.specs.declared.function.Point.{Point}
@@ -77,6 +77,18 @@ pub data Completes : Statement → List (List ℕ) → Statement → Type 0 wher
       → IsRemark line → Completes s lines t → Completes s (line ∷ lines) t
   past_pairs : (s : Statement) (line : List ℕ) (lines : List (List ℕ)) (more t : Statement) → wants_pairs s ≡ true
       → HasPairs s line more → Completes more lines t → Completes s (line ∷ lines) t
+
+-- further lines may be a FUNCTION's pairs with some count: from 1 to 1,000, they complete a FUNCTION of that count which
+-- has no points yet
+pub record MayBePairs (lines : List (List ℕ)) : Type 0 where
+  pub function : Function
+  pub none_yet : function.points ≡ []
+  pub least : 1 ≤ function.count
+  pub most : function.count ≤ 1000
+  pub first : Statement
+  pub is_function : first.body ≡ bodies.Definition (definitions.Function function)
+  pub whole : Statement
+  pub completes : Completes first lines whole
 
 -- lines spell a statement: the first of them its label, its verb and its operands, the others a FUNCTION's pairs
 pub data SpellsLines : List (List ℕ) → Statement → Type 0 where

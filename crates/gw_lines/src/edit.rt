@@ -1,24 +1,25 @@
 ghost use Rattle.std.specs.Prelude.{◌≡◌, ◌∷◌, [], IfOk, IfErr, Ok, Err, false};
 ghost use Rattle.gw_lines.specs.Reading.{Gives, IsFault, OrMemory};
 ghost use Rattle.gw_lines.specs.Lines.{line_of};
-ghost use Rattle.gw_lines.specs.Pairs.{kept_of, wants_pairs};
+ghost use Rattle.gw_lines.specs.Pairs.{kept_of, wants_pairs, open_lines};
 ghost use Rattle.gw_lines.specs.Points.{SpellsLines};
 ghost use Rattle.gw_lines.specs.Edits.{SpellsEdit, FaultOfLines, FirstFaultOfEdit, AnswersEdit, edit_lines, short_lines, byte_fault, plain_further, plain_lines, may_miss, followed, completed_by, first_of, edit_of};
 
 use crate::class::{Class, first_piece};
 use crate::fault::LineFault;
 use crate::line::{LONGEST, behind_number, code, read_first, read_line};
-use crate::pairs::{read_further, read_kept, wants_pairs};
+use crate::pairs::{read_further, read_kept, read_open, wants_pairs};
 use crate::words::names_function;
 use gw_meaning::Statement;
-use std::alloc::{AllocError, Global};
+use std::alloc::Global;
 
 /// The statement that the text of an edit spells, or its first fault. `|` ends a line there, in a comment too,
 /// and one at the very end opens no further line. A FUNCTION's pairs stand on the further lines.
 ///
 /// A line that is too long comes first, then a wrong byte of any line (a further line has its comment as one of pairs),
 /// then the faults of the first line from left to right, then `BadPairs` for pairs that are not lawful or are missing,
-/// and for any further line that no pairs want, and a missing operand last; a FUNCTION that misses one has that fault.
+/// and for any further line that no pairs want, and a missing operand last. Behind a FUNCTION that misses one, pairs
+/// are lawful where they would be with some count from 1 to 1,000.
 pub fn read_edit(alloc: Global, text: &[u8]) -> Result<Statement, LineFault>
     // What is read is spelled so.
     ensures found { IfOk result (λ s. SpellsEdit text.now s) }
@@ -165,27 +166,44 @@ fn complete(alloc: Global, statement: Statement, text: &[u8]) -> Result<Statemen
     }
 }
 
-// The first line's fault: a missing operand comes last, behind further lines that no statement wants.
+// The first line's fault: a missing operand comes last, behind the fault of further lines.
 fn followed(alloc: Global, line: &[u8], further: &[u8], fault: LineFault) -> LineFault
     ensures { IsFault result (followed (may_miss line.now (edit_lines further.now)) fault) }
 {
     match fault {
         LineFault::MissingOperand(_) => match may_miss(alloc, line, further) {
-            Ok(true) => fault,
-            Ok(false) => LineFault::BadPairs,
-            Err(_) => LineFault::Memory,
+            Ok(()) => fault,
+            Err(bad) => bad,
         },
         _ => fault,
     }
 }
 
-// Whether a missing operand is the fault: no further line stands there, or those may be a FUNCTION's pairs.
-fn may_miss(alloc: Global, line: &[u8], further: &[u8]) -> Result<bool, AllocError>
-    ensures { IfOk result (λ b. b ≡ may_miss line.now (edit_lines further.now)) }
+// Nothing, where a missing operand is the fault: no further line stands there, or those may be a FUNCTION's pairs.
+#[tactic(auto, using(crate::proofs::OpenPairs::no_lines))]
+fn may_miss(alloc: Global, line: &[u8], further: &[u8]) -> Result<(), LineFault>
+    ensures { Gives (λ u. u) result (may_miss line.now (edit_lines further.now)) }
 {
     if further.is_empty() {
-        Ok(true)
+        Ok(())
+    } else if names_function(alloc, behind_number(code(line)))? {
+        open_lines(alloc, further)
     } else {
-        names_function(alloc, behind_number(code(line)))
+        Err(LineFault::BadPairs)
     }
+}
+
+// Nothing, where lines may be a FUNCTION's pairs with some count.
+#[tactic(auto, using(crate::proofs::OpenPairs::no_lines))]
+fn open_lines(alloc: Global, text: &[u8]) -> Result<(), LineFault>
+    ensures { Gives (λ u. u) result (open_lines [] (edit_lines text.now)) }
+{
+    let mut points = Vec::new(alloc);
+    let mut rest = text;
+    while !rest.is_empty() {
+        let (line, further) = first_piece(Class::Part, rest);
+        points = read_open(alloc, points, line, further.is_empty())?;
+        rest = further;
+    }
+    Ok(())
 }

@@ -12,8 +12,8 @@ use gw_names::Name;
 use gw_nums::Val;
 use std::alloc::{AllocError, Global};
 
-// The most points that a FUNCTION has.
-const MOST_POINTS: u32 = 1_000;
+/// The most points that a FUNCTION has.
+pub const MOST_POINTS: u32 = 1_000;
 
 /// An operand that was read.
 #[derive(Debug, Drop)]

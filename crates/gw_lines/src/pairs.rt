@@ -1,11 +1,12 @@
 ghost use Rattle.std.specs.Prelude.{◌≡◌, nat_lt, length, option_map};
 ghost use Rattle.gw_lines.specs.Reading.{Gives};
-ghost use Rattle.gw_lines.specs.Pairs.{wants_pairs, pair_of, is_above, last_of, may_follow, with_point, points_with, body_with, statement_with, kept_in, kept_of, further_of};
+ghost use Rattle.gw_lines.specs.Pairs.{wants_pairs, pair_of, is_above, last_of, may_follow, with_point, points_with, body_with, statement_with, kept_in, kept_of, further_of, open_line};
 
 use crate::class::{Class, first_piece, piece};
 use crate::fault::LineFault;
 use crate::line::{LONGEST, code, is_remark};
 use crate::number::coordinate;
+use crate::operand::MOST_POINTS;
 use crate::words::operands;
 use gw_meaning::{Body, Definition, Function, Point, Row, Statement};
 use gw_nums::Millionths;
@@ -42,6 +43,23 @@ pub fn read_further(
     match read_kept(alloc, line)? {
         None => Ok(statement),
         Some(text) => statement_with(statement, &text),
+    }
+}
+
+/// Points with those of a further line, where any count may be meant; the last line has pairs.
+#[tactic(auto, unfolding(crate::specs::Pairs::open_line))]
+pub fn read_open(
+    alloc: Global,
+    points: Vec<Point>,
+    line: &[u8],
+    is_last: bool,
+) -> Result<Vec<Point>, LineFault>
+    ensures { Gives (λ v. v.items) result (open_line is_last points.items line.now) }
+{
+    match read_kept(alloc, line)? {
+        Some(text) => points_with(MOST_POINTS, points, &text),
+        None if is_last => Err(LineFault::BadPairs),
+        None => Ok(points),
     }
 }
 
