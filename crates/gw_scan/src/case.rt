@@ -10,6 +10,7 @@ use gw_meaning::{Block, Command, End, Function, Item, StatementId};
 use gw_model::Version;
 use gw_names::Name;
 use gw_nums::{Clock, Time, Val};
+use gw_uses::Asked;
 use std::alloc::{AllocError, AllocFailed, Global};
 
 /// The version and the seed that a run is of, and where a step finds memory.
@@ -87,7 +88,7 @@ pub fn ask_label(
     ensures ok { OnOk result (Asks notes.old (items.Label name.now) notes.new) }
     ensures err { OnErr result (notes.new ≡ notes.old) }
 {
-    notes.note(&Item::Label(name.clone()?))?;
+    notes.note_asked(Asked::Label(name))?;
     Ok(version.label(name))
 }
 
@@ -101,7 +102,7 @@ pub fn ask_name(
     ensures ok { OnOk result (Asks notes.old (items.Name name.now) notes.new) }
     ensures err { OnErr result (notes.new ≡ notes.old) }
 {
-    notes.note(&Item::Name(name.clone()?))?;
+    notes.note_asked(Asked::Name(name))?;
     Ok(version.number_of(name))
 }
 
@@ -116,7 +117,7 @@ pub fn ask_fits(
     ensures ok { OnOk result (Asks notes.old (items.Fits name.now units) notes.new) }
     ensures err { OnErr result (notes.new ≡ notes.old) }
 {
-    notes.note(&Item::Fits(name.clone()?, units))?;
+    notes.note_asked(Asked::Fits(name, units))?;
     Ok(version.fits(name, units))
 }
 
@@ -126,7 +127,7 @@ pub fn ask_capacity(version: &Version, notes: &mut Notes, name: &Name) -> Result
     ensures ok { OnOk result (Asks notes.old (items.Storage name.now) notes.new) }
     ensures err { OnErr result (notes.new ≡ notes.old) }
 {
-    notes.note(&Item::Storage(name.clone()?))?;
+    notes.note_asked(Asked::Storage(name))?;
     Ok(version.capacity(name))
 }
 
@@ -140,7 +141,7 @@ pub fn ask_variable<'a>(
     ensures ok { OnOk result (Asks notes.old (items.Variable name.now) notes.new) }
     ensures err { OnErr result (notes.new ≡ notes.old) }
 {
-    notes.note(&Item::Variable(name.clone()?))?;
+    notes.note_asked(Asked::Variable(name))?;
     Ok(version.variable(name))
 }
 
@@ -154,7 +155,7 @@ pub fn ask_function<'a>(
     ensures ok { OnOk result (Asks notes.old (items.Function name.now) notes.new) }
     ensures err { OnErr result (notes.new ≡ notes.old) }
 {
-    notes.note(&Item::Function(name.clone()?))?;
+    notes.note_asked(Asked::Function(name))?;
     Ok(version.function(name))
 }
 

@@ -1,4 +1,5 @@
 ghost use Rattle.std.specs.Prelude.{◌≡◌, ◌+◌, ◌<◌, ◌^◌, ◌-◌, OnOk, OnErr};
+ghost use Rattle.gw_uses.specs.Asked.{asked_item};
 ghost use Rattle.gw_uses.specs.Steps.{AreBelow};
 ghost use Rattle.gw_uses.specs.Uses.{nothing_used};
 ghost use Rattle.gw_scan.specs.Noted.{Asks, Forgets};
@@ -6,7 +7,7 @@ ghost use Rattle.gw_scan.specs.Noted.{Asks, Forgets};
 use crate::state::State;
 use gw_meaning::Item;
 use gw_streams::Streams;
-use gw_uses::FirstUses;
+use gw_uses::{Asked, FirstUses};
 use std::alloc::{AllocError, Global};
 use std::marker::Model;
 
@@ -99,5 +100,14 @@ impl Notes {
             self.reader = id.number();
         }
         self.firsts.note(item, self.step, self.reader)
+    }
+
+    // Notes a question with a name that the step asks.
+    #[inline(always)]
+    pub(crate) fn note_asked(&mut self, asked: Asked) -> Result<(), AllocError>
+        ensures ok { OnOk result (Asks self.old (asked_item asked.entry) self.new) }
+        ensures err { OnErr result (self.new ≡ self.old) }
+    {
+        self.firsts.note_asked(asked, self.step, self.reader)
     }
 }

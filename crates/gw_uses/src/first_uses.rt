@@ -2,9 +2,11 @@ ghost use Rattle.std.specs.Prelude.{◌≡◌, ◌+◌, ◌<◌, ◌-◌, ◌^�
 ghost use Rattle.std.specs.List.{list_any};
 ghost use Rattle.gw_meaning.specs.declared.item.Item.{Item};
 ghost use Rattle.gw_meaning.specs.Reads.{or_later, is_use};
+ghost use Rattle.gw_uses.specs.Asked.{asked_item};
 ghost use Rattle.gw_uses.specs.Steps.{below, AreBelow};
 ghost use Rattle.gw_uses.specs.Uses.{first_in, nothing_used};
 
+use crate::asked::Asked;
 use crate::clock_steps::ClockSteps;
 use crate::first_steps::FirstSteps;
 use crate::item_steps::ItemSteps;
@@ -69,6 +71,17 @@ impl FirstUses {
             Item::Within(time) => self.clock_steps.note(step, *time),
             _ => self.others.note(item, step, reader),
         }
+    }
+
+    /// Notes that a step asked a question with a name, as [`FirstUses::note`] notes its item.
+    #[inline(always)]
+    pub fn note_asked(&mut self, asked: Asked, step: u64, reader: u64) -> Result<(), AllocError>
+        ensures ok { OnOk result ((q : Item) → first_in self.new q ≡
+            or_later (first_in self.old q) (if is_use q (asked_item asked.entry) then Some step else None)) }
+        ensures clock { self.new.clock_steps ≡ self.old.clock_steps }
+        ensures err { OnErr result (self.new ≡ self.old) }
+    {
+        self.others.note_asked(asked, step, reader)
     }
 
     /// Forgets the steps from one on, that one too.

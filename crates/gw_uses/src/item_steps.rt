@@ -2,10 +2,12 @@ ghost use Rattle.std.specs.Prelude.{◌≡◌, [], Some, None, if◌then◌else�
 ghost use Rattle.gw_meaning.specs.declared.item.Item.{Item};
 ghost use Rattle.gw_meaning.specs.Reads.{same_item, or_later};
 ghost use Rattle.gw_uses.specs.Asks.{differs, earlier, is_ask, is_other, least_in};
+ghost use Rattle.gw_uses.specs.Asked.{asked_item};
 ghost use Rattle.gw_uses.specs.Steps.{step_of, below};
 ghost use Rattle.std.specs.List.{IsDistinct};
 ghost use Rattle.std.specs.Map.{keys_of};
 
+use crate::asked::Asked;
 use gw_meaning::Item;
 use gw_names::Name;
 use indexmap::IndexMap;
@@ -102,6 +104,32 @@ impl ItemSteps {
     {
         match self.steps.get_index(index) {
             Some((kept, _)) => *kept == *item,
+            None => false,
+        }
+    }
+
+    /// Notes that a step asked a question with a name, as [`ItemSteps::note`] notes its item, which is made only where
+    /// this reader did not find it last.
+    #[inline(always)]
+    pub fn note_asked(&mut self, asked: Asked, step: u64, reader: u64) -> Result<(), AllocError>
+        ensures ok { OnOk result ((q : Item) → step_of self.new q ≡
+            or_later (step_of self.old q) (if same_item (asked_item asked.entry) q then Some step else None)) }
+        ensures err { OnErr result (self.new ≡ self.old) }
+    {
+        let slot = (reader % NEAR as u64) as usize;
+        if self.is_asked_at(self.near[slot], asked) {
+            return Ok(());
+        }
+        self.note(&asked.item()?, step, reader)
+    }
+
+    // Whether a question's item is noted at an index.
+    #[inline(always)]
+    fn is_asked_at(&self, index: usize, asked: Asked) -> bool
+        ensures { IsTrue result → IsSome (step_of self.now (asked_item asked.entry)) }
+    {
+        match self.steps.get_index(index) {
+            Some((kept, _)) => asked.is(kept),
             None => false,
         }
     }
