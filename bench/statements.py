@@ -169,7 +169,7 @@ def statement_of_edit(text):
         for code in filter(None, map(code_of, lines[1:])):
             ascii_only(code[: operand_list(code)[1]])
     if fault:
-        may_miss = len(lines) == 1 or " FUNCTION" in lines[0].upper() and may_be_pairs(lines[1:])
+        may_miss = len(lines) == 1 or " FUNCTION" in code_of(lines[0]).upper() and may_be_pairs(lines[1:])
         raise Fault("L8") if str(fault)[:2] == "L6" and not may_miss else fault
     for line in lines[1:]:
         if not statement.wants_pairs():

@@ -78,8 +78,8 @@ pub data Completes : Statement → List (List ℕ) → Statement → Type 0 wher
   past_pairs : (s : Statement) (line : List ℕ) (lines : List (List ℕ)) (more t : Statement) → wants_pairs s ≡ true
       → HasPairs s line more → Completes more lines t → Completes s (line ∷ lines) t
 
--- further lines may be a FUNCTION's pairs with some count: from 1 to 1,000, they complete a FUNCTION of that count which
--- has no points yet
+-- further lines may be a FUNCTION's pairs with some count, from 1 to 1,000: they complete a FUNCTION of that count
+-- which has no points yet
 pub record MayBePairs (lines : List (List ℕ)) : Type 0 where
   pub function : Function
   pub none_yet : function.points ≡ []

@@ -166,7 +166,7 @@ fn complete(alloc: Global, statement: Statement, text: &[u8]) -> Result<Statemen
     }
 }
 
-// The first line's fault: a missing operand comes last, behind the fault of further lines.
+// The first line's fault: a missing operand comes last, behind a fault of further lines.
 fn followed(alloc: Global, line: &[u8], further: &[u8], fault: LineFault) -> LineFault
     ensures { IsFault result (followed (may_miss line.now (edit_lines further.now)) fault) }
 {
@@ -179,7 +179,8 @@ fn followed(alloc: Global, line: &[u8], further: &[u8], fault: LineFault) -> Lin
     }
 }
 
-// Nothing, where a missing operand is the fault: no further line stands there, or those may be a FUNCTION's pairs.
+// Ok where the missing operand stays the fault: no further line stands there, or those may be a FUNCTION's pairs. Else
+// the fault of the further lines.
 #[tactic(auto, using(crate::proofs::OpenPairs::no_lines))]
 fn may_miss(alloc: Global, line: &[u8], further: &[u8]) -> Result<(), LineFault>
     ensures { Gives (λ u. u) result (may_miss line.now (edit_lines further.now)) }
@@ -193,7 +194,7 @@ fn may_miss(alloc: Global, line: &[u8], further: &[u8]) -> Result<(), LineFault>
     }
 }
 
-// Nothing, where lines may be a FUNCTION's pairs with some count.
+// Ok where lines may be a FUNCTION's pairs with some count, else their fault.
 #[tactic(auto, using(crate::proofs::OpenPairs::no_lines))]
 fn open_lines(alloc: Global, text: &[u8]) -> Result<(), LineFault>
     ensures { Gives (λ u. u) result (open_lines [] (edit_lines text.now)) }

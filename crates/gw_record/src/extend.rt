@@ -103,6 +103,7 @@ impl Recorded {
             (self.new.tip ≡ self.old.tip) × (self.new.ends ≡ self.old.ends) × (self.new.firsts ≡ self.old.firsts) }
     {
         if !self.is_there() {
+            self.tip.share()?;
             let state = self.tip.copy()?;
             self.kept.push(Kept {
                 moment: self.moment,

@@ -1,16 +1,18 @@
-ghost use Rattle.std.specs.Prelude.{◌≡◌, ◌+◌, ◌≤◌, length, drop, filter, not, IfOk, OnOk};
+ghost use Rattle.std.specs.Prelude.{◌≡◌, ◌+◌, ◌≤◌, length, drop, filter, not, IfOk, OnOk, true};
 ghost use Rattle.gw_meaning.specs.Changes.{all_lined_up, due, is_due};
-ghost use Rattle.gw_scan.specs.Segments.{IsReady};
+ghost use Rattle.gw_meaning.specs.Step.{least_time};
+ghost use Rattle.gw_scan.specs.Segments.{IsReady, is_later};
 
 use crate::chain::PriorityChain;
 use crate::segment::{Segment, is_later};
 use gw_nums::Time;
 use std::alloc::{AllocError, Global};
 use std::marker::Model;
+use std::mem;
 use std::sync::Arc;
 
-// A closed segment of the future chain. Nothing comes onto it any more, so a state shares it with its copies, until
-// somebody leaves it: then it gets one of its own.
+// A closed segment of the future chain. Nothing comes onto it any more, so a state shares it with its copies. Before
+// somebody leaves it, the state copies it, and that copy is the state's own until it is shared again.
 #[derive(Drop)]
 pub struct ClosedSegment {
     shared: Option<Arc<Segment>>,
@@ -33,7 +35,8 @@ impl Model for ClosedSegment {
 impl ClosedSegment {
     // A segment that copies may share.
     pub(crate) fn new(alloc: Global, shared: Arc<Segment>) -> ClosedSegment
-        ensures { result.items ≡ shared.value.items }
+        ensures items { result.items ≡ shared.value.items }
+        ensures shared { result.is_shared ≡ true }
     {
         ClosedSegment {
             shared: Some(shared),
@@ -51,10 +54,32 @@ impl ClosedSegment {
         }
     }
 
+    // Copies may share it from now on.
+    pub(crate) fn share(&mut self) -> Result<(), AllocError>
+        ensures items { self.new.items ≡ self.old.items }
+        ensures ok { OnOk result (self.new.is_shared ≡ true) }
+    {
+        if self.shared.is_some() {
+            return Ok(());
+        }
+        let alloc = self.own.allocator();
+        match Arc::new(alloc, mem::replace(&mut self.own, Segment::new(alloc))) {
+            Ok(shared) => {
+                self.shared = Some(shared);
+                Ok(())
+            }
+            Err(refused) => {
+                self.own = refused.value;
+                Err(AllocError)
+            }
+        }
+    }
+
     // Gets it ready for a clock step to a time: where one on it may be due, it is shared no more.
     pub(crate) fn get_ready(&mut self, time: Time) -> Result<(), AllocError>
         ensures items { self.new.items ≡ self.old.items }
         ensures ok { OnOk result (IsReady time self.new) }
+        ensures later { is_later (least_time self.old.items) time ≡ true → self.new.is_shared ≡ self.old.is_shared }
     {
         match &self.shared {
             Some(shared) if !is_later(shared.least_time(), time) => {
@@ -80,9 +105,9 @@ impl ClosedSegment {
         }
     }
 
-    // An equal segment: one of its own is copied, and another one is shared.
+    // An equal segment: what is shared stays shared, and what is the state's own is copied.
     pub(crate) fn copy(&self) -> Result<ClosedSegment, AllocError>
-        ensures { IfOk result (λ s. s.items ≡ self.now.items) }
+        ensures { IfOk result (λ s. (s.items ≡ self.now.items) × (s.is_shared ≡ self.now.is_shared)) }
     {
         match &self.shared {
             Some(shared) => Ok(ClosedSegment::new(self.own.allocator(), Arc::try_clone(shared)?)),

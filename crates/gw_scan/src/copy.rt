@@ -6,6 +6,14 @@ use gw_meaning::Transaction;
 use std::alloc::AllocError;
 
 impl State {
+    /// Makes copies of it cheap: they share what seldom changes, the closed segments of the future chain. The state is
+    /// the same behind it, also where memory is refused.
+    pub fn share(&mut self) -> Result<(), AllocError>
+        ensures { self.new ≡ self.old }
+    {
+        self.future.share()
+    }
+
     /// An equal state.
     pub fn copy(&self) -> Result<State, AllocError>
         ensures { IfOk result (λ s. s ≡ self.now) }

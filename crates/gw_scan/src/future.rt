@@ -162,6 +162,13 @@ impl FutureChain {
         Ok(())
     }
 
+    // Copies may share its closed segments from now on.
+    pub(crate) fn share(&mut self) -> Result<(), AllocError>
+        ensures { self.new.items ≡ self.old.items }
+    {
+        share(&mut self.closed)
+    }
+
     // An equal chain.
     pub(crate) fn copy(&self) -> Result<FutureChain, AllocError>
         ensures { IfOk result (λ c. c.items ≡ self.now.items) }
@@ -259,6 +266,16 @@ fn least_time(segments: &[ClosedSegment]) -> Option<Time>
         least = soonest(segments[i].segment().least_time(), least);
     }
     least
+}
+
+// Copies may share the segments from now on.
+fn share(segments: &mut Vec<ClosedSegment>) -> Result<(), AllocError>
+    ensures { all_items segments.new.items ≡ all_items segments.old.items }
+{
+    for place in 0..segments.len() {
+        segments[place].share()?;
+    }
+    Ok(())
 }
 
 // Equal segments.

@@ -161,8 +161,8 @@ fn take_due(events: &mut Vec<Event>, current: &mut PriorityChain, time: Time) ->
     least
 }
 
-// Brings an event to a place at or before its own, for the one that stands there. Where nobody before it is due that is
-// its own.
+// Swaps an event with the one at a place at or before its own. While nobody before it is due, that place is its own, and
+// nothing moves.
 #[inline(always)]
 #[tactic(auto, using(indexmap::proofs::IndexTableLemmas::Indexes::swap_self))]
 fn bring(events: &mut Vec<Event>, to: usize, from: usize)

@@ -8,4 +8,4 @@ loop-i-preserved c =
     let ss = c.args.segments.now.items in
     let within : c.loop-i.i < length ss = omega arith in
     ap all_items c.in_ok-push.ensures.items ∙
-    copied_segment ss c.loop-i.copies.items c.loop-i.i c.index.result.now c.in_ok-copy.field-0 within c.index.ensures c.in_ok-copy.ensures c.loop-i.invariant
+    copied_segment ss c.loop-i.copies.items c.loop-i.i c.index.result.now c.in_ok-copy.field-0 within c.index.ensures c.in_ok-copy.ensures.0 c.loop-i.invariant

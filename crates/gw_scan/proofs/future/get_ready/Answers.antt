@@ -10,7 +10,8 @@ returns-in_err-get_ready-clause-items c =
     let ss = c.loop-index.segments.items in
     let long = c.loop-index.invariant.long in
     let within : c.loop-index.index < length ss = omega (arith, long) in
-    replaced ss c.loop-index.index c.index_mut.result.now c.get_ready.new.self within c.index_mut.ensures.value c.get_ready.ensures.items ∙ c.loop-index.invariant.items
+    replaced ss c.loop-index.index c.index_mut.result.now c.get_ready.new.self within c.index_mut.ensures.value c.get_ready.ensures.items ∙
+    c.loop-index.invariant.items
 
 pub loop-index-preserved : goal.loop-index-preserved
 loop-index-preserved c =

@@ -6,7 +6,7 @@ use Rattle.gw_scan.proofs.future.FutureChain.close.Goals as goal
 
 -- what is on the closed segment, and nothing on the one behind it
 full_is : (c : goal.After-push_reserved) → c.new-in-Ok.result.items ≡ c.self.inside.last.items
-full_is c = c.new-in-Ok.ensures ∙ ap (λ s. s.items) (c.in-Ok.ensures.ok ∙ c.replace-full.ensures.value)
+full_is c = c.new-in-Ok.ensures.items ∙ ap (λ s. s.items) (c.in-Ok.ensures.ok ∙ c.replace-full.ensures.value)
 
 fresh_is : (c : goal.After-push_reserved) → c.replace-full.new.dest.items ≡ []
 fresh_is c = ap (λ s. s.items) c.replace-full.ensures.after ∙ (c.reserve-2.ensures.items ∙ c.new-fresh.ensures)

@@ -29,8 +29,11 @@ invariant_of-self-2 c =
     let kept = ap length
     (chain_kept c.args.time closed last c.take_closed.new.segments.items _ c.in_ok-take_closed.ensures.future c.take_due.ensures.future) in
     let counts = chain_counts c.args.time closed last c.args.current.now.items _ lined in
-    let more = due_and_chain c.args.time closed last c.args.current.now.items _ lined in
-    (omega (arith, kept, counts, more, c.len-before.ensures.len, c.len.ensures.len, c.self.invariant.0), omega (arith, c.self.invariant.1), c.take_closed.ensures.least)
+    let more = due_and_chain c.args.time closed last c.args.current.now.items _ lined in (
+      omega (arith, kept, counts, more, c.len-before.ensures.len, c.len.ensures.len, c.self.invariant.0),
+      omega (arith, c.self.invariant.1),
+      c.take_closed.ensures.least,
+    )
 
 pub returns-clause-ok : goal.returns-clause-ok
 returns-clause-ok c = (
