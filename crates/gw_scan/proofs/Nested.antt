@@ -1,5 +1,5 @@
 -- What a VARIABLE and a FUNCTION come to: each asks, and is evaluated with one less to nest.
-use Rattle.std.proofs.Common.{◌≡◌, ℕ, zero, suc, ◌-◌, ◌==◌, List, ◌++◌, ◌∷◌, [], false, ℤ, Option, Result, subst, sym, ap, refl, arith}
+use Rattle.std.proofs.Common.{◌≡◌, ℕ, zero, suc, ◌-◌, ◌==◌, List, false, ℤ, Option, Result, subst, sym, arith}
 use Rattle.gw_expr.specs.Term.{Term}
 use Rattle.gw_meaning.specs.declared.function.Function.{Function}
 use Rattle.gw_meaning.specs.declared.asker.Asker.{Asker}

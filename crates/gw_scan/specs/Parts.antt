@@ -4,13 +4,11 @@ use Rattle.gw_names.specs.declared.key.Key.{Key}
 use Rattle.gw_entities.specs.Records.{Ownership, Line, Store}
 use Rattle.gw_entities.specs.Tables.{Touched, HasRoom, value_of, with_value}
 use Rattle.gw_entities.specs.Comings.{Arrivals}
-use Rattle.gw_entities.specs.Parameters.{Held}
 use Rattle.gw_meaning.specs.declared.entity_change.Deed.{Deed}
 use Rattle.gw_meaning.specs.declared.entity_change.Deed.TheVariants as deeds
 use Rattle.gw_meaning.specs.declared.transaction.Transaction.{Transaction}
 use Rattle.gw_meaning.specs.Machine.{Machine, delay_at, waiting}
-use Rattle.gw_meaning.specs.declared.moves.Change.{Change}
-use Rattle.gw_meaning.specs.Changes.{let_in, held_by}
+use Rattle.gw_meaning.specs.Changes.{let_in}
 use Rattle.gw_meaning.specs.Entities.{Entities}
 
 -- the clocks

@@ -1,5 +1,4 @@
 use Rattle.std.proofs.Common.{◌≡◌, ℕ, zero, suc, ℤ, false, ◌==◌, Ok, Err, refl, rules}
-use Rattle.gw_nums.specs.Range.{is_value}
 use Rattle.gw_expr.specs.declared.stop.Stop.TheVariants.{Range}
 use Rattle.gw_meaning.specs.declared.item.End.TheVariants as ends
 use Rattle.gw_meaning.specs.Evaluation.{Eval, gives, ends_with, draw, in_range, spread, sample_within, ◌~>◌}

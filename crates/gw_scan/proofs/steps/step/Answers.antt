@@ -1,6 +1,4 @@
-use Rattle.std.proofs.Common.{sym, subst}
-use Rattle.gw_meaning.specs.Step.{move_prog}
-use Rattle.gw_scan.proofs.StepLaws.{foretold, followed, forgets_then, decides_keeps, follows_if_ok, forgets_if_err}
+use Rattle.gw_scan.proofs.StepLaws.{foretold, follows_if_ok, forgets_if_err}
 use Rattle.gw_scan.proofs.steps.step.Goals as goal
 
 pub carry_out-requires : goal.carry_out-requires

@@ -4,7 +4,7 @@ use Rattle.gw_meaning.specs.Evaluation.{Eval, asks}
 use Rattle.gw_meaning.specs.Step.{beside, share_of, in_use, shares_prog}
 use Rattle.gw_scan.specs.Deciding.{Decides}
 use Rattle.gw_scan.proofs.ChainLaws.{item_drop}
-use Rattle.std.specs.Prelude.{Result, Err}
+use Rattle.std.specs.Prelude.{Err}
 use Rattle.std.proofs.lemmas.Result.{err_from_is_err_and}
 use Rattle.gw_scan.specs.declared.case.Halt.TheVariants as halts
 use Rattle.gw_scan.proofs.Binding.{decides_asked, decides_gives, decides_memory, reads_one, reads_keep}

@@ -2,7 +2,7 @@ use Rattle.gw_record.proofs.RecordLaws.{state_kept, there_last}
 use Rattle.gw_record.proofs.recorded.Recorded.keep_state.Goals as goal
 
 pub returns-in_ok-push-clause-records : goal.returns-in_ok-push-clause-records
-returns-in_ok-push-clause-records c = rw (c.in_ok-push.ensures.items, c.in_ok-state.ensures) (λ t seed h.
+returns-in_ok-push-clause-records c = rw (c.in_ok-push.ensures.items, c.in_ok-state.ensures, c.share.ensures) (λ t seed h.
     let kept = rw (← c.self.view_is) at h in
     let wanted = (rw (← c.self.view_is) at c.requires) t seed kept in
     state_kept t seed _ kept wanted)

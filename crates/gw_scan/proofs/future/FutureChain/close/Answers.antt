@@ -1,6 +1,6 @@
 use Rattle.std.proofs.Common.{◌≡◌, ◌++◌, [], ap, sym, length, ◌∙◌}
 use Rattle.gw_meaning.specs.Step.{least_time}
-use Rattle.gw_scan.specs.Segments.{all_items, soonest}
+use Rattle.gw_scan.specs.Segments.{all_items}
 use Rattle.gw_scan.proofs.SegmentLaws.{closed_is, closed_least}
 use Rattle.gw_scan.proofs.future.FutureChain.close.Goals as goal
 

@@ -1,4 +1,4 @@
-use Rattle.std.proofs.Common.{◌≡◌, [], Some, ap, ◌∙◌, refl, rules}
+use Rattle.std.proofs.Common.{◌≡◌, [], Some, ap, ◌∙◌, rules}
 use Rattle.gw_meaning.specs.Machine.{Machine}
 use Rattle.gw_meaning.specs.Changes.{admitted, fated, placed, crossed}
 use Rattle.gw_meaning.specs.Entities.{done}

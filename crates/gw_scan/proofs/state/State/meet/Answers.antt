@@ -1,4 +1,3 @@
-use Rattle.std.proofs.Common.{option_copied}
 use Rattle.gw_scan.proofs.state.State.meet.Goals as goal
 
 pub returns-in-Advance : goal.returns-in-Advance
