@@ -1,6 +1,6 @@
 -- The comings of `Comings` in the words of the sets below it.
 use Rattle.std.proofs.Common.{◌≡◌, ℕ, Bool, true, false, zero, suc, ◌+◌, ◌<◌, ◌≤◌, ◌&&◌, ◌||◌, nat_eq, if◌then◌else◌}
-use Rattle.std.proofs.Common.{List, [], ◌∷◌, ◌++◌, length, take, Option, Some, None, refl, sym, ap, ◌∙◌, length-append, arith}
+use Rattle.std.proofs.Common.{List, [], ◌∷◌, ◌++◌, length, take, Option, Some, None, refl, sym, ap, ◌∙◌, subst, length-append, append-nil, append_assoc, arith}
 use Rattle.std.specs.List.{IsDistinct, AllByRecursion, slice_get, list_any, find}
 use Rattle.std.proofs.lemmas.Bool.{eqb-true, eq-eqb}
 use Rattle.std.proofs.lemmas.Slice.Eq.{bytes_eq-Decides}
@@ -11,6 +11,7 @@ use Rattle.gw_names.specs.declared.key.Key.TheVariants.{Num, Named, Defined}
 use Rattle.gw_names.specs.Keys.{key_eq, told_by}
 use Rattle.gw_entities.specs.Comings.{came, with_coming, AreOnce}
 use Rattle.gw_entities.specs.Places.{before_rest, named}
+use Rattle.std.proofs.lemmas.Cmp.{nat_eq_equiv}
 use Rattle.gw_entities.proofs.TableLaws.{key_eq_equiv}
 
 clash : (b : Bool) → b ≡ false → b ≡ true → ⊥
@@ -198,34 +199,76 @@ added_is qs queues ps pairs i key found number w d put at same paired_in =
 
 -- ---- all comings
 
-pub length_named :
-    (qs : List Key) (ps : List (ℕ × ℕ)) → AllByRecursion (λ p. p.0 < length qs) ps → length ps ≡ length (named qs ps)
-length_named qs [] w = refl
-length_named qs (p ∷ ps) w = go (slice_get qs p.0) refl (length_named qs ps w.1) where
-  go :
-      (o : Option Key) → slice_get qs p.0 ≡ o → length ps ≡ length (named qs ps) →
-      suc (length ps) ≡ length (before_rest o p.1 (named qs ps))
-  go None e rest = absurd (there qs p.0 w.0 e)
-  go (Some k) e rest = ap suc rest
+-- who came is among the first ones, or among the others
+pub came_append :
+    (xs ys : List (Key × ℕ)) (key : Key) (number : ℕ) → came (xs ++ ys) key number ≡ (came xs key number || came ys key number)
+came_append [] ys key number = refl
+came_append (c ∷ xs) ys key number = go (key_eq key c.0 && nat_eq number c.1) (came_append xs ys key number) where
+  go : (b : Bool) → came (xs ++ ys) key number ≡ (came xs key number || came ys key number) →
+      (b || came (xs ++ ys) key number) ≡ ((b || came xs key number) || came ys key number)
+  go true rest = refl
+  go false rest = rest
 
-none_of : (t : ℕ × ℕ → Bool) (ps : List (ℕ × ℕ)) → AllByRecursion (λ q. t q ≡ false) ps → list_any t ps ≡ false
-none_of t [] h = refl
-none_of t (p ∷ ps) h = ap (λ b. b || list_any t ps) h.0 ∙ none_of t ps h.1
+both_ways : (a b : Key) (m n : ℕ) → (key_eq a b && nat_eq m n) ≡ (key_eq b a && nat_eq n m)
+both_ways a b m n = ap (λ e. e && nat_eq m n) (key_eq_equiv.symm a b) ∙ ap (λ e. key_eq b a && e) (nat_eq_equiv.symm m n)
 
--- pairs that are told apart are comings that are
-pub named_once :
-    (qs : List Key) (ps : List (ℕ × ℕ)) → IsDistinct key_eq qs →
-    IsDistinct (λ (a b : ℕ × ℕ). nat_eq a.0 b.0 && nat_eq a.1 b.1) ps →
-    AllByRecursion (λ p. p.0 < length qs) ps → AreOnce (named qs ps)
-named_once qs [] d e w = tt
-named_once qs (p ∷ ps) d e w = go (slice_get qs p.0) refl (named_once qs ps d (IsDistinct-tail _ p ps e) w.1) where
-  go : (o : Option Key) → slice_get qs p.0 ≡ o → AreOnce (named qs ps) → AreOnce (before_rest o p.1 (named qs ps))
-  go None at rest = rest
-  go (Some k) at rest = (
-    found_at qs ps p.0 k p.1 d at w.1
-        ∙ none_of (λ (q : ℕ × ℕ). nat_eq p.0 q.0 && nat_eq p.1 q.1) ps (IsDistinct-head _ p ps e),
-    rest,
-  )
+nor_last : (b c : Bool) → b ≡ false → c ≡ false → (b || (c || false)) ≡ false
+nor_last b c e f = ap (λ x. x || (c || false)) e ∙ ap (λ x. x || false) f
+
+-- one who did not come yet comes once
+pub once_more :
+    (cs : List (Key × ℕ)) (key : Key) (number : ℕ) → AreOnce cs → came cs key number ≡ false → AreOnce (cs ++ (key, number) ∷ [])
+once_more [] key number once none = (refl, tt)
+once_more (c ∷ cs) key number once none =
+    let parts = neither (key_eq key c.0 && nat_eq number c.1) (came cs key number) none in (
+      came_append cs ((key, number) ∷ []) c.0 c.1
+          ∙ nor_last (came cs c.0 c.1) (key_eq c.0 key && nat_eq c.1 number) once.0 (both_ways c.0 key c.1 number ∙ parts.0),
+      once_more cs key number once.1 parts.1,
+    )
+
+few_last :
+    (xs : List (Key × ℕ)) (key : Key) (number : ℕ) → came (xs ++ []) key number ≡ false →
+    (xs ++ (key, number) ∷ []) ++ [] ≡ with_coming (xs ++ []) key number
+few_last xs key number none =
+    append-nil (xs ++ (key, number) ∷ [])
+    ∙ (ap (λ (l : List (Key × ℕ)). l ++ (key, number) ∷ []) (sym (append-nil xs))
+    ∙ ap (λ (b : Bool). if b then xs ++ [] else (xs ++ []) ++ (key, number) ∷ []) (sym none))
+
+-- one more behind the first few
+pub few_more :
+    (xs ys : List (Key × ℕ)) (key : Key) (number : ℕ) → ys ≡ [] → came (xs ++ ys) key number ≡ false →
+    (xs ++ (key, number) ∷ []) ++ ys ≡ with_coming (xs ++ ys) key number
+few_more xs ys key number empty none =
+    let F : List (Key × ℕ) → Type 0 = λ l. came (xs ++ l) key number ≡ false →
+    (xs ++ (key, number) ∷ []) ++ l ≡ with_coming (xs ++ l) key number in
+    subst F (sym empty) (few_last xs key number) none
+
+-- and behind the others
+pub many_more :
+    (xs ys : List (Key × ℕ)) (key : Key) (number : ℕ) → came (xs ++ ys) key number ≡ false →
+    xs ++ with_coming ys key number ≡ with_coming (xs ++ ys) key number
+many_more xs ys key number none =
+    let parts = neither (came xs key number) (came ys key number) (sym (came_append xs ys key number) ∙ none) in
+    ap (λ b. xs ++ (if b then ys else ys ++ (key, number) ∷ [])) parts.1
+    ∙ (sym (append_assoc xs ys ((key, number) ∷ []))
+    ∙ ap (λ b. if b then xs ++ ys else (xs ++ ys) ++ (key, number) ∷ []) (sym none))
+
+pub came_early :
+    (xs ys : List (Key × ℕ)) (key : Key) (number : ℕ) (r : Bool) → r ≡ came xs key number → r ≡ true → r ≡ came (xs ++ ys) key number
+came_early xs ys key number r is there =
+    there ∙ (sym (ap (λ b. b || came ys key number) (sym is ∙ there)) ∙ sym (came_append xs ys key number))
+
+pub came_late :
+    (xs ys : List (Key × ℕ)) (key : Key) (number : ℕ) (r s : Bool) → r ≡ came xs key number → r ≡ false → s ≡ came ys key number →
+    s ≡ came (xs ++ ys) key number
+came_late xs ys key number r s is not_there rest =
+    rest ∙ (sym (ap (λ b. b || came ys key number) (sym is ∙ not_there)) ∙ sym (came_append xs ys key number))
+
+pub once_with : (cs : List (Key × ℕ)) (key : Key) (number : ℕ) → AreOnce cs → AreOnce (with_coming cs key number)
+once_with cs key number once = go (came cs key number) refl where
+  go : (b : Bool) → came cs key number ≡ b → AreOnce (if b then cs else cs ++ (key, number) ∷ [])
+  go true e = once
+  go false e = once_more cs key number once e
 
 -- ---- copies
 

@@ -1,5 +1,5 @@
 -- The parameters of transactions in the words of the map that keeps them.
-use Rattle.std.proofs.Common.{◌≡◌, ℕ, ◌+◌, ◌-◌, Bool, true, false, cond, not, suc, List, [], ◌∷◌, length, take, map, set, get_or, nat_eq, Option, Some, None, slice_get, unwrap_or, refl, sym, ap, ◌∙◌, zero, arith}
+use Rattle.std.proofs.Common.{◌≡◌, ℕ, ◌+◌, ◌-◌, Bool, true, false, cond, not, suc, List, [], ◌∷◌, length, take, set, get_or, nat_eq, Option, Some, None, slice_get, unwrap_or, refl, sym, ap, ◌∙◌, zero, arith}
 use Rattle.std.specs.Prelude.{ℤ}
 use Rattle.std.specs.List.{position_or_len, IsDistinct, AllByRecursion}
 use Rattle.std.specs.Prelude.{position, swap_remove}
@@ -10,7 +10,7 @@ use Rattle.std.proofs.Math.ListN.{get_or-map}
 use Rattle.std.proofs.Math.Seq.{take-length}
 use Rattle.std.proofs.lemmas.Bool.Decides.{nat_tests}
 use Rattle.std.proofs.lemmas.Map.Keys.{IsDistinct-head, IsDistinct-tail}
-use Rattle.indexmap.specs.IndexMap.{insert_entry, swap_remove_entry, swap_remove_by}
+use Rattle.indexmap.specs.IndexMap.{insert_entry, swap_remove_entry}
 use Rattle.gw_names.specs.declared.key.Key.{Key}
 use Rattle.gw_entities.specs.Tables.{Touched, value_of, with_value}
 use Rattle.gw_entities.specs.Parameters.{Held, values_at, parameter_at, with_values, assigned, without, held_of}

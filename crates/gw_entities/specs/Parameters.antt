@@ -1,6 +1,6 @@
 -- The parameters of transactions: for each transaction that has some, by its number, its values by key in order of
 -- first assignment. (Manual. Our own: the order of the transactions.)
-use Rattle.std.specs.Prelude.{ℕ, ℤ, nat_eq, List, [], ◌∷◌, Option, Some, None, if◌then◌else◌, unwrap_or, map}
+use Rattle.std.specs.Prelude.{ℕ, ℤ, nat_eq, List, [], ◌∷◌, Option, if◌then◌else◌, unwrap_or, map}
 use Rattle.std.specs.Map.{lookup}
 use Rattle.indexmap.specs.IndexMap.{swap_remove_by}
 use Rattle.gw_names.specs.declared.key.Key.{Key}

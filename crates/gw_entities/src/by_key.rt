@@ -1,4 +1,4 @@
-ghost use Rattle.std.specs.Prelude.{◌≡◌, [], length, None, slice_get, IfOk, OnOk, OnErr, ◌<◌, IfSome, IsSome, Some};
+ghost use Rattle.std.specs.Prelude.{◌≡◌, [], length, drop, suc, None, slice_get, IsTrue, IsFalse, IfOk, OnOk, OnErr, ◌<◌, IfSome, IfNone, IsSome, Some};
 ghost use Rattle.std.specs.Option.{option_map};
 ghost use Rattle.gw_entities.specs.Tables.{value_of, with_value, HasRoom, AreApart};
 
@@ -7,14 +7,15 @@ use indexmap::IndexMap;
 use std::alloc::{AllocError, Global};
 use std::marker::Model;
 
+// So many entities are looked through one by one, and those behind them by their hash. Most models have no more of a kind.
+const FEW: usize = 8;
+
 /// A value for each entity, in order of first touch.
 #[derive(Drop)]
 pub struct ByKey<V: Copy> {
     map: IndexMap<Key, V>,
     // A copy of the key that room was made for, if it has no value yet.
     ready: Option<Key>,
-    // Where room was made last: an entity is looked for there first.
-    near: usize,
 }
 
 impl<V: Copy> Model for ByKey<V> {
@@ -37,7 +38,6 @@ impl<V: Copy> ByKey<V> {
         ByKey {
             map: IndexMap::new(alloc),
             ready: None,
-            near: 0,
         }
     }
 
@@ -54,10 +54,9 @@ impl<V: Copy> ByKey<V> {
     pub fn get(&self, key: &Key) -> Option<V>
         ensures { result ≡ value_of self.now.entries key.now }
     {
-        match self.map.get_index(self.near) {
-            Some((kept, value)) if *kept == *key => Some(*value),
-            _ => self.map.get(key).copied(),
-        }
+        let index = self.place(key)?;
+        let (_, value) = self.map.get_index(index)?;
+        Some(*value)
     }
 
     /// Makes room for an entity: it needs no memory where the entity has a value, and never fails there. It changes no
@@ -69,30 +68,58 @@ impl<V: Copy> ByKey<V> {
         ensures unchanged { OnErr result (self.new ≡ self.old) }
         ensures entries { self.new.entries ≡ self.old.entries }
     {
-        if self.near(key).is_some() {
+        if self.place(key).is_some() {
             return Ok(());
         }
-        match self.map.get_index_of(key) {
-            Some(index) => self.near = index,
-            None => {
-                let copy = key.clone()?;
-                self.map.reserve(1)?;
-                self.ready = Some(copy);
-                self.near = self.map.len();
-            }
-        }
+        let copy = key.clone()?;
+        self.map.reserve(1)?;
+        self.ready = Some(copy);
         Ok(())
     }
 
-    // Where an entity lies, if room was made for it last and it has a value.
+    // Where an entity lies, if it has a value: the first few are looked through.
     #[inline(always)]
-    fn near(&self, key: &Key) -> Option<usize>
+    fn place(&self, key: &Key) -> Option<usize>
         ensures there { IfSome result (λ i. (value : V) × (slice_get self.now.entries i ≡ Some (key.now, value))) }
         ensures value { IsSome result → IsSome (value_of self.now.entries key.now) }
+        ensures none { IfNone result (value_of self.now.entries key.now ≡ None) }
     {
-        match self.map.get_index(self.near) {
-            Some((kept, _)) if *kept == *key => Some(self.near),
-            _ => None,
+        for index in 0..self.map.len() {
+            if index >= FEW {
+                return self.place_by_hash(key);
+            }
+            if self.is_at(index, key) {
+                return Some(index);
+            }
+        }
+        None
+    }
+
+    // Whether an entity lies at an index.
+    #[inline(always)]
+    fn is_at(&self, index: usize, key: &Key) -> bool
+        ensures there { IsTrue result → (value : V) × (slice_get self.now.entries index ≡ Some (key.now, value)) }
+        ensures value { IsTrue result → IsSome (value_of self.now.entries key.now) }
+        ensures other { IsFalse result →
+            value_of (drop index self.now.entries) key.now ≡ value_of (drop (suc index) self.now.entries) key.now }
+    {
+        match self.map.get_index(index) {
+            Some((kept, _)) => *key == *kept,
+            None => false,
+        }
+    }
+
+    // The same, by the hash of its key.
+    #[cold]
+    #[inline(never)]
+    fn place_by_hash(&self, key: &Key) -> Option<usize>
+        ensures there { IfSome result (λ i. (value : V) × (slice_get self.now.entries i ≡ Some (key.now, value))) }
+        ensures value { IsSome result → IsSome (value_of self.now.entries key.now) }
+        ensures none { IfNone result (value_of self.now.entries key.now ≡ None) }
+    {
+        match self.map.get_full(key) {
+            Some((index, _, _)) => Some(index),
+            None => None,
         }
     }
 
@@ -102,12 +129,8 @@ impl<V: Copy> ByKey<V> {
         requires { HasRoom self.old key.now }
         ensures { self.new.entries ≡ with_value self.old.entries key.now value }
     {
-        if let Some(index) = self.near(key) {
-            self.write(index, value);
-            return;
-        }
-        match self.map.get_mut(key) {
-            Some(kept) => *kept = value,
+        match self.place(key) {
+            Some(index) => self.write(index, value),
             None => match self.ready.take() {
                 Some(key) => match self.map.insert(key, value) {
                     Ok(_) => (),
@@ -153,10 +176,6 @@ impl<V: Copy> ByKey<V> {
                 None => unreachable!(),
             }
         }
-        Ok(ByKey {
-            map,
-            ready: None,
-            near: 0,
-        })
+        Ok(ByKey { map, ready: None })
     }
 }

@@ -1,37 +1,35 @@
-ghost use Rattle.std.specs.Prelude.{◌≡◌, ◌<◌, ◌≤◌, [], length, IfOk, OnOk};
+ghost use Rattle.std.specs.Prelude.{◌≡◌, ◌<◌, ◌==◌, [], length, IfOk, OnOk};
 ghost use Rattle.gw_entities.specs.Comings.{came, with_coming, AreOnce};
 
+use crate::many_comings::ManyComings;
 use gw_names::Key;
-use indexmap::IndexSet;
 use std::alloc::{AllocError, Global};
 use std::marker::Model;
 
-// So many comings keep their room when they are forgotten.
-const FEW: usize = 64;
+// So many comings are looked through one by one. Most ticks have no more.
+const FEW: usize = 12;
 
-/// Which transactions came to which queue, in order of coming.
+/// Which transactions came to which queue, in order of coming: the first few in a list, and those behind them by their
+/// hash.
 #[derive(Drop)]
 pub struct Comings {
-    // The queues that were come to.
-    queues: IndexSet<Key>,
-    // The place of the queue, and the number of the transaction.
-    pairs: IndexSet<(usize, u64)>,
+    few: Vec<(Key, u64)>,
+    // None while there are fewer than a few.
+    many: ManyComings,
 }
 
 impl Model for Comings {
-    ghost use Rattle.std.specs.Prelude.{min};
-    ghost use Rattle.indexmap.specs.IndexSet.{spare};
-    ghost use Rattle.gw_entities.specs.Comings.{Arrivals};
-    ghost use Rattle.gw_entities.specs.Places.{named, ArePlaced};
+    ghost use Rattle.std.specs.Prelude.{◌≡◌, ◌-◌, ◌<◌, ◌++◌, [], length, vec_capacity, if◌then◌else◌, nat_lt};
+    ghost use Rattle.gw_entities.specs.Comings.{Arrivals, AreOnce};
 
     ghost Value = { Arrivals };
 
     ghost view = { λ c. record {
-      comings = named c.queues.keys c.pairs.keys;
-      room = min (spare c.queues) (spare c.pairs);
+      comings = c.few.items ++ c.many.comings;
+      room = if nat_lt (length c.few.items) 12 then vec_capacity c.few - length c.few.items else c.many.room;
     } };
 
-    ghost invariant = { λ c. ArePlaced c.queues.keys c.pairs.keys };
+    ghost invariant = { λ c. AreOnce (c.few.items ++ c.many.comings) × (length c.few.items < 12 → c.many.comings ≡ []) };
 }
 
 impl Comings {
@@ -40,37 +38,35 @@ impl Comings {
         ensures { result.comings ≡ [] }
     {
         Comings {
-            queues: IndexSet::new(alloc),
-            pairs: IndexSet::new(alloc),
+            few: Vec::new(alloc),
+            many: ManyComings::new(alloc),
         }
     }
 
-    /// How many came. None came to a queue twice.
-    pub fn len(&self) -> usize
-        ensures len { result ≡ length self.now.comings }
+    /// Whether nobody came. None came to a queue twice.
+    pub fn is_empty(&self) -> bool
+        ensures empty { result ≡ (length self.now.comings == 0) }
         ensures once { AreOnce self.now.comings }
     {
-        self.pairs.len()
+        self.few.is_empty()
     }
 
     /// Whether a transaction came to a queue.
     pub fn has(&self, key: &Key, number: u64) -> bool
         ensures { result ≡ came self.now.comings key.now number }
     {
-        match self.queues.get_full(key) {
-            Some((place, _)) => self.pairs.contains(&(place, number)),
-            None => false,
-        }
+        is_among(&self.few, key, number) || self.many.has(key, number)
     }
 
     /// Makes room for one more coming. It changes none.
     pub fn reserve(&mut self) -> Result<(), AllocError>
         ensures ok { OnOk result (0 < self.new.room) }
         ensures comings { self.new.comings ≡ self.old.comings }
-        ensures room { self.old.room ≤ self.new.room }
     {
-        self.queues.reserve(1)?;
-        self.pairs.reserve(1)
+        if self.few.len() < FEW {
+            return self.few.reserve(1);
+        }
+        self.many.reserve()
     }
 
     /// A transaction comes to a queue: behind the others, unless it came there already.
@@ -78,12 +74,13 @@ impl Comings {
         requires { 0 < self.old.room }
         ensures { self.new.comings ≡ with_coming self.old.comings key number }
     {
-        match self.queues.insert_full(key) {
-            Ok((place, _)) => match self.pairs.insert((place, number)) {
-                Ok(_) => (),
-                Err(_) => unreachable!(),
-            },
-            Err(_) => unreachable!(),
+        if self.has(&key, number) {
+            return;
+        }
+        if self.few.len() < FEW {
+            self.few.push_reserved((key, number));
+        } else {
+            self.many.add(key, number);
         }
     }
 
@@ -91,12 +88,10 @@ impl Comings {
     pub fn clear(&mut self)
         ensures { self.new.comings ≡ [] }
     {
-        if self.pairs.capacity() > FEW {
-            *self = Comings::new(*self.pairs.allocator());
-        } else {
-            self.queues.clear();
-            self.pairs.clear();
+        if self.few.len() >= FEW {
+            self.many.clear();
         }
+        self.few.clear();
     }
 
     /// The same comings.
@@ -104,8 +99,20 @@ impl Comings {
         ensures { IfOk result (λ c. c.comings ≡ self.now.comings) }
     {
         Ok(Comings {
-            queues: self.queues.clone()?,
-            pairs: self.pairs.clone()?,
+            few: self.few.clone()?,
+            many: self.many.copy()?,
         })
     }
+}
+
+// Whether a transaction came to a queue, among those in a list.
+fn is_among(few: &[(Key, u64)], key: &Key, number: u64) -> bool
+    ensures { result ≡ came few.now key.now number }
+{
+    for coming in few {
+        if coming.1 == number && *key == coming.0 {
+            return true;
+        }
+    }
+    false
 }

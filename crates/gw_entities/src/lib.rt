@@ -10,6 +10,7 @@ mod comings;
 mod facility;
 mod laws;
 mod level;
+mod many_comings;
 mod parameters;
 mod queue;
 mod storage;

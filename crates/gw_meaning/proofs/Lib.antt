@@ -1,6 +1,7 @@
 pub mod Chains
 mod Constants
 mod Curves
+mod Destinations
 mod Distances
 mod Expressions
 pub mod Programs

@@ -61,7 +61,7 @@ pub enum Move {
     Refuse {
         id: StatementId,
         key: Key,
-        units: u64,
+        units: u32,
     },
     /// The first transaction of the current chain becomes active.
     Pick,

@@ -13,7 +13,7 @@ pub fn number(alloc: Global, statements: Vec<Statement>) -> Result<Vec<Numbered>
 {
     let mut lines = Vec::new(alloc);
     for statement in statements {
-        let number = StatementId::new(lines.len() as u64 + 1);
+        let number = StatementId::new(lines.len() as u64 + 1).ok_or(AllocError)?;
         lines.push(Numbered { number, statement })?;
     }
     Ok(lines)
@@ -52,7 +52,7 @@ fn number_in(lines: &[Numbered], position: u64, goes: bool) -> Option<StatementI
     let gone = if goes { nth(lines, position) } else { None };
     match gone {
         Some(line) => Some(line.number),
-        None => Some(StatementId::new(greatest_number(lines).checked_add(1)?)),
+        None => StatementId::new(greatest_number(lines).checked_add(1)?),
     }
 }
 

@@ -3,6 +3,7 @@ ghost use Rattle.std.specs.Str.{bytes_eq};
 ghost use Rattle.std.specs.List.{list_all};
 ghost use Rattle.gw_names.specs.Names.{name_of, is_name_text, is_name_byte, is_barred};
 ghost use Rattle.gw_names.specs.Words.{upper_of};
+ghost use Rattle.gw_names.specs.Heads.{head_of};
 
 use crate::class::is_class;
 use crate::spelling::Spelling;
@@ -57,6 +58,14 @@ impl Name {
         ensures is_name { name_of self.now ≡ Some self.now }
     {
         self.spelling.bytes.as_slice()
+    }
+
+    /// The name's first eight bytes as a big-endian number, with zeros behind a shorter name.
+    #[inline(always)]
+    pub fn head(&self) -> u64
+        ensures { result ≡ head_of self.now }
+    {
+        self.spelling.head
     }
 
     // Whether the two are the same name. Heads that differ tell at once, and so do equal heads of short names.

@@ -10,7 +10,7 @@ pub const GREATEST: i64 = 1_000_000_000;
 /// A value of the language: a whole number in -1,000,000,000 to 1,000,000,000.
 #[derive(Clone, Copy, Debug, Default, PartialEq, Eq, PartialOrd, Ord, Hash)]
 pub struct Val {
-    value: i64,
+    value: i32,
 }
 
 impl Model for Val {
@@ -47,7 +47,9 @@ impl Val {
         ensures value { IfSome result (λ v. v ≡ value) }
     {
         if -GREATEST <= value && value <= GREATEST {
-            Some(Val { value })
+            Some(Val {
+                value: value as i32,
+            })
         } else {
             None
         }
@@ -58,7 +60,9 @@ impl Val {
         requires { IsTrue (is_value value) }
         ensures { result ≡ value }
     {
-        Val { value }
+        Val {
+            value: value as i32,
+        }
     }
 
     /// The number.
@@ -66,7 +70,7 @@ impl Val {
         ensures value { result ≡ self }
         ensures in_range { IsTrue (is_value self) }
     {
-        self.value
+        i64::from(self.value)
     }
 
     /// The number without its sign, at most 1,000,000,000.
@@ -74,7 +78,7 @@ impl Val {
         ensures value { result ≡ magnitude self }
         ensures bound { result ≤ 1000000000 }
     {
-        self.value.unsigned_abs()
+        u64::from(self.value.unsigned_abs())
     }
 
     /// Whether the value is below 0.
@@ -103,21 +107,21 @@ impl Val {
 pub fn add(a: Val, b: Val) -> Result<Val, ArithmeticFault>
     ensures { result ≡ sum_of a b }
 {
-    Val::new(a.value + b.value).ok_or(ArithmeticFault::Range)
+    Val::new(a.get() + b.get()).ok_or(ArithmeticFault::Range)
 }
 
 /// The difference, where it is a value.
 pub fn sub(a: Val, b: Val) -> Result<Val, ArithmeticFault>
     ensures { result ≡ difference_of a b }
 {
-    Val::new(a.value - b.value).ok_or(ArithmeticFault::Range)
+    Val::new(a.get() - b.get()).ok_or(ArithmeticFault::Range)
 }
 
 /// The product, where it is a value.
 pub fn mul(a: Val, b: Val) -> Result<Val, ArithmeticFault>
     ensures { result ≡ product_of a b }
 {
-    Val::new(a.value * b.value).ok_or(ArithmeticFault::Range)
+    Val::new(a.get() * b.get()).ok_or(ArithmeticFault::Range)
 }
 
 /// The whole quotient, cut off towards zero.
@@ -148,7 +152,7 @@ fn signed(is_negative: bool, magnitude: u64) -> Val
     requires { magnitude ≤ 1000000000 }
     ensures { result ≡ signed is_negative magnitude }
 {
-    let value = magnitude as i64;
+    let value = magnitude as i32;
     Val {
         value: if is_negative { -value } else { value },
     }

@@ -5,9 +5,10 @@ ghost use Rattle.gw_report.specs.Chains.{by_time, future_columns, future_line, f
 use crate::column::{Column, Side};
 use crate::line::put_line;
 use crate::section::put_section;
+use gw_chains::FutureChain;
 use gw_meaning::Event;
 use gw_model::Version;
-use gw_scan::{FutureChain, State};
+use gw_scan::State;
 use std::alloc::{AllocError, Global};
 
 const FUTURE_COLUMNS: [Column; 5] = [

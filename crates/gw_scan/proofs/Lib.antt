@@ -1,8 +1,3 @@
-pub mod CountLaws
-pub mod DelayLaws
-pub mod LetIn
-pub mod ChainLaws
-pub mod SegmentLaws
 pub mod Binding
 pub mod StepLaws
 pub mod Nested

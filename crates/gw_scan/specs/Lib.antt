@@ -6,7 +6,6 @@ pub use Rattle.gw_meaning.specs.Changes
 pub use Rattle.gw_meaning.specs.Step
 pub use Rattle.gw_meaning.specs.Point
 pub mod Parts
-pub mod Segments
 pub mod Noted
 pub mod WaitingValues
 pub mod Deciding

@@ -1,21 +1,20 @@
 // What a move does to a state: reserve all that grows, then change.
 ghost use Rattle.std.specs.Prelude.{◌≡◌, ◌<◌, ◌≤◌, ◌+◌, Some, None, OnOk, OnErr};
 ghost use Rattle.gw_meaning.specs.Machine.{Machine, raised};
-ghost use Rattle.gw_meaning.specs.Changes.{moved, decided, fated, own_marked, placed, bound};
+ghost use Rattle.gw_meaning.specs.Changes.{moved, decided, fated, own_marked, bound};
 ghost use Rattle.gw_scan.specs.Stepping.{IsIdle};
 ghost use Rattle.gw_meaning.specs.declared.moves.Change.TheVariants as changes;
 ghost use Rattle.gw_meaning.specs.declared.moves.Move.TheVariants as moves;
 ghost use Rattle.gw_meaning.specs.declared.transaction.Transaction.{Transaction};
 
 use crate::assigning::set;
-use crate::chain::PriorityChain;
 use crate::entity_change::{change_entity, reserve_change};
-use crate::future::FutureChain;
 use crate::making::{make, make_all};
 use crate::notes::Notes;
 use crate::progress::Progress;
 use crate::state::State;
 use crate::tally::Tally;
+use gw_chains::{FutureChain, PriorityChain, place};
 use gw_entities::Parameters;
 use gw_meaning::{
     Arrival, Change, Destination, EntityChange, Event, Fate, Move, Row, StatementId, Transaction,
@@ -270,7 +269,7 @@ impl State {
     }
 
     #[inline(never)]
-    fn refuse(&mut self, id: StatementId, key: Key, units: u64) -> Result<(), AllocError>
+    fn refuse(&mut self, id: StatementId, key: Key, units: u32) -> Result<(), AllocError>
         ensures ok { OnOk result (self.new ≡ moved self.old (moves.Refuse id key units)) }
         ensures err { OnErr result (self.new ≡ self.old) }
     {
@@ -370,18 +369,8 @@ fn change_transaction(change: &TransactionChange, clock: Clock, x: &mut Transact
     }
 }
 
-// The transaction stands in the block that it enters.
-#[inline(always)]
-pub fn place(x: &mut Transaction, id: StatementId)
-    ensures { x.new ≡ placed x.old id }
-{
-    x.current = id;
-    x.destination = Destination::none();
-    x.asked = 0;
-}
-
 // The transaction on its way to a block, where it asks so many units.
-fn bind(x: Transaction, id: StatementId, units: u64) -> Transaction
+fn bind(x: Transaction, id: StatementId, units: u32) -> Transaction
     ensures { result ≡ bound x id units }
 {
     Transaction {

@@ -226,7 +226,7 @@ impl Entities {
     pub(crate) fn go_on(&mut self, before: Clock, now: Clock)
         ensures { entities_of self.new ≡ later before now (entities_of self.old) }
     {
-        if self.comings.len() == 0 {
+        if self.comings.is_empty() {
             return;
         }
         if before.time() != now.time() {

@@ -2,16 +2,14 @@
 // since most steps change none.
 ghost use Rattle.std.specs.Prelude.{◌≡◌, ◌+◌, ◌-◌, ◌<◌, ◌≤◌, [], ◌∷◌, Some, length, IfOk, OnOk};
 ghost use Rattle.gw_meaning.specs.Machine.{Machine, delay_at};
-ghost use Rattle.gw_meaning.specs.Changes.{let_in, some_let_in, admitted};
+ghost use Rattle.gw_meaning.specs.Changes.{some_let_in, admitted};
 ghost use Rattle.gw_meaning.specs.Entities.{done};
-ghost use Rattle.gw_scan.specs.Parts.{entities_of, delays_of, first_of, with_share, IsWithin, AreWithin, HasRoomFor, HasRoomToLetIn, HasRoomToLetAllIn, HasRoomToAdmit};
+ghost use Rattle.gw_chains.specs.Chains.{delays_of, first_of, with_share, IsWithin, AreWithin, HasRoomToLetIn, HasRoomToLetAllIn};
+ghost use Rattle.gw_scan.specs.Parts.{entities_of, HasRoomFor, HasRoomToAdmit};
 
-use crate::chain::{PriorityChain, has_share};
-use crate::changes::place;
-use crate::counts::Counts;
-use crate::delays::DelayChains;
 use crate::entities::Entities;
-use gw_meaning::{Deed, EntityChange, Fate, Transaction};
+use gw_chains::{Counts, DelayChains, PriorityChain, has_share, let_in};
+use gw_meaning::{Deed, EntityChange, Transaction};
 use gw_names::Key;
 use gw_nums::Clock;
 use std::alloc::AllocError;
@@ -177,25 +175,5 @@ fn let_first_in(
 {
     if let Some(x) = delays.take_first(key) {
         let_in(current, counts, x);
-    }
-}
-
-// A transaction that waited at a block enters it, and goes to the current chain.
-pub fn let_in(current: &mut PriorityChain, counts: &mut Counts, mut x: Transaction)
-    requires room { 0 < current.old.room }
-    requires counts { IsWithin x.destination counts.old.limit }
-    ensures let_in { (s : Machine) →
-        record s { current = current.new.items; counts = counts.new.entries } ≡
-        let_in x x.destination (record s { current = current.old.items; counts = counts.old.entries }) }
-    ensures room { current.old.room ≤ current.new.room + 1 }
-    ensures limit { counts.new.limit ≡ counts.old.limit }
-{
-    match x.destination.id() {
-        Some(id) => {
-            counts.cross(x.current, id, &Fate::Active);
-            place(&mut x, id);
-            current.line_up(x);
-        }
-        None => current.line_up(x),
     }
 }

@@ -3,8 +3,7 @@ ghost use Rattle.std.specs.Prelude.{◌≡◌, ◌+◌, ◌<◌, ◌≤◌, leng
 ghost use Rattle.gw_meaning.specs.declared.moves.Arrival.{Arrival};
 ghost use Rattle.gw_meaning.specs.Changes.{making, made, all_made};
 
-use crate::counts::Counts;
-use crate::future::FutureChain;
+use gw_chains::{Counts, FutureChain};
 use gw_meaning::{Arrival, Destination, Event, StatementId, Transaction};
 use gw_nums::Time;
 

@@ -51,7 +51,7 @@ impl State {
     {
         let units = self.units(case, asker, notes, units)?;
         let queue = self.entities.queue(&key);
-        queue_units(id, key, queue, units)
+        queue_units(id, key, queue, u64::from(units))
     }
 
     // Units leave a queue.
@@ -88,7 +88,7 @@ impl State {
             (came self.now.entities.comings key x.now.number) n)) result notes.old notes.new }
     {
         let units = self.units(case, asker, notes, units)?;
-        self.depart(x, id, key, units)
+        self.depart(x, id, key, u64::from(units))
     }
 
     fn depart(&self, x: &Transaction, id: StatementId, key: Key, units: u64) -> Result<Move, Halt>

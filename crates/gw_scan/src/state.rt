@@ -1,14 +1,12 @@
 ghost use Rattle.std.specs.Prelude.{◌≡◌, IfOk, option_copied};
 ghost use Rattle.gw_meaning.specs.Machine.{zero_state, count_at};
-ghost use Rattle.gw_scan.specs.Parts.{delays_of, entities_of};
+ghost use Rattle.gw_chains.specs.Chains.{delays_of};
+ghost use Rattle.gw_scan.specs.Parts.{entities_of};
 
-use crate::chain::PriorityChain;
 use crate::clocks::Clocks;
-use crate::counts::Counts;
-use crate::delays::DelayChains;
 use crate::entities::Entities;
-use crate::future::FutureChain;
 use crate::progress::Progress;
+use gw_chains::{Counts, DelayChains, FutureChain, PriorityChain};
 use gw_entities::Parameters;
 use gw_meaning::{Count, StatementId, Transaction};
 use gw_nums::{Clock, Time};
@@ -34,7 +32,8 @@ pub struct State {
 
 impl Model for State {
     ghost use Rattle.gw_meaning.specs.Machine.{Machine};
-    ghost use Rattle.gw_scan.specs.Parts.{delays_of, entities_of};
+    ghost use Rattle.gw_chains.specs.Chains.{delays_of};
+    ghost use Rattle.gw_scan.specs.Parts.{entities_of};
 
     ghost Value = { Machine };
 

@@ -12,10 +12,10 @@ ghost use Rattle.gw_meaning.specs.Step.{is_too_many, beside, enter_or_wait, ente
 ghost use Rattle.gw_scan.specs.Deciding.{Decides, Comes};
 
 use crate::case::{Case, Halt, ask_fits};
-use crate::chain::PriorityChain;
 use crate::notes::Notes;
 use crate::queues::is_too_many;
 use crate::state::State;
+use gw_chains::PriorityChain;
 use gw_entities::Storage;
 use gw_expr::{Expr, Node, Stop};
 use gw_meaning::operands::{A, B};
@@ -77,13 +77,13 @@ impl State {
         notes: &mut Notes,
         id: StatementId,
         name: &Name,
-        units: u64,
+        units: u32,
     ) -> Result<Move, Halt>
         ensures { Decides case.entry.version.now case.entry.seed (asks (items.Fits name.now units)
             (enter_storage id name.now (store_at self.now.entities (keys.Defined name.now)) units))
             result notes.old notes.new }
     {
-        let large = ask_fits(case.version, notes, name, units)?;
+        let large = ask_fits(case.version, notes, name, u64::from(units))?;
         self.enter_storage(case, notes, id, name, units, large)
     }
 
@@ -94,7 +94,7 @@ impl State {
         notes: &mut Notes,
         id: StatementId,
         name: &Name,
-        units: u64,
+        units: u32,
         large: bool,
     ) -> Result<Move, Halt>
         ensures { Decides case.entry.version.now case.entry.seed
@@ -106,7 +106,7 @@ impl State {
         }
         let key = Key::Defined(name.clone()?);
         let storage = self.entities.storage(&key);
-        let wanted = beside(units, storage.level().content());
+        let wanted = beside(u64::from(units), storage.level().content());
         let fits = ask_fits(case.version, notes, name, wanted)?;
         enter_or_wait(id, key, storage, units, fits)
     }
@@ -155,7 +155,7 @@ impl State {
             result notes.old notes.new }
     {
         let units = self.units(case, asker, notes, units)?;
-        self.leave_units(case, notes, id, name, units)
+        self.leave_units(case, notes, id, name, u64::from(units))
     }
 
     // No more units are given back than are in use.
@@ -212,7 +212,7 @@ fn enter_or_wait(
     id: StatementId,
     key: Key,
     storage: Storage,
-    units: u64,
+    units: u32,
     fits: bool,
 ) -> Result<Move, Halt>
     ensures { Comes (enter_or_wait id key storage units fits) result }
@@ -220,6 +220,7 @@ fn enter_or_wait(
     if !fits {
         return Ok(Move::Refuse { id, key, units });
     }
+    let units = u64::from(units);
     if is_too_many(storage.entries().saturating_add(units)) {
         return Err(Halt::End(End::Error(Stop::TooManyUnits)));
     }
@@ -246,9 +247,10 @@ fn shares_of(
         let Some(x) = chain.get(i) else {
             unreachable!()
         };
-        let fits = ask_fits(case.version, notes, name, beside(x.asked, content))?;
-        shares.push(share_of(x.asked, fits))?;
-        content = in_use(content, x.asked, fits);
+        let asked = u64::from(x.asked);
+        let fits = ask_fits(case.version, notes, name, beside(asked, content))?;
+        shares.push(share_of(asked, fits))?;
+        content = in_use(content, asked, fits);
     }
     Ok(Row::from_vec(shares))
 }

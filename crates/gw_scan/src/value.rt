@@ -117,7 +117,7 @@ impl State {
         asker: &Asker,
         notes: &mut Notes,
         operand: Option<&Expr>,
-    ) -> Result<u64, Halt>
+    ) -> Result<u32, Halt>
         ensures { Decides case.entry.version.now case.entry.seed
             (units_prog self.now asker.now (option_copied operand.entry))
             result notes.old notes.new }
@@ -129,7 +129,7 @@ impl State {
         if units.get() < 1 {
             return Err(Halt::End(End::Error(Stop::BadCount)));
         }
-        Ok(units.magnitude())
+        Ok(units.magnitude() as u32)
     }
 }
 

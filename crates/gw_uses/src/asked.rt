@@ -41,6 +41,19 @@ impl Asked<'_> {
         }
     }
 
+    // What tells questions of one reader apart: it says where one is looked for first, and no more.
+    #[inline(always)]
+    pub(crate) fn mark(self) -> u64 {
+        match self {
+            Asked::Fits(name, units) => name.head().wrapping_add(units),
+            Asked::Label(name)
+            | Asked::Name(name)
+            | Asked::Storage(name)
+            | Asked::Variable(name)
+            | Asked::Function(name) => name.head(),
+        }
+    }
+
     // The question's item, which shares the name.
     pub(crate) fn item(self) -> Result<Item, AllocError>
         ensures { IfOk result (λ item. item ≡ asked_item self.entry) }

@@ -1,4 +1,4 @@
-ghost use Rattle.std.specs.Prelude.{◌≡◌, [], Some, None, if◌then◌else◌, OnOk, OnErr, nat_lt, IsTrue, IsSome};
+ghost use Rattle.std.specs.Prelude.{◌≡◌, ◌<◌, [], Some, None, if◌then◌else◌, OnOk, OnErr, nat_lt, IsTrue, IsSome};
 ghost use Rattle.gw_meaning.specs.declared.item.Item.{Item};
 ghost use Rattle.gw_meaning.specs.Reads.{same_item, or_later};
 ghost use Rattle.gw_uses.specs.Asks.{differs, earlier, is_ask, is_other, least_in};
@@ -15,13 +15,13 @@ use std::alloc::{AllocError, Global};
 use std::marker::Model;
 
 // How many places are kept at which items were found.
-const NEAR: usize = 64;
+const NEAR: usize = 127;
 
 /// For each item of any kind the first step that used it, if any did, in the order in which they were noted.
 #[derive(Debug, Drop)]
 pub struct ItemSteps {
     steps: IndexMap<Item, u64>,
-    // Where an item was found last, by what read it: it is looked for there first.
+    // Where an item was found last, by what read it and by what was asked: it is looked for there first.
     near: [usize; NEAR],
 }
 
@@ -85,14 +85,27 @@ impl ItemSteps {
             step_of self.new q ≡ or_later (step_of self.old q) (if same_item item.now q then Some step else None)) }
         ensures err { OnErr result (self.new ≡ self.old) }
     {
-        let slot = (reader % NEAR as u64) as usize;
+        let slot = slot_of(reader);
         if self.is_at(self.near[slot], item) {
             return Ok(());
         }
+        self.note_at(item, step, slot)
+    }
+
+    // Notes that a step used this item, which its slot did not tell.
+    #[inline(never)]
+    fn note_at(&mut self, item: &Item, step: u64, slot: usize) -> Result<(), AllocError>
+        requires { slot < 127 }
+        ensures ok { OnOk result ((q : Item) →
+            step_of self.new q ≡ or_later (step_of self.old q) (if same_item item.now q then Some step else None)) }
+        ensures err { OnErr result (self.new ≡ self.old) }
+    {
         match self.steps.get_index_of(item) {
             Some(index) => self.near[slot] = index,
             None => {
+                let index = self.steps.len();
                 self.steps.insert(item.clone()?, step)?;
+                self.near[slot] = index;
             }
         }
         Ok(())
@@ -116,11 +129,11 @@ impl ItemSteps {
             or_later (step_of self.old q) (if same_item (asked_item asked.entry) q then Some step else None)) }
         ensures err { OnErr result (self.new ≡ self.old) }
     {
-        let slot = (reader % NEAR as u64) as usize;
+        let slot = slot_of(reader.wrapping_add(asked.mark()));
         if self.is_asked_at(self.near[slot], asked) {
             return Ok(());
         }
-        self.note(&asked.item()?, step, reader)
+        self.note_at(&asked.item()?, step, slot)
     }
 
     // Whether a question's item is noted at an index.
@@ -144,6 +157,14 @@ impl ItemSteps {
             { *step < from },
         );
     }
+}
+
+// Where an item that goes by a number is looked for first.
+#[inline(always)]
+fn slot_of(number: u64) -> usize
+    ensures { result < 127 }
+{
+    (number % NEAR as u64) as usize
 }
 
 // The step that noted an item, where that is asked of the storage.

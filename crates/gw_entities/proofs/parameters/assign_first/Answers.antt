@@ -1,5 +1,4 @@
-use Rattle.std.proofs.Common.{refl, sym, ap, ◌∙◌}
-use Rattle.gw_entities.specs.Tables.{with_value}
+use Rattle.std.proofs.Common.{refl, sym, ◌∙◌}
 use Rattle.gw_entities.proofs.ParameterLaws.{assigned_behind}
 use Rattle.gw_entities.proofs.parameters.assign_first.Goals as goal
 

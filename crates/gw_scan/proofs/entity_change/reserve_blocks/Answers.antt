@@ -1,8 +1,8 @@
 use Rattle.std.proofs.Common.{◌≡◌, ◌+◌, ◌<◌, List, [], ◌∷◌, length, drop, true, false, sym, ap, subst, ◌∙◌, arith, drop_of_length-le}
 use Rattle.gw_meaning.specs.declared.transaction.Transaction.{Transaction}
-use Rattle.gw_scan.specs.Parts.{with_share, has_share, AreWithin}
-use Rattle.gw_scan.proofs.ChainLaws.{item_drop}
-use Rattle.gw_scan.proofs.LetIn.{with_first, with_rest, with_nobody, with_fewer, within_more}
+use Rattle.gw_chains.specs.Chains.{with_share, has_share, AreWithin}
+use Rattle.gw_chains.proofs.ChainLaws.{item_drop}
+use Rattle.gw_chains.proofs.LetIn.{with_first, with_rest, with_nobody, with_fewer, within_more}
 use Rattle.gw_scan.proofs.entity_change.reserve_blocks.Goals as goal
 use Rattle.gw_scan.proofs.entity_change.reserve_blocks.Goals.{then-has_share+in_ok-reserve_block, else-has_share}
 

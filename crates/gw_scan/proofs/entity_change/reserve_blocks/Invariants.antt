@@ -1,5 +1,5 @@
 use Rattle.std.proofs.Common.{◌≡◌, ℕ, ◌+◌, ◌≤◌, drop, length}
-use Rattle.gw_scan.specs.Parts.{with_share, AreWithin}
+use Rattle.gw_chains.specs.Chains.{with_share, AreWithin}
 use Rattle.gw_scan.proofs.entity_change.reserve_blocks.Given as goal
 
 -- what the rest needs beside what there is room for is what all need

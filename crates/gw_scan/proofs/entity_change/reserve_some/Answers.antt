@@ -1,5 +1,5 @@
 use Rattle.std.proofs.Common.{arith}
-use Rattle.gw_scan.proofs.LetIn.{with_nobody}
+use Rattle.gw_chains.proofs.LetIn.{with_nobody}
 use Rattle.gw_scan.proofs.entity_change.reserve_some.Goals as goal
 
 pub returns-in_default-clause-ok : goal.returns-in_default-clause-ok

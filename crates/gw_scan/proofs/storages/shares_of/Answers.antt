@@ -3,7 +3,7 @@ use Rattle.gw_meaning.specs.declared.item.Item.TheVariants as items
 use Rattle.gw_meaning.specs.Evaluation.{Eval, asks}
 use Rattle.gw_meaning.specs.Step.{beside, share_of, in_use, shares_prog}
 use Rattle.gw_scan.specs.Deciding.{Decides}
-use Rattle.gw_scan.proofs.ChainLaws.{item_drop}
+use Rattle.gw_chains.proofs.ChainLaws.{item_drop}
 use Rattle.std.specs.Prelude.{Err}
 use Rattle.std.proofs.lemmas.Result.{err_from_is_err_and}
 use Rattle.gw_scan.specs.declared.case.Halt.TheVariants as halts
@@ -25,9 +25,9 @@ loop-i-preserved c = λ r all rest.
     λ fits. shares_prog name (in_use content x.asked fits) (shares ++ share_of x.asked fits ∷ []) (drop (i + 1) F) in
     let whole : shares_prog name content shares (drop i F) ≡ asks (items.Fits name (beside x.asked content)) rest_of =
     ap (shares_prog name content shares) (item_drop F i x h c.in-Some.ensures.1) in
-    let noted = rw c.beside.ensures at c.in_ok-fits.ensures.ok in
-    let answer = rw c.beside.ensures at c.in_ok-fits.ensures.answer in
-    let next = rw (c.in_use-content.ensures, c.in_ok-push.ensures.items, c.share_of.ensures, answer) at rest in
+    let noted = rw (c.beside.ensures, c.from-asked.ensures) at c.in_ok-fits.ensures.ok in
+    let answer = rw (c.beside.ensures, c.from-asked.ensures) at c.in_ok-fits.ensures.answer in
+    let next = rw (c.in_use-content.ensures, c.in_ok-push.ensures.items, c.share_of.ensures, c.from-asked.ensures, answer) at rest in
     c.loop-i.invariant r all (subst (λ (p : Eval (List (Option ℕ))). Decides t seed p r c.loop-i.notes all) (sym whole)
     (decides_asked t seed (items.Fits name (beside x.asked content)) rest_of r c.loop-i.notes c.ask_fits.new.notes all noted next))
 

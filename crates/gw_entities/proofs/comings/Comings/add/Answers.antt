@@ -1,9 +1,36 @@
-use Rattle.gw_entities.proofs.ComingLaws.{added_is}
+use Rattle.std.proofs.Common.{◌≡◌, ◌<◌, ◌++◌, [], length, false, sym, subst, ◌∙◌, arith}
+use Rattle.std.proofs.lemmas.Bool.Decides.{nat_tests}
+use Rattle.gw_entities.specs.Comings.{came, with_coming, AreOnce}
+use Rattle.gw_entities.proofs.ComingLaws.{few_more, many_more, once_with}
 use Rattle.gw_entities.proofs.comings.Comings.add.Goals as goal
 
-pub returns : goal.returns
-returns c =
-    let stored = c.in-Ok.ensures.stored in
-    rw (← c.self.view_is)
-    (added_is c.self.inside.queues.keys c.insert_full.new.self.keys c.self.inside.pairs.keys c.insert.new.self.keys c.in-Ok.place c.args.key
-    stored.0 c.args.number c.self.invariant.within c.in-Ok.ensures.unique c.in-Ok.ensures.keys stored.1 stored.2 c.in-Ok-insert.ensures.keys)
+pub invariant_of-self : goal.invariant_of-self
+invariant_of-self c =
+    let few = c.self.inside.few.items in
+    let many = c.self.inside.many.comings in
+    let less : length few < 12 = grind (arith, nat_tests) in
+    let none : came (few ++ many) c.args.key c.args.number ≡ false = rw (← c.self.view_is) at (sym c.has.ensures ∙ c.if-has.false) in
+    let empty : many ≡ [] = c.self.invariant.1 less in
+    rw c.push_reserved.ensures.items (
+      subst AreOnce (sym (few_more few many c.args.key c.args.number empty none))
+          (once_with (few ++ many) c.args.key c.args.number c.self.invariant.0),
+      λ shorter. empty,
+    )
+
+pub invariant_of-self-else-len-lt-FEW : goal.invariant_of-self-else-len-lt-FEW
+invariant_of-self-else-len-lt-FEW c =
+    let few = c.self.inside.few.items in
+    let many = c.self.inside.many.comings in
+    let none : came (few ++ many) c.args.key c.args.number ≡ false = rw (← c.self.view_is) at (sym c.has.ensures ∙ c.if-has.false) in
+    let added : c.add.new.self.comings ≡ with_coming many c.args.key c.args.number = c.add.ensures in
+    let whole : few ++ c.add.new.self.comings ≡ with_coming (few ++ many) c.args.key c.args.number =
+    rw added (many_more few many c.args.key c.args.number none) in
+    (subst AreOnce (sym whole) (once_with (few ++ many) c.args.key c.args.number c.self.invariant.0), λ less. absurd (grind (arith, nat_tests)))
+
+pub returns-else-len-lt-FEW : goal.returns-else-len-lt-FEW
+returns-else-len-lt-FEW c =
+    let few = c.self.inside.few.items in
+    let many = c.self.inside.many.comings in
+    let none : came (few ++ many) c.args.key c.args.number ≡ false = rw (← c.self.view_is) at (sym c.has.ensures ∙ c.if-has.false) in
+    let added : c.add.new.self.comings ≡ with_coming many c.args.key c.args.number = c.add.ensures in
+    rw (← c.self.view_is) (rw added (many_more few many c.args.key c.args.number none))

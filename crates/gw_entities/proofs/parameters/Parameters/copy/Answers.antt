@@ -1,5 +1,4 @@
-use Rattle.std.proofs.Common.{◌≡◌, length, arith}
-use Rattle.gw_entities.proofs.ParameterLaws.{copied, all_copied}
+use Rattle.gw_entities.proofs.ParameterLaws.{copied}
 use Rattle.gw_entities.proofs.parameters.Parameters.copy.Goals as goal
 
 pub loop-i-preserved : goal.loop-i-preserved

@@ -1,4 +1,4 @@
-use Rattle.std.proofs.Common.{Some, None, sym, ◌∙◌}
+use Rattle.std.proofs.Common.{None, sym, ◌∙◌}
 use Rattle.gw_entities.proofs.ParameterLaws.{parameter_is}
 use Rattle.gw_entities.proofs.parameters.Parameters.get.Goals as goal
 

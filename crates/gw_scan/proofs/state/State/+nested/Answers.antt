@@ -1,6 +1,6 @@
 use Rattle.std.proofs.Common.{◌≡◌, ◌+◌, [], ◌∷◌, ℤ, List, Ok, Err, ap, drop, refl, rules, ◌==◌, false, Option, Some, subst}
 use Rattle.std.proofs.lemmas.List.{drop_all}
-use Rattle.gw_scan.proofs.ChainLaws.{item_drop}
+use Rattle.gw_chains.proofs.ChainLaws.{item_drop}
 use Rattle.std.proofs.lemmas.Result.{err_from_is_err_and}
 use Rattle.gw_nums.specs.Millionths.{of_value, whole}
 use Rattle.gw_meaning.specs.Functions.{curve}

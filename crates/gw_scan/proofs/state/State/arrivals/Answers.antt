@@ -3,7 +3,7 @@ use Rattle.std.proofs.lemmas.Result.{err_from_is_err_and}
 use Rattle.std.proofs.Math.Seq.{drop-length}
 use Rattle.gw_meaning.specs.Evaluation.{◌~>◌}
 use Rattle.gw_meaning.specs.Step.{arrivals_prog, prime_prog, with_arrival}
-use Rattle.gw_scan.proofs.ChainLaws.{item_drop}
+use Rattle.gw_chains.proofs.ChainLaws.{item_drop}
 use Rattle.std.specs.Prelude.{Err}
 use Rattle.gw_scan.specs.declared.case.Halt.TheVariants as halts
 use Rattle.gw_scan.proofs.Binding.{decides_exit, decides_whole, decides_gives, decides_memory, reads_keep}

@@ -29,4 +29,4 @@ returns c =
     let rest : ℕ → Eval Move = λ n. depart_units c.args.id c.args.key (line_at s.entities c.args.key) (came s.entities.comings c.args.key c.args.x.now.number)
     n in
     decides_then t seed first rest c.in_ok-units.units _ _ _ _ c.in_ok-units.ensures
-    (decides_comes t seed (rest c.in_ok-units.units) c.depart.result _ c.depart.ensures)
+    (decides_comes t seed (rest c.in_ok-units.units) c.depart.result _ (rw c.from.ensures at c.depart.ensures))

@@ -2,7 +2,8 @@ use Rattle.std.proofs.Common.{◌≡◌, [], Some, ap, ◌∙◌, rules}
 use Rattle.gw_meaning.specs.Machine.{Machine}
 use Rattle.gw_meaning.specs.Changes.{admitted, fated, placed, crossed}
 use Rattle.gw_meaning.specs.Entities.{done}
-use Rattle.gw_scan.specs.Parts.{delays_of, entities_of}
+use Rattle.gw_chains.specs.Chains.{delays_of}
+use Rattle.gw_scan.specs.Parts.{entities_of}
 use Rattle.gw_scan.proofs.state.State.enter_touching.Goals as goal
 
 pub returns-in-Some-clause-ok : goal.returns-in-Some-clause-ok

@@ -9,6 +9,8 @@ pub returns : goal.returns
 returns c =
     let case = c.args.case in
     let name = c.args.name.now in
+    let noted = rw c.from.ensures at c.in_ok-large.ensures.ok in
+    let answer = rw c.from.ensures at c.in_ok-large.ensures.answer in
     decides_asked case.version.now case.seed (items.Fits name c.args.units)
-    (enter_storage c.args.id name (store_at c.args.self.now.entities (keys.Defined name)) c.args.units) _ _ _ _ c.in_ok-large.ensures.ok
-    (rw (← c.in_ok-large.ensures.answer) c.enter_storage.ensures)
+    (enter_storage c.args.id name (store_at c.args.self.now.entities (keys.Defined name)) c.args.units) _ _ _ _ noted
+    (rw (← answer) c.enter_storage.ensures)

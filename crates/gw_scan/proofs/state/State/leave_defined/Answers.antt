@@ -21,7 +21,7 @@ returns c =
     let name = c.args.name.now in
     let rest : ℕ → Eval Move = λ n. leave_units s c.args.id name (store_at s.entities (keys.Defined name)) n in
     decides_then c.args.case.version.now c.args.case.seed (units_prog s c.args.asker.now (option_copied c.args.units)) rest c.in_ok-units.units _ _ _ _
-    c.in_ok-units.ensures c.leave_units.ensures
+    c.in_ok-units.ensures (rw c.from.ensures at c.leave_units.ensures)
 
 pub returns-in_err-units : goal.returns-in_err-units
 returns-in_err-units c =

@@ -31,4 +31,4 @@ returns c =
     decides_then t seed first rest c.in_ok-units.units _ _ _ _ c.in_ok-units.ensures
     (let same : c.queue-queue.result ≡ line_at s.entities c.args.key = search rules in
     let F : Line → Type 0 = λ line. Comes (queue_units c.args.id c.args.key line c.in_ok-units.units) c.queue_units.result in
-    decides_comes t seed (rest c.in_ok-units.units) c.queue_units.result _ (subst F same c.queue_units.ensures))
+    decides_comes t seed (rest c.in_ok-units.units) c.queue_units.result _ (subst F same (rw c.from.ensures at c.queue_units.ensures)))

@@ -1,0 +1,201 @@
+-- The delay chains in the words of the map that keeps them, and how many wait.
+use Rattle.std.proofs.Common.{◌≡◌, ℕ, zero, suc, ◌+◌, ◌≤◌, ◌<◌, ◌^◌, ◌-◌, Bool, true, false, cond, List, [], ◌∷◌, length, take, Option, Some, None, slice_get, unwrap_or, option_copied, Bor, refl, sym, ap, subst, ◌∙◌, arith}
+use Rattle.std.proofs.lemmas.List.{length-append}
+use Rattle.std.proofs.Math.Seq.{take-length}
+use Rattle.std.proofs.lemmas.Bool.{cond_both}
+use Rattle.std.specs.List.{IsDistinct}
+use Rattle.std.specs.Slice.{IsItemAt}
+use Rattle.std.specs.Map.{keys_of, set_value}
+use Rattle.indexmap.specs.IndexMap.{insert_entry}
+use Rattle.gw_nums.specs.Range.{is_below}
+use Rattle.gw_names.specs.declared.key.Key.{Key}
+use Rattle.gw_names.specs.Keys.{key_eq}
+use Rattle.gw_entities.specs.Tables.{value_of, with_value}
+use Rattle.gw_entities.proofs.TableLaws.{set_value_is, insert_entry_is, copied_is}
+use Rattle.gw_meaning.specs.declared.transaction.Transaction.{Transaction}
+use Rattle.gw_meaning.specs.Machine.{delay_at, waiting}
+use Rattle.gw_meaning.specs.Changes.{lined_up}
+use Rattle.gw_chains.specs.Chains.{Chain, delays_of, items_of, first_of, HasPlace}
+
+abbrev Chains : Type 0
+Chains = List (Key × Chain Transaction)
+
+abbrev Delays : Type 0
+Delays = List (Key × List Transaction)
+
+-- the delay chain of a facility
+delay_items : (cs : Chains) (key : Key) → delay_at (delays_of cs) key ≡ items_of (value_of cs key)
+delay_items [] key = refl
+delay_items (c ∷ cs) key = go (key_eq key c.0) (delay_items cs key) where
+  go : (b : Bool) → delay_at (delays_of cs) key ≡ items_of (value_of cs key) →
+      unwrap_or (cond b (Some c.1.items) (value_of (delays_of cs) key)) [] ≡ items_of (cond b (Some c.1) (value_of cs key))
+  go true h = refl
+  go false h = h
+
+pub delay_is : (cs : Chains) (key : Key) (o : Option (Chain Transaction)) → o ≡ value_of cs key → delay_at (delays_of cs) key ≡ items_of o
+delay_is cs key o is = delay_items cs key ∙ ap items_of (sym is)
+
+-- a chain that is set
+with_delay : (cs : Chains) (key : Key) (chain : Chain Transaction) → delays_of (with_value cs key chain) ≡ with_value (delays_of cs) key chain.items
+with_delay [] key chain = refl
+with_delay (c ∷ cs) key chain = go (key_eq key c.0) (with_delay cs key chain) where
+  go : (b : Bool) → delays_of (with_value cs key chain) ≡ with_value (delays_of cs) key chain.items →
+      delays_of (cond b ((c.0, chain) ∷ cs) (c ∷ with_value cs key chain)) ≡
+      cond b ((c.0, chain.items) ∷ delays_of cs) ((c.0, c.1.items) ∷ with_value (delays_of cs) key chain.items)
+  go true h = refl
+  go false h = ap (λ (ds : Delays). (c.0, c.1.items) ∷ ds) h
+
+pub written_is : (cs fs : Chains) (key : Key) (was chain : Chain Transaction) → Some was ≡ value_of cs key → fs ≡ set_value (key_eq key) cs chain →
+    delays_of fs ≡ with_value (delays_of cs) key chain.items
+written_is cs fs key was chain found is = ap delays_of (is ∙ set_value_is cs key chain was (sym found)) ∙ with_delay cs key chain
+
+pub inserted_is : (cs fs : Chains) (key : Key) (chain : Chain Transaction) → fs ≡ insert_entry key_eq cs key chain →
+    delays_of fs ≡ with_value (delays_of cs) key chain.items
+inserted_is cs fs key chain is = ap delays_of (is ∙ insert_entry_is cs key chain) ∙ with_delay cs key chain
+
+-- the chain that is there already
+pub with_same : (ds : Delays) (key : Key) (xs : List Transaction) → value_of ds key ≡ Some xs → with_value ds key xs ≡ ds
+with_same [] key xs h = absurd cc
+with_same (d ∷ ds) key xs h = go (key_eq key d.0) h (with_same ds key xs) where
+  go : (b : Bool) → cond b (Some d.1) (value_of ds key) ≡ Some xs → (value_of ds key ≡ Some xs → with_value ds key xs ≡ ds) →
+      cond b ((d.0, xs) ∷ ds) (d ∷ with_value ds key xs) ≡ d ∷ ds
+  go true h rest = let same : d.1 ≡ xs = cc in ap (λ ys. (d.0, ys) ∷ ds) (sym same)
+  go false h rest = ap (λ (es : Delays). d ∷ es) (rest h)
+
+pub value_is : (cs : Chains) (key : Key) (was : Chain Transaction) → Some was ≡ value_of cs key → value_of (delays_of cs) key ≡ Some was.items
+value_is [] key was h = absurd cc
+value_is (c ∷ cs) key was h = go (key_eq key c.0) h (value_is cs key was) where
+  go : (b : Bool) → Some was ≡ cond b (Some c.1) (value_of cs key) → (Some was ≡ value_of cs key → value_of (delays_of cs) key ≡ Some was.items) →
+      cond b (Some c.1.items) (value_of (delays_of cs) key) ≡ Some was.items
+  go true h rest = let same : was ≡ c.1 = cc in ap (λ (d : Chain Transaction). Some d.items) (sym same)
+  go false h rest = rest h
+
+-- a chain that is written with its own transactions
+pub rewritten_is : (cs fs : Chains) (key : Key) (was chain : Chain Transaction) → Some was ≡ value_of cs key → fs ≡ set_value (key_eq key) cs chain →
+    chain.items ≡ was.items → delays_of fs ≡ delays_of cs
+rewritten_is cs fs key was chain found is same =
+    written_is cs fs key was chain found is ∙
+    (ap (with_value (delays_of cs) key) same ∙ with_same (delays_of cs) key was.items (value_is cs key was found))
+
+-- how many wait, with another chain in the place of one
+pub waiting_with : (ds : Delays) (key : Key) (xs : List Transaction) →
+    length (waiting (with_value ds key xs)) + length (delay_at ds key) ≡ length (waiting ds) + length xs
+waiting_with [] key xs = omega (arith, length-append xs [])
+waiting_with (d ∷ ds) key xs = go (key_eq key d.0) (waiting_with ds key xs) where
+  go : (b : Bool) → length (waiting (with_value ds key xs)) + length (delay_at ds key) ≡ length (waiting ds) + length xs →
+      length (waiting (cond b ((d.0, xs) ∷ ds) (d ∷ with_value ds key xs))) + length (unwrap_or (cond b (Some d.1) (value_of ds key)) []) ≡
+      length (waiting (d ∷ ds)) + length xs
+  go true h = omega (arith, length-append xs (waiting ds), length-append d.1 (waiting ds))
+  go false h = omega (arith, h, length-append d.1 (waiting (with_value ds key xs)), length-append d.1 (waiting ds))
+
+lined_up_length : (x : Transaction) (ys : List Transaction) → length (lined_up x ys) ≡ length ys + 1
+lined_up_length x [] = refl
+lined_up_length x (y ∷ ys) =
+    cond_both (is_below y.priority x.priority) (x ∷ y ∷ ys) (y ∷ lined_up x ys) (λ zs. length zs ≡ length (y ∷ ys) + 1)
+    (λ below. omega arith) (λ above. (let rest = lined_up_length x ys in omega (arith, rest)))
+
+-- one more waits, and one less
+pub one_more_waits : (ds es : Delays) (key : Key) (x : Transaction) (n : ℕ) → n ≡ length (waiting ds) →
+    es ≡ with_value ds key (lined_up x (delay_at ds key)) → n + 1 ≡ length (waiting es)
+one_more_waits ds es key x n all is =
+    let both = waiting_with ds key (lined_up x (delay_at ds key)) in
+    let longer = lined_up_length x (delay_at ds key) in
+    rw is (omega (arith, both, longer, all))
+
+one_waits : (ds : Delays) (key : Key) (x : Transaction) (xs : List Transaction) → delay_at ds key ≡ x ∷ xs →
+    length (waiting (with_value ds key xs)) + 1 ≡ length (waiting ds)
+one_waits ds key x xs is =
+    let both = waiting_with ds key xs in
+    let long : length (delay_at ds key) ≡ length xs + 1 = ap length is ∙ omega arith in
+    omega (arith, both, long)
+
+pub some_wait : (ds : Delays) (key : Key) (x : Transaction) (xs : List Transaction) (n : ℕ) → n ≡ length (waiting ds) → delay_at ds key ≡ x ∷ xs → 1 ≤ n
+some_wait ds key x xs n all is = omega (arith, one_waits ds key x xs is, all)
+
+-- where nobody waits at all, nobody waits for an entity
+pub none_waits : (ds : Delays) (key : Key) (n : ℕ) → n ≡ length (waiting ds) → n ≡ 0 → [] ≡ delay_at ds key
+none_waits ds key n all is = go (delay_at ds key) refl where
+  go : (xs : List Transaction) → delay_at ds key ≡ xs → [] ≡ xs
+  go [] here = refl
+  go (x ∷ xs) here = absurd (omega (arith, some_wait ds key x xs n all here, is))
+
+pub one_less_waits : (ds es : Delays) (key : Key) (x : Transaction) (xs : List Transaction) (n : ℕ) → n ≡ length (waiting ds) →
+    delay_at ds key ≡ x ∷ xs → es ≡ with_value ds key xs → n - 1 ≡ length (waiting es)
+one_less_waits ds es key x xs n all is without = rw without (omega (arith, one_waits ds key x xs is, all))
+
+-- the chains up to an index, and the one there inserted behind them
+keys_are : (cs : Chains) → keys_of (delays_of cs) ≡ keys_of cs
+keys_are [] = refl
+keys_are (c ∷ cs) = ap (λ ks. c.0 ∷ ks) (keys_are cs)
+
+length_is : (cs : Chains) → length (delays_of cs) ≡ length cs
+length_is [] = refl
+length_is (c ∷ cs) = ap suc (length_is cs)
+
+item_is : (cs : Chains) (i : ℕ) (key : Key) (chain : Chain Transaction) → Some (key, chain) ≡ slice_get cs i →
+    Some (key, chain.items) ≡ slice_get (delays_of cs) i
+item_is [] i key chain is = absurd cc
+item_is (c ∷ cs) zero key chain is = let same : (key, chain) ≡ c = cc in ap (λ (d : Key × Chain Transaction). Some (d.0, d.1.items)) same
+item_is (c ∷ cs) (suc i) key chain is = item_is cs i key chain is
+
+insert_delay : (cs : Chains) (key : Key) (chain : Chain Transaction) →
+    delays_of (insert_entry key_eq cs key chain) ≡ insert_entry key_eq (delays_of cs) key chain.items
+insert_delay cs key chain =
+    ap delays_of (insert_entry_is cs key chain) ∙ (with_delay cs key chain ∙ sym (insert_entry_is (delays_of cs) key chain.items))
+
+pub copied_chain : (cs fs gs : Chains) (i : ℕ) (key other : Key) (chain copy : Chain Transaction) → IsDistinct key_eq (keys_of cs) →
+    Some (key, chain) ≡ slice_get cs i → other ≡ key → copy.items ≡ chain.items → delays_of fs ≡ take i (delays_of cs) →
+    gs ≡ insert_entry key_eq fs other copy → delays_of gs ≡ take (i + 1) (delays_of cs)
+copied_chain cs fs gs i key other chain copy apart at same equal done is =
+    copied_is (delays_of cs) (delays_of gs) i key other chain.items (subst (IsDistinct key_eq) (sym (keys_are cs)) apart) (item_is cs i key chain at) same
+    (ap delays_of is ∙ (insert_delay fs other copy ∙
+    (ap (λ (ds : Delays). insert_entry key_eq ds other copy.items) done ∙
+    ap (insert_entry key_eq (take i (delays_of cs)) other) equal)))
+
+pub all_copied : (cs fs : Chains) (n : ℕ) → n ≡ length cs → delays_of fs ≡ take n (delays_of cs) → delays_of fs ≡ delays_of cs
+all_copied cs fs n all is =
+    is ∙ (ap (λ m. take m (delays_of cs)) (all ∙ sym (length_is cs)) ∙ take-length (delays_of cs))
+
+-- the first of a chain
+true_false : true ≡ false → ⊥
+true_false is = cc
+
+pub first_is : (xs : List Transaction) (o : Option (Bor Transaction)) → IsItemAt xs 0 o → option_copied o ≡ first_of xs
+first_is [] None h = refl
+first_is [] (Some x) h = absurd (true_false h.0)
+first_is (y ∷ ys) None h = absurd (true_false (sym (h.2 (omega arith))))
+first_is (y ∷ ys) (Some x) h = ap (λ (z : Transaction). Some z) h.1
+
+-- there is room on the chain that was written, and to count one more
+value_written : (cs : Chains) (key : Key) (was chain : Chain Transaction) → Some was ≡ value_of cs key →
+    value_of (set_value (key_eq key) cs chain) key ≡ Some chain
+value_written [] key was chain h = absurd cc
+value_written (c ∷ cs) key was chain h = go (key_eq key c.0) refl h (value_written cs key was chain) where
+  go : (b : Bool) → key_eq key c.0 ≡ b → Some was ≡ cond b (Some c.1) (value_of cs key) →
+      (Some was ≡ value_of cs key → value_of (set_value (key_eq key) cs chain) key ≡ Some chain) →
+      value_of (cond b ((c.0, chain) ∷ cs) (c ∷ set_value (key_eq key) cs chain)) key ≡ Some chain
+  go true here h rest = rw here refl
+  go false here h rest = rw here (rest h)
+
+pub has_place : (cs fs : Chains) (key : Key) (was chain : Chain Transaction) (n spare : ℕ) → Some was ≡ value_of cs key →
+    fs ≡ set_value (key_eq key) cs chain → chain.items ≡ was.items → 1 ≤ chain.room → n ≡ length (waiting (delays_of cs)) → n < 2 ^ 64 - 1 →
+    HasPlace (record { chains = fs; spare = spare }) key
+has_place cs fs key was chain n spare found is same room all few =
+    let value : value_of fs key ≡ Some chain = ap (λ (gs : Chains). value_of gs key) is ∙ value_written cs key was chain found in
+    let delays = rewritten_is cs fs key was chain found is same in
+    (rw value (omega (arith, room)), rw delays (omega (arith, all, few)))
+
+-- one more lines up, on a chain that is there or on a fresh one
+pub lined_up_there : (cs fs : Chains) (key : Key) (was chain : Chain Transaction) (x : Transaction) → Some was ≡ value_of cs key →
+    fs ≡ set_value (key_eq key) cs chain → chain.items ≡ lined_up x was.items →
+    delays_of fs ≡ with_value (delays_of cs) key (lined_up x (delay_at (delays_of cs) key))
+lined_up_there cs fs key was chain x found is longer =
+    written_is cs fs key was chain found is ∙
+    ap (with_value (delays_of cs) key) (longer ∙ ap (lined_up x) (sym (delay_is cs key (Some was) found)))
+
+pub lined_up_fresh : (cs fs : Chains) (key : Key) (chain : Chain Transaction) (fresh : List Transaction) (x : Transaction) → None ≡ value_of cs key →
+    fs ≡ insert_entry key_eq cs key chain → chain.items ≡ lined_up x fresh → fresh ≡ [] →
+    delays_of fs ≡ with_value (delays_of cs) key (lined_up x (delay_at (delays_of cs) key))
+lined_up_fresh cs fs key chain fresh x none is longer empty =
+    inserted_is cs fs key chain is ∙
+    ap (with_value (delays_of cs) key) (longer ∙ ap (lined_up x) (empty ∙ sym (delay_is cs key None none)))

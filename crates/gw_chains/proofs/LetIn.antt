@@ -1,0 +1,257 @@
+-- Whom a deed lets in: those with a share are let in, and the others go on waiting, in their order.
+use Rattle.std.proofs.Common.{◌≡◌, ℕ, zero, suc, ◌+◌, ◌-◌, ◌≤◌, ◌<◌, Bool, true, false, cond, List, [], ◌∷◌, ◌++◌, length, drop, get_or, Option, Some, None, refl, sym, ap, subst, ◌∙◌, arith, append_assoc, append-nil, add-one, drop_of_length-le}
+use Rattle.std.proofs.lemmas.List.{drop_more}
+use Rattle.gw_names.specs.declared.key.Key.{Key}
+use Rattle.gw_names.specs.Keys.{key_eq}
+use Rattle.gw_entities.specs.Tables.{value_of, with_value}
+use Rattle.gw_entities.proofs.TableLaws.{key_eq_equiv}
+use Rattle.gw_entities.proofs.Finding.{value_of-with_value}
+use Rattle.gw_meaning.specs.declared.transaction.Transaction.{Transaction}
+use Rattle.gw_meaning.specs.Machine.{Machine, delay_at, waiting, AreInOrder}
+use Rattle.gw_meaning.specs.Changes.{let_in, some_let_in}
+use Rattle.gw_meaning.proofs.Chains.{AreNotAbove, IsOrdered, ordered, in_order}
+use Rattle.gw_chains.specs.Chains.{has_share, with_share, without_share, IsWithin, AreWithin, HasRoomToLetAllIn, all_let_in}
+use Rattle.gw_chains.proofs.DelayLaws.{with_same, waiting_with}
+
+abbrev Shares : Type 0
+Shares = List (Option ℕ)
+
+abbrev Delays : Type 0
+Delays = List (Key × List Transaction)
+
+-- nobody is left of a chain
+pub with_nobody : (shares : Shares) → with_share shares [] ≡ []
+with_nobody [] = refl
+with_nobody (None ∷ shares) = refl
+with_nobody (Some units ∷ shares) = refl
+
+pub without_nobody : (shares : Shares) → without_share shares [] ≡ []
+without_nobody [] = refl
+without_nobody (None ∷ shares) = refl
+without_nobody (Some units ∷ shares) = refl
+
+-- the first of the rest of a chain
+with_first_suc : (shares : Shares) (i : ℕ) (x : Transaction) (xs : List Transaction) → has_share shares i ≡ true →
+    with_share (drop i shares) (x ∷ xs) ≡ x ∷ with_share (drop (suc i) shares) xs
+with_first_suc [] zero x xs h = absurd cc
+with_first_suc [] (suc i) x xs h = absurd cc
+with_first_suc (None ∷ shares) zero x xs h = absurd cc
+with_first_suc (Some units ∷ shares) zero x xs h = refl
+with_first_suc (share ∷ shares) (suc i) x xs h = with_first_suc shares i x xs h
+
+pub with_first : (shares : Shares) (i : ℕ) (x : Transaction) (xs : List Transaction) → has_share shares i ≡ true →
+    with_share (drop i shares) (x ∷ xs) ≡ x ∷ with_share (drop (i + 1) shares) xs
+with_first shares i x xs h = rw (add-one i) (with_first_suc shares i x xs h)
+
+with_rest_suc : (shares : Shares) (i : ℕ) (x : Transaction) (xs : List Transaction) → has_share shares i ≡ false →
+    with_share (drop i shares) (x ∷ xs) ≡ with_share (drop (suc i) shares) xs
+with_rest_suc [] zero x xs h = refl
+with_rest_suc [] (suc i) x xs h = refl
+with_rest_suc (None ∷ shares) zero x xs h = refl
+with_rest_suc (Some units ∷ shares) zero x xs h = absurd cc
+with_rest_suc (share ∷ shares) (suc i) x xs h = with_rest_suc shares i x xs h
+
+pub with_rest : (shares : Shares) (i : ℕ) (x : Transaction) (xs : List Transaction) → has_share shares i ≡ false →
+    with_share (drop i shares) (x ∷ xs) ≡ with_share (drop (i + 1) shares) xs
+with_rest shares i x xs h = rw (add-one i) (with_rest_suc shares i x xs h)
+
+without_first_suc : (shares : Shares) (i : ℕ) (x : Transaction) (xs : List Transaction) → has_share shares i ≡ false →
+    without_share (drop i shares) (x ∷ xs) ≡ x ∷ without_share (drop (suc i) shares) xs
+without_first_suc [] zero x xs h = refl
+without_first_suc [] (suc i) x xs h = refl
+without_first_suc (None ∷ shares) zero x xs h = refl
+without_first_suc (Some units ∷ shares) zero x xs h = absurd cc
+without_first_suc (share ∷ shares) (suc i) x xs h = without_first_suc shares i x xs h
+
+pub without_first : (shares : Shares) (i : ℕ) (x : Transaction) (xs : List Transaction) → has_share shares i ≡ false →
+    without_share (drop i shares) (x ∷ xs) ≡ x ∷ without_share (drop (i + 1) shares) xs
+without_first shares i x xs h = rw (add-one i) (without_first_suc shares i x xs h)
+
+without_rest_suc : (shares : Shares) (i : ℕ) (x : Transaction) (xs : List Transaction) → has_share shares i ≡ true →
+    without_share (drop i shares) (x ∷ xs) ≡ without_share (drop (suc i) shares) xs
+without_rest_suc [] zero x xs h = absurd cc
+without_rest_suc [] (suc i) x xs h = absurd cc
+without_rest_suc (None ∷ shares) zero x xs h = absurd cc
+without_rest_suc (Some units ∷ shares) zero x xs h = refl
+without_rest_suc (share ∷ shares) (suc i) x xs h = without_rest_suc shares i x xs h
+
+pub without_rest : (shares : Shares) (i : ℕ) (x : Transaction) (xs : List Transaction) → has_share shares i ≡ true →
+    without_share (drop i shares) (x ∷ xs) ≡ without_share (drop (i + 1) shares) xs
+without_rest shares i x xs h = rw (add-one i) (without_rest_suc shares i x xs h)
+
+-- neither are more than wait
+pub with_fewer : (shares : Shares) (chain : List Transaction) → length (with_share shares chain) ≤ length chain
+with_fewer [] chain = omega arith
+with_fewer (share ∷ shares) [] = omega arith
+with_fewer (None ∷ shares) (x ∷ xs) = let rest = with_fewer shares xs in omega (arith, rest)
+with_fewer (Some units ∷ shares) (x ∷ xs) = let rest = with_fewer shares xs in omega (arith, rest)
+
+pub without_fewer : (shares : Shares) (chain : List Transaction) → length (without_share shares chain) ≤ length chain
+without_fewer [] chain = omega arith
+without_fewer (share ∷ shares) [] = omega arith
+without_fewer (None ∷ shares) (x ∷ xs) = let rest = without_fewer shares xs in omega (arith, rest)
+without_fewer (Some units ∷ shares) (x ∷ xs) = let rest = without_fewer shares xs in omega (arith, rest)
+
+-- a chain that was set, and one that is set again
+value_with : (ds : Delays) (key : Key) (xs : List Transaction) → value_of (with_value ds key xs) key ≡ Some xs
+value_with ds key xs =
+    value_of-with_value ds key xs key ∙ ap (λ b. cond b (Some xs) (value_of ds key)) (key_eq_equiv.refl key)
+
+with_again : (ds : Delays) (key : Key) (xs ys : List Transaction) → with_value (with_value ds key xs) key ys ≡ with_value ds key ys
+with_again [] key xs ys = ap (λ b. cond b ((key, ys) ∷ []) ((key, xs) ∷ (key, ys) ∷ [])) (key_eq_equiv.refl key)
+with_again (d ∷ ds) key xs ys = go (key_eq key d.0) refl (with_again ds key xs ys) where
+  go : (b : Bool) → key_eq key d.0 ≡ b → with_value (with_value ds key xs) key ys ≡ with_value ds key ys →
+      with_value (cond b ((d.0, xs) ∷ ds) (d ∷ with_value ds key xs)) key ys ≡ cond b ((d.0, ys) ∷ ds) (d ∷ with_value ds key ys)
+  go true here rest = ap (λ b. cond b ((d.0, ys) ∷ ds) ((d.0, xs) ∷ with_value ds key ys)) here
+  go false here rest =
+      ap (λ b. cond b ((d.0, ys) ∷ with_value ds key xs) (d ∷ with_value (with_value ds key xs) key ys)) here ∙
+      ap (λ (es : Delays). d ∷ es) rest
+
+-- who is let in leaves the delay chains as they are
+let_in_beside : (x : Transaction) (to : Option ℕ) (s : Machine) (ds : Delays) →
+    let_in x to (record s { delays = ds }) ≡ record (let_in x to s) { delays = ds }
+let_in_beside x None s ds = refl
+let_in_beside x (Some id) s ds = refl
+
+all_beside : (xs : List Transaction) (s : Machine) (ds : Delays) →
+    all_let_in xs (record s { delays = ds }) ≡ record (all_let_in xs s) { delays = ds }
+all_beside [] s ds = refl
+all_beside (x ∷ xs) s ds =
+    ap (all_let_in xs) (let_in_beside x x.destination s ds) ∙ all_beside xs (let_in x x.destination s) ds
+
+-- nobody waits, so nobody is let in
+pub nobody_let_in : (key : Key) (shares : Shares) (passed : List Transaction) (s : Machine) → some_let_in key shares passed [] s ≡ s
+nobody_let_in key [] passed s = refl
+nobody_let_in key (None ∷ shares) passed s = refl
+nobody_let_in key (Some units ∷ shares) passed s = refl
+
+-- the same chain again changes nothing
+same_again : (s : Machine) (key : Key) (xs : List Transaction) → value_of s.delays key ≡ Some xs → s ≡ record s { delays = with_value s.delays key xs }
+same_again s key xs h = ap (λ (ds : Delays). record s { delays = ds }) (sym (with_same s.delays key xs h))
+
+-- those with a share, taken off the chain first and let in then, one by one
+pub some_let_in_is : (key : Key) (shares : Shares) (passed chain : List Transaction) (s : Machine) → value_of s.delays key ≡ Some (passed ++ chain) →
+    some_let_in key shares passed chain s ≡
+    record (all_let_in (with_share shares chain) s) { delays = with_value s.delays key (passed ++ without_share shares chain) }
+some_let_in_is key [] passed chain s h = same_again s key (passed ++ chain) h
+some_let_in_is key (None ∷ shares) passed [] s h = same_again s key (passed ++ []) h
+some_let_in_is key (Some units ∷ shares) passed [] s h = same_again s key (passed ++ []) h
+some_let_in_is key (None ∷ shares) passed (x ∷ xs) s h =
+    let group = append_assoc passed (x ∷ []) xs in
+    some_let_in_is key shares (passed ++ x ∷ []) xs s (h ∙ ap (λ ys. Some ys) (sym group)) ∙
+    ap (λ ys. record (all_let_in (with_share shares xs) s) { delays = with_value s.delays key ys })
+    (append_assoc passed (x ∷ []) (without_share shares xs))
+some_let_in_is key (Some units ∷ shares) passed (x ∷ xs) s h =
+    let ds : Delays = with_value s.delays key (passed ++ xs) in
+    let t : Machine = let_in x x.destination s in
+    let kept : List Transaction = passed ++ without_share shares xs in
+    let in_now : let_in x x.destination (record s { delays = ds }) ≡ record t { delays = ds } = let_in_beside x x.destination s ds in
+    ap (some_let_in key shares passed xs) in_now ∙
+    (some_let_in_is key shares passed xs (record t { delays = ds }) (value_with s.delays key (passed ++ xs)) ∙
+    (ap (λ (u : Machine). record u { delays = with_value ds key kept }) (all_beside (with_share shares xs) t ds) ∙
+    ap (λ (es : Delays). record (all_let_in (with_share shares xs) t) { delays = es }) (with_again s.delays key (passed ++ xs) kept)))
+
+-- how many wait, when those with a share are gone
+pub fewer_wait : (ds : Delays) (key : Key) (shares : Shares) (chain : List Transaction) (n : ℕ) → delay_at ds key ≡ chain → n ≡ length (waiting ds) →
+    (length chain - length (without_share shares chain) ≤ n) ×
+    (n - (length chain - length (without_share shares chain)) ≡ length (waiting (with_value ds key (without_share shares chain))))
+fewer_wait ds key shares chain n is all =
+    let long : length (delay_at ds key) ≡ length chain = ap length is in
+    let both = waiting_with ds key (without_share shares chain) in
+    let fewer = without_fewer shares chain in
+    (omega (arith, both, long, fewer, all), omega (arith, both, long, fewer, all))
+
+-- After i of a chain F: the rest of it stands in front of those that were kept, and what is left to be let in.
+pub record Sifting (shares : Shares) (F : List Transaction) (i : ℕ) (items : List Transaction) : Type 0 where
+  pub passed : List Transaction
+  pub items_are : items ≡ drop i F ++ passed
+  pub kept : passed ++ without_share (drop i shares) (drop i F) ≡ without_share shares F
+
+-- the first that is taken off
+taken : (F items rest passed : List Transaction) (i : ℕ) (x : Transaction) → i < length F → items ≡ drop i F ++ passed → items ≡ x ∷ rest →
+    (drop i F ≡ x ∷ drop (i + 1) F) × (rest ≡ drop (i + 1) F ++ passed)
+taken F items rest passed i x h are is =
+    let more : drop i F ≡ get_or F i x ∷ drop (i + 1) F = drop_more F i x h in
+    let both : x ∷ rest ≡ get_or F i x ∷ (drop (i + 1) F ++ passed) = sym is ∙ (are ∙ ap (λ ys. ys ++ passed) more) in
+    let first : x ≡ get_or F i x = cc in
+    (more ∙ ap (λ y. y ∷ drop (i + 1) F) (sym first), cc)
+
+pub first_in : (shares : Shares) (F items rest : List Transaction) (i : ℕ) (x : Transaction) → i < length F → has_share shares i ≡ true →
+    items ≡ x ∷ rest → Sifting shares F i items →
+    with_share (drop i shares) (drop i F) ≡ x ∷ with_share (drop (i + 1) shares) (drop (i + 1) F)
+first_in shares F items rest i x h some is s =
+    ap (with_share (drop i shares)) (taken F items rest s.passed i x h s.items_are is).0 ∙ with_first shares i x (drop (i + 1) F) some
+
+pub first_out : (shares : Shares) (F items rest : List Transaction) (i : ℕ) (x : Transaction) → i < length F → has_share shares i ≡ false →
+    items ≡ x ∷ rest → Sifting shares F i items → with_share (drop i shares) (drop i F) ≡ with_share (drop (i + 1) shares) (drop (i + 1) F)
+first_out shares F items rest i x h none is s =
+    ap (with_share (drop i shares)) (taken F items rest s.passed i x h s.items_are is).0 ∙ with_rest shares i x (drop (i + 1) F) none
+
+pub sifted_in : (shares : Shares) (F items rest : List Transaction) (i : ℕ) (x : Transaction) → i < length F → has_share shares i ≡ true →
+    items ≡ x ∷ rest → Sifting shares F i items → Sifting shares F (i + 1) rest
+sifted_in shares F items rest i x h some is s =
+    let next = taken F items rest s.passed i x h s.items_are is in
+    record {
+      passed = s.passed;
+      items_are = next.1;
+      kept = ap (λ ys. s.passed ++ ys)
+          (sym (ap (without_share (drop i shares)) next.0 ∙ without_rest shares i x (drop (i + 1) F) some)) ∙ s.kept;
+    }
+
+pub sifted_out : (shares : Shares) (F items rest : List Transaction) (i : ℕ) (x : Transaction) → i < length F → has_share shares i ≡ false →
+    items ≡ x ∷ rest → Sifting shares F i items → Sifting shares F (i + 1) (rest ++ x ∷ [])
+sifted_out shares F items rest i x h none is s =
+    let next = taken F items rest s.passed i x h s.items_are is in
+    let first : without_share (drop i shares) (drop i F) ≡ x ∷ without_share (drop (i + 1) shares) (drop (i + 1) F) =
+    ap (without_share (drop i shares)) next.0 ∙ without_first shares i x (drop (i + 1) F) none in
+    record {
+      passed = s.passed ++ x ∷ [];
+      items_are = ap (λ ys. ys ++ x ∷ []) next.1 ∙ append_assoc (drop (i + 1) F) s.passed (x ∷ []);
+      kept = append_assoc s.passed (x ∷ []) (without_share (drop (i + 1) shares) (drop (i + 1) F)) ∙
+          (ap (λ ys. s.passed ++ ys) (sym first) ∙ s.kept);
+    }
+
+pub sifted : (shares : Shares) (F items : List Transaction) (i : ℕ) → i ≡ length F → Sifting shares F i items → items ≡ without_share shares F
+sifted shares F items i all s =
+    let end : drop i F ≡ [] = drop_of_length-le F (omega (arith, all)) in
+    let none : without_share (drop i shares) (drop i F) ≡ [] = ap (without_share (drop i shares)) end ∙ without_nobody (drop i shares) in
+    s.items_are ∙ (ap (λ ys. ys ++ s.passed) end ∙
+    (sym (append-nil s.passed) ∙ (ap (λ ys. s.passed ++ ys) (sym none) ∙ s.kept)))
+
+-- in order, where the chain was
+behind : (x : Transaction) (shares : Shares) (chain : List Transaction) → AreNotAbove x chain → AreNotAbove x (without_share shares chain)
+behind x [] chain h = h
+behind x (None ∷ shares) [] h = tt
+behind x (Some units ∷ shares) [] h = tt
+behind x (None ∷ shares) (y ∷ ys) h = (h.0, behind x shares ys h.1)
+behind x (Some units ∷ shares) (y ∷ ys) h = behind x shares ys h.1
+
+without_ordered : (shares : Shares) (chain : List Transaction) → IsOrdered chain → IsOrdered (without_share shares chain)
+without_ordered [] chain h = h
+without_ordered (None ∷ shares) [] h = tt
+without_ordered (Some units ∷ shares) [] h = tt
+without_ordered (None ∷ shares) (x ∷ xs) h = (behind x shares xs h.0, without_ordered shares xs h.1)
+without_ordered (Some units ∷ shares) (x ∷ xs) h = without_ordered shares xs h.1
+
+pub without_in_order : (shares : Shares) (chain : List Transaction) → AreInOrder chain → AreInOrder (without_share shares chain)
+without_in_order shares chain h = in_order (without_share shares chain) (without_ordered shares chain (ordered chain h))
+
+-- the room for the first of those who are let in, and for the others behind it
+pub room_first : (xs ys : List Transaction) (x : Transaction) (room limit : ℕ) → ys ≡ x ∷ xs → HasRoomToLetAllIn ys room limit →
+    (0 < room) × IsWithin x.destination limit
+room_first xs ys x room limit is h =
+    let G : HasRoomToLetAllIn (x ∷ xs) room limit = subst (λ zs. HasRoomToLetAllIn zs room limit) is h in
+    let some = G.0 in
+    (omega (arith, some), G.1.0)
+
+pub room_rest : (xs ys : List Transaction) (x : Transaction) (room more limit same : ℕ) → ys ≡ x ∷ xs → room ≤ more + 1 → same ≡ limit →
+    HasRoomToLetAllIn ys room limit → HasRoomToLetAllIn xs more same
+room_rest xs ys x room more limit same is left is_same h =
+    let G : HasRoomToLetAllIn (x ∷ xs) room limit = subst (λ zs. HasRoomToLetAllIn zs room limit) is h in
+    let some = G.0 in
+    (omega (arith, some, left), subst (AreWithin xs) (sym is_same) G.1.1)
+
+-- where there is room for a block's count, there is where there is more
+pub within_more : (to : Option ℕ) (limit more : ℕ) → limit ≤ more → IsWithin to limit → IsWithin to more
+within_more None limit more h within = tt
+within_more (Some id) limit more h within = omega (arith, h, within)

@@ -1,0 +1,5 @@
+pub mod CountLaws
+pub mod DelayLaws
+pub mod LetIn
+pub mod ChainLaws
+pub mod SegmentLaws

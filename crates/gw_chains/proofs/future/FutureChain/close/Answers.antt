@@ -1,0 +1,30 @@
+use Rattle.std.proofs.Common.{◌≡◌, ◌++◌, [], ap, sym, length, ◌∙◌}
+use Rattle.gw_meaning.specs.Step.{least_time}
+use Rattle.gw_chains.specs.Segments.{all_items}
+use Rattle.gw_chains.proofs.SegmentLaws.{closed_is, closed_least}
+use Rattle.gw_chains.proofs.future.FutureChain.close.Goals as goal
+
+-- what is on the closed segment, and nothing on the one behind it
+full_is : (c : goal.After-push_reserved) → c.new-in-Ok.result.items ≡ c.self.inside.last.items
+full_is c = c.new-in-Ok.ensures.items ∙ ap (λ s. s.items) (c.in-Ok.ensures.ok ∙ c.replace-full.ensures.value)
+
+fresh_is : (c : goal.After-push_reserved) → c.replace-full.new.dest.items ≡ []
+fresh_is c = ap (λ s. s.items) c.replace-full.ensures.after ∙ (c.reserve-2.ensures.items ∙ c.new-fresh.ensures)
+
+items_are : (c : goal.After-push_reserved) →
+    all_items c.push_reserved.new.self.items ++ c.replace-full.new.dest.items ≡ all_items c.self.inside.closed.items ++ c.self.inside.last.items
+items_are c =
+    rw (c.push_reserved.ensures.items, c.reserve.ensures.items)
+    (closed_is c.self.inside.closed.items c.new-in-Ok.result c.self.inside.last.items c.replace-full.new.dest.items (full_is c) (fresh_is c))
+
+pub invariant_of-self-in-Ok : goal.invariant_of-self-in-Ok
+invariant_of-self-in-Ok c =
+    let last = c.least_time.ensures ∙ ap (λ s. least_time s.items) (c.deref.ensures ∙ (c.in-Ok.ensures.ok ∙ c.replace-full.ensures.value)) in (
+      c.self.invariant.0 ∙ ap length (sym (items_are c)),
+      c.self.invariant.1,
+      c.soonest-self-inside.ensures ∙ (rw (last, c.self.invariant.2, c.push_reserved.ensures.items, c.reserve.ensures.items)
+          (closed_least c.self.inside.closed.items c.new-in-Ok.result c.self.inside.last.items (full_is c))),
+    )
+
+pub returns-in-Ok : goal.returns-in-Ok
+returns-in-Ok c = rw (← c.self.view_is) (items_are c)

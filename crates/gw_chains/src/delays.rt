@@ -1,0 +1,216 @@
+ghost use Rattle.std.specs.Prelude.{◌≡◌, [], length, min, option_copied, IfOk, OnOk};
+ghost use Rattle.indexmap.specs.IndexMap.{spare};
+ghost use Rattle.gw_entities.specs.Tables.{value_of, with_value};
+ghost use Rattle.gw_meaning.specs.Changes.{lined_up, some_let_in};
+ghost use Rattle.gw_meaning.specs.Machine.{Machine, delay_at, waiting};
+ghost use Rattle.gw_chains.specs.Chains.{delays_of, items_of, HasRoomOn, HasPlace, first_of, without_first, with_share, HasRoomToLetAllIn};
+
+use crate::chain::PriorityChain;
+use crate::counts::Counts;
+use gw_meaning::Transaction;
+use gw_names::Key;
+use indexmap::IndexMap;
+use std::alloc::{AllocError, Global};
+use std::marker::Model;
+use std::mem;
+
+/// The delay chain of each facility and storage that somebody waited for, in the order of first waiting.
+#[derive(Drop)]
+pub struct DelayChains {
+    chains: IndexMap<Key, PriorityChain>,
+    // An empty chain, for the next entity that has none.
+    fresh: PriorityChain,
+    // How many wait on all chains.
+    count: usize,
+}
+
+impl Model for DelayChains {
+    ghost use Rattle.std.specs.Prelude.{◌≡◌, [], length, min};
+    ghost use Rattle.indexmap.specs.IndexMap.{spare};
+    ghost use Rattle.gw_meaning.specs.Machine.{waiting};
+    ghost use Rattle.gw_chains.specs.Chains.{Delays, delays_of};
+
+    ghost Value = { Delays };
+
+    ghost view = { λ d. record {
+      chains = d.chains.entries;
+      spare = min (spare d.chains) d.fresh.room;
+    } };
+
+    ghost invariant = { λ d. (d.fresh.items ≡ []) × (d.count ≡ length (waiting (delays_of d.chains.entries))) };
+}
+
+impl DelayChains {
+    /// Nobody has waited yet.
+    pub fn new(alloc: Global) -> DelayChains
+        ensures { result.chains ≡ [] }
+    {
+        DelayChains {
+            chains: IndexMap::new(alloc),
+            fresh: PriorityChain::new(alloc),
+            count: 0,
+        }
+    }
+
+    /// How many wait for a facility or a storage.
+    pub fn len(&self, key: &Key) -> usize
+        ensures { result ≡ length (delay_at (delays_of self.now.chains) key.now) }
+    {
+        match self.chains.get(key) {
+            Some(chain) => chain.len(),
+            None => 0,
+        }
+    }
+
+    /// How many wait on all chains.
+    pub fn count(&self) -> usize
+        ensures { result ≡ length (waiting (delays_of self.now.chains)) }
+    {
+        self.count
+    }
+
+    /// The chain of a facility or a storage, where somebody waited for it.
+    pub fn chain(&self, key: &Key) -> Option<&PriorityChain>
+        ensures { items_of (option_copied result) ≡ delay_at (delays_of self.now.chains) key.now }
+    {
+        if self.count == 0 {
+            return None;
+        }
+        self.chains.get(key)
+    }
+
+    /// The first that waits for a facility.
+    pub fn first(&self, key: &Key) -> Option<&Transaction>
+        ensures { option_copied result ≡ first_of (delay_at (delays_of self.now.chains) key.now) }
+    {
+        if self.count == 0 {
+            return None;
+        }
+        match self.chains.get(key) {
+            Some(chain) => chain.get(0),
+            None => None,
+        }
+    }
+
+    /// Makes room for one more to wait for a facility or a storage.
+    pub fn reserve(&mut self, key: &Key) -> Result<(), AllocError>
+        ensures ok { OnOk result (HasPlace self.new key.now) }
+        ensures delays { delays_of self.new.chains ≡ delays_of self.old.chains }
+    {
+        let is_full = self.count >= usize::MAX;
+        if is_full {
+            return Err(AllocError);
+        }
+        match self.chains.get_mut(key) {
+            Some(chain) => chain.reserve(1),
+            None => {
+                self.chains.reserve(1)?;
+                self.fresh.reserve(1)
+            }
+        }
+    }
+
+    /// A transaction waits for a facility or a storage: behind its equals, in front of the first of lower priority.
+    pub fn line_up(&mut self, key: Key, x: Transaction)
+        requires { HasPlace self.old key }
+        ensures { delays_of self.new.chains ≡
+            with_value (delays_of self.old.chains) key (lined_up x (delay_at (delays_of self.old.chains) key)) }
+    {
+        put(&mut self.chains, &mut self.fresh, key, x);
+        self.count += 1;
+    }
+
+    /// The first that waits for a facility goes.
+    pub fn take_first(&mut self, key: &Key) -> Option<Transaction>
+        ensures first { result ≡ first_of (delay_at (delays_of self.old.chains) key.now) }
+        ensures delays { delays_of self.new.chains ≡
+            without_first (delays_of self.old.chains) key.now (delay_at (delays_of self.old.chains) key.now) }
+    {
+        if self.count == 0 {
+            return None;
+        }
+        let chain = self.chains.get_mut(key)?;
+        let x = chain.take_first()?;
+        self.count -= 1;
+        Some(x)
+    }
+
+    /// Of those who wait for a storage each with a share is let in.
+    pub fn let_in_some(
+        &mut self,
+        key: &Key,
+        shares: &[Option<u64>],
+        current: &mut PriorityChain,
+        counts: &mut Counts,
+    )
+        requires { HasRoomToLetAllIn (with_share shares.now (delay_at (delays_of self.old.chains) key.now))
+            current.old.room counts.old.limit }
+        ensures { (s : Machine) →
+            record s { delays = delays_of self.new.chains; current = current.new.items; counts = counts.new.entries } ≡
+            some_let_in key.now shares.now [] (delay_at (delays_of self.old.chains) key.now) (record s {
+              delays = delays_of self.old.chains;
+              current = current.old.items;
+              counts = counts.old.entries;
+            }) }
+    {
+        if self.count == 0 {
+            return;
+        }
+        let Some(chain) = self.chains.get_mut(key) else {
+            return;
+        };
+        let before = chain.len();
+        chain.let_in_some(shares, current, counts);
+        let gone = before - chain.len();
+        self.count -= gone;
+    }
+
+    /// Equal chains.
+    pub fn copy(&self) -> Result<DelayChains, AllocError>
+        ensures { IfOk result (λ d. delays_of d.chains ≡ delays_of self.now.chains) }
+    {
+        let alloc = *self.chains.allocator();
+        let len = self.chains.len();
+        let mut chains = IndexMap::with_capacity(alloc, len)?;
+        for i in 0..len {
+            match self.chains.get_index(i) {
+                Some((key, chain)) => {
+                    chains.insert(key.clone()?, chain.copy()?)?;
+                }
+                None => unreachable!(),
+            }
+        }
+        Ok(DelayChains {
+            chains,
+            fresh: PriorityChain::new(alloc),
+            count: self.count,
+        })
+    }
+}
+
+// Puts a transaction on the chain of a facility or a storage, and on the fresh one where it has none.
+fn put(
+    chains: &mut IndexMap<Key, PriorityChain>,
+    fresh: &mut PriorityChain,
+    key: Key,
+    x: Transaction,
+)
+    requires room { HasRoomOn (value_of chains.old.entries key) (min (spare chains.old) fresh.old.room) }
+    requires fresh { fresh.old.items ≡ [] }
+    ensures delays { delays_of chains.new.entries ≡
+        with_value (delays_of chains.old.entries) key (lined_up x (delay_at (delays_of chains.old.entries) key)) }
+    ensures fresh { fresh.new.items ≡ [] }
+{
+    match chains.get_mut(&key) {
+        Some(chain) => chain.line_up(x),
+        None => {
+            let alloc = *chains.allocator();
+            let mut chain = mem::replace(fresh, PriorityChain::new(alloc));
+            chain.line_up(x);
+            match chains.insert(key, chain) {
+                Ok(_) => (),
+                Err(_) => unreachable!(),
+            }
+        }
+    }
+}

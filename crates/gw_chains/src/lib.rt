@@ -1,0 +1,18 @@
+//! The chains of transactions (current, future and delay) as lists, and the counts of the blocks that they stand in.
+//!
+//! All that grows is reserved first, so want of memory changes no list and no count.
+#![tactic(auto)]
+
+mod chain;
+mod closed;
+mod counts;
+mod delays;
+mod entering;
+mod future;
+mod segment;
+
+pub use chain::{PriorityChain, has_share};
+pub use counts::Counts;
+pub use delays::DelayChains;
+pub use entering::{let_in, place};
+pub use future::FutureChain;

@@ -1,5 +1,0 @@
-use Rattle.gw_scan.proofs.ChainLaws.{rest_in_order}
-use Rattle.gw_scan.proofs.chain.PriorityChain.take_first.Goals as goal
-
-pub invariant_of-self : goal.invariant_of-self
-invariant_of-self c = rest_in_order c.pop_front.result _ _ c.pop_front.ensures.items c.self.invariant

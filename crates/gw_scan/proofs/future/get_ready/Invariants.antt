@@ -1,5 +1,0 @@
-use Rattle.gw_scan.proofs.SegmentLaws.{Readying}
-use Rattle.gw_scan.proofs.future.get_ready.Given as goal
-
-abbrev pub invariant-loop-index : goal.invariant-loop-index
-invariant-loop-index l = Readying l.time l.initial.segments.items l.index l.segments.items

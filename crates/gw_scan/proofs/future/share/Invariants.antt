@@ -1,9 +1,0 @@
-use Rattle.std.proofs.Common.{◌≡◌, length}
-use Rattle.gw_scan.specs.Segments.{all_items}
-use Rattle.gw_scan.proofs.future.share.Given as goal
-
-abbrev pub invariant-loop-place : goal.invariant-loop-place
-invariant-loop-place l = record {
-  long : length l.segments.items ≡ length l.initial.segments.items;
-  items : all_items l.segments.items ≡ all_items l.initial.segments.items;
-}

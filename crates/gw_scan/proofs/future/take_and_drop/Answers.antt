@@ -1,7 +1,0 @@
-use Rattle.std.proofs.Common.{ap, ◌∙◌}
-use Rattle.gw_scan.specs.Segments.{all_items}
-use Rattle.gw_scan.proofs.SegmentLaws.{all_items_in_use}
-use Rattle.gw_scan.proofs.future.take_and_drop.Goals as goal
-
-pub returns-clause-future : goal.returns-clause-future
-returns-clause-future c = ap all_items c.drop_empty.ensures ∙ (all_items_in_use c.take_due.new.segments.items ∙ c.take_due.ensures.future)
