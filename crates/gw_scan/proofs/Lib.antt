@@ -1,3 +1,4 @@
+pub mod Acting
 pub mod Binding
 pub mod StepLaws
 pub mod Nested

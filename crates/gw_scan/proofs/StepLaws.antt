@@ -1,5 +1,5 @@
 -- A step is the move that is decided, made.
-use Rattle.std.specs.Prelude.{IfOk, OnErr}
+use Rattle.std.specs.Prelude.{IfOk}
 use Rattle.std.proofs.Common.{◌≡◌, ℕ, List, [], ◌∷◌, None, Some, Result, Ok, Err, refl, ap, sym, subst, ◌∙◌, append-nil}
 use Rattle.gw_streams.specs.declared.stream.Stream.{Stream}
 use Rattle.gw_meaning.specs.declared.item.End.{End}
@@ -16,11 +16,17 @@ use Rattle.gw_scan.specs.declared.case.Halt.{Halt}
 use Rattle.gw_scan.specs.declared.case.Halt.TheVariants as halts
 use Rattle.gw_scan.specs.Noted.{Noted, Reads, Keeps, Forgets}
 use Rattle.gw_scan.specs.Deciding.{Decides}
-use Rattle.gw_scan.specs.Stepping.{EndsAs, Foretells, Follows, LeavesNotes, IsIdle}
+use Rattle.gw_scan.specs.Stepping.{EndsAs, Acts, Halts, Steps, IsIdle}
 use Rattle.gw_scan.specs.declared.steps.Turn.{Turn}
-use Rattle.gw_scan.specs.declared.steps.Turn.TheVariants as turns
 use Rattle.gw_scan.proofs.Binding.{reads_keep}
 use Rattle.gw_meaning.proofs.Programs.{bind_gives, bind_ends}
+
+-- what comes next is the step of the definition, with these streams behind its draws, or its end; want of memory leaves
+-- it open
+abbrev pub Foretells : Listing → ℕ → Machine → List Stream → Result Move Halt → Type 0
+Foretells t seed s streams (Ok m) = step t seed s ≡ Ok (decided s m streams)
+Foretells t seed s streams (Err (halts.End end)) = step t seed s ≡ Err end
+Foretells t seed s streams (Err halts.Memory) = Unit
 
 -- who picks or sets the clock leaves the streams
 pub idle_undrawn : (s : Machine) (m : Move) → IsIdle m → decided s m s.streams ≡ moved s m
@@ -75,35 +81,36 @@ module _ (t : Listing) (seed : ℕ) (s : Machine) where
   foretold (Err (halts.End end)) old new same h = step_ends end (rw same at h.0)
   foretold (Err halts.Memory) old new same h = tt
 
-  -- what is noted behind it
-  pub followed :
-      (r : Result Move Halt) (turn : Turn) (old mid new : Noted) → old.streams ≡ s.streams → Decides t seed (move_prog s s.remaining) r old mid →
-      LeavesNotes r turn s.streams mid new → Follows turn (step_items t seed s) old new
-  followed (Ok m) turns.Moved old mid new same h left =
-      let told = rw same at h.0 in
-      let read = subst (λ (is : List Stream). Reads old (items_of t seed (move_prog s s.remaining is)) mid) same h.1 in
-      let F : Noted → Type 0 = λ n. Reads old (step_items t seed s) n in
-      subst F (sym left) (subst (λ is. Reads old is mid) (sym (step_goes_items (m, mid.streams) told)) read)
-  followed (Ok m) (turns.Ended end) old mid new same h left = absurd left
-  followed (Err halt) turns.Moved old mid new same h left = absurd left
-  followed (Err halt) (turns.Ended end) old mid new same h left =
-      subst (λ is. Forgets old.step is old new) (sym same) (forgets_then old mid new s.streams (decides_keeps t seed (move_prog s s.remaining) (Err halt) old mid h) left)
+  -- a step that was made leads where the step of the definition does
+  pub acted :
+      (after : Machine) (old new : Noted) → old.streams ≡ s.streams →
+      Acts t seed (move_prog s s.remaining) (Ok tt) s after old new → step t seed s ≡ Ok after
+  acted after old new same h = foretold (Ok h.0) old new same h.1 ∙ ap (λ x. Ok x) (sym h.2)
 
-  pub follows_if_ok :
-      {E : Type 0} (r : Result Move Halt) (result : Result Turn E) (old mid new : Noted) → old.streams ≡ s.streams →
-      Decides t seed (move_prog s s.remaining) r old mid → IfOk result (λ turn. LeavesNotes r turn s.streams mid new) →
-      IfOk result (λ turn. Follows turn (step_items t seed s) old new)
-  follows_if_ok r (Ok turn) old mid new same h left = followed r turn old mid new same h left
-  follows_if_ok r (Err error) old mid new same h left = tt
+  pub acted_streams :
+      (after : Machine) (old new : Noted) → Acts t seed (move_prog s s.remaining) (Ok tt) s after old new → new.streams ≡ after.streams
+  acted_streams after old new h = ap (λ (u : Machine). u.streams) (sym h.2)
 
-  pub forgets_if_err :
-      {E : Type 0} (r : Result Move Halt) (result : Result Turn E) (old mid new : Noted) → old.streams ≡ s.streams →
-      Decides t seed (move_prog s s.remaining) r old mid → OnErr result (Forgets mid.step s.streams mid new) →
-      OnErr result (Forgets old.step old.streams old new)
-  forgets_if_err r (Ok turn) old mid new same h left = tt
-  forgets_if_err r (Err error) old mid new same h left =
-      subst (λ (is : List Stream). Forgets old.step is old new) (sym same)
-      (forgets_then old mid new s.streams (decides_keeps t seed (move_prog s s.remaining) r old mid h) left)
+  -- and notes what that one reads
+  pub acted_reads :
+      (after : Machine) (old new : Noted) → old.streams ≡ s.streams →
+      Acts t seed (move_prog s s.remaining) (Ok tt) s after old new → Reads old (step_items t seed s) new
+  acted_reads after old new same h =
+      let told = rw same at h.1.0 in
+      let read = subst (λ (is : List Stream). Reads old (items_of t seed (move_prog s s.remaining is)) new) same h.1.1 in
+      subst (λ is. Reads old is new) (sym (step_goes_items (h.0, new.streams) told)) read
+
+  -- where none was made, it is told why, and nothing changed
+  pub halted_told :
+      {E : Type 0} (halt : Halt) (result : Result Turn E) (after : Machine) (old new : Noted) → old.streams ≡ s.streams →
+      Acts t seed (move_prog s s.remaining) (Err halt) s after old new → Halts halt result →
+      IfOk result (λ turn. Steps (step t seed s) turn s after)
+  halted_told (halts.End end) (Ok turn) after old new same h told =
+      let F : Turn → Type 0 = λ u. Steps (step t seed s) u s after in
+      subst F (sym told) (foretold (Err (halts.End end)) old new same h.0, h.1)
+  halted_told (halts.End end) (Err error) after old new same h told = absurd told
+  halted_told halts.Memory (Ok turn) after old new same h told = absurd told
+  halted_told halts.Memory (Err error) after old new same h told = tt
 
 pub goes_on : (r : Result Machine End) (s : Machine) → r ≡ Ok s → EndsAs r None
 goes_on (Ok u) s is = refl

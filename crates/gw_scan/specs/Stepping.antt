@@ -9,18 +9,12 @@ use Rattle.gw_meaning.specs.declared.moves.Move.TheVariants as moves
 use Rattle.gw_meaning.specs.Listing.{Listing}
 use Rattle.gw_meaning.specs.Machine.{Machine, raised}
 use Rattle.gw_meaning.specs.Changes.{decided}
-use Rattle.gw_meaning.specs.Step.{step}
+use Rattle.gw_meaning.specs.Evaluation.{Eval}
+use Rattle.gw_scan.specs.Deciding.{Decides}
 use Rattle.gw_scan.specs.declared.case.Halt.{Halt}
 use Rattle.gw_scan.specs.declared.case.Halt.TheVariants as halts
 use Rattle.gw_scan.specs.declared.steps.Turn.{Turn}
 use Rattle.gw_scan.specs.declared.steps.Turn.TheVariants as turns
-
--- what comes next is the step of the definition, with these streams behind its draws, or its end; want of memory leaves
--- it open
-abbrev pub Foretells : Listing → ℕ → Machine → List Stream → Result Move Halt → Type 0
-Foretells t seed s streams (Ok m) = step t seed s ≡ Ok (decided s m streams)
-Foretells t seed s streams (Err (halts.End end)) = step t seed s ≡ Err end
-Foretells t seed s streams (Err halts.Memory) = Unit
 
 -- a move that picks or sets the clock
 abbrev pub IsIdle : Move → Type 0
@@ -43,11 +37,25 @@ abbrev pub Follows : Turn → List Item → Noted → Noted → Type 0
 Follows turns.Moved items old new = Reads old items new
 Follows (turns.Ended end) items old new = Forgets old.step old.streams old new
 
--- where a step was decided and made, what it noted stays; where it ended, nothing does of it
-abbrev pub LeavesNotes : Result Move Halt → Turn → List Stream → Noted → Noted → Type 0
-LeavesNotes (Ok m) turns.Moved streams old new = new ≡ old
-LeavesNotes (Err halt) (turns.Ended end) streams old new = Forgets old.step streams old new
-LeavesNotes decision turn streams old new = ⊥
+-- the move that was decided is made, with these streams behind its draws; where none was, or memory is refused, nothing
+-- changes
+abbrev pub Makes : Result Move Halt → List Stream → Result (Unit {0}) Halt → Machine → Machine → Type 0
+Makes (Ok m) streams (Ok u) before after = after ≡ decided before m streams
+Makes (Ok m) streams (Err halt) before after = (halt ≡ halts.Memory) × (after ≡ before)
+Makes (Err halt) streams (Err other) before after = (other ≡ halt) × (after ≡ before)
+Makes (Err halt) streams (Ok u) before after = ⊥
+
+-- the move to which an evaluation comes is made, with the streams behind its draws; where it comes to none, nothing changes
+abbrev pub Acts : Listing → ℕ → Eval Move → Result (Unit {0}) Halt → Machine → Machine → Noted → Noted → Type 0
+Acts t seed p (Ok u) before after old new =
+    (m : Move) × Decides t seed p (Ok m) old new × (after ≡ decided before m new.streams)
+Acts t seed p (Err halt) before after old new = Decides t seed p (Err halt) old new × (after ≡ before)
+
+-- no step was made: the run ends here, or memory was refused
+abbrev pub Halts : {E : Type 0} → Halt → Result Turn E → Type 0
+Halts (halts.End end) (Ok turn) = turn ≡ turns.Ended end
+Halts halts.Memory (Err error) = Unit {0}
+Halts halt result = ⊥
 
 -- the end of the definition, or none where it goes
 abbrev pub EndsAs : Result Machine End → Option End → Type 0

@@ -1,19 +1,19 @@
 // What a move does to a state: reserve all that grows, then change.
 ghost use Rattle.std.specs.Prelude.{◌≡◌, ◌<◌, ◌≤◌, ◌+◌, Some, None, OnOk, OnErr};
-ghost use Rattle.gw_meaning.specs.Machine.{Machine, raised};
+ghost use Rattle.gw_meaning.specs.Machine.{Machine};
 ghost use Rattle.gw_meaning.specs.Changes.{moved, decided, fated, own_marked, bound};
-ghost use Rattle.gw_scan.specs.Stepping.{IsIdle};
+ghost use Rattle.gw_scan.specs.Stepping.{IsIdle, Makes};
 ghost use Rattle.gw_meaning.specs.declared.moves.Change.TheVariants as changes;
 ghost use Rattle.gw_meaning.specs.declared.moves.Move.TheVariants as moves;
 ghost use Rattle.gw_meaning.specs.declared.transaction.Transaction.{Transaction};
 
 use crate::assigning::set;
+use crate::case::Halt;
 use crate::entity_change::{change_entity, reserve_change};
 use crate::making::{make, make_all};
 use crate::notes::Notes;
 use crate::progress::Progress;
 use crate::state::State;
-use crate::tally::Tally;
 use gw_chains::{FutureChain, PriorityChain, place};
 use gw_entities::Parameters;
 use gw_meaning::{
@@ -25,32 +25,31 @@ use gw_nums::Clock;
 use std::alloc::AllocError;
 
 impl State {
-    /// Makes the step that was decided, with the streams behind its draws, and counts it; or changes nothing where a
-    /// growth is refused.
+    // Makes the move that was decided, with the streams behind its draws; or changes nothing, where none was or a growth
+    // is refused.
     #[inline(always)]
-    pub fn make(&mut self, step: Move, notes: &Notes, tally: &mut Tally) -> Result<(), AllocError>
-        ensures ok { OnOk result (self.new ≡ decided self.old step notes.now.streams) }
-        ensures tally { OnOk result (tally.new ≡ raised tally.old) }
-        ensures err { OnErr result ((self.new ≡ self.old) × (tally.new ≡ tally.old)) }
+    pub(crate) fn carry_out(
+        &mut self,
+        decision: Result<Move, Halt>,
+        notes: &Notes,
+    ) -> Result<(), Halt>
+        ensures { Makes decision notes.now.streams result self.old self.new }
     {
+        let step = decision?;
         self.apply(step)?;
         self.streams = notes.streams;
-        tally.raise();
         Ok(())
     }
 
-    // Picks or sets the clock, which draws nothing, and counts it; or changes nothing where a growth is refused.
+    // Picks or sets the clock, which draws nothing; or changes nothing where a growth is refused.
     #[inline(always)]
     #[tactic(auto, using(crate::proofs::StepLaws::idle_undrawn))]
-    pub(crate) fn go_on(&mut self, step: Move, tally: &mut Tally) -> Result<(), AllocError>
+    pub(crate) fn go_on(&mut self, step: Move) -> Result<(), AllocError>
         requires { IsIdle step }
         ensures ok { OnOk result (self.new ≡ decided self.old step self.old.streams) }
-        ensures tally { OnOk result (tally.new ≡ raised tally.old) }
-        ensures err { OnErr result ((self.new ≡ self.old) × (tally.new ≡ tally.old)) }
+        ensures err { OnErr result (self.new ≡ self.old) }
     {
-        self.apply(step)?;
-        tally.raise();
-        Ok(())
+        self.apply(step)
     }
 
     // Makes a move, or changes nothing where a growth is refused.

@@ -20,7 +20,6 @@ use gw_names::BlockVerb;
 
 impl State {
     // The move of the next step.
-    #[inline(always)]
     pub(crate) fn decide(&self, case: Case, notes: &mut Notes) -> Result<Move, Halt>
         ensures { Decides case.entry.version.now case.entry.seed (move_prog self.now self.now.remaining)
             result notes.old notes.new }
@@ -34,30 +33,8 @@ impl State {
         }
     }
 
-    // Whether a START is under way and none is active.
-    #[inline(always)]
-    pub(crate) fn is_idle(&self) -> bool
-        ensures { IsTrue result → (0 < self.now.remaining) × (self.now.active ≡ None) }
-    {
-        self.progress.remaining() != 0 && self.active.is_none()
-    }
-
-    // The move of the next step, where a START is under way and none is active.
-    #[inline(always)]
-    pub(crate) fn decide_idle(&self, case: Case, notes: &mut Notes) -> Result<Move, Halt>
-        requires remaining { 0 < self.now.remaining }
-        requires active { self.now.active ≡ None }
-        ensures told { Decides case.entry.version.now case.entry.seed (move_prog self.now self.now.remaining)
-            result notes.old notes.new }
-        ensures idle { IfOk result (λ move. IsIdle move) }
-        ensures streams { notes.new.streams ≡ notes.old.streams }
-    {
-        self.pick_or_clock(case, notes)
-    }
-
     // No START is under way: the next command.
-    #[inline(always)]
-    fn command(&self, case: Case, notes: &mut Notes) -> Result<Move, Halt>
+    pub(crate) fn command(&self, case: Case, notes: &mut Notes) -> Result<Move, Halt>
         ensures { Decides case.entry.version.now case.entry.seed (move_prog self.now 0)
             result notes.old notes.new }
     {
@@ -69,7 +46,6 @@ impl State {
         self.command_of(case, notes, command)
     }
 
-    #[inline(always)]
     fn command_of(
         &self,
         case: Case,
@@ -90,7 +66,6 @@ impl State {
     }
 
     // A START, with the first transactions of the GENERATEs where it is the one that primes them.
-    #[inline(always)]
     fn start_of(&self, case: Case, notes: &mut Notes, count: u64) -> Result<Move, Halt>
         ensures { Decides case.entry.version.now case.entry.seed (start_prog self.now self.now.primed count)
             result notes.old notes.new }
@@ -105,8 +80,6 @@ impl State {
         Ok(Move::Start { count, arrivals })
     }
 
-    #[cold]
-    #[inline(never)]
     fn first_arrivals(
         &self,
         case: Case,
@@ -121,7 +94,6 @@ impl State {
     }
 
     // The active transaction x tries its next block.
-    #[inline(always)]
     fn attempt(&self, case: Case, notes: &mut Notes, x: &Transaction) -> Result<Move, Halt>
         ensures { Decides case.entry.version.now case.entry.seed (attempt_prog self.now x.now x.now.destination)
             result notes.old notes.new }
@@ -132,7 +104,6 @@ impl State {
         }
     }
 
-    #[inline(always)]
     fn try_after(&self, case: Case, notes: &mut Notes, x: &Transaction) -> Result<Move, Halt>
         ensures { Decides case.entry.version.now case.entry.seed (attempt_prog self.now x.now None)
             result notes.old notes.new }
@@ -141,7 +112,6 @@ impl State {
         self.try_block(case, notes, x, id)
     }
 
-    #[inline(always)]
     fn try_block(
         &self,
         case: Case,
@@ -159,8 +129,6 @@ impl State {
         self.meet(case, notes, x, id, block)
     }
 
-    // Most blocks are one of these three: what they come to stays in registers.
-    #[inline(always)]
     fn meet(
         &self,
         case: Case,
@@ -172,23 +140,15 @@ impl State {
         ensures { Decides case.entry.version.now case.entry.seed
             (meet_prog self.now x.now id (option_copied block.entry)) result notes.old notes.new }
     {
-        let Some(block) = block else {
-            return Err(Halt::End(End::Error(Stop::NoNextBlock)));
-        };
-        match block.verb {
-            BlockVerb::Generate => self.generate_of(case, notes, x, id, block),
-            BlockVerb::Advance => self.advance_of(case, &self.for_one(x), notes, id, block),
-            BlockVerb::Terminate => self.terminate_of(case, &self.for_one(x), notes, id, block),
-            _ => match self.meet_any(case, notes, x, id, block) {
-                Ok(step) => Ok(step),
-                Err(halt) => Err(halt),
-            },
+        match block {
+            Some(block) => self.meet_any(case, notes, x, id, block),
+            None => Err(Halt::End(End::Error(Stop::NoNextBlock))),
         }
     }
 
     // The same, at a block of any verb.
-    #[inline(never)]
-    fn meet_any(
+    #[inline(always)]
+    pub(crate) fn meet_any(
         &self,
         case: Case,
         notes: &mut Notes,
@@ -221,7 +181,7 @@ impl State {
     }
 
     #[inline(always)]
-    fn generate_of(
+    pub(crate) fn generate_of(
         &self,
         case: Case,
         notes: &mut Notes,
@@ -254,7 +214,7 @@ impl State {
     }
 
     #[inline(always)]
-    fn advance_of(
+    pub(crate) fn advance_of(
         &self,
         case: Case,
         asker: &Asker,
@@ -290,7 +250,7 @@ impl State {
     }
 
     #[inline(always)]
-    fn terminate_of(
+    pub(crate) fn terminate_of(
         &self,
         case: Case,
         asker: &Asker,
@@ -317,7 +277,7 @@ impl State {
 
     // None is active: the first of the current chain, or else the least future time.
     #[inline(always)]
-    fn pick_or_clock(&self, case: Case, notes: &mut Notes) -> Result<Move, Halt>
+    pub(crate) fn pick_or_clock(&self, case: Case, notes: &mut Notes) -> Result<Move, Halt>
         ensures told { Decides case.entry.version.now case.entry.seed (pick_prog self.now self.now.current)
             result notes.old notes.new }
         ensures idle { IfOk result (λ move. IsIdle move) }

@@ -4,6 +4,7 @@
 //! follows and changes nothing. Want of memory changes nothing either.
 #![tactic(auto)]
 
+mod act;
 mod arrival;
 mod assigning;
 mod attributes;

@@ -1,34 +1,15 @@
-use Rattle.gw_scan.proofs.StepLaws.{foretold, follows_if_ok, forgets_if_err}
+use Rattle.gw_scan.proofs.StepLaws.{acted, acted_reads, halted_told}
 use Rattle.gw_scan.proofs.steps.step.Goals as goal
 
-pub carry_out-requires : goal.carry_out-requires
-carry_out-requires c =
-    foretold c.args.version.now c.args.seed c.args.state.now c.decide-decision.result c.args.notes.now c.decide-decision.new.notes c.requires
-    c.decide-decision.ensures
+pub returns-in-Ok-clause-told : goal.returns-in-Ok-clause-told
+returns-in-Ok-clause-told c =
+    acted c.args.version.now c.args.seed c.args.state.now c.act.new.self c.args.notes.now c.act.new.notes c.requires c.in-Ok.ensures
 
-pub returns-clause-notes : goal.returns-clause-notes
-returns-clause-notes c =
-    follows_if_ok c.args.version.now c.args.seed c.args.state.now c.decide-decision.result c.carry_out.result c.args.notes.now
-    c.decide-decision.new.notes c.carry_out.new.notes c.requires c.decide-decision.ensures c.carry_out.ensures.notes
+pub returns-in-Ok-clause-notes : goal.returns-in-Ok-clause-notes
+returns-in-Ok-clause-notes c =
+    acted_reads c.args.version.now c.args.seed c.args.state.now c.act.new.self c.args.notes.now c.act.new.notes c.requires c.in-Ok.ensures
 
-pub returns-then-is_idle-clause-notes : goal.returns-then-is_idle-clause-notes
-returns-then-is_idle-clause-notes c =
-    follows_if_ok c.args.version.now c.args.seed c.args.state.now c.decide_idle-decision.result c.go_on.result c.args.notes.now
-    c.decide_idle-decision.new.notes c.go_on.new.notes c.requires c.decide_idle-decision.ensures.told
-    c.go_on.ensures.notes
-
-pub returns-then-is_idle-clause-forgets : goal.returns-then-is_idle-clause-forgets
-returns-then-is_idle-clause-forgets c =
-    forgets_if_err c.args.version.now c.args.seed c.args.state.now c.decide_idle-decision.result c.go_on.result c.args.notes.now
-    c.decide_idle-decision.new.notes c.go_on.new.notes c.requires c.decide_idle-decision.ensures.told
-    c.go_on.ensures.forgets
-
-pub returns-clause-forgets : goal.returns-clause-forgets
-returns-clause-forgets c =
-    forgets_if_err c.args.version.now c.args.seed c.args.state.now c.decide-decision.result c.carry_out.result c.args.notes.now
-    c.decide-decision.new.notes c.carry_out.new.notes c.requires c.decide-decision.ensures c.carry_out.ensures.forgets
-
-pub go_on-requires-clause-told : goal.go_on-requires-clause-told
-go_on-requires-clause-told c =
-    foretold c.args.version.now c.args.seed c.args.state.now c.decide_idle-decision.result c.args.notes.now c.decide_idle-decision.new.notes c.requires
-    c.decide_idle-decision.ensures.told
+pub returns-in-Err-clause-told : goal.returns-in-Err-clause-told
+returns-in-Err-clause-told c =
+    halted_told c.args.version.now c.args.seed c.args.state.now c.in-Err.halt c.halted.result c.act.new.self c.args.notes.now c.act.new.notes
+    c.requires c.in-Err.ensures c.halted.ensures.told

@@ -1,0 +1,151 @@
+// A step, decided and made.
+//
+// What a block comes to is made where it is decided: so the move of one of the three blocks that most attempts meet stays in
+// registers. [`State::decide`] takes the same decisions and makes none.
+ghost use Rattle.std.specs.Prelude.{◌≡◌, Some, IsSome};
+ghost use Rattle.gw_meaning.specs.declared.transaction.Transaction.{Transaction};
+ghost use Rattle.gw_meaning.specs.declared.item.Item.TheVariants as items;
+ghost use Rattle.gw_meaning.specs.Evaluation.{asks};
+ghost use Rattle.gw_meaning.specs.Step.{move_prog, pick_prog, try_prog, meet_prog};
+ghost use Rattle.gw_scan.specs.Stepping.{Acts};
+
+use crate::case::{Case, Halt, ask_after, ask_block};
+use crate::notes::Notes;
+use crate::state::State;
+use gw_expr::Stop;
+use gw_meaning::{Block, End, StatementId};
+use gw_names::BlockVerb;
+
+impl State {
+    // The next step; or why none follows, and then nothing changes.
+    #[inline(always)]
+    pub(crate) fn act(&mut self, case: Case, notes: &mut Notes) -> Result<(), Halt>
+        requires { notes.old.streams ≡ self.old.streams }
+        ensures { Acts case.entry.version.now case.entry.seed (move_prog self.old self.old.remaining)
+            result self.old self.new notes.old notes.new }
+    {
+        if self.progress.remaining() == 0 {
+            return self.act_command(case, notes);
+        }
+        let Some(x) = &self.active else {
+            return self.act_idle(case, notes);
+        };
+        let current = x.current;
+        match x.destination.id() {
+            Some(id) => self.act_block(case, notes, Some(id)),
+            None => self.act_after(case, notes, current),
+        }
+    }
+
+    // No START is under way: the next command.
+    #[cold]
+    #[inline(never)]
+    fn act_command(&mut self, case: Case, notes: &mut Notes) -> Result<(), Halt>
+        ensures { Acts case.entry.version.now case.entry.seed (move_prog self.old 0)
+            result self.old self.new notes.old notes.new }
+    {
+        let decision = self.command(case, notes);
+        self.carry_out(decision, notes)
+    }
+
+    // None is active: the first of the current chain, or else the clock moves on. Nothing is drawn.
+    #[inline(always)]
+    fn act_idle(&mut self, case: Case, notes: &mut Notes) -> Result<(), Halt>
+        requires { notes.old.streams ≡ self.old.streams }
+        ensures { Acts case.entry.version.now case.entry.seed (pick_prog self.old self.old.current)
+            result self.old self.new notes.old notes.new }
+    {
+        let step = self.pick_or_clock(case, notes)?;
+        self.go_on(step)?;
+        Ok(())
+    }
+
+    // The active transaction, which stands in this block, tries the one after it.
+    #[inline(always)]
+    fn act_after(&mut self, case: Case, notes: &mut Notes, current: StatementId) -> Result<(), Halt>
+        requires { IsSome self.old.active }
+        ensures { (x : Transaction) → self.old.active ≡ Some x →
+            Acts case.entry.version.now case.entry.seed (asks (items.After current) (try_prog self.old x))
+            result self.old self.new notes.old notes.new }
+    {
+        let id = ask_after(case.version, notes, current)?;
+        self.act_block(case, notes, id)
+    }
+
+    // The active transaction tries a block.
+    #[inline(always)]
+    fn act_block(
+        &mut self,
+        case: Case,
+        notes: &mut Notes,
+        id: Option<StatementId>,
+    ) -> Result<(), Halt>
+        requires { IsSome self.old.active }
+        ensures { (x : Transaction) → self.old.active ≡ Some x →
+            Acts case.entry.version.now case.entry.seed (try_prog self.old x id)
+            result self.old self.new notes.old notes.new }
+    {
+        let Some(id) = id else {
+            return Err(Halt::End(End::Error(Stop::NoNextBlock)));
+        };
+        match ask_block(case.version, notes, id)? {
+            Some(block) => self.act_at(case, notes, id, block),
+            None => Err(Halt::End(End::Error(Stop::NoNextBlock))),
+        }
+    }
+
+    // The active transaction meets a block. Most are one of these three.
+    #[inline(always)]
+    fn act_at(
+        &mut self,
+        case: Case,
+        notes: &mut Notes,
+        id: StatementId,
+        block: &Block,
+    ) -> Result<(), Halt>
+        requires { IsSome self.old.active }
+        ensures { (x : Transaction) → self.old.active ≡ Some x →
+            Acts case.entry.version.now case.entry.seed (meet_prog self.old x id (Some block.now))
+            result self.old self.new notes.old notes.new }
+    {
+        let Some(x) = &self.active else {
+            unreachable!()
+        };
+        match block.verb {
+            BlockVerb::Generate => {
+                let decision = self.generate_of(case, notes, x, id, block);
+                self.carry_out(decision, notes)
+            }
+            BlockVerb::Advance => {
+                let decision = self.advance_of(case, &self.for_one(x), notes, id, block);
+                self.carry_out(decision, notes)
+            }
+            BlockVerb::Terminate => {
+                let decision = self.terminate_of(case, &self.for_one(x), notes, id, block);
+                self.carry_out(decision, notes)
+            }
+            _ => self.act_any(case, notes, id, block),
+        }
+    }
+
+    // The same, at a block of any verb.
+    #[inline(never)]
+    fn act_any(
+        &mut self,
+        case: Case,
+        notes: &mut Notes,
+        id: StatementId,
+        block: &Block,
+    ) -> Result<(), Halt>
+        requires { IsSome self.old.active }
+        ensures { (x : Transaction) → self.old.active ≡ Some x →
+            Acts case.entry.version.now case.entry.seed (meet_prog self.old x id (Some block.now))
+            result self.old self.new notes.old notes.new }
+    {
+        let Some(x) = &self.active else {
+            unreachable!()
+        };
+        let decision = self.meet_any(case, notes, x, id, block);
+        self.carry_out(decision, notes)
+    }
+}
