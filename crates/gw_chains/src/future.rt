@@ -89,6 +89,7 @@ impl FutureChain {
     }
 
     /// Makes room for so many more.
+    #[inline(always)]
     pub fn reserve(&mut self, count: usize) -> Result<(), AllocError>
         ensures ok { OnOk result (count ≤ self.new.room) }
         ensures items { self.new.items ≡ self.old.items }

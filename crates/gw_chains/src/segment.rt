@@ -82,10 +82,15 @@ impl Segment {
     }
 
     // Makes room for so many more.
+    #[inline(always)]
     pub(crate) fn reserve(&mut self, count: usize) -> Result<(), AllocError>
         ensures ok { OnOk result (count ≤ self.new.room) }
         ensures items { self.new.items ≡ self.old.items }
     {
+        let room = self.events.capacity() - self.events.len();
+        if count <= room {
+            return Ok(());
+        }
         self.events.reserve(count)
     }
 

@@ -187,6 +187,7 @@ pub fn ask_command<'a>(
 }
 
 // Does this time lie within the horizon? The clock there, if it does.
+#[inline(always)]
 pub fn ask_within(
     version: &Version,
     notes: &mut Notes,

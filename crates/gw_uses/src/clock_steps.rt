@@ -54,6 +54,7 @@ impl ClockSteps {
 
     /// Notes a Clock step no earlier in the run than those that are noted. Where memory is refused, nothing
     /// changes.
+    #[inline(always)]
     pub fn note(&mut self, step: u64, time: Time) -> Result<(), AllocError>
         requires { AreBelow (step + 1) self.old }
         ensures ok { OnOk result ((t : ℕ) →
