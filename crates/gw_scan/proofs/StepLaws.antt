@@ -40,16 +40,7 @@ idle_undrawn s moves.Command h = absurd h
 idle_undrawn s (moves.Enter id change fate) h = absurd h
 idle_undrawn s (moves.Refuse id key units) h = absurd h
 
--- what was noted of earlier steps stays, and what follows is forgotten
-pub forgets_then : (old mid new : Noted) (streams : List Stream) → Keeps old mid → Forgets mid.step streams mid new → Forgets old.step streams old new
-forgets_then old mid new streams kept h =
-    let F : ℕ → Type 0 = λ n. Forgets n streams mid new in
-    let there = subst F kept.now h in record {
-      drawn = there.drawn;
-      each = λ q. there.each q ∙ kept.each q;
-      clock = there.clock;
-    }
-
+-- what was noted of earlier steps stays
 pub decides_keeps : {A : Type 0} (t : Listing) (seed : ℕ) (p : Eval A) (r : Result A Halt) (old new : Noted) → Decides t seed p r old new → Keeps old new
 decides_keeps t seed p (Ok a) old new h = reads_keep old new (items_of t seed (p old.streams)) h.1
 decides_keeps t seed p (Err (halts.End end)) old new h = reads_keep old new (items_of t seed (p old.streams)) h.1
@@ -70,9 +61,6 @@ module _ (t : Listing) (seed : ℕ) (s : Machine) where
   pub step_ends : (end : End) → result_of t seed (decide s) ≡ Err end → step t seed s ≡ Err end
   step_ends end is = (bind_ends t seed (decide s) made end is).0
 
-  pub step_ends_items : (end : End) → step t seed s ≡ Err end → step_items t seed s ≡ []
-  step_ends_items end is = ap (λ r. items_if_moved r (items_of t seed (step_prog s))) is
-
   -- what was decided, and what comes next
   pub foretold :
       (r : Result Move Halt) (old new : Noted) → old.streams ≡ s.streams → Decides t seed (move_prog s s.remaining) r old new →
@@ -86,10 +74,6 @@ module _ (t : Listing) (seed : ℕ) (s : Machine) where
       (after : Machine) (old new : Noted) → old.streams ≡ s.streams →
       Acts t seed (move_prog s s.remaining) (Ok tt) s after old new → step t seed s ≡ Ok after
   acted after old new same h = foretold (Ok h.0) old new same h.1 ∙ ap (λ x. Ok x) (sym h.2)
-
-  pub acted_streams :
-      (after : Machine) (old new : Noted) → Acts t seed (move_prog s s.remaining) (Ok tt) s after old new → new.streams ≡ after.streams
-  acted_streams after old new h = ap (λ (u : Machine). u.streams) (sym h.2)
 
   -- and notes what that one reads
   pub acted_reads :
