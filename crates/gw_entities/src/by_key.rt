@@ -8,7 +8,7 @@ use std::alloc::{AllocError, Global};
 use std::marker::Model;
 
 // So many entities are looked through one by one, and those behind them by their hash. Most models have no more of a kind.
-const FEW: usize = 8;
+const FEW_ENTITIES: usize = 8;
 
 /// A value for each entity, in order of first touch.
 #[derive(Drop)]
@@ -85,7 +85,7 @@ impl<V: Copy> ByKey<V> {
         ensures none { IfNone result (value_of self.now.entries key.now ≡ None) }
     {
         for index in 0..self.map.len() {
-            if index >= FEW {
+            if index >= FEW_ENTITIES {
                 return self.place_by_hash(key);
             }
             if self.is_at(index, key) {
