@@ -141,6 +141,34 @@ impl<V: Copy> ByKey<V> {
         }
     }
 
+    // Makes room and sets the value of an entity, or changes no value where memory is refused.
+    #[inline(always)]
+    pub(crate) fn put(&mut self, key: &Key, value: V) -> Result<(), AllocError>
+        ensures ok { OnOk result (self.new.entries ≡ with_value self.old.entries key.now value) }
+        ensures err { OnErr result (self.new.entries ≡ self.old.entries) }
+    {
+        match self.place(key) {
+            Some(index) => {
+                self.write(index, value);
+                Ok(())
+            }
+            None => self.put_behind(key, value),
+        }
+    }
+
+    // The same for an entity that has no value: behind the others.
+    #[inline(never)]
+    fn put_behind(&mut self, key: &Key, value: V) -> Result<(), AllocError>
+        requires { value_of self.old.entries key.now ≡ None }
+        ensures ok { OnOk result (self.new.entries ≡ with_value self.old.entries key.now value) }
+        ensures err { OnErr result (self.new.entries ≡ self.old.entries) }
+    {
+        let copy = key.clone()?;
+        self.ready = None;
+        self.map.insert(copy, value)?;
+        Ok(())
+    }
+
     // Sets the value at an index, which is an entity's.
     fn write(&mut self, index: usize, value: V)
         requires { index < length self.old.entries }
