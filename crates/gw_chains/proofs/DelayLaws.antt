@@ -5,13 +5,18 @@ use Rattle.std.proofs.Math.Seq.{take-length}
 use Rattle.std.proofs.lemmas.Bool.{cond_both}
 use Rattle.std.specs.List.{IsDistinct}
 use Rattle.std.specs.Slice.{IsItemAt}
-use Rattle.std.specs.Map.{keys_of, set_value}
-use Rattle.indexmap.specs.IndexMap.{insert_entry}
+use Rattle.std.specs.Option.{option_map}
+use Rattle.std.specs.Map.{keys_of, values_of, set_value}
+use Rattle.std.proofs.lemmas.Option.{slice_get-map}
+use Rattle.std.proofs.lemmas.Map.Entries.{lookup_from_place}
+use Rattle.indexmap.specs.IndexMap.{insert_entry, set_value_at}
 use Rattle.gw_nums.specs.Range.{is_below}
 use Rattle.gw_names.specs.declared.key.Key.{Key}
 use Rattle.gw_names.specs.Keys.{key_eq}
 use Rattle.gw_entities.specs.Tables.{value_of, with_value}
-use Rattle.gw_entities.proofs.TableLaws.{set_value_is, insert_entry_is, copied_is}
+use Rattle.gw_entities.proofs.ComingLaws.{key_same}
+use Rattle.gw_entities.proofs.Lookups.{written_at}
+use Rattle.gw_entities.proofs.TableLaws.{key_eq_equiv, set_value_is, insert_entry_is, copied_is}
 use Rattle.gw_meaning.specs.declared.transaction.Transaction.{Transaction}
 use Rattle.gw_meaning.specs.Machine.{delay_at, waiting}
 use Rattle.gw_meaning.specs.Changes.{lined_up}
@@ -22,6 +27,36 @@ Chains = List (Key × Chain Transaction)
 
 abbrev Delays : Type 0
 Delays = List (Key × List Transaction)
+
+-- a chain at an index is that of the facility with its key
+pub at_key : (cs : Chains) (i : ℕ) (kept key : Key) (chain : Chain Transaction) → slice_get cs i ≡ Some (kept, chain) →
+    key_eq key kept ≡ true → (own : Chain Transaction) × (slice_get cs i ≡ Some (key, own))
+at_key cs i kept key chain at same = (chain, at ∙ ap (λ (k : Key). Some (k, chain)) (sym (key_same key kept same)))
+
+-- what lies at the index of a facility is its chain
+pub chain_at_index : (cs : Chains) (i : ℕ) (key kept : Key) (own chain : Chain Transaction) → IsDistinct key_eq (keys_of cs) →
+    slice_get cs i ≡ Some (key, own) → Some (kept, chain) ≡ slice_get cs i → Some chain ≡ value_of cs key
+chain_at_index cs i key kept own chain apart at is =
+    let same : (kept, chain) ≡ (key, own) = cc in
+    ap (λ (c : Key × Chain Transaction). Some c.1) same ∙ sym (lookup_from_place key_eq_equiv cs i key own apart at)
+
+pub found_there : (cs : Chains) (i : ℕ) (key : Key) (own was : Chain Transaction) → IsDistinct key_eq (keys_of cs) →
+    slice_get cs i ≡ Some (key, own) → Some was ≡ slice_get (values_of cs) i → Some was ≡ value_of cs key
+found_there cs i key own was apart at is =
+    is ∙ slice_get-map (λ (c : Key × Chain Transaction). c.1) cs i ∙ ap (option_map (λ (c : Key × Chain Transaction). c.1)) at
+    ∙ sym (lookup_from_place key_eq_equiv cs i key own apart at)
+
+pub never : (cs : Chains) (i : ℕ) (key : Key) (own : Chain Transaction) → slice_get cs i ≡ Some (key, own) →
+    None ≡ slice_get (values_of cs) i → ⊥
+never cs i key own at is =
+    let own_is : slice_get (values_of cs) i ≡ Some own =
+    slice_get-map (λ (c : Key × Chain Transaction). c.1) cs i ∙ ap (option_map (λ (c : Key × Chain Transaction). c.1)) at in
+    cc
+
+-- and what is written there
+pub set_there : (cs : Chains) (i : ℕ) (key : Key) (own chain : Chain Transaction) → IsDistinct key_eq (keys_of cs) →
+    slice_get cs i ≡ Some (key, own) → set_value_at cs i chain ≡ set_value (key_eq key) cs chain
+set_there cs i key own chain apart at = written_at key_eq key_eq_equiv cs i key own chain apart at
 
 -- the delay chain of a facility
 delay_items : (cs : Chains) (key : Key) → delay_at (delays_of cs) key ≡ items_of (value_of cs key)

@@ -1,9 +1,13 @@
-ghost use Rattle.std.specs.Prelude.{◌≡◌, [], length, min, option_copied, IfOk, OnOk};
+ghost use Rattle.std.specs.Prelude.{◌≡◌, ◌<◌, [], length, min, option_copied, Some, None, drop, suc, slice_get, IsTrue, IsFalse, IfSome, IfNone, IfOk, OnOk};
+ghost use Rattle.std.specs.List.{IsDistinct};
+ghost use Rattle.std.specs.Map.{keys_of};
 ghost use Rattle.indexmap.specs.IndexMap.{spare};
+ghost use Rattle.gw_names.specs.Keys.{key_eq};
 ghost use Rattle.gw_entities.specs.Tables.{value_of, with_value};
 ghost use Rattle.gw_meaning.specs.Changes.{lined_up, some_let_in};
+ghost use Rattle.gw_meaning.specs.declared.transaction.Transaction.{Transaction};
 ghost use Rattle.gw_meaning.specs.Machine.{Machine, delay_at, waiting};
-ghost use Rattle.gw_chains.specs.Chains.{delays_of, items_of, HasRoomOn, HasPlace, first_of, without_first, with_share, HasRoomToLetAllIn};
+ghost use Rattle.gw_chains.specs.Chains.{Chain, delays_of, items_of, HasRoomOn, HasPlace, first_of, without_first, with_share, HasRoomToLetAllIn};
 
 use crate::chain::PriorityChain;
 use crate::counts::Counts;
@@ -13,6 +17,9 @@ use indexmap::IndexMap;
 use std::alloc::{AllocError, Global};
 use std::marker::Model;
 use std::mem;
+
+// So many chains are looked through one by one, and those behind them by their hash. Most models have no more.
+const FEW_CHAINS: usize = 8;
 
 /// The delay chain of each facility and storage that somebody waited for, in the order of first waiting.
 #[derive(Drop)]
@@ -56,7 +63,7 @@ impl DelayChains {
     pub fn len(&self, key: &Key) -> usize
         ensures { result ≡ length (delay_at (delays_of self.now.chains) key.now) }
     {
-        match self.chains.get(key) {
+        match find(&self.chains, key) {
             Some(chain) => chain.len(),
             None => 0,
         }
@@ -69,14 +76,14 @@ impl DelayChains {
         self.count
     }
 
-    /// The chain of a facility or a storage, where somebody waited for it.
+    /// The chain of a facility or a storage, where somebody waited for it; none where nobody waits at all now.
     pub fn chain(&self, key: &Key) -> Option<&PriorityChain>
         ensures { items_of (option_copied result) ≡ delay_at (delays_of self.now.chains) key.now }
     {
         if self.count == 0 {
             return None;
         }
-        self.chains.get(key)
+        find(&self.chains, key)
     }
 
     /// The first that waits for a facility.
@@ -86,7 +93,7 @@ impl DelayChains {
         if self.count == 0 {
             return None;
         }
-        match self.chains.get(key) {
+        match find(&self.chains, key) {
             Some(chain) => chain.get(0),
             None => None,
         }
@@ -101,12 +108,13 @@ impl DelayChains {
         if is_full {
             return Err(AllocError);
         }
-        match self.chains.get_mut(key) {
+        let Some(index) = place(&self.chains, key) else {
+            self.chains.reserve(1)?;
+            return self.fresh.reserve(1);
+        };
+        match self.chains.get_index_mut(index) {
             Some(chain) => chain.reserve(1),
-            None => {
-                self.chains.reserve(1)?;
-                self.fresh.reserve(1)
-            }
+            None => unreachable!(),
         }
     }
 
@@ -129,7 +137,8 @@ impl DelayChains {
         if self.count == 0 {
             return None;
         }
-        let chain = self.chains.get_mut(key)?;
+        let index = place(&self.chains, key)?;
+        let chain = self.chains.get_index_mut(index)?;
         let x = chain.take_first()?;
         self.count -= 1;
         Some(x)
@@ -156,8 +165,11 @@ impl DelayChains {
         if self.count == 0 {
             return;
         }
-        let Some(chain) = self.chains.get_mut(key) else {
+        let Some(index) = place(&self.chains, key) else {
             return;
+        };
+        let Some(chain) = self.chains.get_index_mut(index) else {
+            unreachable!()
         };
         let before = chain.len();
         chain.let_in_some(shares, current, counts);
@@ -201,16 +213,89 @@ fn put(
         with_value (delays_of chains.old.entries) key (lined_up x (delay_at (delays_of chains.old.entries) key)) }
     ensures fresh { fresh.new.items ≡ [] }
 {
-    match chains.get_mut(&key) {
-        Some(chain) => chain.line_up(x),
-        None => {
-            let alloc = *chains.allocator();
-            let mut chain = mem::replace(fresh, PriorityChain::new(alloc));
-            chain.line_up(x);
-            match chains.insert(key, chain) {
-                Ok(_) => (),
-                Err(_) => unreachable!(),
-            }
+    match place(chains, &key) {
+        Some(index) => match chains.get_index_mut(index) {
+            Some(chain) => chain.line_up(x),
+            None => unreachable!(),
+        },
+        None => put_first(chains, fresh, key, x),
+    }
+}
+
+// The same, where nobody has waited for the facility or the storage.
+#[inline(never)]
+fn put_first(
+    chains: &mut IndexMap<Key, PriorityChain>,
+    fresh: &mut PriorityChain,
+    key: Key,
+    x: Transaction,
+)
+    requires none { value_of chains.old.entries key ≡ None }
+    requires room { 0 < min (spare chains.old) fresh.old.room }
+    requires fresh { fresh.old.items ≡ [] }
+    ensures delays { delays_of chains.new.entries ≡
+        with_value (delays_of chains.old.entries) key (lined_up x (delay_at (delays_of chains.old.entries) key)) }
+    ensures fresh { fresh.new.items ≡ [] }
+{
+    let alloc = *chains.allocator();
+    let mut chain = mem::replace(fresh, PriorityChain::new(alloc));
+    chain.line_up(x);
+    match chains.insert(key, chain) {
+        Ok(_) => (),
+        Err(_) => unreachable!(),
+    }
+}
+
+// The chain of a facility or a storage, if it has one.
+#[inline(always)]
+fn find<'a>(chains: &'a IndexMap<Key, PriorityChain>, key: &Key) -> Option<&'a PriorityChain>
+    ensures { option_copied result ≡ value_of chains.now.entries key.now }
+{
+    let index = place(chains, key)?;
+    let (_, chain) = chains.get_index(index)?;
+    Some(chain)
+}
+
+// Where the chain of a facility or a storage lies, if it has one: the first few are looked through.
+#[inline(always)]
+fn place(chains: &IndexMap<Key, PriorityChain>, key: &Key) -> Option<usize>
+    ensures there { IfSome result (λ i. (chain : Chain Transaction) × (slice_get chains.now.entries i ≡ Some (key.now, chain))) }
+    ensures none { IfNone result (value_of chains.now.entries key.now ≡ None) }
+    ensures apart { IsDistinct key_eq (keys_of chains.now.entries) }
+{
+    for index in 0..chains.len() {
+        if index >= FEW_CHAINS {
+            return place_by_hash(chains, key);
         }
+        if is_at(chains, index, key) {
+            return Some(index);
+        }
+    }
+    None
+}
+
+// Whether the chain of a facility or a storage lies at an index.
+#[inline(always)]
+fn is_at(chains: &IndexMap<Key, PriorityChain>, index: usize, key: &Key) -> bool
+    ensures there { IsTrue result → (chain : Chain Transaction) × (slice_get chains.now.entries index ≡ Some (key.now, chain)) }
+    ensures other { IsFalse result → value_of (drop index chains.now.entries) key.now ≡
+        value_of (drop (suc index) chains.now.entries) key.now }
+{
+    match chains.get_index(index) {
+        Some((kept, _)) => *key == *kept,
+        None => false,
+    }
+}
+
+// The same as `place`, by the hash of the key.
+#[cold]
+#[inline(never)]
+fn place_by_hash(chains: &IndexMap<Key, PriorityChain>, key: &Key) -> Option<usize>
+    ensures there { IfSome result (λ i. (chain : Chain Transaction) × (slice_get chains.now.entries i ≡ Some (key.now, chain))) }
+    ensures none { IfNone result (value_of chains.now.entries key.now ≡ None) }
+{
+    match chains.get_full(key) {
+        Some((index, _, _)) => Some(index),
+        None => None,
     }
 }

@@ -15,7 +15,8 @@ use std::sync::Arc;
 
 /// How many transactions close a segment. A clock step goes over the least times of all segments, and over the
 /// transactions of those with one that is due, so a segment of many and many segments both cost. A block makes room
-/// for two, and room grows by doubling: a segment that is closed at 255 never grows beyond 256.
+/// for two, and room grows by doubling: a segment that is closed at 255 does not grow beyond 256, unless a START makes
+/// room for more.
 const MOST: usize = 255;
 
 /// How many transactions the chain takes, 2^63 - 1.

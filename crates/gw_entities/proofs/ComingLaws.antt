@@ -1,6 +1,6 @@
 -- The comings of `Comings` in the words of the sets below it.
-use Rattle.std.proofs.Common.{◌≡◌, ℕ, Bool, true, false, zero, suc, ◌+◌, ◌<◌, ◌≤◌, ◌&&◌, ◌||◌, nat_eq, if◌then◌else◌}
-use Rattle.std.proofs.Common.{List, [], ◌∷◌, ◌++◌, length, take, Option, Some, None, refl, sym, ap, ◌∙◌, subst, length-append, append-nil, append_assoc, arith}
+use Rattle.std.proofs.Common.{◌≡◌, ℕ, Bool, true, false, zero, suc, ◌<◌, ◌≤◌, ◌&&◌, ◌||◌, nat_eq, if◌then◌else◌}
+use Rattle.std.proofs.Common.{List, [], ◌∷◌, ◌++◌, length, Option, Some, None, refl, sym, ap, ◌∙◌, subst, length-append, append-nil, append_assoc, arith}
 use Rattle.std.specs.List.{IsDistinct, AllByRecursion, slice_get, list_any, find}
 use Rattle.std.proofs.lemmas.Bool.{eqb-true, eq-eqb}
 use Rattle.std.proofs.lemmas.Slice.Eq.{bytes_eq-Decides}
@@ -269,30 +269,3 @@ once_with cs key number once = go (came cs key number) refl where
   go : (b : Bool) → came cs key number ≡ b → AreOnce (if b then cs else cs ++ (key, number) ∷ [])
   go true e = once
   go false e = once_more cs key number once e
-
--- ---- copies
-
-absent : (qs : List Key) (i : ℕ) (key : Key) → IsDistinct key_eq qs → slice_get qs i ≡ Some key → list_any (key_eq key) (take i qs) ≡ false
-absent [] i key d at = absurd cc
-absent (q ∷ qs) zero key d at = refl
-absent (q ∷ qs) (suc i) key d at =
-    ap (λ b. b || list_any (key_eq key) (take i qs))
-    (key_eq_equiv.symm key q ∙ apart_at q qs i key (IsDistinct-head key_eq q qs d) at)
-    ∙ absent qs i key (IsDistinct-tail key_eq q qs d) at
-
-take_more : (qs : List Key) (i : ℕ) (key : Key) → slice_get qs i ≡ Some key → take i qs ++ key ∷ [] ≡ take (suc i) qs
-take_more [] i key at = absurd cc
-take_more (q ∷ qs) zero key at = ap (λ k. k ∷ []) (sym (Some_key q key at))
-take_more (q ∷ qs) (suc i) key at = ap (λ l. q ∷ l) (take_more qs i key at)
-
-one_later : (i : ℕ) → suc i ≡ i + 1
-one_later i = omega arith
-
-pub keys_copied :
-    (qs done : List Key) (i : ℕ) (key other : Key) → IsDistinct key_eq qs → Some key ≡ slice_get qs i → other ≡ key →
-    done ≡ insert_key key_eq (take i qs) other → done ≡ take (i + 1) qs
-keys_copied qs done i key other d at same e =
-    e
-    ∙ (ap (λ k. insert_key key_eq (take i qs) k) same
-    ∙ (ap (λ b. if b then take i qs else take i qs ++ key ∷ []) (absent qs i key d (sym at))
-    ∙ (take_more qs i key (sym at) ∙ ap (λ n. take n qs) (one_later i))))

@@ -1,5 +1,6 @@
 pub mod ComingLaws
 pub mod Finding
+pub mod Lookups
 pub mod ParameterLaws
 pub mod Sums
 pub mod TableLaws

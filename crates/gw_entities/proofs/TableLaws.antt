@@ -1,10 +1,10 @@
 -- The entries of `ByKey` in the words of the map below it.
-use Rattle.std.proofs.Common.{◌≡◌, ℕ, Bool, true, false, cond, zero, suc, ◌+◌, List, [], ◌∷◌, take, drop, Option, None, Some, refl, sym, ap, ◌∙◌, arith}
+use Rattle.std.proofs.Common.{◌≡◌, ℕ, Bool, true, false, cond, zero, suc, ◌+◌, List, [], ◌∷◌, take, Option, Some, refl, sym, ap, ◌∙◌, arith}
 use Rattle.std.specs.List.{IsDistinct, AllByRecursion, slice_get}
 use Rattle.std.specs.Cmp.{IsEquivalence}
 use Rattle.std.proofs.lemmas.Cmp.{on_equiv, nat_list_eq_equiv}
 use Rattle.std.proofs.lemmas.Map.Keys.{IsDistinct-head, IsDistinct-tail}
-use Rattle.std.specs.Map.{keys_of, lookup_key, set_value}
+use Rattle.std.specs.Map.{keys_of, set_value}
 use Rattle.indexmap.specs.IndexMap.{set_value_at}
 use Rattle.indexmap.specs.IndexMap.{insert_entry}
 use Rattle.gw_names.specs.declared.key.Key.{Key}
@@ -42,13 +42,18 @@ module _ {V : Type 0} where
   insert_entry_is (e ∷ es) key value =
       ap (λ (l : List (Key × V)). cond (key_eq key e.0) ((e.0, value) ∷ es) (e ∷ l)) (insert_entry_is es key value)
 
+  -- under a key that is equal
+  pub put_is :
+      (es fs : List (Key × V)) (key other : Key) (value : V) → other ≡ key → fs ≡ insert_entry key_eq es other value →
+      fs ≡ with_value es key value
+  put_is es fs key other value same e =
+      e ∙ (ap (λ (k : Key). insert_entry key_eq es k value) same ∙ insert_entry_is es key value)
+
   -- where the key that there is room for is inserted
   pub inserted_is :
       (es fs : List (Key × V)) (key other : Key) (value : V) (ready : Option Key) → Some other ≡ ready →
       ready ≡ Some key → fs ≡ insert_entry key_eq es other value → fs ≡ with_value es key value
-  inserted_is es fs key other value ready taken room e =
-      let same : other ≡ key = Some_same (taken ∙ room) in
-      e ∙ (ap (λ (k : Key). insert_entry key_eq es k value) same ∙ insert_entry_is es key value)
+  inserted_is es fs key other value ready taken room e = put_is es fs key other value (Some_same (taken ∙ room)) e
 
   pair_same : (e : Key × V) (key : Key) (value : V) → Some e ≡ Some (key, value) → e ≡ (key, value)
   pair_same e key value h = cc
@@ -61,30 +66,6 @@ module _ {V : Type 0} where
   differs a (e ∷ es) zero key value h at =
       ap (λ (p : Key × V). key_eq a p.0) (sym (pair_same e key value at)) ∙ h.0
   differs a (e ∷ es) (suc i) key value h at = differs a es i key value h.1 at
-
-  -- an entity that does not lie at an index has the value that it has behind it
-  pub passed :
-      (es : List (Key × V)) (i : ℕ) (key kept : Key) (value : V) → slice_get es i ≡ Some (kept, value) → key_eq key kept ≡ false →
-      value_of (drop i es) key ≡ value_of (drop (suc i) es) key
-  passed [] i key kept value at other = absurd cc
-  passed (e ∷ es) zero key kept value at other =
-      ap (λ (b : Bool). cond b (Some e.1) (value_of es key)) (ap (λ (p : Key × V). key_eq key p.0) (pair_same e kept value at) ∙ other)
-  passed (e ∷ es) (suc i) key kept value at other = passed es i key kept value at other
-
-  pub passed_end :
-      (es : List (Key × V)) (i : ℕ) (key : Key) → slice_get es i ≡ None → value_of (drop i es) key ≡ value_of (drop (suc i) es) key
-  passed_end [] zero key at = refl
-  passed_end [] (suc i) key at = refl
-  passed_end (e ∷ es) zero key at = absurd cc
-  passed_end (e ∷ es) (suc i) key at = passed_end es i key at
-
-  -- a key that is found is the one that was looked for
-  pub key_passes : (t : Key → Bool) (es : List (Key × V)) (k : Key) → Some k ≡ lookup_key t es → t k ≡ true
-  key_passes t [] k e = absurd cc
-  key_passes t (p ∷ es) k e = go (t p.0) refl e (λ f. key_passes t es k f) where
-    go : (b : Bool) → t p.0 ≡ b → Some k ≡ cond b (Some p.0) (lookup_key t es) → (Some k ≡ lookup_key t es → t k ≡ true) → t k ≡ true
-    go true h f rest = ap t (Some_same f) ∙ h
-    go false h f rest = rest f
 
   one_more :
       (es : List (Key × V)) (i : ℕ) (key : Key) (value : V) → IsDistinct key_eq (keys_of es) →

@@ -1,4 +1,4 @@
--- How `Comings` keeps what came: a queue by its place among those that were come to. No public clause cites this
+-- How `ManyComings` keeps what came: a queue by its place among those that were come to. No public clause cites this
 -- module. (Our own.)
 use Rattle.std.specs.Prelude.{ℕ, ◌<◌, List, [], ◌∷◌, Option, None, Some, length, slice_get}
 use Rattle.std.specs.List.{IsDistinct, AllByRecursion}

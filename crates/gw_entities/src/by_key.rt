@@ -8,7 +8,7 @@ use std::alloc::{AllocError, Global};
 use std::marker::Model;
 
 // So many entities are looked through one by one, and those behind them by their hash. Most models have no more of a kind.
-const FEW: usize = 8;
+const FEW_ENTITIES: usize = 8;
 
 /// A value for each entity, in order of first touch.
 #[derive(Drop)]
@@ -85,7 +85,7 @@ impl<V: Copy> ByKey<V> {
         ensures none { IfNone result (value_of self.now.entries key.now ≡ None) }
     {
         for index in 0..self.map.len() {
-            if index >= FEW {
+            if index >= FEW_ENTITIES {
                 return self.place_by_hash(key);
             }
             if self.is_at(index, key) {
@@ -139,6 +139,34 @@ impl<V: Copy> ByKey<V> {
                 None => unreachable!(),
             },
         }
+    }
+
+    // Makes room and sets the value of an entity, or changes no value where memory is refused.
+    #[inline(always)]
+    pub(crate) fn put(&mut self, key: &Key, value: V) -> Result<(), AllocError>
+        ensures ok { OnOk result (self.new.entries ≡ with_value self.old.entries key.now value) }
+        ensures err { OnErr result (self.new.entries ≡ self.old.entries) }
+    {
+        match self.place(key) {
+            Some(index) => {
+                self.write(index, value);
+                Ok(())
+            }
+            None => self.put_behind(key, value),
+        }
+    }
+
+    // The same for an entity that has no value: behind the others.
+    #[inline(never)]
+    fn put_behind(&mut self, key: &Key, value: V) -> Result<(), AllocError>
+        requires { value_of self.old.entries key.now ≡ None }
+        ensures ok { OnOk result (self.new.entries ≡ with_value self.old.entries key.now value) }
+        ensures err { OnErr result (self.new.entries ≡ self.old.entries) }
+    {
+        let copy = key.clone()?;
+        self.ready = None;
+        self.map.insert(copy, value)?;
+        Ok(())
     }
 
     // Sets the value at an index, which is an entity's.

@@ -1,4 +1,4 @@
-ghost use Rattle.std.specs.Prelude.{◌≡◌, ◌<◌, ◌==◌, [], length, IfOk, OnOk};
+ghost use Rattle.std.specs.Prelude.{◌≡◌, ◌<◌, ◌≤◌, ◌==◌, [], length, IfOk, OnOk};
 ghost use Rattle.gw_entities.specs.Comings.{came, with_coming, AreOnce};
 
 use crate::many_comings::ManyComings;
@@ -7,7 +7,7 @@ use std::alloc::{AllocError, Global};
 use std::marker::Model;
 
 // So many comings are looked through one by one. Most ticks have no more.
-const FEW: usize = 12;
+const FEW_COMINGS: usize = 12;
 
 /// Which transactions came to which queue, in order of coming: the first few in a list, and those behind them by their
 /// hash.
@@ -24,6 +24,7 @@ impl Model for Comings {
 
     ghost Value = { Arrivals };
 
+    // The 12 here and below is FEW_COMINGS.
     ghost view = { λ c. record {
       comings = c.few.items ++ c.many.comings;
       room = if nat_lt (length c.few.items) 12 then vec_capacity c.few - length c.few.items else c.many.room;
@@ -58,12 +59,13 @@ impl Comings {
         is_among(&self.few, key, number) || self.many.has(key, number)
     }
 
-    /// Makes room for one more coming. It changes none.
+    /// Makes room for one more coming. It changes none, and room that was there stays.
     pub fn reserve(&mut self) -> Result<(), AllocError>
         ensures ok { OnOk result (0 < self.new.room) }
         ensures comings { self.new.comings ≡ self.old.comings }
+        ensures room { self.old.room ≤ self.new.room }
     {
-        if self.few.len() < FEW {
+        if self.few.len() < FEW_COMINGS {
             return self.few.reserve(1);
         }
         self.many.reserve()
@@ -77,7 +79,7 @@ impl Comings {
         if self.has(&key, number) {
             return;
         }
-        if self.few.len() < FEW {
+        if self.few.len() < FEW_COMINGS {
             self.few.push_reserved((key, number));
         } else {
             self.many.add(key, number);
@@ -88,7 +90,7 @@ impl Comings {
     pub fn clear(&mut self)
         ensures { self.new.comings ≡ [] }
     {
-        if self.few.len() >= FEW {
+        if self.few.len() >= FEW_COMINGS {
             self.many.clear();
         }
         self.few.clear();

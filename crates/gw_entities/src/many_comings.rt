@@ -1,5 +1,5 @@
-ghost use Rattle.std.specs.Prelude.{◌≡◌, ◌<◌, ◌≤◌, [], length, IfOk, OnOk};
-ghost use Rattle.gw_entities.specs.Comings.{came, with_coming, AreOnce};
+ghost use Rattle.std.specs.Prelude.{◌≡◌, ◌<◌, ◌≤◌, [], IfOk, OnOk};
+ghost use Rattle.gw_entities.specs.Comings.{came, with_coming};
 
 use gw_names::Key;
 use indexmap::IndexSet;
@@ -7,7 +7,7 @@ use std::alloc::{AllocError, Global};
 use std::marker::Model;
 
 // So many comings keep their room when they are forgotten.
-const FEW: usize = 64;
+const ROOM_KEPT: usize = 64;
 
 // Which transactions came to which queue, in order of coming, looked for by their hash.
 #[derive(Drop)]
@@ -58,7 +58,7 @@ impl ManyComings {
         }
     }
 
-    // Makes room for one more coming. It changes none.
+    // Makes room for one more coming. It changes none, and room that was there stays.
     pub fn reserve(&mut self) -> Result<(), AllocError>
         ensures ok { OnOk result (0 < self.new.room) }
         ensures comings { self.new.comings ≡ self.old.comings }
@@ -86,7 +86,7 @@ impl ManyComings {
     pub fn clear(&mut self)
         ensures { self.new.comings ≡ [] }
     {
-        if self.pairs.capacity() > FEW {
+        if self.pairs.capacity() > ROOM_KEPT {
             *self = ManyComings::new(*self.pairs.allocator());
         } else {
             self.queues.clear();

@@ -1,5 +1,7 @@
-ghost use Rattle.std.specs.Prelude.{◌≡◌, [], None, nat_eq, IfOk, OnOk, OnErr};
-ghost use Rattle.std.specs.Map.{lookup};
+ghost use Rattle.std.specs.Prelude.{◌≡◌, ℤ, [], None, Some, drop, suc, slice_get, nat_eq, IsTrue, IsFalse, IfSome, IfNone, IfOk, OnOk, OnErr};
+ghost use Rattle.std.specs.List.{IsDistinct};
+ghost use Rattle.std.specs.Map.{keys_of, lookup};
+ghost use Rattle.gw_entities.specs.Tables.{Touched};
 ghost use Rattle.gw_entities.specs.Parameters.{parameter_at, assigned, without, held_of};
 
 use crate::by_key::ByKey;
@@ -8,6 +10,10 @@ use gw_nums::Val;
 use indexmap::IndexMap;
 use std::alloc::{AllocError, Global};
 use std::marker::Model;
+
+// So many transactions are looked through one by one, and those behind them by their hash. Most models have no more with
+// parameters at a time.
+const FEW_TRANSACTIONS: usize = 8;
 
 /// The parameters of transactions, by the number of the transaction and the key of the parameter.
 #[derive(Drop)]
@@ -40,13 +46,9 @@ impl Parameters {
     pub fn get(&self, number: u64, key: &Key) -> Option<Val>
         ensures { result ≡ parameter_at self.now number key.now }
     {
-        if self.held.is_empty() {
-            return None;
-        }
-        match self.held.get(&number) {
-            Some(values) => values.get(key),
-            None => None,
-        }
+        let index = place(&self.held, number)?;
+        let (_, values) = self.held.get_index(index)?;
+        values.get(key)
     }
 
     /// Sets a parameter of a transaction, or changes nothing where memory is refused.
@@ -54,24 +56,34 @@ impl Parameters {
         ensures ok { OnOk result (self.new ≡ assigned self.old number key.now value) }
         ensures err { OnErr result (self.new ≡ self.old) }
     {
-        match self.held.get_mut(&number) {
-            Some(values) => {
-                values.reserve(key)?;
-                values.set(key, value);
-                Ok(())
-            }
-            None => assign_first(&mut self.held, number, key, value),
+        let Some(index) = place(&self.held, number) else {
+            return assign_first(&mut self.held, number, key, value);
+        };
+        match self.held.get_index_mut(index) {
+            Some(values) => values.put(key, value),
+            None => unreachable!(),
         }
     }
 
     /// Forgets the parameters of a transaction.
+    #[inline(always)]
     pub fn forget(&mut self, number: u64)
         ensures { self.new ≡ without self.old number }
     {
-        if self.held.is_empty() {
-            return;
+        if !self.held.is_empty() {
+            self.forget_held(number);
         }
-        self.held.swap_remove(&number);
+    }
+
+    // The same, where transactions have parameters.
+    #[inline(never)]
+    fn forget_held(&mut self, number: u64)
+        ensures { self.new ≡ without self.old number }
+    {
+        let Some(index) = place(&self.held, number) else {
+            return;
+        };
+        self.held.swap_remove_index(index);
     }
 
     /// The same parameters.
@@ -93,6 +105,50 @@ impl Parameters {
     }
 }
 
+// Where a transaction lies, if it has parameters: the first few are looked through.
+#[inline(always)]
+fn place(held: &IndexMap<u64, ByKey<Val>>, number: u64) -> Option<usize>
+    ensures there { IfSome result (λ i. (values : Touched ℤ) × (slice_get held.now.entries i ≡ Some (number, values))) }
+    ensures none { IfNone result (lookup (nat_eq number) held.now.entries ≡ None) }
+    ensures apart { IsDistinct nat_eq (keys_of held.now.entries) }
+{
+    for index in 0..held.len() {
+        if index >= FEW_TRANSACTIONS {
+            return place_by_hash(held, number);
+        }
+        if is_at(held, index, number) {
+            return Some(index);
+        }
+    }
+    None
+}
+
+// Whether a transaction lies at an index.
+#[inline(always)]
+fn is_at(held: &IndexMap<u64, ByKey<Val>>, index: usize, number: u64) -> bool
+    ensures there { IsTrue result → (values : Touched ℤ) × (slice_get held.now.entries index ≡ Some (number, values)) }
+    ensures other { IsFalse result → lookup (nat_eq number) (drop index held.now.entries) ≡
+        lookup (nat_eq number) (drop (suc index) held.now.entries) }
+{
+    match held.get_index(index) {
+        Some((kept, _)) => number == *kept,
+        None => false,
+    }
+}
+
+// The same as `place`, by the hash of the number.
+#[cold]
+#[inline(never)]
+fn place_by_hash(held: &IndexMap<u64, ByKey<Val>>, number: u64) -> Option<usize>
+    ensures there { IfSome result (λ i. (values : Touched ℤ) × (slice_get held.now.entries i ≡ Some (number, values))) }
+    ensures none { IfNone result (lookup (nat_eq number) held.now.entries ≡ None) }
+{
+    match held.get_full(&number) {
+        Some((index, _, _)) => Some(index),
+        None => None,
+    }
+}
+
 // Sets the first parameter of a transaction that has none.
 fn assign_first(
     held: &mut IndexMap<u64, ByKey<Val>>,
@@ -105,8 +161,7 @@ fn assign_first(
     ensures err { OnErr result (held_of held.new.entries ≡ held_of held.old.entries) }
 {
     let mut values = ByKey::new(*held.allocator());
-    values.reserve(key)?;
-    values.set(key, value);
+    values.put(key, value)?;
     match held.insert(number, values) {
         Ok(_) => Ok(()),
         Err(_) => Err(AllocError),

@@ -1,14 +1,23 @@
-use Rattle.gw_chains.proofs.DelayLaws.{lined_up_there, lined_up_fresh}
+use Rattle.gw_chains.proofs.DelayLaws.{lined_up_there, found_there, set_there, never}
 use Rattle.gw_chains.proofs.delays.put.Goals as goal
 
-pub returns-in-Some-clause-delays : goal.returns-in-Some-clause-delays
-returns-in-Some-clause-delays c =
-    lined_up_there c.args.chains.now.entries _ c.args.key _ c.line_up.new.self c.args.x c.in-Some.ensures.value
-    (c.get_mut.follows.holds c.line_up.new.self).0 c.line_up.ensures.items
+pub line_up-requires : goal.line_up-requires
+line_up-requires c =
+    let there = c.in-Some.ensures.there in
+    let found = found_there c.args.chains.now.entries c.in-Some.index c.args.key there.0 c.in-Some-get_index_mut.chain.now
+    c.in-Some.ensures.apart there.1 c.in-Some-get_index_mut.ensures.value in
+    rw (← found) at c.requires.room
 
-pub returns-in-Ok-clause-delays : goal.returns-in-Ok-clause-delays
-returns-in-Ok-clause-delays c =
-    let entries = rw c.get_mut.follows.holds-at-none at c.in-Ok.ensures.entries in
-    let items = rw c.replace-chain.ensures.value at c.line_up-in-None.ensures.items in
-    lined_up_fresh c.args.chains.now.entries _ c.args.key c.line_up-in-None.new.self c.args.fresh.now.items c.args.x
-    c.in-None.ensures.value entries items c.requires.fresh
+pub unreachable-requires : goal.unreachable-requires
+unreachable-requires c =
+    let there = c.in-Some.ensures.there in
+    never c.args.chains.now.entries c.in-Some.index c.args.key there.0 there.1 c.in-None-get_index_mut.ensures.value
+
+pub returns-in-Some-get_index_mut-clause-delays : goal.returns-in-Some-get_index_mut-clause-delays
+returns-in-Some-get_index_mut-clause-delays c =
+    let cs = c.args.chains.now.entries in
+    let there = c.in-Some.ensures.there in
+    let found = found_there cs c.in-Some.index c.args.key there.0 c.in-Some-get_index_mut.chain.now
+    c.in-Some.ensures.apart there.1 c.in-Some-get_index_mut.ensures.value in
+    let set = set_there cs c.in-Some.index c.args.key there.0 c.line_up.new.self c.in-Some.ensures.apart there.1 in
+    lined_up_there cs _ c.args.key _ c.line_up.new.self c.args.x found set c.line_up.ensures.items

@@ -5,11 +5,11 @@ use Rattle.gw_chains.proofs.delays.DelayChains.first.Goals as goal
 
 pub returns-in-Some : goal.returns-in-Some
 returns-in-Some c =
-    rw (← c.self.view_is) (first_is _ _ c.get-in-Some.ensures ∙
-    ap first_of (sym (delay_is c.self.inside.chains.entries c.args.key.now _ c.in-Some.ensures.value)))
+    rw (← c.self.view_is) (first_is _ _ c.get.ensures ∙
+    ap first_of (sym (delay_is c.self.inside.chains.entries c.args.key.now _ c.in-Some.ensures)))
 
 pub returns-in-None : goal.returns-in-None
-returns-in-None c = rw (← c.self.view_is) (ap first_of (sym (delay_is c.self.inside.chains.entries c.args.key.now _ c.in-None.ensures.value)))
+returns-in-None c = rw (← c.self.view_is) (ap first_of (sym (delay_is c.self.inside.chains.entries c.args.key.now _ c.in-None.ensures)))
 
 pub returns-then-self-eq0 : goal.returns-then-self-eq0
 returns-then-self-eq0 c = rw (← c.self.view_is)

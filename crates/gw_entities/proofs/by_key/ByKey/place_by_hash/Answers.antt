@@ -1,6 +1,6 @@
 use Rattle.gw_names.specs.Keys.{key_eq}
 use Rattle.gw_entities.proofs.ComingLaws.{key_same}
-use Rattle.gw_entities.proofs.TableLaws.{key_passes}
+use Rattle.gw_entities.proofs.Lookups.{key_passes}
 use Rattle.gw_entities.proofs.by_key.ByKey.place_by_hash.Goals as goal
 
 pub returns-in-Some-clause-there : goal.returns-in-Some-clause-there

@@ -17,8 +17,8 @@ invariant_of-self c =
       λ shorter. empty,
     )
 
-pub invariant_of-self-else-len-lt-FEW : goal.invariant_of-self-else-len-lt-FEW
-invariant_of-self-else-len-lt-FEW c =
+pub invariant_of-self-else-len-lt-FEW_COMINGS : goal.invariant_of-self-else-len-lt-FEW_COMINGS
+invariant_of-self-else-len-lt-FEW_COMINGS c =
     let few = c.self.inside.few.items in
     let many = c.self.inside.many.comings in
     let none : came (few ++ many) c.args.key c.args.number ≡ false = rw (← c.self.view_is) at (sym c.has.ensures ∙ c.if-has.false) in
@@ -27,8 +27,8 @@ invariant_of-self-else-len-lt-FEW c =
     rw added (many_more few many c.args.key c.args.number none) in
     (subst AreOnce (sym whole) (once_with (few ++ many) c.args.key c.args.number c.self.invariant.0), λ less. absurd (grind (arith, nat_tests)))
 
-pub returns-else-len-lt-FEW : goal.returns-else-len-lt-FEW
-returns-else-len-lt-FEW c =
+pub returns-else-len-lt-FEW_COMINGS : goal.returns-else-len-lt-FEW_COMINGS
+returns-else-len-lt-FEW_COMINGS c =
     let few = c.self.inside.few.items in
     let many = c.self.inside.many.comings in
     let none : came (few ++ many) c.args.key c.args.number ≡ false = rw (← c.self.view_is) at (sym c.has.ensures ∙ c.if-has.false) in

@@ -1,13 +1,16 @@
-use Rattle.std.proofs.Common.{None, sym, ◌∙◌}
-use Rattle.gw_entities.proofs.ParameterLaws.{parameter_is}
+use Rattle.std.proofs.Common.{None, Some, sym, ◌∙◌}
+use Rattle.gw_entities.proofs.ParameterLaws.{parameter_is, values_at_index}
 use Rattle.gw_entities.proofs.parameters.Parameters.get.Goals as goal
 
-pub returns-in-Some : goal.returns-in-Some
-returns-in-Some c =
+pub returns-in_err-index : goal.returns-in_err-index
+returns-in_err-index c =
     rw (← c.self.view_is)
-    (c.get-in-Some.ensures ∙ sym (parameter_is c.self.inside.held.entries c.args.number c.args.key.now _ c.in-Some.ensures.value))
+    (c.from_residual.ensures ∙ sym (parameter_is c.self.inside.held.entries c.args.number c.args.key.now None (sym c.in_err-index.ensures.none)))
 
-pub returns-in-None : goal.returns-in-None
-returns-in-None c =
+pub returns : goal.returns
+returns c =
+    let there = c.in_ok-index.ensures.there in
+    let found = values_at_index c.self.inside.held.entries c.in_ok-index.index c.args.number c.in_ok-values.field-0-0.now there.0
+    c.in_ok-values.values.now c.in_ok-index.ensures.apart there.1 c.in_ok-values.ensures.entry in
     rw (← c.self.view_is)
-    (sym (parameter_is c.self.inside.held.entries c.args.number c.args.key.now None c.in-None.ensures.value))
+    (c.get.ensures ∙ sym (parameter_is c.self.inside.held.entries c.args.number c.args.key.now (Some c.in_ok-values.values.now) found))
