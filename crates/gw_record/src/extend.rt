@@ -70,9 +70,24 @@ impl Recorded {
         let turn = step(alloc, version, seed, &mut self.tip, &mut self.notes, tally)?;
         self.notes.rise();
         if let Turn::Moved = turn {
-            self.moment += 1;
+            self.move_on();
         }
         Ok(turn)
+    }
+
+    // One step further: the next multiple of the spacing comes one step nearer, and right after a multiple it is a
+    // spacing less one step off.
+    #[inline(always)]
+    fn move_on(&mut self)
+        requires { self.old.moment < 1000000 }
+        ensures { self.new ≡ record self.old { moment = self.old.moment + 1 } }
+    {
+        self.moment += 1;
+        self.ahead = if self.ahead == 0 {
+            self.every - 1
+        } else {
+            self.ahead - 1
+        };
     }
 
     // Keeps the tip where it stands at a multiple of the spacing or a START is complete there, so that the run may
@@ -121,7 +136,7 @@ impl Recorded {
             IsWanted t seed self.now.every self.now.moment → IsThere self.now.kept self.now.moment }
         ensures ends { IsFalse result → self.now.tip.complete ≤ length self.now.ends }
     {
-        self.moment % self.every == 0 || (self.ends.len() as u64) < self.tip.complete()
+        self.ahead == 0 || (self.ends.len() as u64) < self.tip.complete()
     }
 
     // Whether the tip's state is kept.

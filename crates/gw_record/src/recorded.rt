@@ -17,6 +17,8 @@ use std::marker::Model;
 pub struct Recorded {
     pub(crate) every: u64,
     pub(crate) moment: u64,
+    // How many steps the tip stands before the next multiple of the spacing: 0 at one.
+    pub(crate) ahead: u64,
     pub(crate) tip: State,
     pub(crate) kept: Vec<Kept>,
     pub(crate) ends: Vec<u64>,
@@ -25,7 +27,7 @@ pub struct Recorded {
 }
 
 impl Model for Recorded {
-    ghost use Rattle.std.specs.Prelude.{◌≡◌, ◌≤◌};
+    ghost use Rattle.std.specs.Prelude.{◌≡◌, ◌+◌, ◌%◌, ◌<◌};
     ghost use Rattle.gw_record.specs.Tape.{Tape};
 
     ghost Value = { Tape };
@@ -39,7 +41,8 @@ impl Model for Recorded {
       firsts = r.notes.firsts;
     } };
 
-    ghost invariant = { λ r. (1 ≤ r.every) × (r.notes.streams ≡ r.tip.streams) };
+    ghost invariant = { λ r. (r.ahead < r.every) × ((r.moment + r.ahead) % r.every ≡ 0) ×
+        (r.notes.streams ≡ r.tip.streams) };
 }
 
 impl Recorded {
@@ -55,6 +58,7 @@ impl Recorded {
         Recorded {
             every,
             moment: 0,
+            ahead: 0,
             tip,
             kept: Vec::new(alloc),
             ends: Vec::new(alloc),

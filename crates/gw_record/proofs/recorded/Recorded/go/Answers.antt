@@ -18,7 +18,7 @@ returns-in-Moved-clause-records c =
     let read = rw (c.in-Moved.is, c.begin.ensures) at c.in_ok-turn.ensures.notes in
     let clock = rw read.now at c.rise.ensures in
     let room : c.self.inside.moment < t.limit = search rules in
-    made t c.args.seed _ c.step.new.state c.step.new.notes.firsts before kept room told read.each clock
+    rw c.move_on.ensures (made t c.args.seed _ c.step.new.state c.step.new.notes.firsts before kept room told read.each clock)
 
 pub returns-in_default-clause-records : goal.returns-in_default-clause-records
 returns-in_default-clause-records c =
