@@ -1,4 +1,5 @@
 pub mod Rows
+pub mod Laying
 pub mod Sections
 pub mod Order
 pub mod Naming

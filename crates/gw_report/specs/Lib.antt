@@ -1,5 +1,6 @@
 pub mod Layout
 pub mod Cells
+pub mod Laid
 pub mod Chains
 pub mod Names
 pub mod NameKeys

@@ -4,7 +4,7 @@ ghost use Rattle.gw_report.specs.Blocks.{label_text, block_columns, block_lines,
 
 use crate::column::{Cell, Column, Side, put_row};
 use crate::position::position_of;
-use crate::section::put_table;
+use crate::section::{LINES, put_table};
 use gw_meaning::{Body, Numbered};
 use gw_model::Version;
 use gw_names::Name;
@@ -24,7 +24,7 @@ const BLOCK_COLUMNS: [Column; 6] = [
 pub fn put_blocks(out: &mut Vec<u8>, version: &Version, state: &State) -> Result<(), AllocError>
     ensures { OnOk result (out.new.items ≡ out.old.items ++ blocks_text version.now state.now) }
 {
-    let mut lines = Vec::new(*out.allocator());
+    let mut lines = Vec::with_capacity(*out.allocator(), LINES)?;
     for line in version.lines() {
         put_block(&mut lines, version, state, line)?;
     }

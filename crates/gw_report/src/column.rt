@@ -1,7 +1,8 @@
-ghost use Rattle.std.specs.Prelude.{◌≡◌, ◌++◌, ◌∷◌, OnOk, [], map, decimal};
+ghost use Rattle.std.specs.Prelude.{◌≡◌, ◌≤◌, ◌++◌, ◌∷◌, OnOk, [], map, length, take, drop, decimal};
 ghost use Rattle.gw_report.specs.Layout.{blanks, cell_of, row_of, heading_of};
 ghost use Rattle.gw_report.specs.Cells.{column_of, text_of_cell, signed, digit_of, decimals};
 
+use crate::laid::{LINE, MARGIN, lay_heading, lay_row};
 use gw_nums::Val;
 use itoa::Buffer;
 use std::alloc::AllocError;
@@ -28,8 +29,40 @@ pub enum Cell<'a> {
 }
 
 /// Appends the heading of a section.
-#[tactic(auto, using(crate::proofs::Rows::item_drop), unfolding(crate::specs::Layout::heading_of, crate::specs::Layout::row_of))]
 pub fn put_heading(out: &mut Vec<u8>, columns: &[Column]) -> Result<(), AllocError>
+    ensures { OnOk result (out.new.items ≡ out.old.items ++ heading_of (map column_of columns.now)) }
+{
+    let mut line = [b' '; LINE];
+    match lay_heading(&mut line, columns) {
+        Some(end) => put_laid(out, &line, end),
+        None => put_wide_heading(out, columns),
+    }
+}
+
+/// Appends a row: its cells in their columns.
+pub fn put_row(out: &mut Vec<u8>, columns: &[Column], cells: &[Cell]) -> Result<(), AllocError>
+    ensures { OnOk result (out.new.items ≡ out.old.items ++
+        row_of (map column_of columns.now) (map text_of_cell cells.now)) }
+{
+    let mut line = [b' '; LINE];
+    match lay_row(&mut line, columns, cells) {
+        Some(end) => put_laid(out, &line, end),
+        None => put_wide_row(out, columns, cells),
+    }
+}
+
+// Appends what is laid out in a line, behind its margin, and the end of the line.
+fn put_laid(out: &mut Vec<u8>, line: &[u8], end: usize) -> Result<(), AllocError>
+    requires { (20 ≤ end) × (end ≤ length line.now) }
+    ensures { OnOk result (out.new.items ≡ out.old.items ++ (drop 20 (take end line.now) ++ 10 ∷ [])) }
+{
+    out.extend_from_slice(&line[MARGIN..end])?;
+    end_line(out)
+}
+
+// A heading that does not fit in a line, or with a title that is wider than its column.
+#[tactic(auto, using(crate::proofs::Rows::item_drop), unfolding(crate::specs::Layout::heading_of, crate::specs::Layout::row_of))]
+fn put_wide_heading(out: &mut Vec<u8>, columns: &[Column]) -> Result<(), AllocError>
     ensures { OnOk result (out.new.items ≡ out.old.items ++ heading_of (map column_of columns.now)) }
 {
     let mut before = b"".as_slice();
@@ -41,9 +74,9 @@ pub fn put_heading(out: &mut Vec<u8>, columns: &[Column]) -> Result<(), AllocErr
     end_line(out)
 }
 
-/// Appends a row: its cells in their columns.
+// A row that does not fit in a line, or in which a text is wider than its column.
 #[tactic(auto, unfolding(crate::specs::Layout::row_of))]
-pub fn put_row(out: &mut Vec<u8>, columns: &[Column], cells: &[Cell]) -> Result<(), AllocError>
+fn put_wide_row(out: &mut Vec<u8>, columns: &[Column], cells: &[Cell]) -> Result<(), AllocError>
     ensures { OnOk result (out.new.items ≡ out.old.items ++
         row_of (map column_of columns.now) (map text_of_cell cells.now)) }
 {
@@ -107,8 +140,8 @@ fn put_thousandths(out: &mut Vec<u8>, column: &Column, number: u128) -> Result<(
     )
 }
 
-// The last digit of a number.
-fn digit_of(number: u128) -> u8
+/// The last digit of a number.
+pub fn digit_of(number: u128) -> u8
     ensures { result ≡ digit_of number }
 {
     b'0' + (number % 10) as u8

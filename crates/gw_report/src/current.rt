@@ -4,7 +4,7 @@ ghost use Rattle.gw_report.specs.Chains.{current_columns, current_line, current_
 
 use crate::column::{Column, Side};
 use crate::line::put_line;
-use crate::section::put_section;
+use crate::section::{LINES, put_section};
 use gw_meaning::Transaction;
 use gw_model::Version;
 use gw_scan::State;
@@ -32,7 +32,7 @@ fn current_lines(alloc: Global, version: &Version, state: &State) -> Result<Vec<
         rows_of current_columns
         (map (current_line version.now) (option_to_list state.now.active ++ state.now.current))) }
 {
-    let mut lines = Vec::new(alloc);
+    let mut lines = Vec::with_capacity(alloc, LINES)?;
     put_active(&mut lines, version, state.active())?;
     let chain = state.current();
     for index in 0..chain.len() {

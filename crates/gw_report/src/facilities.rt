@@ -4,7 +4,7 @@ ghost use Rattle.gw_report.specs.Facilities.{facility_columns, facility_line, fa
 
 use crate::column::{Cell, Column, Side, put_row};
 use crate::entity::{average_cell, key_cell};
-use crate::section::put_section;
+use crate::section::{LINES, put_section};
 use gw_entities::Facility;
 use gw_names::Key;
 use gw_scan::State;
@@ -37,7 +37,7 @@ fn facility_lines(alloc: Global, state: &State) -> Result<Vec<u8>, AllocError>
         rows_of facility_columns (map (facility_line state.now) state.now.entities.facilities)) }
 {
     let facilities = state.entities().facilities();
-    let mut lines = Vec::new(alloc);
+    let mut lines = Vec::with_capacity(alloc, LINES)?;
     for index in 0..facilities.len() {
         if let Some((key, facility)) = facilities.at(index) {
             put_facility(&mut lines, state, key, facility)?;

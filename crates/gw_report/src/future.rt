@@ -4,7 +4,7 @@ ghost use Rattle.gw_report.specs.Chains.{by_time, future_columns, future_line, f
 
 use crate::column::{Column, Side};
 use crate::line::put_line;
-use crate::section::put_section;
+use crate::section::{LINES, put_section};
 use gw_chains::FutureChain;
 use gw_meaning::Event;
 use gw_model::Version;
@@ -37,7 +37,7 @@ fn future_lines(
         rows_of future_columns (map (future_line version.now) (by_time future.now.items))) }
 {
     let events = by_time(alloc, future)?;
-    let mut lines = Vec::new(alloc);
+    let mut lines = Vec::with_capacity(alloc, LINES)?;
     for event in &events {
         put_line(
             &mut lines,

@@ -2,7 +2,8 @@
 //!
 //! [`print`] is the only call, beside the law that the numbers of statements do not show. A section is a table of
 //! columns and a function that appends its lines; the definition of the whole text, `specs/Report.antt`, and
-//! `report.rt` name the sections in the same order.
+//! `report.rt` name the sections in the same order. A row is written in place over a line of blanks (`laid.rt`), and
+//! cell by cell only where a text is wider than its column (`column.rt`).
 #![tactic(auto)]
 
 mod blocks;
@@ -12,6 +13,7 @@ mod entity;
 mod facilities;
 mod future;
 mod head;
+mod laid;
 mod laws;
 mod line;
 mod names;

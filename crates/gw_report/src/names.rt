@@ -10,7 +10,7 @@ ghost use Rattle.gw_report.specs.NameKeys.{as_keys, names_among};
 
 use crate::column::{Cell, Column, Side, put_row};
 use crate::position::position_of;
-use crate::section::put_section;
+use crate::section::{LINES, put_section};
 use gw_expr::{Atom, Expr, Node, Subject, Token};
 use gw_meaning::{Body, Definition, Numbered};
 use gw_model::Version;
@@ -150,7 +150,7 @@ fn name_lines(alloc: Global, version: &Version, names: &[Key]) -> Result<Vec<u8>
     ensures { IfOk result (λ lines. lines.items ≡
         rows_of name_columns (name_lines version.now 10000 (names_among names.now))) }
 {
-    let mut lines = Vec::new(alloc);
+    let mut lines = Vec::with_capacity(alloc, LINES)?;
     let mut next = FIRST_VALUE;
     for key in names {
         if let Key::Named(name) = key {

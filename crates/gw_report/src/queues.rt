@@ -4,7 +4,7 @@ ghost use Rattle.gw_report.specs.Queues.{queue_columns, queue_line, queues_text}
 
 use crate::column::{Cell, Column, Side, put_row};
 use crate::entity::{average_cell, key_cell};
-use crate::section::put_section;
+use crate::section::{LINES, put_section};
 use gw_entities::Queue;
 use gw_names::Key;
 use gw_scan::State;
@@ -36,7 +36,7 @@ fn queue_lines(alloc: Global, state: &State) -> Result<Vec<u8>, AllocError>
         rows_of queue_columns (map (queue_line state.now) state.now.entities.queues)) }
 {
     let queues = state.entities().queues();
-    let mut lines = Vec::new(alloc);
+    let mut lines = Vec::with_capacity(alloc, LINES)?;
     for index in 0..queues.len() {
         if let Some((key, queue)) = queues.at(index) {
             put_queue(&mut lines, state, key, queue)?;

@@ -16,6 +16,9 @@ use gw_model::Version;
 use gw_scan::State;
 use std::alloc::{AllocError, Global};
 
+// For how many bytes of text a report asks at once.
+const TEXT: usize = 4096;
+
 /// The standard report of the k-th START of a replication, in the state in which its run ended.
 #[tactic(auto, unfolding(crate::specs::Report::text_of))]
 pub fn print(
@@ -29,7 +32,7 @@ pub fn print(
     requires { IsSome (seed_at version.now rep) }
     ensures { IfOk result (λ text. text.items ≡ text_of version.now rep k state.now outcome) }
 {
-    let mut text = Vec::new(alloc);
+    let mut text = Vec::with_capacity(alloc, TEXT)?;
     put_title(&mut text, rep, seed_of(version, rep), k, outcome)?;
     put_head(&mut text, version, state)?;
     put_names(&mut text, version)?;

@@ -4,6 +4,9 @@ ghost use Rattle.gw_report.specs.Cells.{column_of, under_heading, if_any};
 use crate::column::{Column, put_heading};
 use std::alloc::AllocError;
 
+/// For how many bytes of lines a section asks at once.
+pub const LINES: usize = 1000;
+
 /// Appends a section that always appears: an empty line, the heading and the lines.
 pub fn put_table(out: &mut Vec<u8>, columns: &[Column], lines: &[u8]) -> Result<(), AllocError>
     ensures { OnOk result (out.new.items ≡ out.old.items ++ under_heading (map column_of columns.now) lines.now) }

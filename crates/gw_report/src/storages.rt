@@ -5,7 +5,7 @@ ghost use Rattle.gw_report.specs.Storages.{units_of, storage_columns, storage_li
 
 use crate::column::{Cell, Column, Side, put_row};
 use crate::entity::{average_cell, key_cell};
-use crate::section::put_section;
+use crate::section::{LINES, put_section};
 use gw_entities::Storage;
 use gw_model::Version;
 use gw_names::Key;
@@ -40,7 +40,7 @@ fn storage_lines(alloc: Global, version: &Version, state: &State) -> Result<Vec<
         rows_of storage_columns (map (storage_line version.now state.now) state.now.entities.storages)) }
 {
     let storages = state.entities().storages();
-    let mut lines = Vec::new(alloc);
+    let mut lines = Vec::with_capacity(alloc, LINES)?;
     for index in 0..storages.len() {
         if let Some((key, storage)) = storages.at(index) {
             put_storage(&mut lines, state, units_of(version, key), key, storage)?;

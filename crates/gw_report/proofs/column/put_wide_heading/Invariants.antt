@@ -1,7 +1,7 @@
 use Rattle.std.proofs.Common.{◌≡◌, ◌++◌, map, drop}
 use Rattle.gw_report.specs.Layout.{Column, row_behind}
 use Rattle.gw_report.specs.Cells.{column_of}
-use Rattle.gw_report.proofs.column.put_heading.Given as goal
+use Rattle.gw_report.proofs.column.put_wide_heading.Given as goal
 
 abbrev pub invariant-loop-column : goal.invariant-loop-column
 invariant-loop-column l =

@@ -3,7 +3,7 @@ use Rattle.std.specs.Slice.Iter.{iter_rest}
 use Rattle.std.specs.Iterator.Adapters.{zip_first, zip_second}
 use Rattle.gw_report.specs.Layout.{row_behind}
 use Rattle.gw_report.specs.Cells.{column_of, text_of_cell}
-use Rattle.gw_report.proofs.column.put_row.Given as goal
+use Rattle.gw_report.proofs.column.put_wide_row.Given as goal
 
 abbrev pub invariant-loop-column : goal.invariant-loop-column
 invariant-loop-column l =

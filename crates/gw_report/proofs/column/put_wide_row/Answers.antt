@@ -6,7 +6,7 @@ use Rattle.std.proofs.lemmas.Slice.Zip.{either_empty_from_Zip}
 use Rattle.gw_report.specs.Layout.{row_of, row_behind}
 use Rattle.gw_report.specs.Cells.{column_of, text_of_cell}
 use Rattle.gw_report.proofs.Rows.{row_ended}
-use Rattle.gw_report.proofs.column.put_row.Goals as goal
+use Rattle.gw_report.proofs.column.put_wide_row.Goals as goal
 
 pub returns : goal.returns
 unfolding row_of
