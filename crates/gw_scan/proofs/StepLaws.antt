@@ -14,7 +14,7 @@ use Rattle.gw_meaning.specs.Evaluation.{Eval}
 use Rattle.gw_meaning.specs.Step.{decide, move_prog, step, step_prog, step_items, items_if_moved}
 use Rattle.gw_scan.specs.declared.case.Halt.{Halt}
 use Rattle.gw_scan.specs.declared.case.Halt.TheVariants as halts
-use Rattle.gw_scan.specs.Noted.{Noted, Reads, Keeps, Forgets}
+use Rattle.gw_scan.specs.Noted.{Noted, Reads, Keeps}
 use Rattle.gw_scan.specs.Deciding.{Decides}
 use Rattle.gw_scan.specs.Stepping.{EndsAs, Acts, Halts, Steps, IsIdle}
 use Rattle.gw_scan.specs.declared.steps.Turn.{Turn}
