@@ -259,7 +259,8 @@ fn find<'a>(chains: &'a IndexMap<Key, PriorityChain>, key: &Key) -> Option<&'a P
 // Where the chain of a facility or a storage lies, if it has one: the first few are looked through.
 #[inline(always)]
 fn place(chains: &IndexMap<Key, PriorityChain>, key: &Key) -> Option<usize>
-    ensures there { IfSome result (λ i. (chain : Chain Transaction) × (slice_get chains.now.entries i ≡ Some (key.now, chain))) }
+    ensures there { IfSome result (λ i. (chain : Chain Transaction) ×
+        (slice_get chains.now.entries i ≡ Some (key.now, chain))) }
     ensures none { IfNone result (value_of chains.now.entries key.now ≡ None) }
     ensures apart { IsDistinct key_eq (keys_of chains.now.entries) }
 {
@@ -277,7 +278,8 @@ fn place(chains: &IndexMap<Key, PriorityChain>, key: &Key) -> Option<usize>
 // Whether the chain of a facility or a storage lies at an index.
 #[inline(always)]
 fn is_at(chains: &IndexMap<Key, PriorityChain>, index: usize, key: &Key) -> bool
-    ensures there { IsTrue result → (chain : Chain Transaction) × (slice_get chains.now.entries index ≡ Some (key.now, chain)) }
+    ensures there { IsTrue result → (chain : Chain Transaction) ×
+        (slice_get chains.now.entries index ≡ Some (key.now, chain)) }
     ensures other { IsFalse result → value_of (drop index chains.now.entries) key.now ≡
         value_of (drop (suc index) chains.now.entries) key.now }
 {
@@ -291,7 +293,8 @@ fn is_at(chains: &IndexMap<Key, PriorityChain>, index: usize, key: &Key) -> bool
 #[cold]
 #[inline(never)]
 fn place_by_hash(chains: &IndexMap<Key, PriorityChain>, key: &Key) -> Option<usize>
-    ensures there { IfSome result (λ i. (chain : Chain Transaction) × (slice_get chains.now.entries i ≡ Some (key.now, chain))) }
+    ensures there { IfSome result (λ i. (chain : Chain Transaction) ×
+        (slice_get chains.now.entries i ≡ Some (key.now, chain))) }
     ensures none { IfNone result (value_of chains.now.entries key.now ≡ None) }
 {
     match chains.get_full(key) {

@@ -7,7 +7,8 @@ use indexmap::IndexMap;
 use std::alloc::{AllocError, Global};
 use std::marker::Model;
 
-// So many entities are looked through one by one, and those behind them by their hash. Most models have no more of a kind.
+// So many entities are looked through one by one, and those behind them by their hash. Most models have no more of a
+// kind.
 const FEW_ENTITIES: usize = 8;
 
 /// A value for each entity, in order of first touch.

@@ -11,8 +11,8 @@ use indexmap::IndexMap;
 use std::alloc::{AllocError, Global};
 use std::marker::Model;
 
-// So many transactions are looked through one by one, and those behind them by their hash. Most models have no more with
-// parameters at a time.
+// So many transactions are looked through one by one, and those behind them by their hash. Most models have no more
+// with parameters at a time.
 const FEW_TRANSACTIONS: usize = 8;
 
 /// The parameters of transactions, by the number of the transaction and the key of the parameter.

@@ -45,7 +45,8 @@ Makes (Ok m) streams (Err halt) before after = (halt ≡ halts.Memory) × (after
 Makes (Err halt) streams (Err other) before after = (other ≡ halt) × (after ≡ before)
 Makes (Err halt) streams (Ok u) before after = ⊥
 
--- the move to which an evaluation comes is made, with the streams behind its draws; where it comes to none, nothing changes
+-- the move to which an evaluation comes is made, with the streams behind its draws; where it comes to none, nothing
+-- changes
 abbrev pub Acts : Listing → ℕ → Eval Move → Result (Unit {0}) Halt → Machine → Machine → Noted → Noted → Type 0
 Acts t seed p (Ok u) before after old new =
     (m : Move) × Decides t seed p (Ok m) old new × (after ≡ decided before m new.streams)

@@ -1,7 +1,7 @@
 // A step, decided and made.
 //
-// A move is made where it is decided, and no more is handed back than whether it was. So the moves of the blocks that most
-// attempts meet stay in registers. `State::decide` takes the same decisions and makes none.
+// A move is made where it is decided, and no more is handed back than whether it was. So the moves of the blocks that
+// most attempts meet stay in registers. `State::decide` takes the same decisions and makes none.
 ghost use Rattle.std.specs.Prelude.{◌≡◌, Some, IsSome};
 ghost use Rattle.gw_meaning.specs.declared.transaction.Transaction.{Transaction};
 ghost use Rattle.gw_meaning.specs.declared.item.Item.TheVariants as items;

@@ -25,8 +25,8 @@ use gw_nums::Clock;
 use std::alloc::AllocError;
 
 impl State {
-    // Makes the move that was decided, with the streams behind its draws; or changes nothing, where none was or a growth
-    // is refused.
+    // Makes the move that was decided, with the streams behind its draws; or changes nothing, where none was or a
+    // growth is refused.
     #[inline(always)]
     pub(crate) fn carry_out(
         &mut self,
