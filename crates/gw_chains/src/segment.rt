@@ -1,5 +1,5 @@
-ghost use Rattle.std.specs.Prelude.{◌≡◌, ◌+◌, ◌++◌, ◌∷◌, ◌≤◌, ◌<◌, [], length, drop, filter, not, Some, IfOk, OnOk, ◌^◌, ◌==◌};
-ghost use Rattle.std.specs.List.{swap};
+ghost use Rattle.std.specs.Prelude.{◌≡◌, ◌+◌, ◌-◌, ◌++◌, ◌∷◌, ◌≤◌, ◌<◌, [], length, take, drop, filter, not, true, Some, slice_get, IfSome, IfNone, IfOk, OnOk, ◌^◌, ◌==◌};
+ghost use Rattle.std.specs.List.{remove};
 ghost use Rattle.gw_meaning.specs.Changes.{all_lined_up, due, is_due};
 ghost use Rattle.gw_meaning.specs.Step.{least_time, sooner};
 ghost use Rattle.gw_chains.specs.Segments.{soonest, is_later};
@@ -142,6 +142,7 @@ pub(crate) fn is_later(least: Option<Time>, time: Time) -> bool
 }
 
 // Moves the transactions of a time to the current chain, and keeps the others in their order: the least time of these.
+// Few are due at one time, so the search for them is what costs: each that is due leaves alone.
 #[inline(always)]
 fn take_due(events: &mut Vec<Event>, current: &mut PriorityChain, time: Time) -> Option<Time>
     requires { length events.old.items ≤ current.old.room }
@@ -150,34 +151,89 @@ fn take_due(events: &mut Vec<Event>, current: &mut PriorityChain, time: Time) ->
     ensures room { current.old.room ≤ current.new.room + length events.old.items }
     ensures least { result ≡ least_time events.new.items }
 {
-    let mut kept = 0;
-    let mut least = None;
-    for i in 0..events.len() {
-        let event = &events[i];
-        if event.time == time {
-            current.line_up(same(&event.transaction));
-        } else {
-            least = Some(sooner(event.time, least));
-            bring(events, kept, i);
-            kept += 1;
-        }
+    let mut from = 0;
+    while let Some(index) = first_due(events, from, time) {
+        current.line_up(same(&events[index]).transaction);
+        take_out(events, index);
+        from = index;
     }
-    events.truncate(kept);
-    least
+    least_of(events)
 }
 
-// Swaps an event with the one at a place at or before its own. While nobody before it is due, that place is its own, and
-// nothing moves.
-#[inline(always)]
-#[tactic(auto, using(indexmap::proofs::IndexTableLemmas::Indexes::swap_self))]
-fn bring(events: &mut Vec<Event>, to: usize, from: usize)
-    requires order { to ≤ from }
-    requires within { from < length events.old.items }
-    ensures { events.new.items ≡ swap events.old.items to from }
+// The first one that is due at a time, where none before an index is.
+fn first_due(events: &[Event], from: usize, time: Time) -> Option<usize>
+    requires within { from ≤ length events.now }
+    requires before { due time (take from events.now) ≡ [] }
+    ensures none { IfNone result (due time events.now ≡ []) }
+    ensures within { IfSome result (λ i. i < length events.now) }
+    ensures before { IfSome result (λ i. due time (take i events.now) ≡ []) }
+    ensures due { IfSome result (λ i. IfSome (slice_get events.now i) (λ e. is_due time e ≡ true)) }
 {
-    if to < from {
-        events.swap(to, from);
+    for i in from..events.len() {
+        if events[i].time == time {
+            return Some(i);
+        }
     }
+    None
+}
+
+// Takes an event out: those behind it move up. Most chains are short, and std's `remove` does much before the first one
+// moves.
+#[inline(always)]
+fn take_out(events: &mut Vec<Event>, index: usize)
+    requires { index < length events.old.items }
+    ensures { events.new.items ≡ remove events.old.items index }
+{
+    let last = events.len() - 1;
+    move_up(events, index);
+    events.truncate(last);
+}
+
+// Those behind an event move up by one place, the first of them over it.
+#[inline(always)]
+fn move_up(events: &mut [Event], index: usize)
+    requires { index < length events.old }
+    ensures { take (length events.old - 1) events.new ≡ remove events.old index }
+{
+    for i in index..events.len() - 1 {
+        events[i] = same(&events[i + 1]);
+    }
+}
+
+// An event equal to another.
+#[inline(always)]
+fn same(event: &Event) -> Event
+    ensures { result ≡ event.now }
+{
+    let x = &event.transaction;
+    Event {
+        time: event.time,
+        transaction: Transaction {
+            number: x.number,
+            priority: x.priority,
+            mark: x.mark,
+            current: x.current,
+            destination: x.destination,
+            asked: x.asked,
+        },
+    }
+}
+
+// The least time of events. Each is compared with a time and no option, since the first one's is there to begin with.
+fn least_of(events: &[Event]) -> Option<Time>
+    ensures { result ≡ least_time events.now }
+{
+    if events.is_empty() {
+        return None;
+    }
+    let mut least = events[0].time;
+    for i in 1..events.len() {
+        let time = events[i].time;
+        if time < least {
+            least = time;
+        }
+    }
+    Some(least)
 }
 
 // The sooner of two times, where there are any.
@@ -196,19 +252,5 @@ fn sooner(time: Time, other: Option<Time>) -> Time
     match other {
         Some(other) if other < time => other,
         _ => time,
-    }
-}
-
-// A transaction equal to another.
-fn same(x: &Transaction) -> Transaction
-    ensures { result ≡ x.now }
-{
-    Transaction {
-        number: x.number,
-        priority: x.priority,
-        mark: x.mark,
-        current: x.current,
-        destination: x.destination,
-        asked: x.asked,
     }
 }

@@ -214,7 +214,8 @@ number_said (items.Name name) label x y same line other e l m was is no_block no
     go : (b : Bool) → same_number line.statement other.statement x y ≡ b → probed_at (one_if (not b) (items.Name label)) (items.Name name) ≡ false →
         number_of (definition_if (bytes_eq label name) (Some (definitions.Equ y))) ≡ number_of (definition_if (bytes_eq label name) (Some (definitions.Equ x)))
     go true k untouched =
-        ap (λ z. number_of (definition_if (bytes_eq label name) (Some (definitions.Equ z)))) (sym (numbers_alike true line.statement other.statement x y k refl))
+        ap (λ z. number_of (definition_if (bytes_eq label name) (Some (definitions.Equ z))))
+        (sym (numbers_alike true line.statement other.statement x y k refl))
     go false k untouched =
         let apart : bytes_eq label name ≡ false = bytes_other name label untouched in
         ap (λ b. number_of (definition_if b (Some (definitions.Equ y)))) apart ∙ sym (ap (λ b. number_of (definition_if b (Some (definitions.Equ x)))) apart)

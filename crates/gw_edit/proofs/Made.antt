@@ -123,7 +123,8 @@ others t e u v same lines limit horizon front goes_out comes_in seeds = record {
 }
 
 -- the storage of a name stands among the statements
-pub storage_found : (name : List ℕ) (n : ℕ) (lines : List Numbered) (place : ℕ) → storage_in name n lines ≡ Some place → (n ≤ place) × (place < n + length lines)
+pub storage_found : (name : List ℕ) (n : ℕ) (lines : List Numbered) (place : ℕ) →
+    storage_in name n lines ≡ Some place → (n ≤ place) × (place < n + length lines)
 storage_found name n [] place h = absurd cc
 storage_found name n (line ∷ lines) place h = go (is_capacity (defines name line)) h (storage_found name (n + 1) lines place) where
   go : (b : Bool) → cond b (Some n) (storage_in name (n + 1) lines) ≡ Some place →

@@ -68,9 +68,9 @@ label_if wanted None = None
 label_if wanted (Some name) = one_if wanted (items.Label name)
 
 -- a block that comes in or goes out: what comes after the block in front of it, itself and what comes after itself, the
--- list of GENERATEs where it is one, and its label. (Where it comes in, the version before had no block with its number,
--- so that no step of a recorded run can have read the two of its own; they stand here since the versions answer them in
--- two ways.)
+-- list of GENERATEs where it is one, and its label. (Where it comes in, the version before had no block with its
+-- number, so that no step of a recorded run can have read the two of its own; they stand here since the versions answer
+-- them in two ways.)
 abbrev pub block_places : Option ℕ → Numbered → List (Option Probe)
 block_places front line =
     behind front ∷ Some (One (items.Block line.number)) ∷ Some (One (After line.number))
@@ -133,9 +133,9 @@ abbrev pub same_curve : Statement → Statement → Function → Function → Bo
 same_curve old new a b = bytes_eq old.operands new.operands && same_function a b
 
 -- a statement that is another one, of which not both are blocks: of a storage of one name the amounts that the two
--- capacities answer in two ways, of an EQU of one name the number where it is another one, of a VARIABLE of one name the
--- expression and of a FUNCTION of one name the FUNCTION where it is another one; else what the one touches that goes, and
--- what the one that comes in
+-- capacities answer in two ways, of an EQU of one name the number where it is another one, of a VARIABLE of one name
+-- the expression and of a FUNCTION of one name the FUNCTION where it is another one; else what the one touches that
+-- goes, and what the one that comes in
 abbrev pub other_change :
     Option (List ℕ) → Option Definition → Option Definition → Listing → ℕ → Numbered → Numbered → List Probe
 other_change (Some name) (Some (definitions.Storage from)) (Some (definitions.Storage to)) t place old new =
@@ -157,7 +157,8 @@ probes_of t place (Some line) = line_probes t place line
 abbrev pub splice_probes : Listing → ℕ → Option Numbered → Option Numbered → List Probe
 splice_probes t place (Some old) (Some new) =
     if is_block old && is_block new then block_change old new
-    else other_change (one_name old.statement.label new.statement.label) (definition_of old) (definition_of new) t place old new
+    else other_change (one_name old.statement.label new.statement.label) (definition_of old) (definition_of new) t place
+    old new
 splice_probes t place goes comes = probes_of t place goes ++ probes_of t place comes
 
 -- two seeds, of which either may be none

@@ -21,8 +21,8 @@ pub fn edit_in_positions()
     ensures { EditInPositions }
 {}
 
-/// Where each statement of a version is spelled by some lines, as those of a model that was read, so is each of an edited
-/// version.
+/// Where each statement of a version is spelled by some lines, as those of a model that was read, so is each of an
+/// edited version.
 pub fn edits_are_spelled()
     ensures { EditsAreSpelled }
 {}

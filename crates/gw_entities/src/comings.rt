@@ -30,7 +30,8 @@ impl Model for Comings {
       room = if nat_lt (length c.few.items) 12 then vec_capacity c.few - length c.few.items else c.many.room;
     } };
 
-    ghost invariant = { λ c. AreOnce (c.few.items ++ c.many.comings) × (length c.few.items < 12 → c.many.comings ≡ []) };
+    ghost invariant = { λ c. AreOnce (c.few.items ++ c.many.comings) ×
+        (length c.few.items < 12 → c.many.comings ≡ []) };
 }
 
 impl Comings {

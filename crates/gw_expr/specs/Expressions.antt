@@ -1,4 +1,5 @@
--- Expressions: trees of values and operators, and the postfix order in which they are kept. (Manual; the order is our own.)
+-- Expressions: trees of values and operators, and the postfix order in which they are kept. (Manual; the order is our
+-- own.)
 use Rattle.std.specs.Prelude.{List, [], ◌∷◌, ◌++◌}
 use Rattle.gw_expr.specs.declared.atom.Atom.{Atom}
 use Rattle.gw_expr.specs.declared.token.Operator.{Operator}

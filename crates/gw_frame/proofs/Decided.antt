@@ -86,7 +86,8 @@ module _ (t : Listing) (seed : ℕ) (s : Machine) where
   first_of_decides q id b true named = first_of_generate_decides q id (operand b A) (operand b B) (operand b C) (operand b D) (operand b E) named
   first_of_decides q id b false named = keeps_gives tt
 
-  first_arrival_decides : (q : Asker) (id : ℕ) (block : Option Block) → block_at t id ≡ block → Decides t seed s (IsComingIfAny t s) (first_arrival s q id block)
+  first_arrival_decides : (q : Asker) (id : ℕ) (block : Option Block) → block_at t id ≡ block →
+      Decides t seed s (IsComingIfAny t s) (first_arrival s q id block)
   first_arrival_decides q id None is = keeps_gives tt
   first_arrival_decides q id (Some b) is = first_of_decides q id b (is_generate_verb b.verb) (inr (b, is))
 
@@ -199,7 +200,8 @@ module _ (t : Listing) (seed : ℕ) (s : Machine) where
       Decides t seed s (IsDecided t s) (release_to id key owns (first_number (delay_at s.delays key)))
   release_to_decides id key owns none named = keeps_stops (not owns) _ (keeps_gives (named, (none, refl), tt))
 
-  release_decides : (q : Asker) (x : Transaction) (id : ℕ) (entity : Option Term) → IsBlockId t id → Decides t seed s (IsDecided t s) (release_prog s q x id entity)
+  release_decides : (q : Asker) (x : Transaction) (id : ℕ) (entity : Option Term) → IsBlockId t id →
+      Decides t seed s (IsDecided t s) (release_prog s q x id entity)
   release_decides q x id entity named = keeps_bind (entity_decides t seed s q entity)
       (λ key h. release_to_decides id key (is_owner (facility_at s.entities key).owner x.number) h named)
 

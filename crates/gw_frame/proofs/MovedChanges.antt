@@ -128,7 +128,8 @@ module _ (move : ℕ → ℕ) (is : IsMove move) where
   some_let_in_moved key [] passed chain s = refl
   some_let_in_moved key (share ∷ shares) passed [] s = refl
   some_let_in_moved key (None ∷ shares) passed (x ∷ xs) s =
-      ap (λ ys. some_let_in key shares ys (map (moved_transaction move) xs) (moved_machine move s)) (sym (map-append (moved_transaction move) passed (x ∷ []))) ∙
+      ap (λ ys. some_let_in key shares ys (map (moved_transaction move) xs) (moved_machine move s))
+      (sym (map-append (moved_transaction move) passed (x ∷ []))) ∙
       some_let_in_moved key shares (passed ++ x ∷ []) xs s
   some_let_in_moved key (Some units ∷ shares) passed (x ∷ xs) s =
       let others = map-append (moved_transaction move) passed xs in

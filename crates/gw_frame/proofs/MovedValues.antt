@@ -268,7 +268,8 @@ module _ (move : ℕ → ℕ) (is : IsMove move) where
   value_follows s q term =
       term_follows s q (definitions_prog DEEPEST s q) (definitions_prog DEEPEST (moved_machine move s) q) (definitions_follow DEEPEST s q) term
 
-  pub value_there_follows : (s : Machine) (q : Asker) (term : Option Term) → Follows move same (value_there s q term) (value_there (moved_machine move s) q term)
+  pub value_there_follows : (s : Machine) (q : Asker) (term : Option Term) →
+      Follows move same (value_there s q term) (value_there (moved_machine move s) q term)
   value_there_follows s q None = follows_ends
   value_there_follows s q (Some term) = value_follows s q term
 

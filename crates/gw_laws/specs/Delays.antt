@@ -1,5 +1,5 @@
--- The delay chains over every run from zero: in which order transactions wait for a facility or a storage, and where they
--- stand who wait no longer. (Manual.)
+-- The delay chains over every run from zero: in which order transactions wait for a facility or a storage, and where
+-- they stand who wait no longer. (Manual.)
 use Rattle.std.specs.Prelude.{◌≡◌, ℕ, suc, ◌≤◌, ◌<◌, ◌⊎◌, ℤ, Bool, true, false, List, [], ◌∷◌, ◌++◌, Some, None, Ok, All, Contains, filter, length}
 use Rattle.gw_names.specs.declared.key.Key.{Key}
 use Rattle.gw_names.specs.declared.key.Key.TheVariants as keys

@@ -14,9 +14,9 @@ pub fn edits_are_read()
     ensures refused { EditsAreRefused }
 {}
 
-/// What `list` prints of a statement that was read is read as that statement, as the text of an edit, and among the lines
-/// of a model, where each `|` ends a line. Of a statement of one line it is that line, without a `|`. So is a storage
-/// whose capacity is in decimal digits.
+/// What `list` prints of a statement that was read is read as that statement, as the text of an edit, and among the
+/// lines of a model, where each `|` ends a line. Of a statement of one line it is that line, without a `|`. So is a
+/// storage whose capacity is in decimal digits.
 pub fn printed_is_read()
     ensures line { PrintedSpells }
     ensures edit { PrintedEdits }

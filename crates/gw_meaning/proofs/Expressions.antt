@@ -33,7 +33,8 @@ then_assoc {A} {B} p f g = fun_ext (λ streams. bind_assoc (p streams) (λ (r : 
 
 module _ (s : Machine) (q : Asker) (defined : Definitions) where
   -- parts, and others behind them
-  parts_then : (ts us : List Token) (values : List ℤ) → tokens_prog s q defined (ts ++ us) values ≡ (tokens_prog s q defined ts values ~> (λ more. tokens_prog s q defined us more))
+  parts_then : (ts us : List Token) (values : List ℤ) → tokens_prog s q defined (ts ++ us) values ≡
+      (tokens_prog s q defined ts values ~> (λ more. tokens_prog s q defined us more))
   parts_then [] us values = refl
   parts_then (t ∷ ts) us values =
       ap (λ k. token_prog s q defined t values ~> k) (fun_ext (λ more. parts_then ts us more)) ∙
@@ -66,7 +67,8 @@ module _ (s : Machine) (q : Asker) (defined : Definitions) where
       ap (λ k. expression_prog s q defined left ~> k) (fun_ext (λ a. expression_then right behind (a ∷ values) ∙
       ap (λ k. expression_prog s q defined right ~> k) (fun_ext (λ b. applied_then (arithmetic (applied operator a b)) us values)) ∙
       sym (then_assoc (expression_prog s q defined right) (λ b. arithmetic (applied operator a b)) (λ v. tokens_prog s q defined us (v ∷ values))))) ∙
-      sym (then_assoc (expression_prog s q defined left) (λ a. expression_prog s q defined right ~> (λ b. arithmetic (applied operator a b))) (λ v. tokens_prog s q defined us (v ∷ values)))
+      sym (then_assoc (expression_prog s q defined left) (λ a. expression_prog s q defined right ~> (λ b. arithmetic (applied operator a b)))
+      (λ v. tokens_prog s q defined us (v ∷ values)))
 
   pub nested_value : (e : Expression) → term_prog s q defined (Computed (postfix e)) ≡ expression_prog s q defined e
   unfolding term_prog

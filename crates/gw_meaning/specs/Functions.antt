@@ -1,5 +1,5 @@
--- What a FUNCTION comes to at an argument, by its points: both in millionths. (Manual: types C and D. Our own: quotients
--- are divided downwards, and that beyond the first and the last point its value there stands.)
+-- What a FUNCTION comes to at an argument, by its points: both in millionths. (Manual: types C and D. Our own:
+-- quotients are divided downwards, and that beyond the first and the last point its value there stands.)
 use Rattle.std.specs.Prelude.{ℤ, List, [], ◌∷◌, Option, Some, None, if◌then◌else◌}
 use Rattle.gw_nums.specs.Range.{is_below}
 use Rattle.gw_nums.specs.Millionths.{distance, toward}

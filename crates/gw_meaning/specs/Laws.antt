@@ -37,11 +37,12 @@ abbrev pub comes_to : Result ℤ End → Eval ℤ
 comes_to (Ok z) = gives z
 comes_to (Err end) = ends_with end
 
--- an expression of constants comes to one result, whatever the state and whoever asks, and neither asks nor draws: so no
--- version has another value of it
+-- an expression of constants comes to one result, whatever the state and whoever asks, and neither asks nor draws: so
+-- no version has another value of it
 abbrev pub ConstantsHangOnNothing : Type 0
 ConstantsHangOnNothing = (e : Expression) → IsConstant e →
-    (r : Result ℤ End) × ((s : Machine) (q : Asker) (defined : Definitions) → expression_prog s q defined e ≡ comes_to r)
+    (r : Result ℤ End) ×
+    ((s : Machine) (q : Asker) (defined : Definitions) → expression_prog s q defined e ≡ comes_to r)
 
 -- points that rise: each has a greater argument than those before it
 abbrev pub AreRising : List Point → Type 0

@@ -18,7 +18,8 @@ pub enum Deed {
     },
     /// The transaction takes a facility.
     Seize,
-    /// The transaction gives a facility back; `next` is the number of the first that waits for it, who takes it at once.
+    /// The transaction gives a facility back; `next` is the number of the first that waits for it, who takes it at
+    /// once.
     Release {
         next: Option<u64>,
     },
@@ -26,8 +27,8 @@ pub enum Deed {
     Enter {
         units: u64,
     },
-    /// So many units of a storage are given back; `shares` has for each of its delay chain, from the front, the units with
-    /// which it is let in, and `None` where it goes on waiting.
+    /// So many units of a storage are given back; `shares` has for each of its delay chain, from the front, the units
+    /// with which it is let in, and `None` where it goes on waiting.
     Leave {
         units: u64,
         shares: Row<Option<u64>>,

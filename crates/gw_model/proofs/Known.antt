@@ -123,13 +123,15 @@ tested false b f = refl
 pub labels_known : (lines : List Numbered) → LabelsThere lines → CountsThere lines → has_unknown_label lines ≡ false
 unfolding has_unknown_label is_unknown_label
 labels_known lines f g = in_no_line (is_unknown_label (known lines)) lines go where
-  each : (i place : ℕ) (line : Numbered) (term : Term) → slice_get lines i ≡ Some line → operand_of line place ≡ Some term → (atom : Atom) → HasAtom term atom → counts_unknown (known lines) atom ≡ false
+  each : (i place : ℕ) (line : Numbered) (term : Term) → slice_get lines i ≡ Some line →
+      operand_of line place ≡ Some term → (atom : Atom) → HasAtom term atom → counts_unknown (known lines) atom ≡ false
   each i place line term e o (atoms.Attribute class of) has = tested (is_of_block class) (lacks_name (known lines) of)
       (λ is. (let h = g i place line term class of e o has is in
       ap (lacks_name (known lines)) h.1 ∙ ap (λ (x : Option ℕ). not (is_some x)) h.3))
   each i place line term e o atom has = refl
 
-  go : (i place : ℕ) (line : Numbered) (term : Term) → slice_get lines i ≡ Some line → operand_of line place ≡ Some term → is_unknown_label (known lines) term ≡ false
+  go : (i place : ℕ) (line : Numbered) (term : Term) → slice_get lines i ≡ Some line →
+      operand_of line place ≡ Some term → is_unknown_label (known lines) term ≡ false
   go i place line (Label name) e o = ap (λ (x : Option ℕ). not (is_some x)) (f i place line name e o).1
   go i place line (Value a) e o = in_no_atom _ (Value a) (each i place line (Value a) e o)
   go i place line (Computed ts) e o = in_no_atom _ (Computed ts) (each i place line (Computed ts) e o)
@@ -289,7 +291,8 @@ pub definitions_known : (lines : List Numbered) → StoragesThere lines → Numb
     FunctionsThere lines → has_unknown_definition lines ≡ false
 unfolding has_unknown_definition is_undefined
 definitions_known lines f g w v u = in_no_line (is_undefined (definition lines)) lines go where
-  each : (i place : ℕ) (line : Numbered) (term : Term) → slice_get lines i ≡ Some line → operand_of line place ≡ Some term → (atom : Atom) → HasAtom term atom → has_no_value (definition lines) atom ≡ false
+  each : (i place : ℕ) (line : Numbered) (term : Term) → slice_get lines i ≡ Some line →
+      operand_of line place ≡ Some term → (atom : Atom) → HasAtom term atom → has_no_value (definition lines) atom ≡ false
   each i place line term e o (atoms.Constant value) has = refl
   each i place line term e o (atoms.Number name) has =
       ap (λ (x : Option Definition). not (is_some (number_of x))) (g i place line term name e o has).1
@@ -304,7 +307,8 @@ definitions_known lines f g w v u = in_no_line (is_undefined (definition lines))
       storage_wanted lines class of is ∙
       (ap (lacks_name (of_storage lines)) h.1 ∙ ap (λ (x : Option Definition). not (is_storage_or_equ x)) h.3)))
 
-  go : (i place : ℕ) (line : Numbered) (term : Term) → slice_get lines i ≡ Some line → operand_of line place ≡ Some term → is_undefined (definition lines) term ≡ false
+  go : (i place : ℕ) (line : Numbered) (term : Term) → slice_get lines i ≡ Some line →
+      operand_of line place ≡ Some term → is_undefined (definition lines) term ≡ false
   go i place line (Defined name) e o = ap (λ (x : Option Definition). not (is_storage_or_equ x)) (f i place line name e o).1
   go i place line (Value a) e o = in_no_atom _ (Value a) (each i place line (Value a) e o)
   go i place line (Computed ts) e o = in_no_atom _ (Computed ts) (each i place line (Computed ts) e o)
@@ -314,7 +318,8 @@ pub none_equ_named : (lines : List Numbered) → StoragesThere lines → Content
     FunctionsThere lines → has_equ_named lines ≡ false
 unfolding has_equ_named is_equ_named
 none_equ_named lines f w v u = in_no_line (is_equ_named (definition lines)) lines go where
-  each : (i place : ℕ) (line : Numbered) (term : Term) → slice_get lines i ≡ Some line → operand_of line place ≡ Some term → (atom : Atom) → HasAtom term atom → is_of_equ (definition lines) atom ≡ false
+  each : (i place : ℕ) (line : Numbered) (term : Term) → slice_get lines i ≡ Some line →
+      operand_of line place ≡ Some term → (atom : Atom) → HasAtom term atom → is_of_equ (definition lines) atom ≡ false
   each i place line term e o (atoms.Attribute class.V of) has =
       let h = v i place line term of e o has in
       ap (has_name (is_number lines)) h.1 ∙ ap (λ (x : Option Definition). is_some (number_of x)) h.3
@@ -326,7 +331,8 @@ none_equ_named lines f w v u = in_no_line (is_equ_named (definition lines)) line
       ap (has_name (is_number lines)) h.1 ∙ ap (λ (x : Option Definition). is_some (number_of x)) h.3))
   each i place line term e o atom has = refl
 
-  go : (i place : ℕ) (line : Numbered) (term : Term) → slice_get lines i ≡ Some line → operand_of line place ≡ Some term → is_equ_named (definition lines) term ≡ false
+  go : (i place : ℕ) (line : Numbered) (term : Term) → slice_get lines i ≡ Some line →
+      operand_of line place ≡ Some term → is_equ_named (definition lines) term ≡ false
   go i place line (Defined name) e o = ap (λ (x : Option Definition). is_some (number_of x)) (f i place line name e o).1
   go i place line (Value a) e o = in_no_atom _ (Value a) (each i place line (Value a) e o)
   go i place line (Computed ts) e o = in_no_atom _ (Computed ts) (each i place line (Computed ts) e o)

@@ -95,8 +95,8 @@ is_of_definition class.V = true
 is_of_definition class.Fn = true
 is_of_definition class = is_of_storage class
 
--- whether a definition is a storage, or an EQU in the place of one, and whether it is what an attribute of a class is of,
--- or an EQU
+-- whether a definition is a storage, or an EQU in the place of one, and whether it is what an attribute of a class is
+-- of, or an EQU
 abbrev pub is_storage_or_equ : Option Definition → Bool
 is_storage_or_equ definition = is_some (units_of definition) || is_some (listings.number_of definition)
 
@@ -133,8 +133,8 @@ is_unknown_label known term = holds_of_atom (counts_unknown known) term
 unfoldable pub has_unknown_label : List Numbered → Bool
 has_unknown_label lines = list_any (holds_in (is_unknown_label (λ name. is_some (labelled_in name lines)))) lines
 
--- a name without the definition that it needs: that of a storage, of a VARIABLE or of a FUNCTION has neither that nor an
--- EQU, or what stands for a number has no EQU
+-- a name without the definition that it needs: that of a storage, of a VARIABLE or of a FUNCTION has neither that nor
+-- an EQU, or what stands for a number has no EQU
 abbrev pub has_no_value : (List ℕ → Option Definition) → Atom → Bool
 has_no_value definition (atoms.Constant value) = false
 has_no_value definition (atoms.Number name) = not (is_some (listings.number_of (definition name)))

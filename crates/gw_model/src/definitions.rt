@@ -23,8 +23,8 @@ pub fn has_unknown_definition(lines: &[Numbered], definitions: &BTreeMap<Name, D
     lines.iter().any(|line| names_undefined(definitions, line))
 }
 
-/// Whether an operand of a block, the expression of a VARIABLE or the argument of a FUNCTION has the name of a storage, of
-/// a VARIABLE or of a FUNCTION that is an EQU's.
+/// Whether an operand of a block, the expression of a VARIABLE or the argument of a FUNCTION has the name of a storage,
+/// of a VARIABLE or of a FUNCTION that is an EQU's.
 #[tactic(auto, unfolding(crate::specs::Faults::has_equ_named))]
 pub fn has_equ_named(lines: &[Numbered], definitions: &BTreeMap<Name, Definition>) -> bool
     requires { (name : List ℕ) → tree.get (slice_cmp nat_cmp) definitions.now name ≡ defined_in name lines.now }

@@ -51,7 +51,8 @@ goes_between a b (negsuc d) q e h k up =
 
 pub toward_in_range : (a b : ℤ) (part all : ℕ) → IsTrue (is_millionths a) → IsTrue (is_millionths b) → part ≤ all → 0 < all →
     IsTrue (is_millionths (toward a b part all))
-toward_in_range a b part all h k within some = goes_between a b (b -ℤ a) (quotient_down ((b -ℤ a) *ℤ pos part) all) refl h k (part_up_to (b -ℤ a) part all within some)
+toward_in_range a b part all h k within some =
+    goes_between a b (b -ℤ a) (quotient_down ((b -ℤ a) *ℤ pos part) all) refl h k (part_up_to (b -ℤ a) part all within some)
 
 -- a product and a quotient of numbers that pass through their types
 pub product_is : (a b p : ℤ) → FitsSigned w64 a → FitsSigned w64 b → p ≡ to_z w64 (of_z w64 a) *ℤ to_z w64 (of_z w64 b) → p ≡ a *ℤ b
@@ -74,7 +75,8 @@ magnitude_times (pos n) h = let k : n / 1000000 ≤ 1000000000000000000 = omega 
 magnitude_times (negsuc n) h = let k : n / 1000000 ≤ 1000000000000000000 = omega arith in omega (arith, ints)
 
 pub times_fits : (v m : ℤ) → IsTrue (is_value v) → IsTrue (is_millionths m) → FitsSigned w64 (times v m)
-times_fits v m h k = magnitude_times (v *ℤ m) (subst (λ (n : ℕ). n ≤ 1000000000000000000000000) (sym (unsigned_abs-mul v m)) (mul-le-mul (value_most v h) (millionths_most m k)))
+times_fits v m h k =
+    magnitude_times (v *ℤ m) (subst (λ (n : ℕ). n ≤ 1000000000000000000000000) (sym (unsigned_abs-mul v m)) (mul-le-mul (value_most v h) (millionths_most m k)))
 
 -- the part of a way that the code finds
 pub way_is : (a b p q : ℤ) (part all : ℕ) → IsTrue (is_millionths a) → IsTrue (is_millionths b) → part ≤ all → all ≤ 2000000000000000 →

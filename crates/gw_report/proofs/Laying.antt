@@ -34,13 +34,15 @@ left_laid : (line text new : List ℕ) (from end k : ℕ) → from ≤ end → e
 left_laid line text new from end k order within fits blank size is =
     let long : length new ≡ length text = ap length is in
     let whole = put_mid from k line new in
-    let same : length whole ≡ length line = same_len_mid from k line new (omega (arith, length-take-le k (drop from line) (omega (arith, length-drop from line)))) in
+    let same : length whole ≡ length line =
+    same_len_mid from k line new (omega (arith, length-take-le k (drop from line) (omega (arith, length-drop from line)))) in
     let front : take (from + k) whole ≡ take from line ++ new = take-put_mid from k line new (from + k) (omega arith) (omega arith) in
     let back : drop (from + k) whole ≡ drop (from + k) line = drop-put_mid from k line new (from + k) (omega arith) (omega arith) (omega arith) in
     let blank' : BlankFrom (from + k) whole = back ∙ blank_from line from (from + k) (omega arith) blank ∙ ap (λ n. blanks (n - (from + k))) (sym same) in
     let spare : end - (from + k) ≡ end - from - length text = omega arith in
     record {
-      bytes = blank_to whole (from + k) end (omega arith) (omega arith) blank' ∙ ap (λ l. l ++ blanks (end - (from + k))) (front ∙ ap (λ l. take from line ++ l) is)
+      bytes = blank_to whole (from + k) end (omega arith) (omega arith) blank' ∙
+          ap (λ l. l ++ blanks (end - (from + k))) (front ∙ ap (λ l. take from line ++ l) is)
           ∙ append_assoc (take from line) text (blanks (end - (from + k))) ∙ ap (λ n. take from line ++ (text ++ blanks n)) spare;
       behind = drop-put_mid from k line new end (omega arith) (omega arith) (omega arith);
       len = same;
@@ -61,12 +63,14 @@ right_laid line text new from start end k begins order within fits blank size is
     }
 
 pub text_on_left : (line text new : List ℕ) (from start end k : ℕ) (side : Side) → side ≡ Left → start ≡ from → from ≤ end → end ≤ length line →
-    length text ≤ end - from → BlankFrom from line → k ≡ length text → new ≡ text → Laid line (put_mid start k line new) from (fitted side (end - from) text) end
+    length text ≤ end - from → BlankFrom from line → k ≡ length text → new ≡ text →
+    Laid line (put_mid start k line new) from (fitted side (end - from) text) end
 text_on_left line text new from start end k side left begins order within fits blank size is =
     rw (left, begins) (left_laid line text new from end k order within fits blank size is)
 
 pub text_on_right : (line text new : List ℕ) (from start end k : ℕ) (side : Side) → side ≡ Right → start ≡ end - length text → from ≤ end → end ≤ length line →
-    length text ≤ end - from → BlankFrom from line → k ≡ length text → new ≡ text → Laid line (put_mid start k line new) from (fitted side (end - from) text) end
+    length text ≤ end - from → BlankFrom from line → k ≡ length text → new ≡ text →
+    Laid line (put_mid start k line new) from (fitted side (end - from) text) end
 text_on_right line text new from start end k side right begins order within fits blank size is =
     rw right (right_laid line text new from start end k begins order within fits blank size is)
 
@@ -106,7 +110,8 @@ fraction_laid old mid whole fraction new from point end k ends within laid size 
       bytes = take-put_mid point k mid new end (omega arith) (omega arith) ∙ ap (λ l. take point mid ++ l) is ∙ ap (λ l. l ++ fraction) laid.bytes ∙
           append_assoc (take from old) (blank ++ whole) fraction ∙ ap (λ l. take from old ++ l) (append_assoc blank whole fraction) ∙
           ap (λ n. take from old ++ (blanks n ++ (whole ++ fraction))) spare;
-      behind = drop-put_mid point k mid new end (omega arith) (omega arith) (omega arith) ∙ ap (λ n. drop n mid) place ∙ sym (drop-drop (end - point) point mid) ∙
+      behind = drop-put_mid point k mid new end (omega arith) (omega arith) (omega arith) ∙
+          ap (λ n. drop n mid) place ∙ sym (drop-drop (end - point) point mid) ∙
           ap (drop (end - point)) laid.behind ∙ drop-drop (end - point) point old ∙ ap (λ n. drop n old) (sym place);
       len = same_len_mid point k mid new (omega (arith, length-take-le k (drop point mid) (omega (arith, length-drop point mid)))) ∙ same;
     }
@@ -123,7 +128,8 @@ cell_more line new cell rest whole end gap to within blank laid left =
 
 -- a title more in a heading
 pub title_more : (line new whole : List ℕ) (columns : List code.Column) (i : ℕ) (d : code.Column) (end gap to : ℕ) → i < length columns →
-    end + gap ≤ length line → BlankFrom end line → Laid line new (end + gap) (cell_of (column_of (get_or columns i d)) (column_of (get_or columns i d)).title) to →
+    end + gap ≤ length line → BlankFrom end line →
+    Laid line new (end + gap) (cell_of (column_of (get_or columns i d)) (column_of (get_or columns i d)).title) to →
     take end line ++ row_behind (blanks gap) (map column_of (drop i columns)) (map (λ (c : Column). c.title) (map column_of (drop i columns))) ≡ whole →
     take to new ++ row_behind (32 ∷ []) (map column_of (drop (i + 1) columns)) (map (λ (c : Column). c.title) (map column_of (drop (i + 1) columns))) ≡ whole
 title_more line new whole columns i d end gap to there within blank laid left =

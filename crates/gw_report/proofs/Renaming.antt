@@ -175,7 +175,8 @@ blocks_counted move (l ∷ ls) (m ∷ ms) h =
 head_renamed : (move : ℕ → ℕ) (t u : Listing) (s : Machine) → IsRenamed move t u → head_text u (moved_machine move s) ≡ head_text t s
 unfolding head_text
 head_renamed move t u s r =
-    ap (λ n. table_of head_columns ((decimal s.since ∷ decimal s.clock ∷ decimal n ∷ decimal (length s.entities.facilities) ∷ decimal (length s.entities.storages) ∷ []) ∷ []))
+    ap (λ n. table_of head_columns ((decimal s.since ∷ decimal s.clock ∷ decimal n ∷
+    decimal (length s.entities.facilities) ∷ decimal (length s.entities.storages) ∷ []) ∷ []))
     (blocks_counted move t.lines u.lines r.lines)
 
 seed_renamed : (move : ℕ → ℕ) (t u : Listing) (rep : ℕ) → IsRenamed move t u → seed_of u rep ≡ seed_of t rep

@@ -48,8 +48,8 @@ abbrev pub names_in_operand : Option Term → List (List ℕ)
 names_in_operand None = []
 names_in_operand (Some term) = names_in_term term
 
--- what a statement names: the label first, then the operands of a block, the expression of a VARIABLE, or the argument of
--- a FUNCTION
+-- what a statement names: the label first, then the operands of a block, the expression of a VARIABLE, or the argument
+-- of a FUNCTION
 abbrev pub names_of : Numbered → List (List ℕ)
 names_of line = option_to_list line.statement.label ++ flat_map names_in_operand (operands_of line)
 

@@ -1,5 +1,5 @@
--- The lines of storages: how many units each has, how many are in use and came into use, its averages, and how many wait
--- for it. (Manual; AVL. is 1 and RETRY is 0 so far.)
+-- The lines of storages: how many units each has, how many are in use and came into use, its averages, and how many
+-- wait for it. (Manual; AVL. is 1 and RETRY is 0 so far.)
 use Rattle.std.specs.Prelude.{ℕ, ◌-◌, ◌*◌, List, [], ◌∷◌, map, length, decimal, codes}
 use Rattle.gw_names.specs.declared.key.Key.{Key}
 use Rattle.gw_entities.specs.Levels.{sum_up_to}
@@ -39,7 +39,8 @@ storage_row capacity sum time delayed key s =
 
 unfoldable pub storage_line : Listing → Machine → Key × Store → List (List ℕ)
 storage_line t s e =
-    storage_row (units_of t e.0) (sum_up_to e.1.level s.clock) (s.clock - s.since) (length (delay_at s.delays e.0)) e.0 e.1
+    storage_row (units_of t e.0) (sum_up_to e.1.level s.clock) (s.clock - s.since) (length (delay_at s.delays e.0))
+    e.0 e.1
 
 -- the storages, in order of first touch
 unfoldable pub storages_text : Listing → Machine → List ℕ

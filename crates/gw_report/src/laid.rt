@@ -13,7 +13,8 @@ use itoa::{Buffer, write_digits};
 /// How many bytes a line has.
 pub const LINE: usize = 128;
 
-/// How many of them stand in front of the row, so that a number of any width can be written from its end.
+/// How many of them stand in front of the row, so that a number of any width can be written from its end. It is the 20
+/// of the contracts here.
 pub const MARGIN: usize = 20;
 
 /// Lays out a row in a line of blanks, behind the margin. Gives where the line's last cell ends, or nothing where the

@@ -1,19 +1,41 @@
 -- What was decided, and then made.
-use Rattle.std.proofs.Common.{ℕ, Result, Ok, Err, sym, subst}
+use Rattle.std.proofs.Common.{◌≡◌, ℕ, arith, List, [], ◌∷◌, length, Option, Some, None, Result, Ok, Err, refl, ap, sym, subst, ◌∙◌}
 use Rattle.gw_meaning.specs.declared.item.Item.{Item}
+use Rattle.gw_meaning.specs.declared.item.Item.TheVariants as items
+use Rattle.gw_meaning.specs.declared.moves.Arrival.{Arrival}
+use Rattle.gw_meaning.specs.declared.moves.Change.TheVariants as changes
+use Rattle.gw_meaning.specs.declared.moves.Fate.TheVariants as fates
 use Rattle.gw_meaning.specs.declared.moves.Move.{Move}
+use Rattle.gw_meaning.specs.declared.moves.Move.TheVariants as moves
+use Rattle.gw_meaning.specs.declared.transaction.Transaction.{Transaction}
 use Rattle.gw_meaning.specs.Listing.{Listing}
 use Rattle.gw_meaning.specs.Machine.{Machine}
 use Rattle.gw_meaning.specs.Questions.{Answer, ask}
-use Rattle.gw_meaning.specs.Evaluation.{Eval, asks}
+use Rattle.gw_meaning.specs.Evaluation.{Eval, asks, gives, ◌~>◌}
+use Rattle.gw_meaning.specs.Changes.{decided, moved}
+use Rattle.gw_meaning.specs.Step.{try_prog, attempt_prog, pick_prog, clock_prog, least_time}
 use Rattle.gw_scan.specs.declared.case.Halt.{Halt}
-use Rattle.gw_scan.specs.Noted.{Noted, Asks}
-use Rattle.gw_scan.specs.Deciding.{Decides}
+use Rattle.gw_scan.specs.Noted.{Noted, Asks, Tries}
+use Rattle.gw_scan.specs.Deciding.{Decides, generated}
 use Rattle.gw_scan.specs.Stepping.{Acts, Makes}
-use Rattle.gw_scan.proofs.Binding.{decides_asked}
-use Rattle.gw_scan.proofs.StepLaws.{decides_keeps}
+use Rattle.gw_scan.proofs.Binding.{decides_asked, decides_then, decides_halt, decides_gives}
+use Rattle.gw_scan.proofs.StepLaws.{IsIdle, decides_keeps, idle_undrawn}
+
+-- where none waits on the current chain, the clock moves on
+pub clock_is_next : (s : Machine) (xs : List Transaction) → length xs ≡ 0 → pick_prog s xs ≡ clock_prog (least_time s.future)
+clock_is_next s [] none = refl
+clock_is_next s (x ∷ xs) none = absurd (omega (arith, none))
 
 module _ (t : Listing) (seed : ℕ) where
+  -- a GENERATE is entered with the transaction that it makes next
+  pub decides_generated : (p : Eval (Option Arrival)) (id : ℕ) (r : Result (Option Arrival) Halt) (old new : Noted) →
+      Decides t seed p r old new →
+      Decides t seed (p ~> (λ next. gives (moves.Enter id (changes.Generate next) fates.Active))) (generated id r) old new
+  decides_generated p id (Ok next) old new h =
+      let m = moves.Enter id (changes.Generate next) fates.Active in
+      decides_then t seed p _ next (Ok m) old new new h (decides_gives t seed m new)
+  decides_generated p id (Err halt) old new h = decides_halt t seed p _ halt old new h
+
   -- a move that was decided is made
   pub acts_made : (p : Eval Move) (d : Result Move Halt) (r : Result (Unit {0}) Halt) (before after : Machine) (old new : Noted) →
       Decides t seed p d old new → Makes d new.streams r before after → Acts t seed p r before after old new
@@ -30,3 +52,20 @@ module _ (t : Listing) (seed : ℕ) where
       Acts t seed (k (ask t seed i)) r before after ys zs → Acts t seed (asks i k) r before after xs zs
   acts_asked i k (Ok u) before after xs ys zs asked h = (h.0, decides_asked t seed i k (Ok h.0) xs ys zs asked h.1, h.2)
   acts_asked i k (Err halt) before after xs ys zs asked h = (decides_asked t seed i k (Err halt) xs ys zs asked h.0, h.1)
+
+  -- who picks or sets the clock draws nothing
+  pub acts_idle : (p : Eval Move) (m : Move) (s after : Machine) (old new : Noted) → IsIdle m → new.streams ≡ s.streams →
+      Decides t seed p (Ok m) old new → after ≡ moved s m → Acts t seed p (Ok tt) s after old new
+  acts_idle p m s after old new idle same h made =
+      (m, h, made ∙ sym (ap (λ xs. decided s m xs) same ∙ idle_undrawn s m idle))
+
+  -- a block is tried: the one that a transaction goes to, or the one after its own, for which it asked
+  pub acts_tried : (s : Machine) (x : Transaction) (to id : Option ℕ) (r : Result (Unit {0}) Halt) (before after : Machine)
+      (xs ys zs : Noted) → Tries t x to id xs ys → Acts t seed (try_prog s x id) r before after ys zs →
+      Acts t seed (attempt_prog s x to) r before after xs zs
+  acts_tried s x (Some to) id r before after xs ys zs tried h =
+      let here = subst (λ (n : Noted). Acts t seed (try_prog s x id) r before after n zs) tried.1 h in
+      subst (λ (o : Option ℕ). Acts t seed (try_prog s x o) r before after xs zs) tried.0 here
+  acts_tried s x None id r before after xs ys zs tried h =
+      acts_asked (items.After x.current) (try_prog s x) r before after xs ys zs tried.1
+      (subst (λ (o : Option ℕ). Acts t seed (try_prog s x o) r before after ys zs) tried.0 h)

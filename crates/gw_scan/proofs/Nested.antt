@@ -35,7 +35,8 @@ variable_decides t seed s q (suc m) name o r xs ys zs deep at noted h =
 abbrev function_less : Machine → Asker → ℕ → Option Function → Eval ℤ
 function_less s q depth o = function_given (argument_prog s q (definitions_prog (depth - 1) s q)) o
 
-pub function_decides : (t : Listing) (seed : ℕ) (s : Machine) (q : Asker) (depth : ℕ) (name : List ℕ) (o : Option Function) (r : Result ℤ Halt) (xs ys zs : Noted)
+pub function_decides : (t : Listing) (seed : ℕ) (s : Machine) (q : Asker) (depth : ℕ) (name : List ℕ)
+    (o : Option Function) (r : Result ℤ Halt) (xs ys zs : Noted)
     → (depth == 0) ≡ false → function_at t name ≡ o → Asks xs (items.Function name) ys
     → Decides t seed (function_less s q depth o) r ys zs → Decides t seed ((definitions_prog depth s q).function name) r xs zs
 unfolding definitions_prog

@@ -16,7 +16,7 @@ use Rattle.gw_scan.specs.declared.case.Halt.{Halt}
 use Rattle.gw_scan.specs.declared.case.Halt.TheVariants as halts
 use Rattle.gw_scan.specs.Noted.{Noted, Reads, Keeps}
 use Rattle.gw_scan.specs.Deciding.{Decides}
-use Rattle.gw_scan.specs.Stepping.{EndsAs, Acts, Halts, Steps, IsIdle}
+use Rattle.gw_scan.specs.Stepping.{EndsAs, Acts, Halts, Steps}
 use Rattle.gw_scan.specs.declared.steps.Turn.{Turn}
 use Rattle.gw_scan.proofs.Binding.{reads_keep}
 use Rattle.gw_meaning.proofs.Programs.{bind_gives, bind_ends}
@@ -27,6 +27,12 @@ abbrev pub Foretells : Listing → ℕ → Machine → List Stream → Result Mo
 Foretells t seed s streams (Ok m) = step t seed s ≡ Ok (decided s m streams)
 Foretells t seed s streams (Err (halts.End end)) = step t seed s ≡ Err end
 Foretells t seed s streams (Err halts.Memory) = Unit
+
+-- a move that picks or sets the clock
+abbrev pub IsIdle : Move → Type 0
+IsIdle moves.Pick = Unit {0}
+IsIdle (moves.Clock time) = Unit {0}
+IsIdle move = ⊥
 
 -- who picks or sets the clock leaves the streams
 pub idle_undrawn : (s : Machine) (m : Move) → IsIdle m → decided s m s.streams ≡ moved s m

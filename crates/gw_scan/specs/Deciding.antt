@@ -1,5 +1,11 @@
 -- What a function that asks came to, against the evaluation that it stands for.
-use Rattle.std.specs.Prelude.{◌≡◌, ℕ, Result, Ok, Err}
+use Rattle.std.specs.Prelude.{◌≡◌, ℕ, Option, Result, Ok, Err}
+use Rattle.gw_meaning.specs.declared.moves.Change.TheVariants as changes
+use Rattle.gw_meaning.specs.declared.moves.Arrival.{Arrival}
+use Rattle.gw_meaning.specs.declared.moves.Fate.{Fate}
+use Rattle.gw_meaning.specs.declared.moves.Fate.TheVariants as fates
+use Rattle.gw_meaning.specs.declared.moves.Move.{Move}
+use Rattle.gw_meaning.specs.declared.moves.Move.TheVariants as moves
 use Rattle.gw_meaning.specs.Listing.{Listing}
 use Rattle.gw_meaning.specs.Questions.{result_of, items_of}
 use Rattle.gw_meaning.specs.Evaluation.{Eval, gives, ends_with}
@@ -21,6 +27,21 @@ abbrev pub Comes : {A : Type 0} → Eval A → Result A Halt → Type 0
 Comes p (Ok a) = p ≡ gives a
 Comes p (Err (halts.End end)) = p ≡ ends_with end
 Comes p (Err halts.Memory) = Unit {0}
+
+-- a block that changes nothing is entered, where it was decided what becomes of its transaction
+abbrev pub entered : ℕ → Result Fate Halt → Result Move Halt
+entered id (Ok fate) = Ok (moves.Enter id changes.Nothing fate)
+entered id (Err halt) = Err halt
+
+-- a GENERATE is entered, where it was decided which transaction it makes next, if any
+abbrev pub generated : ℕ → Result (Option Arrival) Halt → Result Move Halt
+generated id (Ok next) = Ok (moves.Enter id (changes.Generate next) fates.Active)
+generated id (Err halt) = Err halt
+
+-- the clock moves on, where it was decided to which time
+abbrev pub clocked : Result ℕ Halt → Result Move Halt
+clocked (Ok time) = Ok (moves.Clock time)
+clocked (Err halt) = Err halt
 
 -- the result of a function that changes a value in place, with the value that stands there behind it
 abbrev pub in_place : {A : Type 0} → Result (Unit {0}) Halt → A → Result A Halt

@@ -1,8 +1,11 @@
 -- What a step has noted so far. (Our own.)
-use Rattle.std.specs.Prelude.{◌≡◌, ℕ, List, Some, None, if◌then◌else◌}
+use Rattle.std.specs.Prelude.{◌≡◌, ℕ, List, Option, Some, None, if◌then◌else◌}
 use Rattle.std.specs.List.{list_any}
 use Rattle.gw_streams.specs.declared.stream.Stream.{Stream}
 use Rattle.gw_meaning.specs.declared.item.Item.{Item}
+use Rattle.gw_meaning.specs.declared.item.Item.TheVariants as items
+use Rattle.gw_meaning.specs.declared.transaction.Transaction.{Transaction}
+use Rattle.gw_meaning.specs.Listing.{Listing, after_at}
 use Rattle.gw_meaning.specs.Reads.{or_later, is_use}
 use Rattle.gw_uses.specs.declared.first_uses.FirstUses.{FirstUses}
 use Rattle.gw_uses.specs.Steps.{below, AreBelow}
@@ -20,7 +23,8 @@ pub record Noted : Type 0 where
 pub record Reads (old : Noted) (items : List Item) (new : Noted) : Type 0 where
   pub now : new.step ≡ old.step
   pub each : (q : Item) →
-      first_in new.firsts q ≡ or_later (first_in old.firsts q) (if list_any (is_use q) items then Some old.step else None)
+      first_in new.firsts q ≡
+      or_later (first_in old.firsts q) (if list_any (is_use q) items then Some old.step else None)
 
 -- the step read this item, too, and drew nothing
 pub record Asks (old : Noted) (item : Item) (new : Noted) : Type 0 where
@@ -39,3 +43,8 @@ pub record Forgets (step : ℕ) (streams : List Stream) (old new : Noted) : Type
   pub drawn : new.streams ≡ streams
   pub each : (q : Item) → first_in new.firsts q ≡ below step (first_in old.firsts q)
   pub clock : AreBelow step new.firsts.clock_steps
+
+-- the block that a transaction tries: the one that it goes to, or else the one after its own, for which it asks
+abbrev pub Tries : Listing → Transaction → Option ℕ → Option ℕ → Noted → Noted → Type 0
+Tries t x (Some to) id old new = (id ≡ Some to) × (new ≡ old)
+Tries t x None id old new = (id ≡ after_at t x.current) × Asks old (items.After x.current) new

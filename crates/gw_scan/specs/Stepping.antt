@@ -5,7 +5,6 @@ use Rattle.gw_meaning.specs.declared.item.Item.{Item}
 use Rattle.gw_scan.specs.Noted.{Noted, Reads, Forgets}
 use Rattle.gw_streams.specs.declared.stream.Stream.{Stream}
 use Rattle.gw_meaning.specs.declared.moves.Move.{Move}
-use Rattle.gw_meaning.specs.declared.moves.Move.TheVariants as moves
 use Rattle.gw_meaning.specs.Listing.{Listing}
 use Rattle.gw_meaning.specs.Machine.{Machine, raised}
 use Rattle.gw_meaning.specs.Changes.{decided}
@@ -15,12 +14,6 @@ use Rattle.gw_scan.specs.declared.case.Halt.{Halt}
 use Rattle.gw_scan.specs.declared.case.Halt.TheVariants as halts
 use Rattle.gw_scan.specs.declared.steps.Turn.{Turn}
 use Rattle.gw_scan.specs.declared.steps.Turn.TheVariants as turns
-
--- a move that picks or sets the clock
-abbrev pub IsIdle : Move → Type 0
-IsIdle moves.Pick = Unit {0}
-IsIdle (moves.Clock time) = Unit {0}
-IsIdle move = ⊥
 
 -- moved where the definition goes, to its state; ended where it ends, with nothing changed
 abbrev pub Steps : Result Machine End → Turn → Machine → Machine → Type 0

@@ -1,15 +1,14 @@
 // A step, decided and made.
 //
-// A move is made where it is decided, and no more is handed back than whether it was. So the moves of the blocks that
-// most attempts meet stay in registers. `State::decide` takes the same decisions and makes none.
+// A move is made where it is decided, and no more is handed back than whether it was, or why not. Of the blocks that
+// most attempts meet only what differs from one to the other is decided: which transaction comes next, or what becomes
+// of the active one. So it stays in registers. `State::decide` takes the same decisions and makes none.
 ghost use Rattle.std.specs.Prelude.{◌≡◌, Some, IsSome};
 ghost use Rattle.gw_meaning.specs.declared.transaction.Transaction.{Transaction};
-ghost use Rattle.gw_meaning.specs.declared.item.Item.TheVariants as items;
-ghost use Rattle.gw_meaning.specs.Evaluation.{asks};
-ghost use Rattle.gw_meaning.specs.Step.{move_prog, pick_prog, try_prog, meet_prog};
+ghost use Rattle.gw_meaning.specs.Step.{move_prog, pick_prog, attempt_prog, try_prog, meet_prog};
 ghost use Rattle.gw_scan.specs.Stepping.{Acts};
 
-use crate::case::{Case, Halt, ask_after, ask_block};
+use crate::case::{Case, Halt, ask_block, ask_next};
 use crate::notes::Notes;
 use crate::state::State;
 use gw_expr::Stop;
@@ -27,13 +26,10 @@ impl State {
         if self.progress.remaining() == 0 {
             return self.act_command(case, notes);
         }
-        let Some(x) = &self.active else {
-            return self.act_idle(case, notes);
-        };
-        let current = x.current;
-        match x.destination.id() {
-            Some(id) => self.act_block(case, notes, Some(id)),
-            None => self.act_after(case, notes, current),
+        if self.active.is_some() {
+            self.act_attempt(case, notes)
+        } else {
+            self.act_idle(case, notes)
         }
     }
 
@@ -55,20 +51,27 @@ impl State {
         ensures { Acts case.entry.version.now case.entry.seed (pick_prog self.old self.old.current)
             result self.old self.new notes.old notes.new }
     {
-        let step = self.pick_or_clock(case, notes)?;
-        self.go_on(step)?;
+        if !self.current.is_empty() {
+            self.pick();
+            return Ok(());
+        }
+        let time = self.next_time(case, notes)?;
+        self.advance(time)?;
         Ok(())
     }
 
-    // The active transaction, which stands in this block, tries the one after it.
+    // The active transaction tries the block that it goes to, or else the one after its own.
     #[inline(always)]
-    fn act_after(&mut self, case: Case, notes: &mut Notes, current: StatementId) -> Result<(), Halt>
+    fn act_attempt(&mut self, case: Case, notes: &mut Notes) -> Result<(), Halt>
         requires { IsSome self.old.active }
         ensures { (x : Transaction) → self.old.active ≡ Some x →
-            Acts case.entry.version.now case.entry.seed (asks (items.After current) (try_prog self.old x))
+            Acts case.entry.version.now case.entry.seed (attempt_prog self.old x x.destination)
             result self.old self.new notes.old notes.new }
     {
-        let id = ask_after(case.version, notes, current)?;
+        let Some(x) = &self.active else {
+            unreachable!()
+        };
+        let id = ask_next(case.version, notes, x)?;
         self.act_block(case, notes, id)
     }
 
@@ -113,16 +116,16 @@ impl State {
         };
         match block.verb {
             BlockVerb::Generate => {
-                let decision = self.generate_of(case, notes, x, id, block);
-                self.carry_out(decision, notes)
+                let next = self.generate_of(case, notes, x, id, block);
+                self.enter_with(id, next, notes)
             }
             BlockVerb::Advance => {
-                let decision = self.advance_of(case, &self.for_one(x), notes, id, block);
-                self.carry_out(decision, notes)
+                let fate = self.advance_of(case, &self.for_one(x), notes, block);
+                self.enter_for(id, fate, notes)
             }
             BlockVerb::Terminate => {
-                let decision = self.terminate_of(case, &self.for_one(x), notes, id, block);
-                self.carry_out(decision, notes)
+                let fate = self.terminate_of(case, &self.for_one(x), notes, block);
+                self.enter_for(id, fate, notes)
             }
             _ => self.act_any(case, notes, id, block),
         }

@@ -6,8 +6,8 @@ use gw_entities::Parameters;
 use gw_meaning::TransactionChange;
 use std::alloc::AllocError;
 
-// Sets the parameter that a change sets of the transaction with a number, or changes nothing where memory is refused. It
-// is the last that may be refused.
+// Sets the parameter that a change sets of the transaction with a number, or changes nothing where memory is refused.
+// It is the last that may be refused.
 #[inline(never)]
 pub fn set(
     parameters: &mut Parameters,

@@ -1,12 +1,12 @@
 // What a step asks, of a version and a seed.
 ghost use Rattle.std.specs.Prelude.{◌≡◌, IfOk, OnOk, OnErr, Some, None, if◌then◌else◌, option_copied, nat_le};
 ghost use Rattle.gw_meaning.specs.declared.item.Item.TheVariants as items;
-ghost use Rattle.gw_scan.specs.Noted.{Asks};
+ghost use Rattle.gw_scan.specs.Noted.{Asks, Tries};
 ghost use Rattle.gw_meaning.specs.Listing.{block_at, after_at, label_at, number_at, capacity_at, variable_at, function_at, command_at, generates_in};
 
 use crate::notes::Notes;
 use gw_expr::Expr;
-use gw_meaning::{Block, Command, End, Function, Item, StatementId};
+use gw_meaning::{Block, Command, End, Function, Item, StatementId, Transaction};
 use gw_model::Version;
 use gw_names::Name;
 use gw_nums::{Clock, Time, Val};
@@ -21,7 +21,7 @@ pub struct Case<'a> {
     pub seed: u64,
 }
 
-/// Why no move was found: the run ends here, or a growth was refused.
+/// Why no step was made: the run ends here, or a growth was refused, on the way to the move or to make it.
 #[derive(Clone, Copy, Debug, PartialEq, Eq)]
 pub enum Halt {
     End(End),
@@ -78,6 +78,22 @@ pub fn ask_after(
     Ok(version.after(id))
 }
 
+// Which block does a transaction try: the one that it goes to, or else the one after its own?
+#[inline(always)]
+pub fn ask_next(
+    version: &Version,
+    notes: &mut Notes,
+    x: &Transaction,
+) -> Result<Option<StatementId>, AllocError>
+    ensures ok { IfOk result (λ id. Tries version.now x.now x.now.destination id notes.old notes.new) }
+    ensures err { OnErr result (notes.new ≡ notes.old) }
+{
+    match x.destination.id() {
+        Some(id) => Ok(Some(id)),
+        None => ask_after(version, notes, x.current),
+    }
+}
+
 // Which block has this label?
 pub fn ask_label(
     version: &Version,
@@ -93,6 +109,7 @@ pub fn ask_label(
 }
 
 // Which number does this name stand for, if any?
+#[inline(always)]
 pub fn ask_name(
     version: &Version,
     notes: &mut Notes,
@@ -107,6 +124,7 @@ pub fn ask_name(
 }
 
 // Do so many units fit into the storage of this name?
+#[inline(always)]
 pub fn ask_fits(
     version: &Version,
     notes: &mut Notes,

@@ -2,7 +2,8 @@
 ghost use Rattle.std.specs.Prelude.{◌≡◌, ◌<◌, ◌≤◌, ◌+◌, Some, None, OnOk, OnErr};
 ghost use Rattle.gw_meaning.specs.Machine.{Machine};
 ghost use Rattle.gw_meaning.specs.Changes.{moved, decided, fated, own_marked, bound};
-ghost use Rattle.gw_scan.specs.Stepping.{IsIdle, Makes};
+ghost use Rattle.gw_scan.specs.Deciding.{entered, generated};
+ghost use Rattle.gw_scan.specs.Stepping.{Makes};
 ghost use Rattle.gw_meaning.specs.declared.moves.Change.TheVariants as changes;
 ghost use Rattle.gw_meaning.specs.declared.moves.Move.TheVariants as moves;
 ghost use Rattle.gw_meaning.specs.declared.transaction.Transaction.{Transaction};
@@ -37,19 +38,50 @@ impl State {
     {
         let step = decision?;
         self.apply(step)?;
-        self.streams = notes.streams;
+        self.take_draws(notes);
         Ok(())
     }
 
-    // Picks or sets the clock, which draws nothing; or changes nothing where a growth is refused.
+    // The streams behind the draws that were noted become the state's.
     #[inline(always)]
-    #[tactic(auto, using(crate::proofs::StepLaws::idle_undrawn))]
-    pub(crate) fn go_on(&mut self, step: Move) -> Result<(), AllocError>
-        requires { IsIdle step }
-        ensures ok { OnOk result (self.new ≡ decided self.old step self.old.streams) }
-        ensures err { OnErr result (self.new ≡ self.old) }
+    fn take_draws(&mut self, notes: &Notes)
+        ensures { self.new ≡ record self.old { streams = notes.now.streams } }
     {
-        self.apply(step)
+        self.streams = notes.streams;
+    }
+
+    // The same of a block that changes nothing, where it was decided what becomes of its transaction.
+    #[inline(always)]
+    pub(crate) fn enter_for(
+        &mut self,
+        id: StatementId,
+        fate: Result<Fate, Halt>,
+        notes: &Notes,
+    ) -> Result<(), Halt>
+        ensures { Makes (entered id fate) notes.now.streams result self.old self.new }
+    {
+        let fate = fate?;
+        self.enter(id, fate)?;
+        self.take_draws(notes);
+        Ok(())
+    }
+
+    // The same of a GENERATE, where it was decided which transaction it makes next.
+    #[inline(always)]
+    pub(crate) fn enter_with(
+        &mut self,
+        id: StatementId,
+        next: Result<Option<Arrival>, Halt>,
+        notes: &Notes,
+    ) -> Result<(), Halt>
+        ensures { Makes (generated id next) notes.now.streams result self.old self.new }
+    {
+        match next? {
+            Some(arrival) => self.enter_first(id, arrival, Fate::Active)?,
+            None => self.enter_last(id, Fate::Active)?,
+        }
+        self.take_draws(notes);
+        Ok(())
     }
 
     // Makes a move, or changes nothing where a growth is refused.
@@ -134,8 +166,9 @@ impl State {
         Ok(())
     }
 
-    // A GENERATE is entered that makes no further transaction.
-    #[inline(always)]
+    // A GENERATE is entered that makes no further transaction, which it does once.
+    #[cold]
+    #[inline(never)]
     fn enter_last(&mut self, id: StatementId, fate: Fate) -> Result<(), AllocError>
         ensures ok { OnOk result (self.new ≡ moved self.old (moves.Enter id (changes.Generate None) fate)) }
         ensures err { OnErr result (self.new ≡ self.old) }
@@ -279,7 +312,8 @@ impl State {
         Ok(())
     }
 
-    fn pick(&mut self)
+    #[inline(always)]
+    pub(crate) fn pick(&mut self)
         ensures { self.new ≡ moved self.old moves.Pick }
     {
         if let Some(x) = self.current.take_first() {
@@ -287,7 +321,7 @@ impl State {
         }
     }
 
-    fn advance(&mut self, clock: Clock) -> Result<(), AllocError>
+    pub(crate) fn advance(&mut self, clock: Clock) -> Result<(), AllocError>
         ensures ok { OnOk result (self.new ≡ moved self.old (moves.Clock clock)) }
         ensures err { OnErr result (self.new ≡ self.old) }
     {

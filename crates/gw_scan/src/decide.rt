@@ -1,9 +1,8 @@
 // Which move a step is: ask and test, and change nothing.
-ghost use Rattle.std.specs.Prelude.{◌≡◌, ◌<◌, ◌≤◌, None, Some, option_copied, IsTrue, IfOk};
-ghost use Rattle.gw_meaning.specs.Step.{move_prog, command_prog, start_prog, first_arrivals_prog, rmult_prog, attempt_prog, try_prog, meet_prog, generate_prog, delay_of, advance_prog, terminate_prog, pick_prog};
+ghost use Rattle.std.specs.Prelude.{◌≡◌, ◌<◌, ◌≤◌, ℕ, None, Some, option_copied, IsTrue, IfOk};
+ghost use Rattle.gw_meaning.specs.Step.{move_prog, command_prog, start_prog, first_arrivals_prog, rmult_prog, attempt_prog, try_prog, meet_prog, generate_prog, delay_of, advance_prog, terminate_prog, clock_prog, least_time, pick_prog};
 ghost use Rattle.gw_meaning.specs.Statements.{A, B, D, E, operand};
-ghost use Rattle.gw_scan.specs.Deciding.{Decides};
-ghost use Rattle.gw_scan.specs.Stepping.{IsIdle};
+ghost use Rattle.gw_scan.specs.Deciding.{Decides, entered, generated, clocked};
 
 use crate::attributes::for_none;
 use crate::case::{Case, Halt, ask_after, ask_block, ask_command, ask_generates, ask_within};
@@ -17,6 +16,7 @@ use gw_meaning::{
     Arrival, Asker, Block, Change, Command, End, Fate, Move, Row, StatementId, Transaction,
 };
 use gw_names::BlockVerb;
+use gw_nums::Clock;
 
 impl State {
     // The move of the next step.
@@ -146,7 +146,8 @@ impl State {
         }
     }
 
-    // The same, at a block of any verb.
+    // The same, at a block of any verb. Its arms of GENERATE, ADVANCE and TERMINATE serve `end_at` alone: a step has
+    // those in `act_at`.
     #[inline(always)]
     pub(crate) fn meet_any(
         &self,
@@ -161,9 +162,9 @@ impl State {
     {
         let asker = &self.for_one(x);
         match block.verb {
-            BlockVerb::Generate => self.generate_of(case, notes, x, id, block),
-            BlockVerb::Advance => self.advance_of(case, asker, notes, id, block),
-            BlockVerb::Terminate => self.terminate_of(case, asker, notes, id, block),
+            BlockVerb::Generate => generated(id, self.generate_of(case, notes, x, id, block)),
+            BlockVerb::Advance => entered(id, self.advance_of(case, asker, notes, block)),
+            BlockVerb::Terminate => entered(id, self.terminate_of(case, asker, notes, block)),
             BlockVerb::Queue => self.queue_of(case, asker, notes, id, block),
             BlockVerb::Depart => self.depart_of(case, asker, notes, x, id, block),
             BlockVerb::Seize => self.seize_of(case, asker, notes, id, block),
@@ -180,6 +181,7 @@ impl State {
         }
     }
 
+    // The transaction that a GENERATE makes next, if any.
     #[inline(always)]
     pub(crate) fn generate_of(
         &self,
@@ -188,15 +190,15 @@ impl State {
         x: &Transaction,
         id: StatementId,
         block: &Block,
-    ) -> Result<Move, Halt>
+    ) -> Result<Option<Arrival>, Halt>
         ensures { Decides case.entry.version.now case.entry.seed
             (generate_prog self.now x.now id (operand block.now A) (operand block.now B) (operand block.now D)
-            (operand block.now E)) result notes.old notes.new }
+            (operand block.now E)) (generated id result) notes.old notes.new }
     {
         if x.current.number() != 0 {
             return Err(Halt::End(End::Error(Stop::NoNextBlock)));
         }
-        let next = self.arrival(
+        self.arrival(
             case,
             &for_none(self.progress.remaining()),
             notes,
@@ -205,35 +207,27 @@ impl State {
             block.operand(B),
             block.operand(D),
             block.operand(E),
-        )?;
-        Ok(Move::Enter {
-            id,
-            change: Change::Generate { next },
-            fate: Fate::Active,
-        })
+        )
     }
 
+    // What becomes of a transaction at an ADVANCE.
     #[inline(always)]
     pub(crate) fn advance_of(
         &self,
         case: Case,
         asker: &Asker,
         notes: &mut Notes,
-        id: StatementId,
         block: &Block,
-    ) -> Result<Move, Halt>
-        ensures { Decides case.entry.version.now case.entry.seed
-            (advance_prog self.now asker.now id (operand block.now A) (operand block.now B)) result notes.old notes.new }
+    ) -> Result<Fate, Halt>
+        ensures { (id : ℕ) → Decides case.entry.version.now case.entry.seed
+            (advance_prog self.now asker.now id (operand block.now A) (operand block.now B))
+            (entered id result) notes.old notes.new }
     {
         let time = self.time(case, asker, notes, block.operand(A), block.operand(B))?;
         if time.is_negative() {
             return Err(Halt::End(End::Error(Stop::NegativeTime)));
         }
-        Ok(Move::Enter {
-            id,
-            change: Change::Nothing,
-            fate: self.delay(time.magnitude()),
-        })
+        Ok(self.delay(time.magnitude()))
     }
 
     // What becomes of a transaction that is held so many ticks.
@@ -249,49 +243,81 @@ impl State {
         }
     }
 
+    // What becomes of a transaction at a TERMINATE.
     #[inline(always)]
     pub(crate) fn terminate_of(
         &self,
         case: Case,
         asker: &Asker,
         notes: &mut Notes,
-        id: StatementId,
         block: &Block,
-    ) -> Result<Move, Halt>
-        ensures { Decides case.entry.version.now case.entry.seed
+    ) -> Result<Fate, Halt>
+        ensures { (id : ℕ) → Decides case.entry.version.now case.entry.seed
             (terminate_prog self.now asker.now id (operand block.now A))
-            result notes.old notes.new }
+            (entered id result) notes.old notes.new }
     {
         let count = self.value_or_zero(case, asker, notes, block.operand(A))?;
         if count.is_negative() {
             return Err(Halt::End(End::Error(Stop::BadCount)));
         }
-        Ok(Move::Enter {
-            id,
-            change: Change::Nothing,
-            fate: Fate::Destroyed {
-                count: count.magnitude(),
-            },
+        Ok(Fate::Destroyed {
+            count: count.magnitude(),
         })
     }
 
-    // None is active: the first of the current chain, or else the least future time.
-    #[inline(always)]
-    pub(crate) fn pick_or_clock(&self, case: Case, notes: &mut Notes) -> Result<Move, Halt>
-        ensures told { Decides case.entry.version.now case.entry.seed (pick_prog self.now self.now.current)
+    // None is active: the first of the current chain, or else the clock moves on.
+    fn pick_or_clock(&self, case: Case, notes: &mut Notes) -> Result<Move, Halt>
+        ensures { Decides case.entry.version.now case.entry.seed (pick_prog self.now self.now.current)
             result notes.old notes.new }
-        ensures idle { IfOk result (λ move. IsIdle move) }
-        ensures streams { notes.new.streams ≡ notes.old.streams }
     {
         if !self.current.is_empty() {
             return Ok(Move::Pick);
         }
+        let time = self.next_time(case, notes)?;
+        Ok(Move::Clock { time })
+    }
+
+    // To which time the clock moves on: the least of the future chain.
+    #[inline(always)]
+    pub(crate) fn next_time(&self, case: Case, notes: &mut Notes) -> Result<Clock, Halt>
+        ensures told { Decides case.entry.version.now case.entry.seed (clock_prog (least_time self.now.future))
+            (clocked result) notes.old notes.new }
+        ensures streams { notes.new.streams ≡ notes.old.streams }
+    {
         let Some(time) = self.future.least_time() else {
             return Err(Halt::End(End::Dry));
         };
         match ask_within(case.version, notes, time)? {
-            Some(time) => Ok(Move::Clock { time }),
+            Some(time) => Ok(time),
             None => Err(Halt::End(End::Horizon)),
         }
+    }
+}
+
+// A block that changes nothing is entered, where it was decided what becomes of its transaction.
+fn entered(id: StatementId, fate: Result<Fate, Halt>) -> Result<Move, Halt>
+    ensures { result ≡ entered id fate }
+{
+    match fate {
+        Ok(fate) => Ok(Move::Enter {
+            id,
+            change: Change::Nothing,
+            fate,
+        }),
+        Err(halt) => Err(halt),
+    }
+}
+
+// A GENERATE is entered, where it was decided which transaction it makes next.
+fn generated(id: StatementId, next: Result<Option<Arrival>, Halt>) -> Result<Move, Halt>
+    ensures { result ≡ generated id next }
+{
+    match next {
+        Ok(next) => Ok(Move::Enter {
+            id,
+            change: Change::Generate { next },
+            fate: Fate::Active,
+        }),
+        Err(halt) => Err(halt),
     }
 }

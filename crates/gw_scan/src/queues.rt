@@ -66,7 +66,8 @@ impl State {
         block: &Block,
     ) -> Result<Move, Halt>
         ensures { Decides case.entry.version.now case.entry.seed
-            (depart_prog self.now asker.now x.now id (operand block.now A) (operand block.now B)) result notes.old notes.new }
+            (depart_prog self.now asker.now x.now id (operand block.now A) (operand block.now B))
+            result notes.old notes.new }
     {
         let key = self.entity(case, asker, notes, block.operand(A))?;
         self.depart_at(case, asker, notes, x, id, key, block.operand(B))

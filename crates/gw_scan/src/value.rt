@@ -72,6 +72,7 @@ impl State {
     }
 
     // The entity that an operand names.
+    #[inline(always)]
     pub(crate) fn entity(
         &self,
         case: Case,
@@ -111,6 +112,7 @@ impl State {
     }
 
     // How many units an operand says, and 1 where it is absent.
+    #[inline(always)]
     pub(crate) fn units(
         &self,
         case: Case,
@@ -134,6 +136,7 @@ impl State {
 }
 
 // The entity with a name, or with the number that the name stands for.
+#[inline(always)]
 pub fn named(name: &Name, number: Option<Val>) -> Result<Key, Halt>
     ensures { Comes (named name.now number) result }
 {

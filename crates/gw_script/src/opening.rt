@@ -45,7 +45,8 @@ pub fn open(alloc: Global, model: &[u8], options: Options) -> Result<Desk, Fault
     }
 }
 
-/// The version of a model with replication 1, which [`open`] opens; `every` stays unread. Its faults are those of `open`.
+/// The version of a model with replication 1, which [`open`] opens; `every` stays unread. Its faults are those of
+/// `open`.
 pub fn open_version(alloc: Global, model: &[u8], options: Options) -> Result<Version, Fault>
     ensures opens { IfOk result (OpensVersion model.now options) }
     ensures refuses { IfErr result (Refuses model.now options) }

@@ -20,6 +20,7 @@ noted_new old new item q step none is = go (same_item item q) refl is where
   or_none None = refl
   or_none (Some n) = refl
 
-  go : (b : Bool) → same_item item q ≡ b → step_of new q ≡ cond b (Some step) (step_of old q) → step_of new q ≡ or_later (step_of old q) (cond b (Some step) None)
+  go : (b : Bool) → same_item item q ≡ b → step_of new q ≡ cond b (Some step) (step_of old q) →
+      step_of new q ≡ or_later (step_of old q) (cond b (Some step) None)
   go true same e = e ∙ sym (ap (λ o. or_later o (Some step)) (lookup_same old item q same ∙ none))
   go false other e = e ∙ or_none (step_of old q)

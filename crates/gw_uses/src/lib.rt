@@ -1,7 +1,7 @@
 //! The first step of a run that used each item.
 //!
-//! [`FirstUses::note`] notes an item that a step read, unless an earlier step did, and [`FirstUses::forget`] forgets the
-//! steps from one on. An item that is known takes no memory.
+//! [`FirstUses::note`] notes an item that a step read, unless an earlier step did, and [`FirstUses::forget`] forgets
+//! the steps from one on. An item that is known takes no memory.
 #![tactic(auto)]
 
 mod asked;

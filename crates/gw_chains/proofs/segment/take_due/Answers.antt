@@ -1,44 +1,35 @@
-use Rattle.std.proofs.Common.{◌≡◌, ◌<◌, length, true, false, arith, ap, sym, ◌∙◌}
+use Rattle.std.proofs.Common.{◌≡◌, ◌+◌, ◌<◌, length, true, arith, refl, sym, ◌∙◌}
+use Rattle.std.proofs.lemmas.List.Edits.{length-remove}
+use Rattle.std.proofs.lemmas.Option.{slice_get_read}
 use Rattle.gw_meaning.specs.Changes.{is_due}
-use Rattle.gw_meaning.specs.Step.{sooner}
-use Rattle.gw_chains.proofs.ChainLaws.{sorted_due, sorted_kept}
-use Rattle.gw_chains.proofs.SegmentLaws.{kept_least}
+use Rattle.gw_chains.proofs.SegmentLaws.{one_leaves, none_leaves}
 use Rattle.gw_chains.proofs.segment.take_due.Goals as goal
-use Rattle.gw_chains.proofs.segment.take_due.Goals.{then-eq, else-eq}
 
-pub loop-i-preserved : goal.loop-i-preserved
-loop-i-preserved c =
+pub loop-index-preserved : goal.loop-index-preserved
+loop-index-preserved c =
     let F = c.args.events.now.items in
     let C = c.args.current.now.items in
     let t = c.args.time in
-    let i = c.loop-i.i in
-    let e = c.index-event.result.now in
-    let s = c.loop-i.invariant.sorting in
-    let room = c.loop-i.invariant.room in
-    let taken = c.loop-i.invariant.taken in
-    let least = c.loop-i.invariant.least in
-    let few = s.few in
-    let long = s.long in
-    let h : i < length F = omega arith in
-    let within : i < length c.loop-i.events.items = omega (arith, h, long) in
-    elim c.if-eq.branch [
-      | then-eq w ↦
-          let now : is_due t e ≡ true = sym c.eq.ensures ∙ w.if-eq.true in
-          record {
-            sorting = rw (w.current-is, w.kept-is, w.events-is, w.line_up.ensures.items, w.same.ensures)
-                (sorted_due t F C i c.loop-i.kept e c.loop-i.events.items c.loop-i.current.items h c.index-event.ensures now s);
-            room = rw w.current-is (omega (arith, room, w.line_up.ensures.room));
-            least = rw (w.kept-is, w.events-is, w.least-is) least;
-            taken = rw w.current-is (omega (arith, taken, w.line_up.ensures.room));
-          }
-      | else-eq w ↦
-          let later : is_due t e ≡ false = sym c.eq.ensures ∙ w.if-eq.false in
-          record {
-            sorting = rw (w.current-is, w.kept-is, w.events-is, w.bring.ensures)
-                (sorted_kept t F C i c.loop-i.kept e c.loop-i.events.items c.loop-i.current.items h c.index-event.ensures later s);
-            room = rw w.current-is (omega (arith, room));
-            least = rw (w.kept-is, w.events-is, w.least-is, w.bring.ensures)
-                (w.sooner.ensures ∙ (ap (sooner e.time) least ∙ sym (kept_least c.loop-i.events.items c.loop-i.kept i e few within c.index-event.ensures)));
-            taken = rw w.current-is (omega (arith, taken));
-          }
-    ]
+    let es = c.loop-index.events.items in
+    let current = c.loop-index.current.items in
+    let i = c.in-Some.index in
+    let e = c.index.result.now in
+    let known = c.loop-index.invariant in
+    let room = known.room in
+    let h : i < length es = rw c.deref.ensures.value at c.in-Some.ensures.within in
+    let there = slice_get_read es (length es) i e refl h c.index.ensures in
+    let now : is_due t e ≡ true = rw (c.deref.ensures.value, there) at c.in-Some.ensures.due in
+    let before = rw c.deref.ensures.value at c.in-Some.ensures.before in
+    let fewer : length c.take_out.new.events.items + 1 ≡ length es = rw c.take_out.ensures (length-remove es i h) in
+    let taken = c.line_up.ensures.room in
+    record {
+      within = omega (arith, h, fewer);
+      leaving = rw (c.take_out.ensures, c.line_up.ensures.items, c.same.ensures)
+          (one_leaves t F C c.loop-index.from i e es current h c.index.ensures now before known.leaving);
+      room = omega (arith, room, fewer, taken);
+    }
+
+pub returns-clause-future : goal.returns-clause-future
+returns-clause-future c =
+    let none = rw c.deref.ensures.value at c.in_default.ensures.none in
+    sym (none_leaves c.args.time c.loop-index.events.items none) ∙ c.loop-index.invariant.leaving.kept

@@ -16,4 +16,5 @@ returns c =
     let fits : FitsSigned w64 c.quotient_down.result =
     subst (λ z. FitsSigned w64 z) (sym q) (times_fits c.args.value c.args.by c.get.ensures.in_range in_range) in
     value_if (to_z w64 (of_z w64 (to_z w128 (of_z w128 c.quotient_down.result)))) (times c.args.value c.args.by) c.new.result
-    c.new.ensures.in_range c.new.ensures.value (let same : to_z w64 (of_z w64 (to_z w128 (of_z w128 c.quotient_down.result))) ≡ c.quotient_down.result = omega (arith, ints) in same ∙ q)
+    c.new.ensures.in_range c.new.ensures.value
+    (let same : to_z w64 (of_z w64 (to_z w128 (of_z w128 c.quotient_down.result))) ≡ c.quotient_down.result = omega (arith, ints) in same ∙ q)

@@ -14,7 +14,8 @@ returns c =
     let line = c.args.line.now in
     let count = c.count-count.result in
     let cells : row_of block_columns (c.label_text.result.now ∷ decimal c.position_of.result ∷ c.word.result.now ∷
-    decimal count.entries ∷ decimal count.content ∷ decimal 0 ∷ []) ≡ row_of block_columns (block_line t line c.in-Block.block (count_at s.counts line.number)) =
+    decimal count.entries ∷ decimal count.content ∷ decimal 0 ∷ []) ≡
+    row_of block_columns (block_line t line c.in-Block.block (count_at s.counts line.number)) =
     rw (c.label_text.ensures, c.position_of.ensures, c.word.ensures, c.count-count.ensures) refl in
     on_ok_weaker c.put_row.result (λ put. put ∙ ap (λ r. c.args.out.now.items ++ r) (cells ∙ sym (block_shown t s line c.in-Block.block c.in-Block.is)))
     c.put_row.ensures

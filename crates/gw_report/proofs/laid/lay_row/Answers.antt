@@ -31,7 +31,8 @@ loop-column-preserved c =
     let below : to < length new = c.in_ok-end.ensures.1 in
     let margin : 20 ≤ from = c.loop-column.invariant.margin in
     record {
-      row = cell_more line new cell rest _ from gap to (omega arith) c.loop-column.invariant.blank laid (ap (λ l. take from line ++ l) one ∙ c.loop-column.invariant.row);
+      row = cell_more line new cell rest _ from gap to (omega arith) c.loop-column.invariant.blank laid
+          (ap (λ l. take from line ++ l) one ∙ c.loop-column.invariant.row);
       blank = laid.behind ∙ blank_from line from to (omega (arith, order)) c.loop-column.invariant.blank ∙ ap (λ n. blanks (n - to)) (sym laid.len);
       margin = omega (arith, order, margin);
       within = below;

@@ -7,7 +7,8 @@ use Rattle.gw_report.proofs.laid.lay_row.Given as goal
 
 abbrev pub invariant-loop-column : goal.invariant-loop-column
 invariant-loop-column l = record {
-  row : take l.end l.line ++ row_behind (blanks l.gap) (map column_of (iter_rest (zip_first l.column-iterator))) (map text_of_cell (iter_rest (zip_second l.column-iterator)))
+  row : take l.end l.line ++ row_behind (blanks l.gap) (map column_of (iter_rest (zip_first l.column-iterator)))
+      (map text_of_cell (iter_rest (zip_second l.column-iterator)))
       ≡ blanks 20 ++ row_behind (blanks 0) (map column_of l.columns) (map text_of_cell l.cells);
   blank : drop l.end l.line ≡ blanks (length l.line - l.end);
   margin : 20 ≤ l.end;

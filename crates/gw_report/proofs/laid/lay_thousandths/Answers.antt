@@ -20,5 +20,6 @@ returns c =
     OnTrue_from c.lay_text-fits.result _ (λ (fits : c.lay_text-fits.result ≡ true).
     let front : Laid old mid from (fitted Right (point - from) (decimal (number / 1000))) point =
     subst (λ w. Laid old mid from (fitted Right (point - from) w) point) whole (OnTrue_at fits c.lay_text-fits.ensures) in
-    fraction_laid old mid (decimal (number / 1000)) (fraction_of number) c.copy_from_slice.new.self from point c.args.end (c.args.end - point) (omega arith) (omega arith)
+    fraction_laid old mid (decimal (number / 1000)) (fraction_of number) c.copy_from_slice.new.self from point c.args.end
+    (c.args.end - point) (omega arith) (omega arith)
     front (omega arith) fraction)

@@ -32,5 +32,6 @@ returns-in-Some-clause-ok c =
     } in
     let after : R ≡ fated c.args.fate y base = rw counts (behind ∙ ap (fated c.args.fate y) before) in
     let made_is : making c.make.new.next c.make.new.future.items c.make.new.counts.entries ≡ made c.args.arrival (making_of R) = search rules in
-    let left : with_making (making c.make.new.next c.make.new.future.items c.make.new.counts.entries) R ≡ arrived (Some c.args.arrival) R = ap (λ w. with_making w R) made_is in
+    let left : with_making (making c.make.new.next c.make.new.future.items c.make.new.counts.entries) R ≡ arrived (Some c.args.arrival) R =
+    ap (λ w. with_making w R) made_is in
     rw active (search (rules, left ∙ ap (arrived (Some c.args.arrival)) after))

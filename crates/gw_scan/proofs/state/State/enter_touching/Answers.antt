@@ -42,6 +42,10 @@ returns-in-Some-clause-ok c =
     } in
     let before : record rest { delays = delays_of m.delays.chains; current = c.settle.new.current.items; counts = c.cross.new.self.entries } ≡
     fated c.args.fate (placed x c.args.id) base = rw (delays, counts, entities) (behind ∙ ap (fated c.args.fate (placed x c.args.id)) same) in
-    let whole : record rest { delays = delays_of c.change_entity.new.delays.chains; current = c.change_entity.new.current.items; counts = c.change_entity.new.counts.entries } ≡
+    let whole : record rest {
+      delays = delays_of c.change_entity.new.delays.chains;
+      current = c.change_entity.new.current.items;
+      counts = c.change_entity.new.counts.entries;
+    } ≡
     admitted t.0 t.1 (fated c.args.fate (placed x c.args.id) base) = c.change_entity.ensures.admitted rest ∙ ap (admitted t.0 t.1) before in
     rw active (search (rules, whole))

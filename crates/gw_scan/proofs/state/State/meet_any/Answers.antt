@@ -14,4 +14,4 @@ returns-in-Buffer c =
     rw whole (decides_comes c.args.case.version.now c.args.case.seed (buffer_prog c.args.id) c.buffer_of.result c.args.notes.now c.buffer_of.ensures)
 
 pub returns-in-Advance : goal.returns-in-Advance
-returns-in-Advance c = rw (c.in-Advance.is, ← c.for_one.ensures) c.advance_of.ensures
+returns-in-Advance c = rw (c.in-Advance.is, ← c.for_one.ensures, c.entered.ensures) (c.advance_of.ensures c.args.id)

@@ -10,5 +10,6 @@ returns-in_ok-insert-in-None-clause-ok c = λ q.
     let item = c.args.item.now in
     let copied : c.in_ok-clone-in-None.field-0 ≡ item = search rules in
     let none : step_of old item ≡ None = search rules in
-    let is : step_of c.insert.new.self.entries q ≡ cond (same_item item q) (Some c.args.step) (step_of old q) = rw copied at (c.in_ok-insert-in-None.ensures.updates.0 q) in
+    let is : step_of c.insert.new.self.entries q ≡ cond (same_item item q) (Some c.args.step) (step_of old q) =
+    rw copied at (c.in_ok-insert-in-None.ensures.updates.0 q) in
     rw (← c.self.view_is) (noted_new old c.insert.new.self.entries item q c.args.step none is)
