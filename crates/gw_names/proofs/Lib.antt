@@ -1,2 +1,3 @@
 pub mod InUpperCase
 pub mod SameHeads
+pub mod HeadOrder

@@ -11,7 +11,7 @@ use Rattle.std.proofs.lemmas.Slice.Eq.{bytes_eq-Decides}
 use Rattle.gw_names.specs.Names.{name_of, is_name_text, is_name_byte}
 use Rattle.gw_names.specs.Heads.{bytes_from, head_of}
 
-both : (p q : Bool) → (p && q) ≡ true → (p ≡ true) × (q ≡ true)
+pub both : (p q : Bool) → (p && q) ≡ true → (p ≡ true) × (q ≡ true)
 both true true e = (refl, refl)
 both true false e = cc
 both false q e = cc
@@ -19,7 +19,7 @@ both false q e = cc
 letter_is_name_byte : (b : ℕ) → is_ascii_alphabetic b ≡ true → is_name_byte b ≡ true
 letter_is_name_byte b e = grind (arith, nat_tests)
 
-above_zero : (b : ℕ) → is_name_byte b ≡ true → 0 < b
+pub above_zero : (b : ℕ) → is_name_byte b ≡ true → 0 < b
 above_zero b e = grind (arith, nat_tests)
 
 in_a_byte : (b : ℕ) → is_name_byte b ≡ true → b < 256
@@ -33,11 +33,11 @@ name_bytes (b ∷ bs) e =
     let others : list_all is_name_byte bs ≡ true = (both _ _ (both _ _ e).1).1 in
     rw (letter_is_name_byte b first, others) refl
 
-bytes_of_name : (bytes : List ℕ) → name_of bytes ≡ Some bytes → list_all is_name_byte bytes ≡ true
+pub bytes_of_name : (bytes : List ℕ) → name_of bytes ≡ Some bytes → list_all is_name_byte bytes ≡ true
 unfolding name_of
 bytes_of_name bytes is_name = search (rules, name_bytes)
 
-below_256 : (bs : List ℕ) → list_all is_name_byte bs ≡ true → (i : ℕ) → get_or bs i 0 < 256
+pub below_256 : (bs : List ℕ) → list_all is_name_byte bs ≡ true → (i : ℕ) → get_or bs i 0 < 256
 below_256 [] e i = omega arith
 below_256 (b ∷ bs) e zero = in_a_byte b (both _ _ e).0
 below_256 (b ∷ bs) e (suc i) = below_256 bs (both _ _ e).1 i

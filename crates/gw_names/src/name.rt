@@ -140,7 +140,16 @@ impl Ord for Name {
 
     ghost matches_eq = { Prim.search (comparing, rules) };
 
+    // Heads that differ tell at once, and so do equal heads of short names.
+    #[tactic(auto, using(crate::proofs::HeadOrder::order_by_heads, crate::proofs::HeadOrder::short_tie))]
+    #[inline(always)]
     fn cmp(&self, other: &Name) -> Ordering {
+        if self.spelling.head != other.spelling.head {
+            return self.spelling.head.cmp(&other.spelling.head);
+        }
+        if self.spelling.bytes.len() < 8 {
+            return Ordering::Equal;
+        }
         self.as_bytes().cmp(&other.as_bytes())
     }
 }
@@ -156,6 +165,7 @@ impl PartialOrd for Name {
 
     ghost laws = { partial_order_from_own_ties (Prim.search (comparing, rules)) (Prim.search (comparing, rules)) };
 
+    #[inline(always)]
     fn partial_cmp(&self, other: &Name) -> Option<Ordering> {
         Some(self.cmp(other))
     }
