@@ -1,6 +1,8 @@
 ghost use Rattle.std.specs.Prelude.{◌≡◌, ◌↔◌, IsTrue, IfOk, Some};
 ghost use Rattle.std.specs.Str.{bytes_eq};
 ghost use Rattle.std.specs.List.{list_all};
+ghost use Rattle.std.specs.Ordering.{nat_cmp};
+ghost use Rattle.std.specs.Cmp.Lexicographic.{slice_cmp};
 ghost use Rattle.gw_names.specs.Names.{name_of, is_name_text, is_name_byte, is_barred};
 ghost use Rattle.gw_names.specs.Words.{upper_of};
 ghost use Rattle.gw_names.specs.Heads.{head_of};
@@ -77,6 +79,14 @@ impl Name {
         self.spelling.head == other.spelling.head
             && (self.spelling.bytes.len() < 8 || self.as_bytes() == other.as_bytes())
     }
+
+    // The order of the two by all their bytes. Never inlined, so that `cmp` stays small where it is inlined.
+    #[inline(never)]
+    fn order_of_bytes(&self, other: &Name) -> Ordering
+        ensures { result ≡ slice_cmp nat_cmp self.now other.now }
+    {
+        self.as_bytes().cmp(&other.as_bytes())
+    }
 }
 
 /// An equal name, which shares the spelling: no memory is wanted, and only a full count of sharers refuses it.
@@ -150,7 +160,7 @@ impl Ord for Name {
         if self.spelling.bytes.len() < 8 {
             return Ordering::Equal;
         }
-        self.as_bytes().cmp(&other.as_bytes())
+        self.order_of_bytes(other)
     }
 }
 
