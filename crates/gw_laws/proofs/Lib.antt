@@ -14,6 +14,8 @@ pub mod OwnerLaws
 pub mod TurnLaws
 pub mod LossLaws
 pub mod ParameterLaws
+pub mod OwnParameterLaws
+pub mod OwnValueLaws
 pub mod PlaceLaws
 pub mod FacilityLaws
 pub mod QueueLaws

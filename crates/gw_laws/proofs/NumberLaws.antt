@@ -1,5 +1,5 @@
 -- The numbers of transactions, move by move and over a run: none lives twice, and none lives that was not given yet.
-use Rattle.std.proofs.Common.{◌≡◌, ◌≢◌, ℕ, ◌+◌, ◌-◌, ◌<◌, ◌≤◌, ◌^◌, nat_eq, Bool, true, false, List, [], ◌∷◌, ◌++◌, length, Ok, refl, ap, sym, ◌∙◌, arith, inl, inr}
+use Rattle.std.proofs.Common.{◌≡◌, ◌≢◌, ℕ, ◌+◌, ◌-◌, ◌<◌, ◌≤◌, ◌^◌, nat_eq, Bool, true, false, List, [], ◌∷◌, ◌++◌, length, Option, Some, None, Ok, refl, ap, sym, ◌∙◌, arith, inl, inr}
 use Rattle.std.specs.Prelude.{AllPairs}
 use Rattle.std.specs.List.{AllByRecursion, list_any}
 use Rattle.std.proofs.lemmas.Bool.{cases_Bool, false≢true, eq-eqb, ne_eqb, cases_eq, cases_lt}
@@ -8,11 +8,12 @@ use Rattle.std.proofs.lemmas.List.Kept.{AllPairs-cons}
 use Rattle.gw_names.specs.declared.key.Key.{Key}
 use Rattle.gw_meaning.specs.declared.transaction.Transaction.{Transaction}
 use Rattle.gw_meaning.specs.declared.moves.Arrival.{Arrival}
+use Rattle.gw_meaning.specs.declared.moves.Change.{Change}
 use Rattle.gw_meaning.specs.declared.moves.Move.{Move}
 use Rattle.gw_meaning.specs.declared.moves.Move.TheVariants as moves
 use Rattle.gw_meaning.specs.Listing.{Listing}
 use Rattle.gw_meaning.specs.Machine.{Machine, delay_at}
-use Rattle.gw_meaning.specs.Changes.{Making, made, all_made, making_of, with_making, newcomer, placed, started, one_let_in, refused, moved}
+use Rattle.gw_meaning.specs.Changes.{Making, made, all_made, making_of, with_making, newcomer, placed, marked, started, one_let_in, bound, refused, moved}
 use Rattle.gw_meaning.specs.Step.{run}
 use Rattle.gw_model.specs.Well.{Well}
 use Rattle.gw_laws.specs.Living.{living}
@@ -20,7 +21,7 @@ use Rattle.gw_laws.specs.Numbering.{NumbersAreApart, NumbersAreGiven, NumbersAre
 use Rattle.gw_frame.proofs.Known.{IsDecided}
 use Rattle.gw_frame.proofs.Moves.{settled, settled_is, marked_same, with_active_has, entered_has, picked_has}
 use Rattle.gw_frame.proofs.Running.{over_run, over_rest}
-use Rattle.gw_laws.proofs.Waiting.{let_in_number, let_in_is}
+use Rattle.gw_laws.proofs.Waiting.{let_in_as, let_in_number, let_in_is}
 use Rattle.gw_laws.proofs.Crowd.{one, many, crowd, many_living, future_push, settled_fewer, refused_crowd, lets_crowd, picked_crowd, advanced_crowd}
 use Rattle.gw_laws.proofs.Room.{all_within}
 
@@ -149,49 +150,66 @@ numbers_are_given t seed n s well within is =
     All-from_recursion (λ (x : Transaction). x.number < s.next) (living s)
     (given_in s.next (living s) (λ k above. many_living (has_number k) s ∙ h.given k above))
 
--- A number that was given and that no transaction has.
-abbrev IsGone : ℕ → Machine → Type 0
-IsGone k s = (k < s.next) × (crowd (has_number k) s ≡ 0)
+-- a test that only a transaction of one number passes, wherever it stands and waits
+pub record IsOf (k : ℕ) (test : Transaction → Bool) : Type 0 where
+  pub no_other : (x : Transaction) → nat_eq x.number k ≡ false → test x ≡ false
+  pub stands : (x : Transaction) (id : ℕ) → test (placed x id) ≡ test x
+  pub waits : (x : Transaction) (id units : ℕ) → test (bound x id units) ≡ test x
 
-module _ (k : ℕ) where
-  made_gone : (a : Arrival) (w : Making) (s : Machine) → w.next < 2 ^ 64 - 1 → IsGone k (with_making w s) → IsGone k (with_making (made a w) s)
+of_number : (k : ℕ) → IsOf k (has_number k)
+of_number k = record { no_other = λ x other. other; stands = λ x id. refl; waits = λ x id units. refl }
+
+-- A number that was given, of which no transaction passes a test: none does behind a move, where the block that the active one
+-- enters does not change what it comes to.
+module _ (k : ℕ) (test : Transaction → Bool) (of : IsOf k test) where
+  abbrev pub IsGone : Machine → Type 0
+  IsGone s = (k < s.next) × (crowd test s ≡ 0)
+
+  abbrev pub StaysSo : Machine → Type 0
+  StaysSo s = (x : Transaction) (change : Change) (id : ℕ) → s.active ≡ Some x → test (marked change s.clock (placed x id)) ≡ test x
+
+  let_in_test : (x : Transaction) (to : Option ℕ) → test (let_in_as x to) ≡ test x
+  let_in_test x None = refl
+  let_in_test x (Some id) = of.stands x id
+
+  made_gone : (a : Arrival) (w : Making) (s : Machine) → w.next < 2 ^ 64 - 1 → IsGone (with_making w s) → IsGone (with_making (made a w) s)
   made_gone a w s room h =
-      let push = future_push (has_number k) w.future (newcomer w.next a) in
-      let other = ne_eqb w.next k (λ same. omega (arith, h.0)) in
-      let is : one (has_number k (newcomer w.next a).transaction) ≡ 0 = rw other refl in
+      let push = future_push test w.future (newcomer w.next a) in
+      let is = ap one (of.no_other (newcomer w.next a).transaction (ne_eqb w.next k (λ same. omega (arith, h.0)))) in
       (omega (arith, h.0), omega (arith, h.1, push, is))
 
-  all_made_gone : (arrivals : List Arrival) (w : Making) (s : Machine) → w.next + length arrivals < 2 ^ 64 - 1 → IsGone k (with_making w s) →
-      IsGone k (with_making (all_made arrivals w) s)
+  all_made_gone : (arrivals : List Arrival) (w : Making) (s : Machine) → w.next + length arrivals < 2 ^ 64 - 1 → IsGone (with_making w s) →
+      IsGone (with_making (all_made arrivals w) s)
   all_made_gone [] w s room h = h
   all_made_gone (a ∷ rest) w s room h = all_made_gone rest (made a w) s (omega arith) (made_gone a w s (omega arith) h)
 
-  moved_gone : (t : Listing) (s : Machine) (m : Move) → s.next + length t.lines < 2 ^ 64 - 1 → IsDecided t s m → IsGone k s → IsGone k (moved s m)
-  moved_gone t s (moves.Start count arrivals) room decided h =
+  pub moved_gone : (t : Listing) (s : Machine) (m : Move) → s.next + length t.lines < 2 ^ 64 - 1 → IsDecided t s m → StaysSo s → IsGone s → IsGone (moved s m)
+  moved_gone t s (moves.Start count arrivals) room decided stays h =
       all_made_gone arrivals (making_of s) (started count s) (omega (arith, decided.few)) h
-  moved_gone t s moves.Command room decided h = h
-  moved_gone t s (moves.Enter id change fate) room decided h =
-      entered_has (λ v. (v.next ≡ s.next) × IsGone k v) (IsGone k) t s id change fate decided.1 h
+  moved_gone t s moves.Command room decided stays h = h
+  moved_gone t s (moves.Enter id change fate) room decided stays h =
+      entered_has (λ v. (v.next ≡ s.next) × IsGone v) IsGone t s id change fate decided.1 h
       (λ x is.
       let v = settled s x id change fate in
       let next : v.next ≡ s.next = (settled_is s x id change fate).next in
-      let fewer = settled_fewer (has_number k) s x id change fate is (ap (λ n. nat_eq n k) (marked_same change s.clock (placed x id)).0) in
+      let fewer = settled_fewer test s x id change fate is (stays x change id is) in
       (next, (omega (arith, next, h.0), omega (arith, fewer, h.1))))
       (λ v. record {
         nothing = λ g. g.1;
         one = λ a coming g. made_gone a (making_of v) v (omega (arith, room, g.0)) g.1;
         lets = λ w key x passed xs is g.
-            (let same = lets_same k w key x passed xs is in
+            (let same = lets_crowd test w key x passed xs is (let_in_test x x.destination) in
             let next = (let_in_is key x (passed ++ xs) w).next in
             (omega (arith, next, g.0), omega (arith, same, g.1)));
       })
-  moved_gone t s (moves.Refuse id key units) room decided h =
-      with_active_has (IsGone k) s.active (λ x. refused s x id key units) s h
-      (λ x is. let same = refused_crowd (has_number k) s x id key units is refl in (h.0, omega (arith, same, h.1)))
-  moved_gone t s moves.Pick room decided h =
-      picked_has (IsGone k) s s.current h (λ x xs is. let same = picked_crowd (has_number k) s x xs decided is in (h.0, omega (arith, same, h.1)))
-  moved_gone t s (moves.Clock time) room decided h = let same = advanced_crowd (has_number k) s time in (h.0, omega (arith, same, h.1))
+  moved_gone t s (moves.Refuse id key units) room decided stays h =
+      with_active_has IsGone s.active (λ x. refused s x id key units) s h
+      (λ x is. let same = refused_crowd test s x id key units is (of.waits x id units) in (h.0, omega (arith, same, h.1)))
+  moved_gone t s moves.Pick room decided stays h =
+      picked_has IsGone s s.current h (λ x xs is. let same = picked_crowd test s x xs decided is in (h.0, omega (arith, same, h.1)))
+  moved_gone t s (moves.Clock time) room decided stays h = let same = advanced_crowd test s time in (h.0, omega (arith, same, h.1))
 
+module _ (k : ℕ) where
   -- what that says of the list of the living
   pub not_alive : (xs : List Transaction) → list_any (has_number k) xs ≡ false → many (has_number k) xs ≡ 0
   not_alive [] none = refl
@@ -211,10 +229,12 @@ module _ (k : ℕ) where
 
 pub numbers_are_given_once : NumbersAreGivenOnce
 numbers_are_given_once t seed m n s v well before within there is k given gone =
-    let start : IsGone k s = (given, sym (many_living (has_number k) s) ∙ not_alive k (living s) gone) in
+    let Gone : Machine → Type 0 = IsGone k (has_number k) (of_number k) in
+    let start : Gone s = (given, sym (many_living (has_number k) s) ∙ not_alive k (living s) gone) in
     let rest =
-    over_rest t seed (λ i u. i ≤ t.limit → IsGone k u) m s there (λ early. start)
+    over_rest t seed (λ i u. i ≤ t.limit → Gone u) m s there (λ early. start)
     (λ i u move streams at decided h early.
     let room = all_within t seed i u well at in
-    moved_gone k t u move (omega (arith, room.next, well.greatest_limit, well.statements)) decided (h (omega arith))) n v before is within in
+    moved_gone k (has_number k) (of_number k) t u move (omega (arith, room.next, well.greatest_limit, well.statements)) decided
+    (λ x change id is. ap (λ n. nat_eq n k) (marked_same change u.clock (placed x id)).0) (h (omega arith))) n v before is within in
     alive k (living v) (many_living (has_number k) v ∙ rest.1)

@@ -1,9 +1,9 @@
 -- The parameters that are kept, move by move and over a run: of each transaction once, and of the living alone.
-use Rattle.std.proofs.Common.{◌≡◌, ℕ, ℤ, suc, ◌+◌, ◌≤◌, ◌<◌, nat_eq, nat_lt, Bool, true, false, cond, not, List, [], ◌∷◌, length, get_or, ◌++◌, ◌⊎◌, Option, Some, None, Ok, refl, ap, sym, subst, ◌∙◌, inl, inr, arith}
+use Rattle.std.proofs.Common.{◌≡◌, ℕ, ℤ, suc, ◌+◌, ◌≤◌, ◌<◌, nat_eq, nat_lt, Bool, true, false, List, [], ◌∷◌, length, get_or, ◌++◌, ◌⊎◌, Option, Some, None, Ok, refl, ap, sym, subst, ◌∙◌, inl, inr, arith}
 use Rattle.std.specs.Prelude.{position, swap_remove}
 use Rattle.std.specs.List.{list_any, position_or_len, sum_by}
 use Rattle.std.specs.Option.{option_map_or}
-use Rattle.std.proofs.lemmas.Bool.{cases_Bool, cases_eq, cases_lt, eq-eqb, ne_eqb, eqb-true, false≢true}
+use Rattle.std.proofs.lemmas.Bool.{cases_Bool, eq-eqb, eqb-true}
 use Rattle.std.proofs.lemmas.Bool.Decides.{nat_tests}
 use Rattle.std.proofs.lemmas.List.Sums.{sum_by-cons, sum_by-swap_remove}
 use Rattle.gw_names.specs.declared.key.Key.{Key}
@@ -22,27 +22,26 @@ use Rattle.gw_meaning.specs.Listing.{Listing}
 use Rattle.gw_meaning.specs.Machine.{Machine}
 use Rattle.gw_meaning.specs.Changes.{Making, made, all_made, picked, making_of, with_making, placed, marked, held_by, started, let_in, one_let_in, refused, moved}
 use Rattle.gw_meaning.specs.Step.{run}
-use Rattle.gw_laws.specs.Numbering.{lives}
-use Rattle.gw_laws.specs.Parameters.{has_parameters, ParametersAreOfTheLiving}
+use Rattle.gw_laws.specs.Parameters.{ParametersAreOfTheLiving}
 use Rattle.gw_frame.proofs.Known.{IsDecided}
 use Rattle.gw_frame.proofs.Moves.{settled, marked_same, with_active_has, entered_has, picked_has}
 use Rattle.gw_frame.proofs.Running.{over_run}
-use Rattle.gw_laws.proofs.Crowd.{one, crowd, others, remains, active_crowd, settled_crowd, refused_crowd, picked_crowd, advanced_crowd}
+use Rattle.gw_laws.proofs.Crowd.{one, remains, active_crowd, settled_crowd, refused_crowd, picked_crowd, advanced_crowd}
 use Rattle.gw_laws.proofs.NumberLaws.{has_number, lets_same}
 use Rattle.gw_laws.proofs.Waiting.{leaving}
 use Rattle.gw_laws.proofs.LossLaws.{Lives, made_lives, all_made_lives, lives_here}
 
-abbrev Values : Type 0
+abbrev pub Values : Type 0
 Values = List (Key × ℤ)
 
 nat_eq_symm : (a b : ℕ) → nat_eq a b ≡ nat_eq b a
 nat_eq_symm a b = grind (arith, nat_tests)
 
 -- how often the parameters of a transaction are kept
-abbrev is_of : ℕ → ℕ × Values → Bool
+abbrev pub is_of : ℕ → ℕ × Values → Bool
 is_of k h = nat_eq k h.0
 
-abbrev times : ℕ → Held → ℕ
+abbrev pub times : ℕ → Held → ℕ
 times k [] = 0
 times k (h ∷ hs) = one (is_of k h) + times k hs
 
@@ -71,7 +70,7 @@ set_others k n (h ∷ hs) values apart =
     ]
 
 -- those of one transaction are forgotten
-first_passes : (n : ℕ) (held : Held) (d : ℕ × Values) → position_or_len (is_of n) held < length held →
+pub first_passes : (n : ℕ) (held : Held) (d : ℕ × Values) → position_or_len (is_of n) held < length held →
     is_of n (get_or held (position_or_len (is_of n) held) d) ≡ true
 first_passes n [] d within = absurd (omega arith)
 first_passes n (h ∷ hs) d within =
@@ -99,7 +98,7 @@ none_passes n (h ∷ hs) beyond =
     ]
 
 -- the place where they stand, if they are kept
-place_is : (n : ℕ) (held : Held) (i : ℕ) → position (is_of n) held ≡ Some i → (i < length held) × (i ≡ position_or_len (is_of n) held)
+pub place_is : (n : ℕ) (held : Held) (i : ℕ) → position (is_of n) held ≡ Some i → (i < length held) × (i ≡ position_or_len (is_of n) held)
 place_is n held i is =
     elim (cases_Bool (nat_lt (position_or_len (is_of n) held) (length held))) [
       | inl within ↦ let same : Some (position_or_len (is_of n) held) ≡ Some i = rw within at is in
@@ -119,7 +118,7 @@ swapped : (k : ℕ) (held : Held) (i : ℕ) (d : ℕ × Values) → i < length h
 swapped k held i d within =
     rw (times_sum k (swap_remove held i d), times_sum k held) (sum_by-swap_remove (λ (e : ℕ × Values). one (is_of k e)) held i d within)
 
-forget_fewer : (k n : ℕ) (held : Held) → times k (without held n) ≤ times k held
+pub forget_fewer : (k n : ℕ) (held : Held) → times k (without held n) ≤ times k held
 forget_fewer k n [] = omega arith
 forget_fewer k n (h ∷ hs) = go (position (is_of n) (h ∷ hs)) refl where
   go : (o : Option ℕ) → position (is_of n) (h ∷ hs) ≡ o →
@@ -155,7 +154,7 @@ set_all_once k n held values once =
       | inr other ↦ let same = set_others k n held values other in omega arith
     ]
 
-change_once : (k n : ℕ) (change : Change) (held : Held) → times k held ≤ 1 → times k (held_by change n held) ≤ 1
+pub change_once : (k n : ℕ) (change : Change) (held : Held) → times k held ≤ 1 → times k (held_by change n held) ≤ 1
 change_once k n (changes.Transaction (own.Assign key to)) held once = set_all_once k n held (with_value (values_at held n) key to) once
 change_once k n (changes.Transaction (own.Loop key left to)) held once = set_all_once k n held (with_value (values_at held n) key left) once
 change_once k n (changes.Transaction own.Mark) held once = once
@@ -178,9 +177,9 @@ change_has k n changes.Nothing held some = inr some
 -- ---- moves
 
 -- the parameters of each transaction are kept once, and of the living alone
-record AreKept (s : Machine) : Type 0 where
-  once : (k : ℕ) → times k s.parameters ≤ 1
-  alive : (k : ℕ) → 1 ≤ times k s.parameters → Lives k s
+pub record AreKept (s : Machine) : Type 0 where
+  pub once : (k : ℕ) → times k s.parameters ≤ 1
+  pub alive : (k : ℕ) → 1 ≤ times k s.parameters → Lives k s
 
 same_kept : (s v : Machine) → v.parameters ≡ s.parameters → ((k : ℕ) → Lives k s → Lives k v) → AreKept s → AreKept v
 same_kept s v same live h = record {
@@ -246,7 +245,7 @@ module _ (s : Machine) (x : Transaction) (id : ℕ) (change : Change) (is : s.ac
             ];
       }
 
-let_in_parameters : (x : Transaction) (to : Option ℕ) (s : Machine) → (let_in x to s).parameters ≡ s.parameters
+pub let_in_parameters : (x : Transaction) (to : Option ℕ) (s : Machine) → (let_in x to s).parameters ≡ s.parameters
 let_in_parameters x None s = refl
 let_in_parameters x (Some id) s = refl
 
@@ -278,7 +277,7 @@ moved_kept t s (moves.Clock time) decided h =
     same_kept s (moved s (moves.Clock time)) refl (λ k lived. let same = advanced_crowd (has_number k) s time in omega arith) h
 
 -- over a run
-all_kept : (t : Listing) (seed n : ℕ) (s : Machine) → run t seed n ≡ Ok s → AreKept s
+pub all_kept : (t : Listing) (seed n : ℕ) (s : Machine) → run t seed n ≡ Ok s → AreKept s
 all_kept t seed n s there =
     over_run t seed (λ n s. AreKept s) (record { once = λ k. omega arith; alive = λ k some. absurd (omega arith) })
     (λ n s m streams there decided h. (let k = moved_kept t s m decided h in record { once = k.once; alive = k.alive }))

@@ -4,6 +4,7 @@ pub mod Chain
 pub mod Delays
 pub mod Numbering
 pub mod Parameters
+pub mod Priorities
 pub mod Contents
 pub mod Clock
 pub mod Facilities

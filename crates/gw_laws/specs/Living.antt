@@ -1,5 +1,5 @@
 -- The transactions of a state, wherever they are. (Manual.)
-use Rattle.std.specs.Prelude.{List, ◌++◌, map, option_to_list}
+use Rattle.std.specs.Prelude.{◌≡◌, ℕ, List, ◌++◌, Some, map, option_to_list}
 use Rattle.gw_meaning.specs.declared.transaction.Transaction.{Transaction}
 use Rattle.gw_meaning.specs.declared.transaction.Event.{Event}
 use Rattle.gw_meaning.specs.Machine.{Machine, waiting}
@@ -8,3 +8,7 @@ use Rattle.gw_meaning.specs.Machine.{Machine, waiting}
 abbrev pub living : Machine → List Transaction
 living s =
     option_to_list s.active ++ (s.current ++ (map (λ (e : Event). e.transaction) s.future ++ waiting s.delays))
+
+-- the active transaction is the one with this number
+abbrev pub IsActive : Machine → ℕ → Type 0
+IsActive s number = (x : Transaction) × (s.active ≡ Some x) × (x.number ≡ number)

@@ -1,10 +1,12 @@
 -- The parameters of transactions over every run from zero. (Manual: a parameter is a transaction's own.)
-use Rattle.std.specs.Prelude.{◌≡◌, ℕ, ℤ, ◌==◌, Bool, true, List, Ok}
+use Rattle.std.specs.Prelude.{◌≡◌, ℕ, suc, ℤ, ◌==◌, ◌⊎◌, Bool, true, List, Ok}
 use Rattle.std.specs.List.{list_any}
 use Rattle.gw_names.specs.declared.key.Key.{Key}
+use Rattle.gw_entities.specs.Parameters.{values_at}
 use Rattle.gw_meaning.specs.Listing.{Listing}
 use Rattle.gw_meaning.specs.Machine.{Machine}
 use Rattle.gw_meaning.specs.Step.{run}
+use Rattle.gw_laws.specs.Living.{IsActive}
 use Rattle.gw_laws.specs.Numbering.{lives}
 
 -- whether a transaction with this number has parameters
@@ -16,3 +18,10 @@ abbrev pub ParametersAreOfTheLiving : Type 0
 ParametersAreOfTheLiving =
     (t : Listing) (seed n : ℕ) (s : Machine) → run t seed n ≡ Ok s →
     (number : ℕ) → has_parameters s number ≡ true → lives s number ≡ true
+
+-- in a step no parameters change but those of the active transaction: those that are kept under any other number are
+-- the same, none more, none fewer and none with another value
+abbrev pub ParametersAreOnesOwn : Type 0
+ParametersAreOnesOwn =
+    (t : Listing) (seed n : ℕ) (s v : Machine) → run t seed n ≡ Ok s → run t seed (suc n) ≡ Ok v →
+    (number : ℕ) → (values_at v.parameters number ≡ values_at s.parameters number) ⊎ IsActive s number

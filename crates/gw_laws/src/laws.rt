@@ -6,8 +6,9 @@ ghost use Rattle.gw_laws.specs.Delays.{DelaysAreInOrder, DelaysAreFirstInFirstOu
 ghost use Rattle.gw_laws.specs.Delays.{WhoWaitsIsBound, WhoLeavesIsLetIn, FirstTakesOver, NobodyWaitsAtAFreeFacility};
 ghost use Rattle.gw_laws.specs.Facilities.{FacilitiesAreUsed};
 ghost use Rattle.gw_laws.specs.Numbering.{NumbersAreApart, NumbersAreGiven, NumbersAreGivenOnce, OnlyTheActiveGoes};
-ghost use Rattle.gw_laws.specs.Parameters.{ParametersAreOfTheLiving};
+ghost use Rattle.gw_laws.specs.Parameters.{ParametersAreOfTheLiving, ParametersAreOnesOwn};
 ghost use Rattle.gw_laws.specs.Places.{EachHasAPlace, EachHasOnePlace};
+ghost use Rattle.gw_laws.specs.Priorities.{PrioritiesAreOnesOwn};
 ghost use Rattle.gw_laws.specs.Queues.{QueuesAreWithin};
 ghost use Rattle.gw_laws.specs.Storages.{StoragesAreWithin, NobodyWaitsAtRoom};
 ghost use Rattle.gw_laws.specs.Verbs.{EachVerbIsEvaluated};
@@ -48,6 +49,13 @@ pub fn numbers_apart()
 /// Parameters are kept of living transactions alone: those of a transaction that is destroyed are forgotten.
 pub fn parameters_are_of_the_living()
     ensures { ParametersAreOfTheLiving }
+{}
+
+/// In a step no transaction changes but the active one in what is its own: its parameters, its priority and its mark
+/// time. Of every other one they are the same before and behind the step.
+pub fn each_keeps_his_own()
+    ensures parameters { ParametersAreOnesOwn }
+    ensures values { PrioritiesAreOnesOwn }
 {}
 
 /// Each transaction stands in exactly one place: it is active, on the current chain, on the future chain, or on the
