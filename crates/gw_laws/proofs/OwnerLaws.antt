@@ -37,12 +37,12 @@ use Rattle.gw_laws.proofs.LettingIn.{set_here, set_there, set_has, no_storage, o
 use Rattle.gw_laws.proofs.DelayLaws.{AreBound, AllAreBound, delay_bound, all_bound}
 
 -- the owner of a facility that is set, and of the others
-owner_here : (e : Entities) (key q : Key) (f : Ownership) → key_eq q key ≡ true →
+pub owner_here : (e : Entities) (key q : Key) (f : Ownership) → key_eq q key ≡ true →
     (facility_at (record e { facilities = with_value e.facilities key f }) q).owner ≡ f.owner
 owner_here e key q f is =
     ap (λ (g : Ownership). g.owner) (at_with never_owned e.facilities key f q ∙ ap (λ b. cond b f (facility_at e q)) is)
 
-owner_there : (e : Entities) (key q : Key) (f : Ownership) → key_eq q key ≡ false →
+pub owner_there : (e : Entities) (key q : Key) (f : Ownership) → key_eq q key ≡ false →
     (facility_at (record e { facilities = with_value e.facilities key f }) q).owner ≡ (facility_at e q).owner
 owner_there e key q f other =
     ap (λ (g : Ownership). g.owner) (at_with never_owned e.facilities key f q ∙ ap (λ b. cond b f (facility_at e q)) other)

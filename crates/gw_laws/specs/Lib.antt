@@ -8,6 +8,7 @@ pub mod Priorities
 pub mod Contents
 pub mod Clock
 pub mod Facilities
+pub mod Owners
 pub mod Queues
 pub mod Storages
 pub mod Verbs

@@ -6,6 +6,7 @@ ghost use Rattle.gw_laws.specs.Delays.{DelaysAreInOrder, DelaysAreFirstInFirstOu
 ghost use Rattle.gw_laws.specs.Delays.{WhoWaitsIsBound, WhoLeavesIsLetIn, FirstTakesOver, NobodyWaitsAtAFreeFacility};
 ghost use Rattle.gw_laws.specs.Facilities.{FacilitiesAreUsed};
 ghost use Rattle.gw_laws.specs.Numbering.{NumbersAreApart, NumbersAreGiven, NumbersAreGivenOnce, OnlyTheActiveGoes};
+ghost use Rattle.gw_laws.specs.Owners.{OnlyTheOwnerGivesBack, OnlyTheActiveTakes};
 ghost use Rattle.gw_laws.specs.Parameters.{ParametersAreOfTheLiving, ParametersAreOnesOwn};
 ghost use Rattle.gw_laws.specs.Places.{EachHasAPlace, EachHasOnePlace};
 ghost use Rattle.gw_laws.specs.Priorities.{PrioritiesAreOnesOwn};
@@ -81,6 +82,12 @@ pub fn clock_goes_on()
 /// was owned for no longer than the clock has run, and it did not change later than now.
 pub fn facilities_are_used()
     ensures { FacilitiesAreUsed }
+{}
+
+/// Nobody but its owner gives a facility back, and nobody but the active transaction takes one that is free.
+pub fn facilities_have_owners()
+    ensures gives { OnlyTheOwnerGivesBack }
+    ensures takes { OnlyTheActiveTakes }
 {}
 
 /// No count of a queue is above 1,000,000,000, and no queue changed later than now.

@@ -5,14 +5,15 @@
 //! a storage that has room for what he asks. No two transactions have one number, none is given twice, and each stands
 //! in exactly one place. A block's content is the number of the transactions that stand in it. The clock never goes
 //! back, and stays within the horizon. No facility has more captures than steps were made. No count of a queue passes
-//! its limit. No storage has more units in use than its capacity. Parameters are kept of living transactions alone. In a
-//! step parameters, a priority or a mark time change of the active transaction alone.
+//! its limit. No storage has more units in use than its capacity. Parameters are kept of living transactions alone. A
+//! transaction's parameters, priority and mark time change only in steps in which it is active. Nobody but its owner
+//! gives a facility back.
 #![tactic(auto)]
 
 mod laws;
 
 pub use laws::{
     chain_in_order, clock_goes_on, contents_are_counts, delays_in_order, each_has_one_place,
-    each_keeps_his_own, each_verb_is_evaluated, facilities_are_used, numbers_apart,
-    parameters_are_of_the_living, queues_are_within, storages_are_within,
+    each_keeps_his_own, each_verb_is_evaluated, facilities_are_used, facilities_have_owners,
+    numbers_apart, parameters_are_of_the_living, queues_are_within, storages_are_within,
 };

@@ -1,0 +1,23 @@
+-- Who owns a facility over every run from zero. (Manual: SEIZE and RELEASE.)
+use Rattle.std.specs.Prelude.{◌≡◌, ℕ, suc, ◌⊎◌, Some, None, Ok}
+use Rattle.gw_names.specs.declared.key.Key.{Key}
+use Rattle.gw_meaning.specs.Entities.{facility_at}
+use Rattle.gw_meaning.specs.Listing.{Listing}
+use Rattle.gw_meaning.specs.Machine.{Machine}
+use Rattle.gw_meaning.specs.Step.{run}
+use Rattle.gw_laws.specs.Living.{IsActive}
+
+-- nobody but its owner gives a facility back: where it has another owner behind a step, or none, the one that it had
+-- was the active transaction
+abbrev pub OnlyTheOwnerGivesBack : Type 0
+OnlyTheOwnerGivesBack =
+    (t : Listing) (seed n : ℕ) (s v : Machine) → run t seed n ≡ Ok s → run t seed (suc n) ≡ Ok v →
+    (key : Key) (number : ℕ) → (facility_at s.entities key).owner ≡ Some number →
+    ((facility_at v.entities key).owner ≡ Some number) ⊎ IsActive s number
+
+-- nobody but the active transaction takes a facility that is free
+abbrev pub OnlyTheActiveTakes : Type 0
+OnlyTheActiveTakes =
+    (t : Listing) (seed n : ℕ) (s v : Machine) → run t seed n ≡ Ok s → run t seed (suc n) ≡ Ok v →
+    (key : Key) (number : ℕ) → (facility_at s.entities key).owner ≡ None →
+    (facility_at v.entities key).owner ≡ Some number → IsActive s number
