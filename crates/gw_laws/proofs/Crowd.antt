@@ -1,6 +1,6 @@
 -- How many of the living transactions pass a test: what a move does to the chains, it does not do to their number.
-use Rattle.std.proofs.Common.{◌≡◌, ℕ, ◌+◌, Bool, true, false, cond, not, ◌≤◌, List, [], ◌∷◌, ◌++◌, map, filter, Option, Some, None, unwrap_or, refl, ap, inl, inr, arith}
-use Rattle.std.specs.Prelude.{option_to_list, count_by}
+use Rattle.std.proofs.Common.{◌≡◌, ℕ, zero, suc, ◌+◌, Bool, true, false, cond, not, ◌≤◌, List, [], ◌∷◌, ◌++◌, map, filter, Option, Some, None, unwrap_or, refl, ap, ◌∙◌, inl, inr, arith}
+use Rattle.std.specs.Prelude.{Contains, option_to_list, count_by}
 use Rattle.std.proofs.lemmas.Bool.{cond_both, cases_Bool}
 use Rattle.std.proofs.lemmas.List.Recursion.{is_count_by}
 use Rattle.gw_nums.specs.Range.{is_below}
@@ -59,6 +59,15 @@ module _ (test : Transaction → Bool) where
   -- where there is an active one
   pub active_crowd : (s : Machine) (x : Transaction) → s.active ≡ Some x → crowd s ≡ one (test x) + others s
   active_crowd s x is = let here = ap active_many is in omega arith
+
+  -- whoever is on a list and passes is counted
+  pub many_has : (xs : List Transaction) (x : Transaction) → Contains xs x → test x ≡ true → 1 ≤ many xs
+  many_has [] x there passes = absurd (omega (arith, there.1))
+  many_has (y ∷ ys) x (zero, within, same) passes =
+      let here : one (test y) ≡ 1 = ap one (ap test same ∙ passes) in
+      omega arith
+  many_has (y ∷ ys) x (suc i, within, same) passes =
+      let rest = many_has ys x (i, omega (arith, within), same) passes in omega arith
 
   pub many_append : (xs ys : List Transaction) → many (xs ++ ys) ≡ many xs + many ys
   many_append [] ys = omega arith

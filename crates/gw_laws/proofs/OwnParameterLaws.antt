@@ -29,6 +29,7 @@ use Rattle.gw_frame.proofs.Known.{IsDecided}
 use Rattle.gw_frame.proofs.Moves.{settled, marked_same, with_active_has, entered_has, picked_has}
 use Rattle.gw_laws.proofs.Crowd.{one}
 use Rattle.gw_laws.proofs.Waiting.{leaving}
+use Rattle.gw_laws.proofs.StayLaws.{first_or_rest}
 use Rattle.gw_laws.proofs.ParameterLaws.{Values, is_of, times, place_is, first_passes, forget_fewer, change_once, let_in_parameters, AreKept, all_kept}
 
 -- ---- look-ups
@@ -91,10 +92,6 @@ other_default : (h : ℕ × Values) (hs : Held) (i : ℕ) (d : ℕ × Values) �
 other_default h hs i d =
     let last = length (h ∷ hs) - 1 in
     ap (λ y. take last (set (h ∷ hs) i y)) (get_or_default (h ∷ hs) last d h (omega arith))
-
-first_or_rest : (e : ℕ × Values) (es : Held) (x : ℕ × Values) → Contains (e ∷ es) x → (e ≡ x) ⊎ Contains es x
-first_or_rest e es x (zero, within, same) = inl same
-first_or_rest e es x (suc i, within, same) = inr (i, omega (arith, within), same)
 
 still_there : (k n : ℕ) (held : Held) (values : Values) → nat_eq n k ≡ false → Contains held (k, values) → Contains (without held n) (k, values)
 still_there k n [] values apart there = there

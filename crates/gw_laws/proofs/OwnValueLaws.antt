@@ -1,5 +1,5 @@
 -- In a step no priority and no mark time change but those of the active transaction.
-use Rattle.std.proofs.Common.{◌≡◌, ◌≢◌, zero, suc, ◌+◌, ◌<◌, ◌≤◌, nat_eq, Bool, true, false, not, ◌&&◌, List, [], ◌∷◌, ◌⊎◌, Option, Some, None, refl, ap, sym, ◌∙◌, inl, inr, arith}
+use Rattle.std.proofs.Common.{◌≡◌, ◌≢◌, ◌+◌, ◌<◌, nat_eq, Bool, true, false, not, ◌&&◌, List, [], ◌∷◌, ◌⊎◌, Option, Some, None, refl, ap, sym, ◌∙◌, inl, inr, arith}
 use Rattle.std.specs.Prelude.{Contains}
 use Rattle.std.specs.Ordering.{int_eq}
 use Rattle.std.proofs.lemmas.Bool.{cases_Bool, cases_eq, cases_lt, eq-eqb, ne_eqb, eqb-true, and_parts, and_from, and_left}
@@ -12,20 +12,11 @@ use Rattle.gw_laws.specs.Living.{living, IsActive}
 use Rattle.gw_laws.specs.Priorities.{PrioritiesAreOnesOwn}
 use Rattle.gw_frame.proofs.Decided.{step_decides}
 use Rattle.gw_frame.proofs.Moves.{marked_same}
-use Rattle.gw_laws.proofs.Crowd.{one, many, crowd, many_living}
+use Rattle.gw_laws.proofs.Crowd.{one, many, many_has, crowd, many_living}
 use Rattle.gw_laws.proofs.NumberLaws.{has_number, IsNumbered, IsOf, StaysSo, moved_gone, all_numbered}
 use Rattle.gw_laws.proofs.Room.{all_within}
 
--- who passes a test is counted
-counts : (test : Transaction → Bool) (xs : List Transaction) (x : Transaction) → Contains xs x → test x ≡ true → 1 ≤ many test xs
-counts test [] x there passes = absurd (omega (arith, there.1))
-counts test (y ∷ ys) x (zero, within, same) passes =
-    let here : one (test y) ≡ 1 = ap one (ap test same ∙ passes) in
-    omega arith
-counts test (y ∷ ys) x (suc i, within, same) passes =
-    let rest = counts test ys x (i, omega (arith, within), same) passes in omega arith
-
--- and of those who pass one some pass another, and some do not
+-- of those who pass a test some pass another one, and some do not
 both_parts : (a b : Bool) → one (a && b) + one (a && not b) ≡ one a
 both_parts true true = refl
 both_parts true false = refl
@@ -63,7 +54,7 @@ module _ (x : Transaction) where
 
   none_other : (s : Machine) → IsNumbered s → Contains (living s) x → crowd other_one s ≡ 0
   none_other s h there =
-      let own = counts same_one (living s) x there is_same in
+      let own = many_has same_one (living s) x there is_same in
       let parts = many_parts (has_number x.number) alike (living s) in
       let all = many_living (has_number x.number) s in
       let others = many_living other_one s in
@@ -75,7 +66,7 @@ module _ (x : Transaction) where
       elim (cases_lt x.number s.next) [
         | inl below ↦ below
         | inr above ↦ absurd (
-            let some = counts (has_number x.number) (living s) x there (eq-eqb x.number x.number refl) in
+            let some = many_has (has_number x.number) (living s) x there (eq-eqb x.number x.number refl) in
             let all = many_living (has_number x.number) s in
             let none = h.given x.number above in
             omega arith)
@@ -116,7 +107,7 @@ module _ (x : Transaction) where
             ((Decides-int_eq y.priority x.priority).0 both.0, eqb-true y.mark x.mark both.1)
         | inr differs ↦ absurd (
             let passes : other_one y ≡ true = and_from (has_number x.number y) (not (alike y)) number (ap not differs) in
-            let some = counts other_one (living v) y there passes in
+            let some = many_has other_one (living v) y there passes in
             let all = many_living other_one v in
             omega arith)
       ]

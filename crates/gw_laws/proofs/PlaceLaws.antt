@@ -1,5 +1,5 @@
 -- Each living transaction stands in one place, and in no other.
-use Rattle.std.proofs.Common.{◌≡◌, ℕ, zero, suc, ◌+◌, ◌≤◌, Bool, true, false, cond, List, [], ◌∷◌, ◌++◌, map, Some, None, unwrap_or, refl, sym, ap, subst, ◌∙◌, inl, inr, arith}
+use Rattle.std.proofs.Common.{◌≡◌, ℕ, ◌+◌, ◌≤◌, Bool, true, false, cond, List, [], ◌∷◌, ◌++◌, map, Some, None, unwrap_or, refl, sym, ap, subst, ◌∙◌, inl, inr, arith}
 use Rattle.std.specs.Prelude.{Contains, option_to_list}
 use Rattle.std.proofs.lemmas.Bool.{cases_Bool, eq-eqb}
 use Rattle.std.proofs.lemmas.List.Elements.{Contains-append_cases}
@@ -21,19 +21,13 @@ use Rattle.gw_frame.proofs.Moves.{settled_is, with_active_has, entered_has, pick
 use Rattle.gw_frame.proofs.Running.{over_run}
 use Rattle.gw_laws.specs.Places.{Place, Active, OnCurrent, OnFuture, OnDelay, who_stands, EachHasAPlace, EachHasOnePlace}
 use Rattle.gw_laws.proofs.Waiting.{let_in_is}
-use Rattle.gw_laws.proofs.Crowd.{one, many, many_append, active_many, many_active, future_many, many_future, crowd}
+use Rattle.gw_laws.proofs.Crowd.{many, many_has, many_append, active_many, many_active, future_many, many_future, crowd}
 use Rattle.gw_laws.proofs.NumberLaws.{has_number, all_numbered}
 
 -- ---- in no other place
 
 has_one : (k : ℕ) (xs : List Transaction) (x : Transaction) → Contains xs x → x.number ≡ k → 1 ≤ many (has_number k) xs
-has_one k [] x there is = absurd (omega (arith, there.1))
-has_one k (y ∷ ys) x (zero, within, same) is =
-    let here = eq-eqb y.number k (ap (λ (z : Transaction). z.number) same ∙ is) in
-    let first : one (has_number k y) ≡ 1 = rw here refl in
-    omega arith
-has_one k (y ∷ ys) x (suc i, within, same) is =
-    let rest = has_one k ys x (i, omega (arith, within), same) is in omega arith
+has_one k xs x there is = many_has (has_number k) xs x there (eq-eqb x.number k is)
 
 module _ (test : Transaction → Bool) where
   -- how many stand in a place

@@ -197,7 +197,7 @@ who_waits_keeps_his_place t seed n s v well within there is key priority =
 
 -- ---- whoever leaves is let in
 
-first_or_rest : (y : Transaction) (ys : List Transaction) (x : Transaction) → Contains (y ∷ ys) x → (y ≡ x) ⊎ Contains ys x
+pub first_or_rest : {X : Type 0} (y : X) (ys : List X) (x : X) → Contains (y ∷ ys) x → (y ≡ x) ⊎ Contains ys x
 first_or_rest y ys x (zero, within, same) = inl same
 first_or_rest y ys x (suc i, within, same) = inr (i, omega (arith, within), same)
 

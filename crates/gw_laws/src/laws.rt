@@ -52,8 +52,8 @@ pub fn parameters_are_of_the_living()
     ensures { ParametersAreOfTheLiving }
 {}
 
-/// In a step no transaction changes but the active one in what is its own: its parameters, its priority and its mark
-/// time. Of every other one they are the same before and behind the step.
+/// A transaction's parameters, priority and mark time change only in steps in which it is active: those of every other
+/// one are the same before a step and behind it.
 pub fn each_keeps_his_own()
     ensures parameters { ParametersAreOnesOwn }
     ensures values { PrioritiesAreOnesOwn }
