@@ -156,7 +156,7 @@ pub record IsOf (k : ℕ) (test : Transaction → Bool) : Type 0 where
   pub stands : (x : Transaction) (id : ℕ) → test (placed x id) ≡ test x
   pub waits : (x : Transaction) (id units : ℕ) → test (bound x id units) ≡ test x
 
-of_number : (k : ℕ) → IsOf k (has_number k)
+pub of_number : (k : ℕ) → IsOf k (has_number k)
 of_number k = record { no_other = λ x other. other; stands = λ x id. refl; waits = λ x id units. refl }
 
 -- A number that was given, of which no transaction passes a test: none does behind a move, where the block that the active one
@@ -172,7 +172,7 @@ module _ (k : ℕ) (test : Transaction → Bool) (of : IsOf k test) where
   let_in_test x None = refl
   let_in_test x (Some id) = of.stands x id
 
-  made_gone : (a : Arrival) (w : Making) (s : Machine) → w.next < 2 ^ 64 - 1 → IsGone (with_making w s) → IsGone (with_making (made a w) s)
+  pub made_gone : (a : Arrival) (w : Making) (s : Machine) → w.next < 2 ^ 64 - 1 → IsGone (with_making w s) → IsGone (with_making (made a w) s)
   made_gone a w s room h =
       let push = future_push test w.future (newcomer w.next a) in
       let is = ap one (of.no_other (newcomer w.next a).transaction (ne_eqb w.next k (λ same. omega (arith, h.0)))) in
@@ -182,6 +182,13 @@ module _ (k : ℕ) (test : Transaction → Bool) (of : IsOf k test) where
       IsGone (with_making (all_made arrivals w) s)
   all_made_gone [] w s room h = h
   all_made_gone (a ∷ rest) w s room h = all_made_gone rest (made a w) s (omega arith) (made_gone a w s (omega arith) h)
+
+  pub lets_gone : (w : Machine) (key : Key) (x : Transaction) (passed xs : List Transaction) → delay_at w.delays key ≡ passed ++ x ∷ xs → IsGone w →
+      IsGone (one_let_in key x (passed ++ xs) w)
+  lets_gone w key x passed xs is h =
+      let same = lets_crowd test w key x passed xs is (let_in_test x x.destination) in
+      let next = (let_in_is key x (passed ++ xs) w).next in
+      (omega (arith, next, h.0), omega (arith, same, h.1))
 
   pub moved_gone : (t : Listing) (s : Machine) (m : Move) → s.next + length t.lines < 2 ^ 64 - 1 → IsDecided t s m → StaysSo s → IsGone s → IsGone (moved s m)
   moved_gone t s (moves.Start count arrivals) room decided stays h =
@@ -197,10 +204,7 @@ module _ (k : ℕ) (test : Transaction → Bool) (of : IsOf k test) where
       (λ v. record {
         nothing = λ g. g.1;
         one = λ a coming g. made_gone a (making_of v) v (omega (arith, room, g.0)) g.1;
-        lets = λ w key x passed xs is g.
-            (let same = lets_crowd test w key x passed xs is (let_in_test x x.destination) in
-            let next = (let_in_is key x (passed ++ xs) w).next in
-            (omega (arith, next, g.0), omega (arith, same, g.1)));
+        lets = lets_gone;
       })
   moved_gone t s (moves.Refuse id key units) room decided stays h =
       with_active_has IsGone s.active (λ x. refused s x id key units) s h

@@ -1,12 +1,13 @@
 -- In a step no parameters change but those of the active transaction.
-use Rattle.std.proofs.Common.{◌≡◌, ◌≢◌, ℕ, zero, suc, ◌-◌, ◌≤◌, nat_eq, true, false, cond, [], ◌∷◌, length, get_or, take, set, ◌++◌, ◌⊎◌, Option, Some, None, unwrap_or, refl, ap, sym, subst, ◌∙◌, inl, inr, arith}
+use Rattle.std.proofs.Common.{◌≡◌, ◌≢◌, ℕ, zero, suc, ◌-◌, ◌^◌, ◌≤◌, ◌<◌, List, nat_eq, true, false, cond, [], ◌∷◌, length, get_or, take, set, ◌++◌, ◌⊎◌, Option, Some, None, unwrap_or, refl, ap, sym, subst, ◌∙◌, inl, inr, arith}
 use Rattle.std.specs.Prelude.{Contains, position, swap_remove}
 use Rattle.std.specs.Option.{option_map_or}
 use Rattle.std.specs.Map.{lookup}
-use Rattle.std.proofs.lemmas.Bool.{cases_Bool, cases_eq, eq-eqb, ne_eqb, eqb-true}
+use Rattle.std.proofs.lemmas.Bool.{cases_Bool, cases_eq, cases_lt, eq-eqb, ne_eqb, eqb-true, false≢true}
 use Rattle.std.proofs.lemmas.List.{get_or_default}
 use Rattle.std.proofs.lemmas.List.Sorted.{Contains-permutation, IsPermutation-swap_remove}
 use Rattle.std.proofs.lemmas.Map.Views.{Contains-from_lookup}
+use Rattle.gw_names.specs.declared.key.Key.{Key}
 use Rattle.gw_entities.specs.Tables.{with_value}
 use Rattle.gw_entities.specs.Parameters.{Held, values_at, with_values, without}
 use Rattle.gw_meaning.specs.declared.transaction.Transaction.{Transaction}
@@ -19,15 +20,18 @@ use Rattle.gw_meaning.specs.declared.moves.Fate.TheVariants as fates
 use Rattle.gw_meaning.specs.declared.moves.Move.{Move}
 use Rattle.gw_meaning.specs.declared.moves.Move.TheVariants as moves
 use Rattle.gw_meaning.specs.Listing.{Listing}
-use Rattle.gw_meaning.specs.Machine.{Machine}
-use Rattle.gw_meaning.specs.Changes.{own_held, held_by, placed, marked, refused, moved}
+use Rattle.gw_meaning.specs.Machine.{Machine, delay_at}
+use Rattle.gw_meaning.specs.Changes.{own_held, held_by, making_of, placed, marked, one_let_in, refused, moved}
 use Rattle.gw_meaning.proofs.Programs.{run_on}
 use Rattle.gw_laws.specs.Living.{IsActive}
-use Rattle.gw_laws.specs.Parameters.{ParametersAreOnesOwn}
+use Rattle.gw_laws.specs.Parameters.{ParametersAreOnesOwn, SetsAtMostOne, OneParameterIsSet}
 use Rattle.gw_frame.proofs.Decided.{step_decides}
 use Rattle.gw_frame.proofs.Known.{IsDecided}
-use Rattle.gw_frame.proofs.Moves.{settled, marked_same, with_active_has, entered_has, picked_has}
-use Rattle.gw_laws.proofs.Crowd.{one}
+use Rattle.gw_frame.proofs.Moves.{settled, settled_is, marked_same, with_active_has, entered_has, picked_has}
+use Rattle.gw_laws.specs.Living.{living}
+use Rattle.gw_laws.proofs.Crowd.{one, active_crowd, settled_crowd, many_living}
+use Rattle.gw_laws.proofs.NumberLaws.{has_number, IsNumbered, of_number, IsGone, made_gone, lets_gone, alive, all_numbered}
+use Rattle.gw_laws.proofs.Room.{all_within}
 use Rattle.gw_laws.proofs.Waiting.{leaving}
 use Rattle.gw_laws.proofs.StayLaws.{first_or_rest}
 use Rattle.gw_laws.proofs.ParameterLaws.{Values, is_of, times, place_is, first_passes, forget_fewer, change_once, let_in_parameters, AreKept, all_kept}
@@ -176,3 +180,93 @@ pub parameters_are_ones_own : ParametersAreOnesOwn
 parameters_are_ones_own t seed n s v there is k =
     let after = ((step_decides t seed s).runs v (sym (run_on t seed n s there) ∙ is)).0 in
     subst (KeepsParameters k s) (sym after.is) (moved_elsewhere k t s after.move after.is_decided (all_kept t seed n s there))
+
+-- ---- of one transaction, one parameter is set at most
+
+set_here : (n : ℕ) (held : Held) (values : Values) → lookup (nat_eq n) (with_values held n values) ≡ Some values
+set_here n [] values = let here = eq-eqb n n refl in rw here refl
+set_here n (h ∷ hs) values =
+    elim (cases_Bool (nat_eq n h.0)) [
+      | inl is ↦ rw is (ap (λ b. cond b (Some values) (lookup (nat_eq n) hs)) is)
+      | inr other ↦ rw other (rw other (set_here n hs values))
+    ]
+
+own_sets : (n : ℕ) (change : TransactionChange) (held : Held) → SetsAtMostOne (values_at held n) (values_at (own_held change n held) n)
+own_sets n (own.Assign key to) held = inr (key, to, ap (λ o. unwrap_or o []) (set_here n held (with_value (values_at held n) key to)))
+own_sets n (own.Loop key left to) held = inr (key, left, ap (λ o. unwrap_or o []) (set_here n held (with_value (values_at held n) key left)))
+own_sets n change held = inl refl
+
+change_sets : (n : ℕ) (change : Change) (held : Held) → SetsAtMostOne (values_at held n) (values_at (held_by change n held) n)
+change_sets n (changes.Transaction change) held = own_sets n change held
+change_sets n change held = inl refl
+
+held_sets : (k n : ℕ) (change : Change) (held : Held) → SetsAtMostOne (values_at held k) (values_at (held_by change n held) k)
+held_sets k n change held =
+    elim (cases_eq k n) [
+      | inl same ↦ subst (λ j. SetsAtMostOne (values_at held j) (values_at (held_by change n held) j)) (sym same) (change_sets n change held)
+      | inr other ↦ inl (ap (λ o. unwrap_or o []) (change_elsewhere k n change held (ne_eqb k n other)))
+    ]
+
+module _ (k : ℕ) where
+  abbrev Gone : Machine → Type 0
+  Gone = IsGone k (has_number k) (of_number k)
+
+  -- one is set, or it is destroyed
+  abbrev SetsOne : Machine → Machine → Type 0
+  SetsOne s v = SetsAtMostOne (values_at s.parameters k) (values_at v.parameters k) ⊎ Gone v
+
+  destroyed_gone : (s : Machine) (x : Transaction) (id : ℕ) (change : Change) (count : ℕ) → s.active ≡ Some x → x.number ≡ k → IsNumbered s →
+      Gone (settled s x id change (fates.Destroyed count))
+  destroyed_gone s x id change count is same h =
+      let here : one (has_number k x) ≡ 1 = ap one (eq-eqb x.number k same) in
+      let was = active_crowd (has_number k) s x is in
+      let now = settled_crowd (has_number k) s x id change (fates.Destroyed count) in
+      let once = h.apart k in (
+        elim (cases_lt k s.next) [ inl below ↦ below | inr above ↦ absurd (let none = h.given k above in omega arith) ],
+        omega arith,
+      )
+
+  settled_sets : (s : Machine) (x : Transaction) (id : ℕ) (change : Change) (fate : Fate) → s.active ≡ Some x → IsNumbered s → AreKept s →
+      SetsOne s (settled s x id change fate)
+  settled_sets s x id change (fates.Destroyed count) is h kept =
+      elim (cases_eq x.number k) [
+        | inl same ↦ inr (destroyed_gone s x id change count is same h)
+        | inr other ↦ inl (inl (ap (λ o. unwrap_or o []) (settled_elsewhere k s x id change (fates.Destroyed count) other kept)))
+      ]
+  settled_sets s x id change fate is h kept = inl (held_sets k x.number change s.parameters)
+
+  lets_sets : (s w : Machine) (key : Key) (x : Transaction) (passed xs : List Transaction) → delay_at w.delays key ≡ passed ++ x ∷ xs → SetsOne s w →
+      SetsOne s (one_let_in key x (passed ++ xs) w)
+  lets_sets s w key x passed xs is (inl sets) =
+      inl (subst (λ held. SetsAtMostOne (values_at s.parameters k) (values_at held k))
+      (sym (let_in_parameters x x.destination (leaving w key (passed ++ xs)))) sets)
+  lets_sets s w key x passed xs is (inr gone) = inr (lets_gone k (has_number k) (of_number k) w key x passed xs is gone)
+
+  moved_sets : (t : Listing) (s : Machine) (m : Move) → s.next < 2 ^ 64 - 1 → IsDecided t s m → IsNumbered s → AreKept s → SetsOne s (moved s m)
+  moved_sets t s (moves.Enter id change fate) room decided h kept =
+      entered_has (λ v. (v.next ≡ s.next) × SetsOne s v) (SetsOne s) t s id change fate decided.1 (inl (inl refl))
+      (λ x is. ((settled_is s x id change fate).next, settled_sets s x id change fate is h kept))
+      (λ v. record {
+        nothing = λ g. g.1;
+        one = λ a coming g. elim g.1 [
+          | inl sets ↦ inl sets
+          | inr gone ↦ inr (made_gone k (has_number k) (of_number k) a (making_of v) v (omega (arith, room, g.0)) gone)
+        ];
+        lets = lets_sets s;
+      })
+  moved_sets t s (moves.Refuse id key units) room decided h kept =
+      with_active_has (SetsOne s) s.active (λ x. refused s x id key units) s (inl (inl refl)) (λ x is. inl (inl refl))
+  moved_sets t s moves.Pick room decided h kept = picked_has (SetsOne s) s s.current (inl (inl refl)) (λ x xs is. inl (inl refl))
+  moved_sets t s m room decided h kept = inl (inl refl)
+
+pub one_parameter_is_set : OneParameterIsSet
+one_parameter_is_set t seed n s v well within there is k lives' =
+    let after = ((step_decides t seed s).runs v (sym (run_on t seed n s there) ∙ is)).0 in
+    let room = all_within t seed n s well there in
+    let sets =
+    moved_sets k t s after.move (omega (arith, room.next, well.greatest_limit)) after.is_decided (all_numbered t seed well n s there within)
+    (all_kept t seed n s there) in
+    elim (subst (SetsOne k s) (sym after.is) sets) [
+      | inl one' ↦ one'
+      | inr gone ↦ absurd (let no = alive k (living v) (many_living (has_number k) v ∙ gone.1) in false≢true (sym no ∙ lives'))
+    ]

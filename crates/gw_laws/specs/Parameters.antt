@@ -1,11 +1,13 @@
 -- The parameters of transactions over every run from zero. (Manual: a parameter is a transaction's own.)
-use Rattle.std.specs.Prelude.{◌≡◌, ℕ, suc, ℤ, ◌==◌, ◌⊎◌, Bool, true, List, Ok}
+use Rattle.std.specs.Prelude.{◌≡◌, ℕ, suc, ◌≤◌, ℤ, ◌==◌, ◌⊎◌, Bool, true, List, Ok}
 use Rattle.std.specs.List.{list_any}
 use Rattle.gw_names.specs.declared.key.Key.{Key}
+use Rattle.gw_entities.specs.Tables.{with_value}
 use Rattle.gw_entities.specs.Parameters.{values_at}
 use Rattle.gw_meaning.specs.Listing.{Listing}
 use Rattle.gw_meaning.specs.Machine.{Machine}
 use Rattle.gw_meaning.specs.Step.{run}
+use Rattle.gw_model.specs.Well.{Well}
 use Rattle.gw_laws.specs.Living.{IsActive}
 use Rattle.gw_laws.specs.Numbering.{lives}
 
@@ -25,3 +27,15 @@ abbrev pub ParametersAreOnesOwn : Type 0
 ParametersAreOnesOwn =
     (t : Listing) (seed n : ℕ) (s v : Machine) → run t seed n ≡ Ok s → run t seed (suc n) ≡ Ok v →
     (number : ℕ) → (values_at v.parameters number ≡ values_at s.parameters number) ⊎ IsActive s number
+
+-- the parameters of one transaction: all stay, or one of them is set, and the others stay
+abbrev pub SetsAtMostOne : List (Key × ℤ) → List (Key × ℤ) → Type 0
+SetsAtMostOne before after = (after ≡ before) ⊎ ((key : Key) × (value : ℤ) × (after ≡ with_value before key value))
+
+-- in a step one parameter is set at most, of whoever lives behind it. (Within the step limit, since numbers tell
+-- transactions apart there.)
+abbrev pub OneParameterIsSet : Type 0
+OneParameterIsSet =
+    (t : Listing) (seed n : ℕ) (s v : Machine) → Well t → n ≤ t.limit →
+    run t seed n ≡ Ok s → run t seed (suc n) ≡ Ok v →
+    (number : ℕ) → lives v number ≡ true → SetsAtMostOne (values_at s.parameters number) (values_at v.parameters number)

@@ -7,7 +7,7 @@ ghost use Rattle.gw_laws.specs.Delays.{WhoWaitsIsBound, WhoLeavesIsLetIn, FirstT
 ghost use Rattle.gw_laws.specs.Facilities.{FacilitiesAreUsed};
 ghost use Rattle.gw_laws.specs.Numbering.{NumbersAreApart, NumbersAreGiven, NumbersAreGivenOnce, OnlyTheActiveGoes};
 ghost use Rattle.gw_laws.specs.Owners.{OnlyTheOwnerGivesBack, OnlyTheActiveTakes};
-ghost use Rattle.gw_laws.specs.Parameters.{ParametersAreOfTheLiving, ParametersAreOnesOwn};
+ghost use Rattle.gw_laws.specs.Parameters.{ParametersAreOfTheLiving, ParametersAreOnesOwn, OneParameterIsSet};
 ghost use Rattle.gw_laws.specs.Places.{EachHasAPlace, EachHasOnePlace};
 ghost use Rattle.gw_laws.specs.Priorities.{PrioritiesAreOnesOwn};
 ghost use Rattle.gw_laws.specs.Queues.{QueuesAreWithin};
@@ -53,9 +53,10 @@ pub fn parameters_are_of_the_living()
 {}
 
 /// A transaction's parameters, priority and mark time change only in steps in which it is active: those of every other
-/// one are the same before a step and behind it.
+/// one are the same before a step and behind it. A step sets one parameter at most.
 pub fn each_keeps_his_own()
     ensures parameters { ParametersAreOnesOwn }
+    ensures one { OneParameterIsSet }
     ensures values { PrioritiesAreOnesOwn }
 {}
 
