@@ -2,7 +2,7 @@
 -- blocks: one line for each choice, and no law asks further.
 use Rattle.std.proofs.Common.{◌≡◌, ℕ, zero, suc, ◌+◌, ◌≤◌, nat_eq, nat_le, nat_lt, Bool, true, false, cond, not, ◌&&◌, ◌||◌, List, [], ◌∷◌, length, Option, Some, None, is_some, inr, ℤ, pos, ◌-◌, ◌++◌, append_assoc, refl, ap, sym, subst, ◌∙◌, append-nil, arith}
 use Rattle.std.specs.List.{AllByRecursion}
-use Rattle.std.proofs.lemmas.Bool.{cond_both, or_parts}
+use Rattle.std.proofs.lemmas.Bool.{cond_both, not-false, or_parts}
 use Rattle.std.proofs.lemmas.Bool.Decides.{nat_tests}
 use Rattle.std.proofs.lemmas.List.{length-append}
 use Rattle.gw_nums.specs.Range.{is_negative, magnitude}
@@ -44,7 +44,7 @@ use Rattle.gw_names.specs.declared.key.Key.TheVariants as keys
 use Rattle.gw_meaning.specs.Entities.{store_at}
 use Rattle.gw_meaning.specs.Step.{beside, in_use, share_of, all_shares, enter_or_wait, enter_storage, enter_prog, shares_prog, leave_for, leave_units, leave_prog}
 use Rattle.gw_frame.proofs.DecidedValues.{Decides, Whatever, IsNoStorage, draw_decides, arithmetic_decides, value_decides, value_there_decides, value_or_zero_decides, entity_decides, units_decides, time_decides}
-use Rattle.gw_frame.proofs.Known.{IsComing, IsComingIfAny, AreFirst, within_limit, leaves, does_fit, shares_of, IsDecidedFate, IsRefused, IsDecided, IsRead, IsAfter}
+use Rattle.gw_frame.proofs.Known.{IsComing, IsComingIfAny, AreFirst, within_limit, leaves, does_fit, shares_of, ActiveOwns, IsDecidedFate, IsRefused, IsDecided, IsRead, IsAfter}
 
 -- there are no more GENERATEs than statements
 few_generates : (lines : List Numbered) → length (generates_in lines) ≤ length lines
@@ -196,14 +196,22 @@ module _ (t : Listing) (seed : ℕ) (s : Machine) where
   seize_decides q id entity named = keeps_bind (entity_decides t seed s q entity)
       (λ key h. seize_or_wait_decides id key (is_some (facility_at s.entities key).owner) h refl named)
 
-  release_to_decides : (id : ℕ) (key : Key) (owns : Bool) → IsNoStorage t seed s key → IsBlockId t id →
-      Decides t seed s (IsDecided t s) (release_to id key owns (first_number (delay_at s.delays key)))
-  release_to_decides id key owns none named = keeps_stops (not owns) _ (keeps_gives (named, (none, refl), tt))
+  active_owns : (x : Transaction) (key : Key) → s.active ≡ Some x → not (is_owner (facility_at s.entities key).owner x.number) ≡ false → ActiveOwns s key
+  active_owns x key is owns y there =
+      let both : Some x ≡ Some y = sym is ∙ there in
+      let same : x ≡ y = cc in
+      subst (λ z. is_owner (facility_at s.entities key).owner z.number ≡ true) same (not-false _ owns)
 
-  release_decides : (q : Asker) (x : Transaction) (id : ℕ) (entity : Option Term) → IsBlockId t id →
+  release_to_decides : (x : Transaction) (id : ℕ) (key : Key) → IsNoStorage t seed s key → s.active ≡ Some x → IsBlockId t id →
+      Decides t seed s (IsDecided t s) (release_to id key (is_owner (facility_at s.entities key).owner x.number) (first_number (delay_at s.delays key)))
+  release_to_decides x id key none is named =
+      keeps_unless (not (is_owner (facility_at s.entities key).owner x.number)) _
+      (λ h. keeps_gives (named, (none, refl, active_owns x key is h), tt))
+
+  release_decides : (q : Asker) (x : Transaction) (id : ℕ) (entity : Option Term) → s.active ≡ Some x → IsBlockId t id →
       Decides t seed s (IsDecided t s) (release_prog s q x id entity)
-  release_decides q x id entity named = keeps_bind (entity_decides t seed s q entity)
-      (λ key h. release_to_decides id key (is_owner (facility_at s.entities key).owner x.number) h named)
+  release_decides q x id entity is named =
+      keeps_bind (entity_decides t seed s q entity) (λ key h. release_to_decides x id key h is named)
 
   -- ENTER and LEAVE
   enter_or_wait_decides : (id : ℕ) (name : List ℕ) (units : ℕ) (fits : Bool) →
@@ -310,43 +318,44 @@ module _ (t : Listing) (seed : ℕ) (s : Machine) where
       (λ key h. keeps_bind (left_decides (parameter_at s.parameters q.number key))
       (λ left k. keeps_cond (nat_eq (magnitude left) 0) (keeps_gives (named, tt, tt)) (loop_to_decides id key left label named)))
 
-  block_decides : (x : Transaction) (id : ℕ) (b : Block) (verb : BlockVerb) → IsBlockId t id → Decides t seed s (IsDecided t s) (block_prog s x id b verb)
-  block_decides x id b blocks.Generate named = generate_decides x id (operand b A) (operand b B) (operand b D) (operand b E) named
-  block_decides x id b blocks.Advance named = advance_decides (for_one s x) id (operand b A) (operand b B) named
-  block_decides x id b blocks.Terminate named = terminate_decides (for_one s x) id (operand b A) named
-  block_decides x id b blocks.Queue named = queue_decides (for_one s x) id (operand b A) (operand b B) named
-  block_decides x id b blocks.Depart named = depart_decides (for_one s x) x id (operand b A) (operand b B) named
-  block_decides x id b blocks.Seize named = seize_decides (for_one s x) id (operand b A) named
-  block_decides x id b blocks.Release named = release_decides (for_one s x) x id (operand b A) named
-  block_decides x id b blocks.Enter named = enter_decides (for_one s x) id (operand b A) (operand b B) named
-  block_decides x id b blocks.Leave named = leave_decides (for_one s x) id (operand b A) (operand b B) named
-  block_decides x id b blocks.Transfer named = transfer_decides id (operand b A) (operand b B) (operand b C) named
-  block_decides x id b blocks.Mark named = keeps_gives (named, tt, tt)
-  block_decides x id b blocks.Priority named = priority_decides (for_one s x) id (operand b A) named
-  block_decides x id b blocks.Buffer named = keeps_gives (named, tt, tt)
-  block_decides x id b blocks.Assign named = assign_decides (for_one s x) id b.sign (operand b A) (operand b B) named
-  block_decides x id b blocks.Loop named = loop_decides (for_one s x) id (operand b A) (operand b B) named
-  block_decides x id b verb named = keeps_ends
+  block_decides : (x : Transaction) (id : ℕ) (b : Block) (verb : BlockVerb) → s.active ≡ Some x → IsBlockId t id →
+      Decides t seed s (IsDecided t s) (block_prog s x id b verb)
+  block_decides x id b blocks.Generate is named = generate_decides x id (operand b A) (operand b B) (operand b D) (operand b E) named
+  block_decides x id b blocks.Advance is named = advance_decides (for_one s x) id (operand b A) (operand b B) named
+  block_decides x id b blocks.Terminate is named = terminate_decides (for_one s x) id (operand b A) named
+  block_decides x id b blocks.Queue is named = queue_decides (for_one s x) id (operand b A) (operand b B) named
+  block_decides x id b blocks.Depart is named = depart_decides (for_one s x) x id (operand b A) (operand b B) named
+  block_decides x id b blocks.Seize is named = seize_decides (for_one s x) id (operand b A) named
+  block_decides x id b blocks.Release is named = release_decides (for_one s x) x id (operand b A) is named
+  block_decides x id b blocks.Enter is named = enter_decides (for_one s x) id (operand b A) (operand b B) named
+  block_decides x id b blocks.Leave is named = leave_decides (for_one s x) id (operand b A) (operand b B) named
+  block_decides x id b blocks.Transfer is named = transfer_decides id (operand b A) (operand b B) (operand b C) named
+  block_decides x id b blocks.Mark is named = keeps_gives (named, tt, tt)
+  block_decides x id b blocks.Priority is named = priority_decides (for_one s x) id (operand b A) named
+  block_decides x id b blocks.Buffer is named = keeps_gives (named, tt, tt)
+  block_decides x id b blocks.Assign is named = assign_decides (for_one s x) id b.sign (operand b A) (operand b B) named
+  block_decides x id b blocks.Loop is named = loop_decides (for_one s x) id (operand b A) (operand b B) named
+  block_decides x id b verb is named = keeps_ends
 
   -- attempts: an id that is no block ends the run
-  try_block : (x : Transaction) (id : ℕ) (block : Option Block) → block_at t id ≡ block →
+  try_block : (x : Transaction) (id : ℕ) (block : Option Block) → s.active ≡ Some x → block_at t id ≡ block →
       Decides t seed s (IsDecided t s) (asks (items.Block id) (meet_prog s x id))
-  try_block x id None is =
+  try_block x id None active is =
       record { from = λ streams. record { runs = λ d there. absurd (let ends = ap (λ o. result_of t seed (meet_prog s x id o streams)) is in cc) } }
-  try_block x id (Some block) is =
+  try_block x id (Some block) active is =
       let there : IsBlockId t id = inr (block, is) in
       keeps_asks (items.Block id) refl (λ numbered named. there)
-      (subst (λ o. Decides t seed s (IsDecided t s) (meet_prog s x id o)) (sym is) (block_decides x id block block.verb there))
+      (subst (λ o. Decides t seed s (IsDecided t s) (meet_prog s x id o)) (sym is) (block_decides x id block block.verb active there))
 
-  try_decides : (x : Transaction) (id : Option ℕ) → Decides t seed s (IsDecided t s) (try_prog s x id)
-  try_decides x None = keeps_ends
-  try_decides x (Some id) = try_block x id (block_at t id) refl
+  try_decides : (x : Transaction) (id : Option ℕ) → s.active ≡ Some x → Decides t seed s (IsDecided t s) (try_prog s x id)
+  try_decides x None is = keeps_ends
+  try_decides x (Some id) is = try_block x id (block_at t id) is refl
 
   attempt_decides : (x : Transaction) (destination : Option ℕ) → s.active ≡ Some x → Decides t seed s (IsDecided t s) (attempt_prog s x destination)
   attempt_decides x None is =
       keeps_asks (items.After x.current) refl
-      (λ numbered named. (let here : TransactionNames t x = subst (λ o. ActiveNames t o) is named in here.current)) (try_decides x _)
-  attempt_decides x (Some id) is = try_decides x (Some id)
+      (λ numbered named. (let here : TransactionNames t x = subst (λ o. ActiveNames t o) is named in here.current)) (try_decides x _ is)
+  attempt_decides x (Some id) is = try_decides x (Some id) is
 
   -- the clock
   within_decides : (time : ℕ) (within : Bool) → nat_le time t.horizon ≡ within → least_time s.future ≡ Some time →

@@ -23,7 +23,7 @@ use Rattle.gw_entities.specs.Records.{Line}
 use Rattle.gw_meaning.specs.Entities.{facility_at, line_at}
 use Rattle.gw_meaning.specs.Machine.{Machine, delay_at}
 use Rattle.gw_meaning.specs.Changes.{decided}
-use Rattle.gw_meaning.specs.Step.{is_too_many, first_number, least_time}
+use Rattle.gw_meaning.specs.Step.{is_too_many, first_number, is_owner, least_time}
 use Rattle.gw_frame.specs.BlockIds.{IsBlockId, ActiveNames, ItemNames}
 use Rattle.gw_names.specs.declared.key.Key.TheVariants as keys
 use Rattle.gw_meaning.specs.Listing.{capacity_at}
@@ -90,12 +90,16 @@ abbrev pub is_storage : Key → Bool
 is_storage (keys.Defined name) = true
 is_storage key = false
 
+-- the active transaction owns a facility
+abbrev pub ActiveOwns : Machine → Key → Type 0
+ActiveOwns s key = (x : Transaction) → s.active ≡ Some x → is_owner (facility_at s.entities key).owner x.number ≡ true
+
 -- what is known of a deed, a change, a fate and a move
 abbrev pub IsDecidedDeed : Listing → Machine → Key → Deed → Type 0
 IsDecidedDeed t s key (deeds.Queue units) = Fits (line_at s.entities key) units
 IsDecidedDeed t s key (deeds.Depart units at_once) = Leaves (line_at s.entities key) units at_once
 IsDecidedDeed t s key deeds.Seize = (is_storage key ≡ false) × (is_some (facility_at s.entities key).owner ≡ false)
-IsDecidedDeed t s key (deeds.Release next) = (is_storage key ≡ false) × (next ≡ first_number (delay_at s.delays key))
+IsDecidedDeed t s key (deeds.Release next) = (is_storage key ≡ false) × (next ≡ first_number (delay_at s.delays key)) × ActiveOwns s key
 IsDecidedDeed t s key (deeds.Enter units) = ComesIn t s key units
 IsDecidedDeed t s key (deeds.Leave units shares) = GoesOut t s key units shares
 

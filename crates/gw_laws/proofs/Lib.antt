@@ -11,7 +11,6 @@ pub mod ChainLaws
 pub mod DelayLaws
 pub mod StayLaws
 pub mod OwnerLaws
-pub mod Owning
 pub mod GivingLaws
 pub mod TurnLaws
 pub mod LossLaws
