@@ -1,6 +1,6 @@
 -- What a contract sees of `ByKey`: keys and values in order of first touch, and what there is room for. (Own: the
 -- order.)
-use Rattle.std.specs.Prelude.{◌≡◌, List, [], ◌∷◌, Option, Some, None, if◌then◌else◌}
+use Rattle.std.specs.Prelude.{◌≡◌, ℕ, List, [], ◌∷◌, Option, Some, None, if◌then◌else◌, slice_get}
 use Rattle.std.specs.List.{IsDistinct}
 use Rattle.std.specs.Map.{lookup, keys_of}
 use Rattle.gw_names.specs.declared.key.Key.{Key}
@@ -28,3 +28,9 @@ module _ {V : Type 0} where
   -- if it has no value, there is room for one
   abbrev pub HasRoom : Touched V → Key → Type 0
   HasRoom t key = value_of t.entries key ≡ None → t.ready ≡ Some key
+
+  -- where the value of a key lies, if it has one
+  abbrev pub IsPlace : List (Key × V) → Key → Option ℕ → Type 0
+  IsPlace entries key None = value_of entries key ≡ None
+  IsPlace entries key (Some i) =
+      (value : V) × (slice_get entries i ≡ Some (key, value)) × (value_of entries key ≡ Some value)

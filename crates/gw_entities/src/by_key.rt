@@ -1,6 +1,6 @@
-ghost use Rattle.std.specs.Prelude.{◌≡◌, [], length, drop, suc, None, slice_get, IsTrue, IsFalse, IfOk, OnOk, OnErr, ◌<◌, IfSome, IfNone, IsSome, Some};
+ghost use Rattle.std.specs.Prelude.{◌≡◌, [], length, drop, suc, None, slice_get, IsTrue, IsFalse, IfOk, OnOk, OnErr, ◌<◌, IfSome, IfNone, IsSome, Some, unwrap_or};
 ghost use Rattle.std.specs.Option.{option_map};
-ghost use Rattle.gw_entities.specs.Tables.{value_of, with_value, HasRoom, AreApart};
+ghost use Rattle.gw_entities.specs.Tables.{value_of, with_value, HasRoom, IsPlace, AreApart};
 
 use gw_names::Key;
 use indexmap::IndexMap;
@@ -60,6 +60,48 @@ impl<V: Copy> ByKey<V> {
         Some(*value)
     }
 
+    /// Where an entity lies, and its value: `fresh` where it has none.
+    #[inline(always)]
+    pub fn look(&self, key: &Key, fresh: V) -> (Option<usize>, V)
+        ensures place { IsPlace self.now.entries key.now result.0 }
+        ensures value { result.1 ≡ unwrap_or (value_of self.now.entries key.now) fresh }
+    {
+        let Some(index) = self.place(key) else {
+            return (None, fresh);
+        };
+        match self.map.get_index(index) {
+            Some((_, value)) => (Some(index), *value),
+            None => unreachable!(),
+        }
+    }
+
+    /// Makes room for an entity of which it is known where it lies, as [`ByKey::reserve`] does.
+    #[inline(always)]
+    pub fn reserve_at(&mut self, key: &Key, place: Option<usize>) -> Result<(), AllocError>
+        requires { IsPlace self.old.entries key.now place }
+        ensures ok { OnOk result (HasRoom self.new key.now) }
+        ensures entries { self.new.entries ≡ self.old.entries }
+    {
+        match place {
+            Some(_) => Ok(()),
+            None => self.reserve_behind(key),
+        }
+    }
+
+    // Makes room for an entity that has no value.
+    #[cold]
+    #[inline(never)]
+    fn reserve_behind(&mut self, key: &Key) -> Result<(), AllocError>
+        ensures ok { OnOk result (HasRoom self.new key.now) }
+        ensures unchanged { OnErr result (self.new ≡ self.old) }
+        ensures entries { self.new.entries ≡ self.old.entries }
+    {
+        let copy = key.clone()?;
+        self.map.reserve(1)?;
+        self.ready = Some(copy);
+        Ok(())
+    }
+
     /// Makes room for an entity: it needs no memory where the entity has a value, and never fails there. It changes no
     /// value. Room for another entity that has none is gone, unless it fails: then all is as it was.
     #[inline(always)]
@@ -72,10 +114,7 @@ impl<V: Copy> ByKey<V> {
         if self.place(key).is_some() {
             return Ok(());
         }
-        let copy = key.clone()?;
-        self.map.reserve(1)?;
-        self.ready = Some(copy);
-        Ok(())
+        self.reserve_behind(key)
     }
 
     // Where an entity lies, if it has a value: the first few are looked through.
@@ -130,15 +169,37 @@ impl<V: Copy> ByKey<V> {
         requires { HasRoom self.old key.now }
         ensures { self.new.entries ≡ with_value self.old.entries key.now value }
     {
-        match self.place(key) {
+        let (place, _) = self.look(key, value);
+        self.set_at(key, place, value);
+    }
+
+    /// Sets the value of an entity of which it is known where it lies, as [`ByKey::set`] does.
+    #[inline(always)]
+    pub fn set_at(&mut self, key: &Key, place: Option<usize>, value: V)
+        requires room { HasRoom self.old key.now }
+        requires place { IsPlace self.old.entries key.now place }
+        ensures { self.new.entries ≡ with_value self.old.entries key.now value }
+    {
+        match place {
             Some(index) => self.write(index, value),
-            None => match self.ready.take() {
-                Some(key) => match self.map.insert(key, value) {
-                    Ok(_) => (),
-                    Err(_) => unreachable!(),
-                },
-                None => unreachable!(),
+            None => self.set_behind(key, value),
+        }
+    }
+
+    // Sets the value of an entity that has none: behind the others.
+    #[cold]
+    #[inline(never)]
+    fn set_behind(&mut self, key: &Key, value: V)
+        requires room { HasRoom self.old key.now }
+        requires none { value_of self.old.entries key.now ≡ None }
+        ensures { self.new.entries ≡ with_value self.old.entries key.now value }
+    {
+        match self.ready.take() {
+            Some(key) => match self.map.insert(key, value) {
+                Ok(_) => (),
+                Err(_) => unreachable!(),
             },
+            None => unreachable!(),
         }
     }
 

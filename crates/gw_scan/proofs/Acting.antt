@@ -15,10 +15,11 @@ use Rattle.gw_meaning.specs.Evaluation.{Eval, asks, gives, ◌~>◌}
 use Rattle.gw_meaning.specs.Changes.{decided, moved}
 use Rattle.gw_meaning.specs.Step.{try_prog, attempt_prog, pick_prog, clock_prog, least_time}
 use Rattle.gw_scan.specs.declared.case.Halt.{Halt}
-use Rattle.gw_scan.specs.Noted.{Noted, Asks, Tries}
+use Rattle.gw_scan.specs.declared.case.Halt.TheVariants as halts
+use Rattle.gw_scan.specs.Noted.{Noted, Asks, Keeps, Tries}
 use Rattle.gw_scan.specs.Deciding.{Decides, generated}
-use Rattle.gw_scan.specs.Stepping.{Acts, Makes}
-use Rattle.gw_scan.proofs.Binding.{decides_asked, decides_then, decides_halt, decides_gives}
+use Rattle.gw_scan.specs.Stepping.{Acts, Goes, Makes}
+use Rattle.gw_scan.proofs.Binding.{decides_asked, decides_then, decides_halt, decides_gives, decides_comes}
 use Rattle.gw_scan.proofs.StepLaws.{IsIdle, decides_keeps, idle_undrawn}
 
 -- where none waits on the current chain, the clock moves on
@@ -69,3 +70,48 @@ module _ (t : Listing) (seed : ℕ) where
   acts_tried s x None id r before after xs ys zs tried h =
       acts_asked (items.After x.current) (try_prog s x) r before after xs ys zs tried.1
       (subst (λ (o : Option ℕ). Acts t seed (try_prog s x o) r before after ys zs) tried.0 h)
+
+  -- one evaluation behind another, of which a move is made
+  pub acts_then :
+      {A : Type 0} (p : Eval A) (k : A → Eval Move) (a : A) (r : Result (Unit {0}) Halt) (before after : Machine) (xs ys zs : Noted) →
+      Decides t seed p (Ok a) xs ys → Acts t seed (k a) r before after ys zs → Acts t seed (p ~> k) r before after xs zs
+  acts_then p k a (Ok u) before after xs ys zs first h = (h.0, decides_then t seed p k a (Ok h.0) xs ys zs first h.1, h.2)
+  acts_then p k a (Err halt) before after xs ys zs first h = (decides_then t seed p k a (Err halt) xs ys zs first h.0, h.1)
+
+  -- the exit by `?` behind the first evaluation
+  pub acts_exit :
+      {A : Type 0} (p : Eval A) (k : A → Eval Move) (q : Eval Move) (r : Result (Unit {0}) Halt) (e halt : Halt) (s : Machine) (xs ys : Noted) →
+      q ≡ (p ~> k) → r ≡ Err e → e ≡ halt → Decides t seed p (Err halt) xs ys → Acts t seed q r s s xs ys
+  acts_exit {A} p k q r e halt s xs ys whole is same h =
+      let exit : r ≡ Err halt = is ∙ ap (λ f. Err f) same in
+      let F : Result (Unit {0}) Halt → Type 0 = λ m. Acts t seed q m s s xs ys in
+      let G : Eval Move → Type 0 = λ m. Decides t seed m (Err halt) xs ys in
+      subst F (sym exit) (subst G (sym whole) (decides_halt t seed p k halt xs ys h), refl)
+
+  -- where memory is refused, nothing changes
+  pub acts_memory :
+      (q : Eval Move) (r : Result (Unit {0}) Halt) (e : Halt) (s : Machine) (xs ys : Noted) → r ≡ Err e → e ≡ halts.Memory →
+      Keeps xs ys → Acts t seed q r s s xs ys
+  acts_memory q r e s xs ys is same h =
+      let exit : r ≡ Err halts.Memory = is ∙ ap (λ f. Err f) same in
+      let F : Result (Unit {0}) Halt → Type 0 = λ m. Acts t seed q m s s xs ys in
+      subst F (sym exit) (h, refl)
+
+  -- a move that neither asked nor drew, made with the streams that were noted before
+  pub acts_went :
+      (p : Eval Move) (before middle after : Machine) (xs : Noted) → Goes p (Ok tt) before middle →
+      after ≡ record middle { streams = xs.streams } → Acts t seed p (Ok tt) before after xs xs
+  acts_went p before middle after xs h drawn =
+      (h.0, decides_comes t seed p (Ok h.0) xs h.1, drawn ∙ ap (λ (m : Machine). record m { streams = xs.streams }) h.2)
+
+  -- or none was made
+  pub acts_stays :
+      (p : Eval Move) (r : Result (Unit {0}) Halt) (e halt : Halt) (before after : Machine) (xs : Noted) →
+      r ≡ Err e → e ≡ halt → Goes p (Err halt) before after → Acts t seed p r before after xs xs
+  acts_stays p r e halt before after xs is same h =
+      let exit : r ≡ Err halt = is ∙ ap (λ f. Err f) same in
+      let F : Result (Unit {0}) Halt → Type 0 = λ m. Acts t seed p m before after xs xs in
+      subst F (sym exit) (stays halt h) where
+        stays : (halt : Halt) → Goes p (Err halt) before after → Acts t seed p (Err halt) before after xs xs
+        stays (halts.End end) h = (decides_comes t seed p (Err (halts.End end)) xs h.0, h.1)
+        stays halts.Memory h = (decides_comes t seed p (Err halts.Memory) xs tt, h)

@@ -7,8 +7,8 @@ use Rattle.gw_streams.specs.declared.stream.Stream.{Stream}
 use Rattle.gw_meaning.specs.declared.moves.Move.{Move}
 use Rattle.gw_meaning.specs.Listing.{Listing}
 use Rattle.gw_meaning.specs.Machine.{Machine, raised}
-use Rattle.gw_meaning.specs.Changes.{decided}
-use Rattle.gw_meaning.specs.Evaluation.{Eval}
+use Rattle.gw_meaning.specs.Changes.{decided, moved}
+use Rattle.gw_meaning.specs.Evaluation.{Eval, gives, ends_with}
 use Rattle.gw_scan.specs.Deciding.{Decides}
 use Rattle.gw_scan.specs.declared.case.Halt.{Halt}
 use Rattle.gw_scan.specs.declared.case.Halt.TheVariants as halts
@@ -44,6 +44,13 @@ abbrev pub Acts : Listing → ℕ → Eval Move → Result (Unit {0}) Halt → M
 Acts t seed p (Ok u) before after old new =
     (m : Move) × Decides t seed p (Ok m) old new × (after ≡ decided before m new.streams)
 Acts t seed p (Err halt) before after old new = Decides t seed p (Err halt) old new × (after ≡ before)
+
+-- the move to which an evaluation that neither asks nor draws comes is made; where it comes to none, or memory is
+-- refused, nothing changes
+abbrev pub Goes : Eval Move → Result (Unit {0}) Halt → Machine → Machine → Type 0
+Goes p (Ok u) before after = (m : Move) × (p ≡ gives m) × (after ≡ moved before m)
+Goes p (Err (halts.End end)) before after = (p ≡ ends_with end) × (after ≡ before)
+Goes p (Err halts.Memory) before after = after ≡ before
 
 -- no step was made: the run ends here, or memory was refused
 abbrev pub Halts : {E : Type 0} → Halt → Result Turn E → Type 0

@@ -127,6 +127,12 @@ impl State {
                 let fate = self.terminate_of(case, &self.for_one(x), notes, block);
                 self.enter_for(id, fate, notes)
             }
+            BlockVerb::Queue => self.act_queue(case, notes, id, block),
+            BlockVerb::Depart => self.act_depart(case, notes, id, block),
+            BlockVerb::Seize => self.act_seize(case, notes, id, block),
+            BlockVerb::Release => self.act_release(case, notes, id, block),
+            BlockVerb::Enter => self.act_enter(case, notes, id, block),
+            BlockVerb::Leave => self.act_leave(case, notes, id, block),
             _ => self.act_any(case, notes, id, block),
         }
     }

@@ -44,7 +44,7 @@ impl State {
 
     // The streams behind the draws that were noted become the state's.
     #[inline(always)]
-    fn take_draws(&mut self, notes: &Notes)
+    pub(crate) fn take_draws(&mut self, notes: &Notes)
         ensures { self.new ≡ record self.old { streams = notes.now.streams } }
     {
         self.streams = notes.streams;
@@ -301,7 +301,7 @@ impl State {
     }
 
     #[inline(never)]
-    fn refuse(&mut self, id: StatementId, key: Key, units: u32) -> Result<(), AllocError>
+    pub(crate) fn refuse(&mut self, id: StatementId, key: Key, units: u32) -> Result<(), AllocError>
         ensures ok { OnOk result (self.new ≡ moved self.old (moves.Refuse id key units)) }
         ensures err { OnErr result (self.new ≡ self.old) }
     {

@@ -1,8 +1,8 @@
 // The entities of a run, and what a change makes of one.
 ghost use Rattle.std.specs.Prelude.{◌≡◌, ◌<◌, Some, IfOk, OnOk};
 ghost use Rattle.gw_meaning.specs.declared.entity_change.Deed.TheVariants as deeds;
-ghost use Rattle.gw_entities.specs.Tables.{HasRoom};
-ghost use Rattle.gw_meaning.specs.Entities.{no_entities, facility_at, line_at, store_at, all_entered, done, later};
+ghost use Rattle.gw_entities.specs.Tables.{with_value, HasRoom, IsPlace};
+ghost use Rattle.gw_meaning.specs.Entities.{no_entities, facility_at, line_at, store_at, all_entered, given_back, done, later};
 ghost use Rattle.gw_entities.specs.Comings.{came};
 ghost use Rattle.gw_scan.specs.Parts.{entities_of, HasRoomFor};
 
@@ -17,9 +17,9 @@ use std::marker::Model;
 #[derive(Drop)]
 pub struct Entities {
     facilities: ByKey<Facility>,
-    queues: ByKey<Queue>,
+    pub(crate) queues: ByKey<Queue>,
     storages: ByKey<Storage>,
-    comings: Comings,
+    pub(crate) comings: Comings,
     // The key under which the next coming is noted, copied before anything changes.
     ready: Option<Key>,
 }
@@ -104,6 +104,78 @@ impl Entities {
             Some(storage) => storage,
             None => Storage::new(),
         }
+    }
+
+    // Where a facility lies, and the facility.
+    #[inline(always)]
+    pub(crate) fn look_for_facility(&self, key: &Key) -> (Option<usize>, Facility)
+        ensures place { IsPlace self.now.facilities.entries key.now result.0 }
+        ensures value { result.1 ≡ facility_at (entities_of self.now) key.now }
+    {
+        self.facilities.look(key, Facility::new())
+    }
+
+    // Makes room for a facility of which it is known where it lies.
+    #[inline(always)]
+    pub(crate) fn reserve_facility(
+        &mut self,
+        key: &Key,
+        place: Option<usize>,
+    ) -> Result<(), AllocError>
+        requires { IsPlace self.old.facilities.entries key.now place }
+        ensures ok { OnOk result (HasRoom self.new.facilities key.now) }
+        ensures same { self.new.facilities.entries ≡ self.old.facilities.entries }
+        ensures entities { entities_of self.new ≡ entities_of self.old }
+    {
+        self.facilities.reserve_at(key, place)
+    }
+
+    // Sets a facility of which it is known where it lies.
+    #[inline(always)]
+    pub(crate) fn set_facility(&mut self, key: &Key, place: Option<usize>, facility: Facility)
+        requires room { HasRoom self.old.facilities key.now }
+        requires place { IsPlace self.old.facilities.entries key.now place }
+        ensures { entities_of self.new ≡ record (entities_of self.old) {
+          facilities = with_value self.old.facilities.entries key.now facility;
+        } }
+    {
+        self.facilities.set_at(key, place, facility);
+    }
+
+    // Where a storage lies, and the storage.
+    #[inline(always)]
+    pub(crate) fn look_for_storage(&self, key: &Key) -> (Option<usize>, Storage)
+        ensures place { IsPlace self.now.storages.entries key.now result.0 }
+        ensures value { result.1 ≡ store_at (entities_of self.now) key.now }
+    {
+        self.storages.look(key, Storage::new())
+    }
+
+    // Makes room for a storage of which it is known where it lies.
+    #[inline(always)]
+    pub(crate) fn reserve_storage(
+        &mut self,
+        key: &Key,
+        place: Option<usize>,
+    ) -> Result<(), AllocError>
+        requires { IsPlace self.old.storages.entries key.now place }
+        ensures ok { OnOk result (HasRoom self.new.storages key.now) }
+        ensures same { self.new.storages.entries ≡ self.old.storages.entries }
+        ensures entities { entities_of self.new ≡ entities_of self.old }
+    {
+        self.storages.reserve_at(key, place)
+    }
+
+    // Sets a storage of which it is known where it lies.
+    #[inline(always)]
+    pub(crate) fn set_storage(&mut self, key: &Key, place: Option<usize>, storage: Storage)
+        requires room { HasRoom self.old.storages key.now }
+        requires place { IsPlace self.old.storages.entries key.now place }
+        ensures { entities_of self.new ≡ record (entities_of self.old) {
+          storages = with_value self.old.storages.entries key.now storage;
+        } }
+    {
+        self.storages.set_at(key, place, storage);
     }
 
     // Whether a transaction came to a queue since the clock stands as it does.
@@ -194,10 +266,7 @@ impl Entities {
         ensures { entities_of self.new ≡ done key.now (deeds.Release next) clock 0 (entities_of self.old) }
     {
         let mut facility = self.facility(key);
-        facility.release(clock);
-        if let Some(number) = next {
-            facility.seize(number, clock);
-        }
+        give_back(&mut facility, next, clock);
         self.facilities.set(key, facility);
     }
 
@@ -252,8 +321,19 @@ impl Entities {
     }
 }
 
+// Its owner gives a facility back, and the next transaction takes it, where there is one.
+#[inline(always)]
+pub fn give_back(facility: &mut Facility, next: Option<u64>, clock: Clock)
+    ensures { facility.new ≡ given_back next clock facility.old }
+{
+    facility.release(clock);
+    if let Some(number) = next {
+        facility.seize(number, clock);
+    }
+}
+
 // The units of each share come into use, one by one.
-fn enter_all(storage: &mut Storage, shares: &[Option<u64>], clock: Clock)
+pub fn enter_all(storage: &mut Storage, shares: &[Option<u64>], clock: Clock)
     ensures { storage.new ≡ all_entered shares.now clock storage.old }
 {
     for share in shares {

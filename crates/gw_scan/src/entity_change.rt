@@ -43,7 +43,8 @@ pub fn reserve_change(
 }
 
 // Makes room for the first that waits for a facility to be let in.
-fn reserve_first(
+#[inline(always)]
+pub fn reserve_first(
     delays: &DelayChains,
     current: &mut PriorityChain,
     counts: &mut Counts,
@@ -64,7 +65,7 @@ fn reserve_first(
 }
 
 // Makes room for those who wait for a storage and have a share to be let in.
-fn reserve_some(
+pub fn reserve_some(
     delays: &DelayChains,
     current: &mut PriorityChain,
     counts: &mut Counts,
@@ -157,7 +158,8 @@ pub fn change_entity(
 }
 
 // The first that waits for a facility, where there is one, is let in.
-fn let_first_in(
+#[inline(always)]
+pub fn let_first_in(
     delays: &mut DelayChains,
     current: &mut PriorityChain,
     counts: &mut Counts,

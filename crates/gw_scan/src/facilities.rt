@@ -86,7 +86,7 @@ impl State {
 }
 
 // Whether the transaction with a number owns it.
-fn is_owner(owner: Option<u64>, number: u64) -> bool
+pub fn is_owner(owner: Option<u64>, number: u64) -> bool
     ensures { result ≡ is_owner owner number }
 {
     match owner {
@@ -95,7 +95,7 @@ fn is_owner(owner: Option<u64>, number: u64) -> bool
     }
 }
 
-fn number_of(x: Option<&Transaction>) -> Option<u64>
+pub fn number_of(x: Option<&Transaction>) -> Option<u64>
     ensures { result ≡ option_map (λ (x : Transaction). x.number) (option_copied x.entry) }
 {
     match x {

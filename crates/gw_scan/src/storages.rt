@@ -182,7 +182,7 @@ impl State {
     }
 
     // For each that waits for a storage, with so many units in use, the units with which it is let in.
-    fn shares(
+    pub(crate) fn shares(
         &self,
         case: Case,
         notes: &mut Notes,
@@ -201,7 +201,7 @@ impl State {
 }
 
 // So many units beside those in use.
-fn beside(units: u64, content: u64) -> u64
+pub fn beside(units: u64, content: u64) -> u64
     ensures { result ≡ beside units content }
 {
     units.saturating_add(content)
@@ -295,7 +295,7 @@ fn leave_for(
 }
 
 // The units of those who are let in.
-fn all_shares(shares: &[Option<u64>]) -> u64
+pub fn all_shares(shares: &[Option<u64>]) -> u64
     ensures { result ≡ capped (all_shares shares.now) }
 {
     let mut sum: u64 = 0;

@@ -30,13 +30,13 @@ impl Asked<'_> {
         ensures { result ≡ same_item (asked_item self.entry) item.now }
     {
         match (self, item) {
-            (Asked::Label(name), Item::Label(other)) => name == other,
-            (Asked::Name(name), Item::Name(other)) => name == other,
-            (Asked::Fits(name, units), Item::Fits(other, amount)) => name == other
+            (Asked::Label(name), Item::Label(other)) => *name == *other,
+            (Asked::Name(name), Item::Name(other)) => *name == *other,
+            (Asked::Fits(name, units), Item::Fits(other, amount)) => *name == *other
                 && units == *amount,
-            (Asked::Storage(name), Item::Storage(other)) => name == other,
-            (Asked::Variable(name), Item::Variable(other)) => name == other,
-            (Asked::Function(name), Item::Function(other)) => name == other,
+            (Asked::Storage(name), Item::Storage(other)) => *name == *other,
+            (Asked::Variable(name), Item::Variable(other)) => *name == *other,
+            (Asked::Function(name), Item::Function(other)) => *name == *other,
             _ => false,
         }
     }

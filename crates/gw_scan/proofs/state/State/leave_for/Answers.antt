@@ -1,0 +1,36 @@
+use Rattle.std.proofs.Common.{◌≡◌, Some, ap, ◌∙◌, rules}
+use Rattle.gw_meaning.specs.declared.entity_change.Deed.TheVariants as deeds
+use Rattle.gw_meaning.specs.declared.moves.Change.TheVariants as changes
+use Rattle.gw_meaning.specs.declared.moves.Fate.TheVariants as fates
+use Rattle.gw_meaning.specs.declared.moves.Move.TheVariants as moves
+use Rattle.gw_meaning.specs.Machine.{Machine}
+use Rattle.gw_meaning.specs.Changes.{admitted, placed, crossed}
+use Rattle.gw_meaning.specs.Entities.{done}
+use Rattle.gw_chains.specs.Chains.{delays_of}
+use Rattle.gw_scan.proofs.state.State.leave_for.Goals as goal
+
+pub returns : goal.returns
+returns c x is =
+    let s = c.args.self.now in
+    let key = c.args.key.now in
+    let deed = deeds.Leave c.args.units c.as_slice-shares.result.now in
+    let m = moves.Enter c.args.id (changes.Entity (key, deed)) fates.Active in
+    let entities = done key deed s.clock x.number s.entities in
+    let rest : Machine = record s { active = Some (placed x c.args.id); entities = entities } in
+    let base : Machine = record rest { counts = crossed fates.Active s.counts x.current c.args.id } in
+    let inside = c.self.inside in
+    let counts : c.enter_active.new.counts.entries ≡ base.counts = search (rules, is) in
+    let start : Machine = record rest {
+      delays = delays_of inside.delays.chains;
+      current = c.reserve_some.new.current.items;
+      counts = c.enter_active.new.counts.entries;
+    } in
+    let after : Machine = record rest {
+      delays = delays_of c.let_in_some.new.self.chains;
+      current = c.let_in_some.new.current.items;
+      counts = c.let_in_some.new.counts.entries;
+    } in
+    let let_in : after ≡ admitted key deed start = c.let_in_some.ensures rest in
+    let same : start ≡ base = search (rules, counts) in
+    let whole : after ≡ admitted key deed base = let_in ∙ ap (admitted key deed) same in
+    (m, search rules, rw is (search (rules, whole)))

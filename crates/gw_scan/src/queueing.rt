@@ -1,0 +1,161 @@
+// QUEUE and DEPART, made where they are decided: the queue is looked for once.
+ghost use Rattle.std.specs.Prelude.{◌≡◌, IsSome, Some, option_copied};
+ghost use Rattle.gw_entities.specs.Comings.{came};
+ghost use Rattle.gw_meaning.specs.declared.transaction.Transaction.{Transaction};
+ghost use Rattle.gw_meaning.specs.Entities.{line_at};
+ghost use Rattle.gw_meaning.specs.Evaluation.{units_prog, ◌~>◌};
+ghost use Rattle.gw_meaning.specs.Statements.{A, B, operand};
+ghost use Rattle.gw_meaning.specs.Step.{for_one, queue_units, queue_prog, depart_units, depart_prog};
+ghost use Rattle.gw_scan.specs.Stepping.{Acts, Goes};
+
+use crate::case::{Case, Halt};
+use crate::entering::enter_active;
+use crate::notes::Notes;
+use crate::queues::is_too_many;
+use crate::state::State;
+use gw_entities::Queue;
+use gw_expr::{Expr, Stop};
+use gw_meaning::operands::{A, B};
+use gw_meaning::{Block, End, StatementId};
+use gw_names::Key;
+
+impl State {
+    // Units come to a queue.
+    #[inline(never)]
+    pub(crate) fn act_queue(
+        &mut self,
+        case: Case,
+        notes: &mut Notes,
+        id: StatementId,
+        block: &Block,
+    ) -> Result<(), Halt>
+        requires { IsSome self.old.active }
+        ensures { (x : Transaction) → self.old.active ≡ Some x → Acts case.entry.version.now case.entry.seed
+            (queue_prog self.old (for_one self.old x) id (operand block.now A) (operand block.now B))
+            result self.old self.new notes.old notes.new }
+    {
+        let Some(x) = &self.active else {
+            unreachable!()
+        };
+        let key = self.entity(case, &self.for_one(x), notes, block.operand(A))?;
+        self.act_queue_at(case, notes, id, key, block.operand(B))
+    }
+
+    #[inline(always)]
+    fn act_queue_at(
+        &mut self,
+        case: Case,
+        notes: &mut Notes,
+        id: StatementId,
+        key: Key,
+        units: Option<&Expr>,
+    ) -> Result<(), Halt>
+        requires { IsSome self.old.active }
+        ensures { (x : Transaction) → self.old.active ≡ Some x → Acts case.entry.version.now case.entry.seed
+            (units_prog self.old (for_one self.old x) (option_copied units.entry) ~>
+            (λ n. queue_units id key (line_at self.old.entities key) n)) result self.old self.new notes.old notes.new }
+    {
+        let Some(x) = &self.active else {
+            unreachable!()
+        };
+        let units = self.units(case, &self.for_one(x), notes, units)?;
+        self.come(id, key, units)?;
+        self.take_draws(notes);
+        Ok(())
+    }
+
+    #[inline(always)]
+    fn come(&mut self, id: StatementId, key: Key, units: u32) -> Result<(), Halt>
+        requires { IsSome self.old.active }
+        ensures { (x : Transaction) → self.old.active ≡ Some x →
+            Goes (queue_units id key (line_at self.old.entities key) units) result self.old self.new }
+    {
+        let units = u64::from(units);
+        let (place, mut queue) = self.entities.queues.look(&key, Queue::new());
+        if is_too_many(queue.entries().saturating_add(units))
+            || is_too_many(queue.level().content().saturating_add(units))
+        {
+            return Err(Halt::End(End::Error(Stop::TooManyUnits)));
+        }
+        self.counts.reserve(id)?;
+        self.entities.queues.reserve_at(&key, place)?;
+        self.entities.comings.reserve()?;
+        let number = enter_active(&mut self.active, &mut self.counts, id);
+        queue.enter(units, self.clocks.clock());
+        self.entities.queues.set_at(&key, place, queue);
+        self.entities.comings.add(key, number);
+        Ok(())
+    }
+
+    // Units leave a queue.
+    #[inline(never)]
+    pub(crate) fn act_depart(
+        &mut self,
+        case: Case,
+        notes: &mut Notes,
+        id: StatementId,
+        block: &Block,
+    ) -> Result<(), Halt>
+        requires { IsSome self.old.active }
+        ensures { (x : Transaction) → self.old.active ≡ Some x → Acts case.entry.version.now case.entry.seed
+            (depart_prog self.old (for_one self.old x) x id (operand block.now A) (operand block.now B))
+            result self.old self.new notes.old notes.new }
+    {
+        let Some(x) = &self.active else {
+            unreachable!()
+        };
+        let key = self.entity(case, &self.for_one(x), notes, block.operand(A))?;
+        self.act_depart_at(case, notes, id, &key, block.operand(B))
+    }
+
+    #[inline(always)]
+    fn act_depart_at(
+        &mut self,
+        case: Case,
+        notes: &mut Notes,
+        id: StatementId,
+        key: &Key,
+        units: Option<&Expr>,
+    ) -> Result<(), Halt>
+        requires { IsSome self.old.active }
+        ensures { (x : Transaction) → self.old.active ≡ Some x → Acts case.entry.version.now case.entry.seed
+            (units_prog self.old (for_one self.old x) (option_copied units.entry) ~>
+            (λ n. depart_units id key.now (line_at self.old.entities key.now)
+            (came self.old.entities.comings key.now x.number) n)) result self.old self.new notes.old notes.new }
+    {
+        let Some(x) = &self.active else {
+            unreachable!()
+        };
+        let units = self.units(case, &self.for_one(x), notes, units)?;
+        self.go(id, key, units)?;
+        self.take_draws(notes);
+        Ok(())
+    }
+
+    #[inline(always)]
+    fn go(&mut self, id: StatementId, key: &Key, units: u32) -> Result<(), Halt>
+        requires { IsSome self.old.active }
+        ensures { (x : Transaction) → self.old.active ≡ Some x →
+            Goes (depart_units id key.now (line_at self.old.entities key.now)
+            (came self.old.entities.comings key.now x.number) units) result self.old self.new }
+    {
+        let Some(x) = &self.active else {
+            unreachable!()
+        };
+        let units = u64::from(units);
+        let at_once = self.entities.comings.has(key, x.number);
+        let (place, mut queue) = self.entities.queues.look(key, Queue::new());
+        if at_once && is_too_many(queue.zero_entries().saturating_add(units)) {
+            return Err(Halt::End(End::Error(Stop::TooManyUnits)));
+        }
+        if queue.level().content() < units {
+            return Err(Halt::End(End::Error(Stop::DepartTooMany)));
+        }
+        self.counts.reserve(id)?;
+        self.entities.queues.reserve_at(key, place)?;
+        enter_active(&mut self.active, &mut self.counts, id);
+        queue.depart(units, self.clocks.clock(), at_once);
+        self.entities.queues.set_at(key, place, queue);
+        Ok(())
+    }
+}

@@ -1,0 +1,112 @@
+// SEIZE and RELEASE, made where they are decided: the facility is looked for once.
+ghost use Rattle.std.specs.Prelude.{◌≡◌, IsSome, Some, is_some};
+ghost use Rattle.gw_meaning.specs.declared.transaction.Transaction.{Transaction};
+ghost use Rattle.gw_meaning.specs.Machine.{delay_at};
+ghost use Rattle.gw_meaning.specs.Entities.{facility_at};
+ghost use Rattle.gw_meaning.specs.Statements.{A, operand};
+ghost use Rattle.gw_meaning.specs.Step.{for_one, seize_or_wait, seize_prog, first_number, is_owner, release_to, release_prog};
+ghost use Rattle.gw_scan.specs.Stepping.{Acts, Goes};
+
+use crate::case::{Case, Halt};
+use crate::entering::enter_active;
+use crate::entities::give_back;
+use crate::entity_change::{let_first_in, reserve_first};
+use crate::facilities::{is_owner, number_of};
+use crate::notes::Notes;
+use crate::state::State;
+use gw_expr::Stop;
+use gw_meaning::operands::A;
+use gw_meaning::{Block, End, StatementId};
+use gw_names::Key;
+
+impl State {
+    // A facility is taken, or waited for where it is owned.
+    #[inline(never)]
+    pub(crate) fn act_seize(
+        &mut self,
+        case: Case,
+        notes: &mut Notes,
+        id: StatementId,
+        block: &Block,
+    ) -> Result<(), Halt>
+        requires { IsSome self.old.active }
+        ensures { (x : Transaction) → self.old.active ≡ Some x → Acts case.entry.version.now case.entry.seed
+            (seize_prog self.old (for_one self.old x) id (operand block.now A))
+            result self.old self.new notes.old notes.new }
+    {
+        let Some(x) = &self.active else {
+            unreachable!()
+        };
+        let key = self.entity(case, &self.for_one(x), notes, block.operand(A))?;
+        self.seize(id, key)?;
+        self.take_draws(notes);
+        Ok(())
+    }
+
+    #[inline(always)]
+    fn seize(&mut self, id: StatementId, key: Key) -> Result<(), Halt>
+        requires { IsSome self.old.active }
+        ensures { (x : Transaction) → self.old.active ≡ Some x →
+            Goes (seize_or_wait id key (is_some (facility_at self.old.entities key).owner)) result self.old self.new }
+    {
+        let (place, mut facility) = self.entities.look_for_facility(&key);
+        if facility.is_owned() {
+            self.refuse(id, key, 1)?;
+            return Ok(());
+        }
+        self.counts.reserve(id)?;
+        self.entities.reserve_facility(&key, place)?;
+        let number = enter_active(&mut self.active, &mut self.counts, id);
+        facility.seize(number, self.clocks.clock());
+        self.entities.set_facility(&key, place, facility);
+        Ok(())
+    }
+
+    // Its owner gives a facility back, to the first that waits for it.
+    #[inline(never)]
+    pub(crate) fn act_release(
+        &mut self,
+        case: Case,
+        notes: &mut Notes,
+        id: StatementId,
+        block: &Block,
+    ) -> Result<(), Halt>
+        requires { IsSome self.old.active }
+        ensures { (x : Transaction) → self.old.active ≡ Some x → Acts case.entry.version.now case.entry.seed
+            (release_prog self.old (for_one self.old x) x id (operand block.now A))
+            result self.old self.new notes.old notes.new }
+    {
+        let Some(x) = &self.active else {
+            unreachable!()
+        };
+        let key = self.entity(case, &self.for_one(x), notes, block.operand(A))?;
+        self.give_back(id, &key)?;
+        self.take_draws(notes);
+        Ok(())
+    }
+
+    #[inline(always)]
+    fn give_back(&mut self, id: StatementId, key: &Key) -> Result<(), Halt>
+        requires { IsSome self.old.active }
+        ensures { (x : Transaction) → self.old.active ≡ Some x →
+            Goes (release_to id key.now (is_owner (facility_at self.old.entities key.now).owner x.number)
+            (first_number (delay_at self.old.delays key.now))) result self.old self.new }
+    {
+        let Some(x) = &self.active else {
+            unreachable!()
+        };
+        let (place, mut facility) = self.entities.look_for_facility(key);
+        if !is_owner(facility.owner(), x.number) {
+            return Err(Halt::End(End::Error(Stop::NotOwner)));
+        }
+        let next = number_of(self.delays.first(key));
+        self.counts.reserve(id)?;
+        self.entities.reserve_facility(key, place)?;
+        reserve_first(&self.delays, &mut self.current, &mut self.counts, key)?;
+        enter_active(&mut self.active, &mut self.counts, id);
+        give_back(&mut facility, next, self.clocks.clock());
+        self.entities.set_facility(key, place, facility);
+        let_first_in(&mut self.delays, &mut self.current, &mut self.counts, key);
+        Ok(())
+    }
+}

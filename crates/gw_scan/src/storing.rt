@@ -1,0 +1,270 @@
+// ENTER and LEAVE, made where they are decided: the storage is looked for once.
+ghost use Rattle.std.specs.Prelude.{◌≡◌, IsSome, Some, option_copied};
+ghost use Rattle.gw_expr.specs.Term.{Defined};
+ghost use Rattle.gw_names.specs.declared.key.Key.TheVariants as keys;
+ghost use Rattle.gw_entities.specs.Tables.{IsPlace};
+ghost use Rattle.gw_meaning.specs.declared.item.Item.TheVariants as items;
+ghost use Rattle.gw_meaning.specs.declared.transaction.Transaction.{Transaction};
+ghost use Rattle.gw_meaning.specs.Entities.{store_at};
+ghost use Rattle.gw_meaning.specs.Evaluation.{asks};
+ghost use Rattle.gw_meaning.specs.Statements.{A, B, operand};
+ghost use Rattle.gw_meaning.specs.Step.{for_one, enter_or_wait, enter_storage, enter_prog, leave_for, leave_units, leave_prog};
+ghost use Rattle.gw_scan.specs.Stepping.{Acts, Goes};
+
+use crate::case::{Case, Halt, ask_fits};
+use crate::entering::enter_active;
+use crate::entities::enter_all;
+use crate::entity_change::reserve_some;
+use crate::notes::Notes;
+use crate::queues::is_too_many;
+use crate::state::State;
+use crate::storages::{all_shares, beside};
+use gw_entities::Storage;
+use gw_expr::{Expr, Node, Stop};
+use gw_meaning::operands::{A, B};
+use gw_meaning::{Block, End, Row, StatementId};
+use gw_names::{Key, Name};
+
+impl State {
+    // Units of a storage come into use, or are waited for where they do not fit.
+    #[inline(never)]
+    pub(crate) fn act_enter(
+        &mut self,
+        case: Case,
+        notes: &mut Notes,
+        id: StatementId,
+        block: &Block,
+    ) -> Result<(), Halt>
+        requires { IsSome self.old.active }
+        ensures { (x : Transaction) → self.old.active ≡ Some x → Acts case.entry.version.now case.entry.seed
+            (enter_prog self.old (for_one self.old x) id (operand block.now A) (operand block.now B))
+            result self.old self.new notes.old notes.new }
+    {
+        let Some(expr) = block.operand(A) else {
+            return Err(Halt::End(End::Error(Stop::Range)));
+        };
+        match expr.node() {
+            Node::Defined(name) => {
+                self.act_enter_defined(case, notes, id, name, block.operand(B))
+            }
+            _ => Err(Halt::End(End::Error(Stop::Range))),
+        }
+    }
+
+    // The same, of the storage with this name.
+    #[inline(always)]
+    fn act_enter_defined(
+        &mut self,
+        case: Case,
+        notes: &mut Notes,
+        id: StatementId,
+        name: &Name,
+        units: Option<&Expr>,
+    ) -> Result<(), Halt>
+        requires { IsSome self.old.active }
+        ensures { (x : Transaction) → self.old.active ≡ Some x → Acts case.entry.version.now case.entry.seed
+            (enter_prog self.old (for_one self.old x) id (Some (Defined name.now)) (option_copied units.entry))
+            result self.old self.new notes.old notes.new }
+    {
+        let Some(x) = &self.active else {
+            unreachable!()
+        };
+        let units = self.units(case, &self.for_one(x), notes, units)?;
+        self.act_enter_units(case, notes, id, name, units)
+    }
+
+    // So many units, which the storage is asked for as a whole first.
+    #[inline(always)]
+    fn act_enter_units(
+        &mut self,
+        case: Case,
+        notes: &mut Notes,
+        id: StatementId,
+        name: &Name,
+        units: u32,
+    ) -> Result<(), Halt>
+        requires { IsSome self.old.active }
+        ensures { (x : Transaction) → self.old.active ≡ Some x →
+            Acts case.entry.version.now case.entry.seed (asks (items.Fits name.now units)
+            (enter_storage id name.now (store_at self.old.entities (keys.Defined name.now)) units))
+            result self.old self.new notes.old notes.new }
+    {
+        let large = ask_fits(case.version, notes, name, u64::from(units))?;
+        self.act_enter_storage(case, notes, id, name, units, large)
+    }
+
+    // So many units of a storage that has as many, or is too small for them.
+    #[inline(always)]
+    fn act_enter_storage(
+        &mut self,
+        case: Case,
+        notes: &mut Notes,
+        id: StatementId,
+        name: &Name,
+        units: u32,
+        large: bool,
+    ) -> Result<(), Halt>
+        requires { IsSome self.old.active }
+        ensures { (x : Transaction) → self.old.active ≡ Some x → Acts case.entry.version.now case.entry.seed
+            (enter_storage id name.now (store_at self.old.entities (keys.Defined name.now)) units large)
+            result self.old self.new notes.old notes.new }
+    {
+        if !large {
+            return Err(Halt::End(End::Error(Stop::TooManyUnits)));
+        }
+        let key = Key::Defined(name.clone()?);
+        let (place, storage) = self.entities.look_for_storage(&key);
+        let wanted = beside(u64::from(units), storage.level().content());
+        let fits = ask_fits(case.version, notes, name, wanted)?;
+        self.enter_or_wait(id, key, place, storage, units, fits)?;
+        self.take_draws(notes);
+        Ok(())
+    }
+
+    // Units that fit come into use, whoever waits; else the transaction waits.
+    #[inline(always)]
+    fn enter_or_wait(
+        &mut self,
+        id: StatementId,
+        key: Key,
+        place: Option<usize>,
+        mut storage: Storage,
+        units: u32,
+        fits: bool,
+    ) -> Result<(), Halt>
+        requires active { IsSome self.old.active }
+        requires place { IsPlace self.old.entities.storages key place }
+        requires storage { storage ≡ store_at self.old.entities key }
+        ensures { (x : Transaction) → self.old.active ≡ Some x →
+            Goes (enter_or_wait id key storage units fits) result self.old self.new }
+    {
+        if !fits {
+            self.refuse(id, key, units)?;
+            return Ok(());
+        }
+        let units = u64::from(units);
+        if is_too_many(storage.entries().saturating_add(units)) {
+            return Err(Halt::End(End::Error(Stop::TooManyUnits)));
+        }
+        self.counts.reserve(id)?;
+        self.entities.reserve_storage(&key, place)?;
+        enter_active(&mut self.active, &mut self.counts, id);
+        storage.enter(units, self.clocks.clock());
+        self.entities.set_storage(&key, place, storage);
+        Ok(())
+    }
+
+    // Units of a storage are given back, and those of its delay chain whose units fit are let in.
+    #[inline(never)]
+    pub(crate) fn act_leave(
+        &mut self,
+        case: Case,
+        notes: &mut Notes,
+        id: StatementId,
+        block: &Block,
+    ) -> Result<(), Halt>
+        requires { IsSome self.old.active }
+        ensures { (x : Transaction) → self.old.active ≡ Some x → Acts case.entry.version.now case.entry.seed
+            (leave_prog self.old (for_one self.old x) id (operand block.now A) (operand block.now B))
+            result self.old self.new notes.old notes.new }
+    {
+        let Some(expr) = block.operand(A) else {
+            return Err(Halt::End(End::Error(Stop::Range)));
+        };
+        match expr.node() {
+            Node::Defined(name) => {
+                self.act_leave_defined(case, notes, id, name, block.operand(B))
+            }
+            _ => Err(Halt::End(End::Error(Stop::Range))),
+        }
+    }
+
+    // The same, of the storage with this name.
+    #[inline(always)]
+    fn act_leave_defined(
+        &mut self,
+        case: Case,
+        notes: &mut Notes,
+        id: StatementId,
+        name: &Name,
+        units: Option<&Expr>,
+    ) -> Result<(), Halt>
+        requires { IsSome self.old.active }
+        ensures { (x : Transaction) → self.old.active ≡ Some x → Acts case.entry.version.now case.entry.seed
+            (leave_prog self.old (for_one self.old x) id (Some (Defined name.now)) (option_copied units.entry))
+            result self.old self.new notes.old notes.new }
+    {
+        let Some(x) = &self.active else {
+            unreachable!()
+        };
+        let units = self.units(case, &self.for_one(x), notes, units)?;
+        self.act_leave_units(case, notes, id, name, units)
+    }
+
+    // No more units are given back than are in use.
+    #[inline(always)]
+    fn act_leave_units(
+        &mut self,
+        case: Case,
+        notes: &mut Notes,
+        id: StatementId,
+        name: &Name,
+        units: u32,
+    ) -> Result<(), Halt>
+        requires { IsSome self.old.active }
+        ensures { (x : Transaction) → self.old.active ≡ Some x → Acts case.entry.version.now case.entry.seed
+            (leave_units self.old id name.now (store_at self.old.entities (keys.Defined name.now)) units)
+            result self.old self.new notes.old notes.new }
+    {
+        let key = Key::Defined(name.clone()?);
+        let (place, storage) = self.entities.look_for_storage(&key);
+        let units = u64::from(units);
+        let content = storage.level().content();
+        if content < units {
+            return Err(Halt::End(End::Error(Stop::LeaveTooMany)));
+        }
+        let shares = self.shares(case, notes, name, &key, content - units)?;
+        self.leave_for(id, &key, place, storage, units, &shares)?;
+        self.take_draws(notes);
+        Ok(())
+    }
+
+    // Units are given back, and those who have a share come in.
+    #[inline(always)]
+    fn leave_for(
+        &mut self,
+        id: StatementId,
+        key: &Key,
+        place: Option<usize>,
+        mut storage: Storage,
+        units: u64,
+        shares: &Row<Option<u64>>,
+    ) -> Result<(), Halt>
+        requires active { IsSome self.old.active }
+        requires place { IsPlace self.old.entities.storages key.now place }
+        requires storage { storage ≡ store_at self.old.entities key.now }
+        ensures { (x : Transaction) → self.old.active ≡ Some x →
+            Goes (leave_for id key.now storage units shares.now) result self.old self.new }
+    {
+        let shares = shares.as_slice();
+        if is_too_many(storage.entries().saturating_add(all_shares(shares))) {
+            return Err(Halt::End(End::Error(Stop::TooManyUnits)));
+        }
+        self.counts.reserve(id)?;
+        self.entities.reserve_storage(key, place)?;
+        reserve_some(
+            &self.delays,
+            &mut self.current,
+            &mut self.counts,
+            key,
+            shares,
+        )?;
+        enter_active(&mut self.active, &mut self.counts, id);
+        storage.leave(units, self.clocks.clock());
+        enter_all(&mut storage, shares, self.clocks.clock());
+        self.entities.set_storage(key, place, storage);
+        self.delays
+            .let_in_some(key, shares, &mut self.current, &mut self.counts);
+        Ok(())
+    }
+}
