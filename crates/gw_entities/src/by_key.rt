@@ -75,7 +75,7 @@ impl<V: Copy> ByKey<V> {
         }
     }
 
-    /// Makes room for an entity of which it is known where it lies, as [`ByKey::reserve`] does.
+    /// Makes room for an entity of which it is known where it lies. It changes no value.
     #[inline(always)]
     pub fn reserve_at(&mut self, key: &Key, place: Option<usize>) -> Result<(), AllocError>
         requires { IsPlace self.old.entries key.now place }

@@ -52,8 +52,8 @@ pub fn parameters_are_of_the_living()
     ensures { ParametersAreOfTheLiving }
 {}
 
-/// A transaction's parameters, priority and mark time change only in steps in which it is active: those of every other
-/// one are the same before a step and behind it. A step sets one parameter at most.
+/// Only the active transaction's parameters, priority and mark time change in a step, and at most one of its
+/// parameters.
 pub fn each_keeps_his_own()
     ensures parameters { ParametersAreOnesOwn }
     ensures one { OneParameterIsSet }

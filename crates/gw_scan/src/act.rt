@@ -2,7 +2,8 @@
 //
 // A move is made where it is decided, and no more is handed back than whether it was, or why not. Of the blocks that
 // most attempts meet only what differs from one to the other is decided: which transaction comes next, or what becomes
-// of the active one. So it stays in registers. `State::decide` takes the same decisions and makes none.
+// of the active one. So it stays in registers. A block that names a queue, a facility or a storage is decided and made
+// in one function, and any other goes over a `Move`. `State::decide` takes the same decisions and makes none.
 ghost use Rattle.std.specs.Prelude.{◌≡◌, Some, IsSome};
 ghost use Rattle.gw_meaning.specs.declared.transaction.Transaction.{Transaction};
 ghost use Rattle.gw_meaning.specs.Step.{move_prog, pick_prog, attempt_prog, try_prog, meet_prog};
@@ -97,7 +98,7 @@ impl State {
         }
     }
 
-    // The active transaction meets a block. Most are one of these three.
+    // The active transaction meets a block. Most are a GENERATE, an ADVANCE or a TERMINATE.
     #[inline(always)]
     fn act_at(
         &mut self,
@@ -137,7 +138,7 @@ impl State {
         }
     }
 
-    // The same, at a block of any verb.
+    // The same, at a block of any other verb.
     #[inline(never)]
     fn act_any(
         &mut self,

@@ -255,7 +255,7 @@ impl State {
         Ok(())
     }
 
-    // A block that changes an entity is entered.
+    // A block that changes an entity is entered. The verbs of today have functions that decide and make this at once.
     #[inline(never)]
     fn enter_touching(
         &mut self,

@@ -146,8 +146,7 @@ impl State {
         }
     }
 
-    // The same, at a block of any verb. Its arms of GENERATE, ADVANCE and TERMINATE serve `end_at` alone: a step has
-    // those in `act_at`.
+    // The same, at a block of any verb. Its first nine arms serve `end_at` alone: a step has those in `act_at`.
     #[inline(always)]
     pub(crate) fn meet_any(
         &self,

@@ -1,4 +1,4 @@
-// The active transaction enters a block and stays active, as at each block that names an entity.
+// The active transaction enters a block and stays active, as at a QUEUE, DEPART, SEIZE, RELEASE, ENTER or LEAVE.
 ghost use Rattle.std.specs.Prelude.{◌≡◌, ◌<◌, Some, IsSome};
 ghost use Rattle.gw_meaning.specs.declared.moves.Fate.TheVariants as fates;
 ghost use Rattle.gw_meaning.specs.declared.transaction.Transaction.{Transaction};

@@ -1,5 +1,5 @@
-// The change of an entity: what it makes of the entity, and whom it lets in. Both lie apart from the step's own path,
-// since most steps change none.
+// The change of an entity: what it makes of the entity, and whom it lets in. `reserve_change` and `change_entity` serve
+// a block that goes over a `Move`; the other functions also serve those that are decided and made at once.
 ghost use Rattle.std.specs.Prelude.{◌≡◌, ◌+◌, ◌-◌, ◌<◌, ◌≤◌, [], ◌∷◌, Some, length, IfOk, OnOk};
 ghost use Rattle.gw_meaning.specs.Machine.{Machine, delay_at};
 ghost use Rattle.gw_meaning.specs.Changes.{some_let_in, admitted};

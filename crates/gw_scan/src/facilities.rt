@@ -1,4 +1,4 @@
-// SEIZE and RELEASE: ask and test, and change nothing.
+// SEIZE and RELEASE: ask and test, and change nothing, for `end_at`. What steps take is in seizing.rt.
 ghost use Rattle.std.specs.Prelude.{◌≡◌, is_some, option_copied};
 ghost use Rattle.std.specs.Option.{option_map};
 ghost use Rattle.gw_meaning.specs.declared.transaction.Transaction.{Transaction};

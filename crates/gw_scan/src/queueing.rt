@@ -1,4 +1,4 @@
-// QUEUE and DEPART, made where they are decided: the queue is looked for once.
+// QUEUE and DEPART, made where they are decided: the queue is looked up once.
 ghost use Rattle.std.specs.Prelude.{◌≡◌, IsSome, Some, option_copied};
 ghost use Rattle.gw_entities.specs.Comings.{came};
 ghost use Rattle.gw_meaning.specs.declared.transaction.Transaction.{Transaction};
@@ -41,6 +41,7 @@ impl State {
         self.act_queue_at(case, notes, id, key, block.operand(B))
     }
 
+    // The same, to a queue that is known.
     #[inline(always)]
     fn act_queue_at(
         &mut self,
@@ -64,6 +65,7 @@ impl State {
         Ok(())
     }
 
+    // So many units come, unless a count would be too great.
     #[inline(always)]
     fn come(&mut self, id: StatementId, key: Key, units: u32) -> Result<(), Halt>
         requires { IsSome self.old.active }
@@ -108,6 +110,7 @@ impl State {
         self.act_depart_at(case, notes, id, &key, block.operand(B))
     }
 
+    // The same, from a queue that is known.
     #[inline(always)]
     fn act_depart_at(
         &mut self,
@@ -132,6 +135,7 @@ impl State {
         Ok(())
     }
 
+    // So many units leave, unless fewer are there or a count would be too great.
     #[inline(always)]
     fn go(&mut self, id: StatementId, key: &Key, units: u32) -> Result<(), Halt>
         requires { IsSome self.old.active }

@@ -1,4 +1,4 @@
-// QUEUE and DEPART: ask and test, and change nothing.
+// QUEUE and DEPART: ask and test, and change nothing, for `end_at`. What steps take is in queueing.rt.
 ghost use Rattle.std.specs.Prelude.{◌≡◌, option_copied};
 ghost use Rattle.gw_entities.specs.Comings.{came};
 ghost use Rattle.gw_meaning.specs.Entities.{line_at};

@@ -1,4 +1,4 @@
-// SEIZE and RELEASE, made where they are decided: the facility is looked for once.
+// SEIZE and RELEASE, made where they are decided: the facility is looked up once.
 ghost use Rattle.std.specs.Prelude.{◌≡◌, IsSome, Some, is_some};
 ghost use Rattle.gw_meaning.specs.declared.transaction.Transaction.{Transaction};
 ghost use Rattle.gw_meaning.specs.Machine.{delay_at};
@@ -43,6 +43,7 @@ impl State {
         Ok(())
     }
 
+    // The same, of a facility that is known.
     #[inline(always)]
     fn seize(&mut self, id: StatementId, key: Key) -> Result<(), Halt>
         requires { IsSome self.old.active }
@@ -85,6 +86,7 @@ impl State {
         Ok(())
     }
 
+    // The same, of a facility that is known.
     #[inline(always)]
     fn give_back(&mut self, id: StatementId, key: &Key) -> Result<(), Halt>
         requires { IsSome self.old.active }

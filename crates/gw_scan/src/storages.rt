@@ -1,4 +1,4 @@
-// ENTER and LEAVE: ask and test, and change nothing.
+// ENTER and LEAVE: ask and test, and change nothing, for `end_at`. What steps take is in storing.rt.
 ghost use Rattle.std.specs.Prelude.{◌≡◌, [], Some, option_copied};
 ghost use Rattle.gw_expr.specs.Term.{Defined};
 ghost use Rattle.gw_names.specs.declared.key.Key.TheVariants as keys;

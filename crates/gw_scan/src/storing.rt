@@ -1,4 +1,4 @@
-// ENTER and LEAVE, made where they are decided: the storage is looked for once.
+// ENTER and LEAVE, made where they are decided: the storage is looked up once.
 ghost use Rattle.std.specs.Prelude.{◌≡◌, IsSome, Some, option_copied};
 ghost use Rattle.gw_expr.specs.Term.{Defined};
 ghost use Rattle.gw_names.specs.declared.key.Key.TheVariants as keys;
@@ -73,7 +73,7 @@ impl State {
         self.act_enter_units(case, notes, id, name, units)
     }
 
-    // So many units, which the storage is asked for as a whole first.
+    // So many units: it is asked first whether the empty storage holds them.
     #[inline(always)]
     fn act_enter_units(
         &mut self,
