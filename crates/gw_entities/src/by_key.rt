@@ -75,11 +75,13 @@ impl<V: Copy> ByKey<V> {
         }
     }
 
-    /// Makes room for an entity of which it is known where it lies. It changes no value.
+    /// Makes room for an entity of which it is known where it lies, as [`ByKey::reserve`] does.
     #[inline(always)]
     pub fn reserve_at(&mut self, key: &Key, place: Option<usize>) -> Result<(), AllocError>
         requires { IsPlace self.old.entries key.now place }
         ensures ok { OnOk result (HasRoom self.new key.now) }
+        ensures err { OnErr result (value_of self.old.entries key.now ≡ None) }
+        ensures unchanged { OnErr result (self.new ≡ self.old) }
         ensures entries { self.new.entries ≡ self.old.entries }
     {
         match place {

@@ -1,9 +1,10 @@
--- Nobody but its owner gives a facility back, and nobody but the active transaction takes a free one.
+-- Nobody but its owner gives a facility back, the first that waits has it then, and nobody but the active transaction
+-- takes a free one.
 use Rattle.std.proofs.Common.{◌≡◌, ℕ, suc, ◌⊎◌, true, false, ◌++◌, Option, Some, None, is_some, Ok, refl, sym, subst, ap, ◌∙◌, inl, inr}
 use Rattle.std.proofs.lemmas.Bool.{cases_Bool, eqb-true}
 use Rattle.gw_names.specs.declared.key.Key.{Key}
 use Rattle.gw_names.specs.Keys.{key_eq}
-use Rattle.gw_entities.specs.Records.{seized}
+use Rattle.gw_entities.specs.Records.{Ownership, seized}
 use Rattle.gw_entities.proofs.ComingLaws.{key_same}
 use Rattle.gw_meaning.specs.declared.transaction.Transaction.{Transaction}
 use Rattle.gw_meaning.specs.declared.entity_change.Deed.{Deed}
@@ -14,11 +15,11 @@ use Rattle.gw_meaning.specs.declared.moves.Move.{Move}
 use Rattle.gw_meaning.specs.declared.moves.Move.TheVariants as moves
 use Rattle.gw_meaning.specs.Listing.{Listing}
 use Rattle.gw_meaning.specs.Entities.{Entities, facility_at, given_back, done, touched}
-use Rattle.gw_meaning.specs.Machine.{Machine}
+use Rattle.gw_meaning.specs.Machine.{Machine, delay_at}
 use Rattle.gw_meaning.specs.Changes.{refused, moved}
-use Rattle.gw_meaning.specs.Step.{is_owner, run}
+use Rattle.gw_meaning.specs.Step.{is_owner, first_number, run}
 use Rattle.gw_meaning.proofs.Programs.{run_on}
-use Rattle.gw_laws.specs.Owners.{OnlyTheOwnerGivesBack, OnlyTheActiveTakes}
+use Rattle.gw_laws.specs.Owners.{OnlyTheOwnerGivesBack, TheFirstIsGivenIt, OnlyTheActiveTakes}
 use Rattle.gw_frame.proofs.Decided.{step_decides}
 use Rattle.gw_frame.proofs.Known.{IsDecidedDeed, IsDecidedChange, IsDecided}
 use Rattle.gw_frame.proofs.Moves.{settled_is, with_active_has, entered_has, picked_has}
@@ -34,16 +35,24 @@ his_own : (o : Option ℕ) (number : ℕ) → is_owner o number ≡ true → o �
 his_own None number owns = absurd cc
 his_own (Some owner) number owns = ap (λ k. Some k) (eqb-true owner number owns)
 
+-- who owns a facility that was given back
+given_to : (next : Option ℕ) (clock : ℕ) (f : Ownership) → (given_back next clock f).owner ≡ next
+given_to None clock f = refl
+given_to (Some number) clock f = refl
+
 module _ (q : Key) where
   abbrev owner : Entities → Option ℕ
   owner e = (facility_at e q).owner
 
-  -- the owner stays, or the active transaction gave the facility back, or took it while it was free
-  abbrev PassesFrom : Transaction → Entities → Entities → Type 0
-  PassesFrom x before after = (owner before ≡ Some x.number) ⊎ ((owner before ≡ None) × (owner after ≡ Some x.number))
+  -- the owner stays, or the active transaction gave the facility back to the first that waits, or took it while it was
+  -- free
+  abbrev PassesFrom : Machine → Transaction → Entities → Type 0
+  PassesFrom s x after =
+      ((owner s.entities ≡ Some x.number) × (owner after ≡ first_number (delay_at s.delays q)))
+      ⊎ ((owner s.entities ≡ None) × (owner after ≡ Some x.number))
 
   abbrev Passes : Machine → Entities → Type 0
-  Passes s e = (owner e ≡ owner s.entities) ⊎ ((x : Transaction) × (s.active ≡ Some x) × PassesFrom x s.entities e)
+  Passes s e = (owner e ≡ owner s.entities) ⊎ ((x : Transaction) × (s.active ≡ Some x) × PassesFrom s x e)
 
   done_passes : (t : Listing) (s : Machine) (x : Transaction) (key : Key) (deed : Deed) → s.active ≡ Some x → IsDecidedDeed t s key deed →
       Passes s (done key deed s.clock x.number s.entities)
@@ -60,7 +69,10 @@ module _ (q : Key) where
       elim (cases_Bool (key_eq q key)) [
         | inl here ↦
             let his = his_own (facility_at s.entities key).owner x.number (decided.2 x active) in
-            inr (x, active, inl (ap (λ k. (facility_at s.entities k).owner) (key_same q key here) ∙ his))
+            let same = key_same q key here in
+            let first = decided.1 ∙ sym (ap (λ k. first_number (delay_at s.delays k)) same) in
+            let given = owner_here s.entities key q f here ∙ (given_to next s.clock (facility_at s.entities key) ∙ first) in
+            inr (x, active, inl (ap (λ k. (facility_at s.entities k).owner) same ∙ his, given))
         | inr other ↦ inl (owner_there s.entities key q f other)
       ]
   done_passes t s x key deed active decided = inl refl
@@ -95,7 +107,17 @@ only_the_owner_gives_back t seed n s v there is key number owned =
     elim (step_passes key t seed n s v there is) [
       | inl same ↦ inl (same ∙ owned)
       | inr passed ↦ elim passed.2 [
-        | inl his ↦ inr (passed.0, passed.1, (let both : Some passed.0.number ≡ Some number = sym his ∙ owned in cc))
+        | inl his ↦ inr (passed.0, passed.1, (let both : Some passed.0.number ≡ Some number = sym his.0 ∙ owned in cc))
+        | inr took ↦ absurd (let no : None ≡ Some number = sym took.0 ∙ owned in cc)
+      ]
+    ]
+
+pub the_first_is_given_it : TheFirstIsGivenIt
+the_first_is_given_it t seed n s v there is key number owned =
+    elim (step_passes key t seed n s v there is) [
+      | inl same ↦ inl (same ∙ owned)
+      | inr passed ↦ elim passed.2 [
+        | inl his ↦ inr his.1
         | inr took ↦ absurd (let no : None ≡ Some number = sym took.0 ∙ owned in cc)
       ]
     ]
@@ -105,7 +127,7 @@ only_the_active_takes t seed n s v there is key number free taken =
     elim (step_passes key t seed n s v there is) [
       | inl same ↦ absurd (let no : None ≡ Some number = sym free ∙ (sym same ∙ taken) in cc)
       | inr passed ↦ elim passed.2 [
-        | inl his ↦ absurd (let no : None ≡ Some passed.0.number = sym free ∙ his in cc)
+        | inl his ↦ absurd (let no : None ≡ Some passed.0.number = sym free ∙ his.0 in cc)
         | inr took ↦ (passed.0, passed.1, (let both : Some passed.0.number ≡ Some number = sym took.1 ∙ taken in cc))
       ]
     ]

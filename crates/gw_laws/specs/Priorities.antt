@@ -1,5 +1,5 @@
--- The priority and the mark time of transactions over every run from zero. (Manual: PRIORITY, MARK and GENERATE set
--- those of the transaction that enters them.)
+-- The priority and the mark time of transactions over every run from zero. (Manual: PRIORITY and MARK set those of the
+-- transaction that enters them, GENERATE its mark time; a priority it has from the moment at which it is made.)
 use Rattle.std.specs.Prelude.{◌≡◌, ℕ, suc, ◌≤◌, ◌⊎◌, Ok, Contains}
 use Rattle.gw_meaning.specs.declared.transaction.Transaction.{Transaction}
 use Rattle.gw_meaning.specs.Listing.{Listing}

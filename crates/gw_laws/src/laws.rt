@@ -6,7 +6,7 @@ ghost use Rattle.gw_laws.specs.Delays.{DelaysAreInOrder, DelaysAreFirstInFirstOu
 ghost use Rattle.gw_laws.specs.Delays.{WhoWaitsIsBound, WhoLeavesIsLetIn, FirstTakesOver, NobodyWaitsAtAFreeFacility};
 ghost use Rattle.gw_laws.specs.Facilities.{FacilitiesAreUsed};
 ghost use Rattle.gw_laws.specs.Numbering.{NumbersAreApart, NumbersAreGiven, NumbersAreGivenOnce, OnlyTheActiveGoes};
-ghost use Rattle.gw_laws.specs.Owners.{OnlyTheOwnerGivesBack, OnlyTheActiveTakes};
+ghost use Rattle.gw_laws.specs.Owners.{OnlyTheOwnerGivesBack, TheFirstIsGivenIt, OnlyTheActiveTakes};
 ghost use Rattle.gw_laws.specs.Parameters.{ParametersAreOfTheLiving, ParametersAreOnesOwn, OneParameterIsSet};
 ghost use Rattle.gw_laws.specs.Places.{EachHasAPlace, EachHasOnePlace};
 ghost use Rattle.gw_laws.specs.Priorities.{PrioritiesAreOnesOwn};
@@ -85,9 +85,11 @@ pub fn facilities_are_used()
     ensures { FacilitiesAreUsed }
 {}
 
-/// Nobody but its owner gives a facility back, and nobody but the active transaction takes one that is free.
+/// Nobody but its owner gives a facility back. It goes to the first that waits for it, and is free where nobody does.
+/// Nobody but the active transaction takes one that was free before the step.
 pub fn facilities_have_owners()
     ensures gives { OnlyTheOwnerGivesBack }
+    ensures given { TheFirstIsGivenIt }
     ensures takes { OnlyTheActiveTakes }
 {}
 
@@ -98,8 +100,8 @@ pub fn queues_are_within()
 
 /// A storage is called by a name. No more units are in use, or ever were, than the version gives the storage of this
 /// name. What is in use lies between its least and its greatest. No count of its entries is above 1,000,000,000, and it
-/// did not change later than now. Nobody waits at a storage that has room for what he asks,
-/// the units with which he was refused.
+/// did not change later than now. Nobody waits at a storage that has room for what he asks, the units with which he was
+/// refused.
 pub fn storages_are_within()
     ensures within { StoragesAreWithin }
     ensures room { NobodyWaitsAtRoom }
