@@ -1,5 +1,3 @@
-ghost use Rattle.std.specs.Prelude.{◌≡◌};
-
 use crate::row::Row;
 use gw_names::Key;
 use std::marker::Model;
@@ -38,8 +36,8 @@ pub enum Deed {
 /// An entity, and what a block makes of it.
 #[derive(Debug, Drop)]
 pub struct EntityChange {
-    key: Key,
-    deed: Deed,
+    pub key: Key,
+    pub deed: Deed,
 }
 
 impl Model for EntityChange {
@@ -49,27 +47,4 @@ impl Model for EntityChange {
     ghost Value = { Key × Deed };
 
     ghost view = { λ c. (c.key, c.deed) };
-}
-
-impl EntityChange {
-    /// This deed at this entity.
-    pub fn new(key: Key, deed: Deed) -> EntityChange
-        ensures { result ≡ (key, deed) }
-    {
-        EntityChange { key, deed }
-    }
-
-    /// The entity.
-    pub fn key(&self) -> &Key
-        ensures { result.now ≡ self.now.0 }
-    {
-        &self.key
-    }
-
-    /// What is made of it.
-    pub fn deed(&self) -> &Deed
-        ensures { result.now ≡ self.now.1 }
-    {
-        &self.deed
-    }
 }

@@ -17,7 +17,7 @@ use Rattle.gw_meaning.specs.Step.{try_prog, attempt_prog, pick_prog, clock_prog,
 use Rattle.gw_scan.specs.declared.case.Halt.{Halt}
 use Rattle.gw_scan.specs.declared.case.Halt.TheVariants as halts
 use Rattle.gw_scan.specs.Noted.{Noted, Asks, Keeps, Tries}
-use Rattle.gw_scan.specs.Deciding.{Decides, generated}
+use Rattle.gw_scan.specs.Deciding.{Decides, generated, starting}
 use Rattle.gw_scan.specs.Stepping.{Acts, Goes, Makes}
 use Rattle.gw_scan.proofs.Binding.{decides_asked, decides_then, decides_halt, decides_gives, decides_comes}
 use Rattle.gw_scan.proofs.StepLaws.{IsIdle, decides_keeps, idle_undrawn}
@@ -36,6 +36,15 @@ module _ (t : Listing) (seed : ℕ) where
       let m = moves.Enter id (changes.Generate next) fates.Active in
       decides_then t seed p _ next (Ok m) old new new h (decides_gives t seed m new)
   decides_generated p id (Err halt) old new h = decides_halt t seed p _ halt old new h
+
+  -- a START is made with the first transactions that were decided
+  pub decides_starting : (p : Eval (List Arrival)) (count : ℕ) (r : Result (List Arrival) Halt) (old new : Noted) →
+      Decides t seed p r old new →
+      Decides t seed (p ~> (λ first. gives (moves.Start count first))) (starting count r) old new
+  decides_starting p count (Ok first) old new h =
+      let m = moves.Start count first in
+      decides_then t seed p _ first (Ok m) old new new h (decides_gives t seed m new)
+  decides_starting p count (Err halt) old new h = decides_halt t seed p _ halt old new h
 
   -- a move that was decided is made
   pub acts_made : (p : Eval Move) (d : Result Move Halt) (r : Result (Unit {0}) Halt) (before after : Machine) (old new : Noted) →

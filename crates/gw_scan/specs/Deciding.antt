@@ -1,7 +1,8 @@
 -- What a function that asks came to, against the evaluation that it stands for.
-use Rattle.std.specs.Prelude.{◌≡◌, ℕ, Option, Result, Ok, Err}
+use Rattle.std.specs.Prelude.{◌≡◌, ℕ, List, Option, Some, None, Result, Ok, Err}
 use Rattle.gw_meaning.specs.declared.moves.Change.TheVariants as changes
 use Rattle.gw_meaning.specs.declared.moves.Arrival.{Arrival}
+use Rattle.gw_meaning.specs.declared.transaction_change.TransactionChange.{TransactionChange}
 use Rattle.gw_meaning.specs.declared.moves.Fate.{Fate}
 use Rattle.gw_meaning.specs.declared.moves.Fate.TheVariants as fates
 use Rattle.gw_meaning.specs.declared.moves.Move.{Move}
@@ -37,6 +38,17 @@ entered id (Err halt) = Err halt
 abbrev pub generated : ℕ → Result (Option Arrival) Halt → Result Move Halt
 generated id (Ok next) = Ok (moves.Enter id (changes.Generate next) fates.Active)
 generated id (Err halt) = Err halt
+
+-- a block that changes its transaction alone is entered, where a change was decided, if any
+abbrev pub changing : ℕ → Result (Option TransactionChange) Halt → Result Move Halt
+changing id (Ok (Some change)) = Ok (moves.Enter id (changes.Transaction change) fates.Active)
+changing id (Ok None) = Ok (moves.Enter id changes.Nothing fates.Active)
+changing id (Err halt) = Err halt
+
+-- a START is made, where its first transactions were decided
+abbrev pub starting : ℕ → Result (List Arrival) Halt → Result Move Halt
+starting count (Ok arrivals) = Ok (moves.Start count arrivals)
+starting count (Err halt) = Err halt
 
 -- the clock moves on, where it was decided to which time
 abbrev pub clocked : Result ℕ Halt → Result Move Halt

@@ -1,13 +1,10 @@
-// The entities of a run, and what a change makes of one.
-ghost use Rattle.std.specs.Prelude.{◌≡◌, ◌<◌, Some, IfOk, OnOk};
-ghost use Rattle.gw_meaning.specs.declared.entity_change.Deed.TheVariants as deeds;
+// The entities of a run.
+ghost use Rattle.std.specs.Prelude.{◌≡◌, IfOk, OnOk};
 ghost use Rattle.gw_entities.specs.Tables.{with_value, HasRoom, IsPlace};
-ghost use Rattle.gw_meaning.specs.Entities.{no_entities, facility_at, line_at, store_at, all_entered, given_back, done, later};
-ghost use Rattle.gw_entities.specs.Comings.{came};
-ghost use Rattle.gw_scan.specs.Parts.{entities_of, HasRoomFor};
+ghost use Rattle.gw_meaning.specs.Entities.{no_entities, facility_at, line_at, store_at, all_entered, given_back, later};
+ghost use Rattle.gw_scan.specs.Parts.{entities_of};
 
 use gw_entities::{ByKey, Comings, Facility, Queue, Storage};
-use gw_meaning::{Deed, EntityChange};
 use gw_names::Key;
 use gw_nums::Clock;
 use std::alloc::{AllocError, Global};
@@ -20,8 +17,6 @@ pub struct Entities {
     pub(crate) queues: ByKey<Queue>,
     storages: ByKey<Storage>,
     pub(crate) comings: Comings,
-    // The key under which the next coming is noted, copied before anything changes.
-    ready: Option<Key>,
 }
 
 impl Model for Entities {
@@ -34,7 +29,6 @@ impl Model for Entities {
       queues = e.queues;
       storages = e.storages;
       comings = e.comings;
-      ready = e.ready;
     } };
 }
 
@@ -48,7 +42,6 @@ impl Entities {
             queues: ByKey::new(alloc),
             storages: ByKey::new(alloc),
             comings: Comings::new(alloc),
-            ready: None,
         }
     }
 
@@ -178,119 +171,6 @@ impl Entities {
         self.storages.set_at(key, place, storage);
     }
 
-    // Whether a transaction came to a queue since the clock stands as it does.
-    pub(crate) fn came(&self, key: &Key, number: u64) -> bool
-        ensures { result ≡ came (entities_of self.now).comings key.now number }
-    {
-        self.comings.has(key, number)
-    }
-
-    // Makes room for what a change adds.
-    pub(crate) fn reserve(&mut self, change: &EntityChange) -> Result<(), AllocError>
-        ensures ok { OnOk result (HasRoomFor self.new change.now.0 change.now.1) }
-        ensures entities { entities_of self.new ≡ entities_of self.old }
-    {
-        let key = change.key();
-        match change.deed() {
-            Deed::Queue { .. } => self.reserve_coming(key),
-            Deed::Depart { .. } => self.queues.reserve(key),
-            Deed::Seize | Deed::Release { .. } => self.facilities.reserve(key),
-            Deed::Enter { .. } | Deed::Leave { .. } => self.storages.reserve(key),
-        }
-    }
-
-    fn reserve_coming(&mut self, key: &Key) -> Result<(), AllocError>
-        ensures ok { OnOk result
-            (HasRoom self.new.queues key.now × (0 < self.new.comings.room) × (self.new.ready ≡ Some key.now)) }
-        ensures entities { entities_of self.new ≡ entities_of self.old }
-    {
-        self.queues.reserve(key)?;
-        self.comings.reserve()?;
-        self.ready = Some(key.clone()?);
-        Ok(())
-    }
-
-    // What a change makes of them, where the transaction with a number enters the block.
-    pub(crate) fn change(&mut self, change: &EntityChange, clock: Clock, number: u64)
-        requires { HasRoomFor self.old change.now.0 change.now.1 }
-        ensures { entities_of self.new ≡ done change.now.0 change.now.1 clock number (entities_of self.old) }
-    {
-        let key = change.key();
-        match change.deed() {
-            Deed::Queue { units } => self.come(key, *units, clock, number),
-            Deed::Depart { units, at_once } => self.go(key, *units, clock, *at_once),
-            Deed::Seize => self.seize(key, clock, number),
-            Deed::Release { next } => self.release(key, clock, *next),
-            Deed::Enter { units } => self.enter(key, *units, clock),
-            Deed::Leave { units, shares } => self.leave(key, *units, shares.as_slice(), clock),
-        }
-    }
-
-    // Units of a transaction come to a queue.
-    fn come(&mut self, key: &Key, units: u64, clock: Clock, number: u64)
-        requires { HasRoom self.old.queues key.now × (0 < self.old.comings.room) × (self.old.ready ≡ Some key.now) }
-        ensures { entities_of self.new ≡ done key.now (deeds.Queue units) clock number (entities_of self.old) }
-    {
-        let mut queue = self.queue(key);
-        queue.enter(units, clock);
-        self.queues.set(key, queue);
-        match self.ready.take() {
-            Some(key) => self.comings.add(key, number),
-            None => unreachable!(),
-        }
-    }
-
-    // Units leave a queue.
-    fn go(&mut self, key: &Key, units: u64, clock: Clock, at_once: bool)
-        requires { HasRoom self.old.queues key.now }
-        ensures { entities_of self.new ≡ done key.now (deeds.Depart units at_once) clock 0 (entities_of self.old) }
-    {
-        let mut queue = self.queue(key);
-        queue.depart(units, clock, at_once);
-        self.queues.set(key, queue);
-    }
-
-    // A transaction takes a facility.
-    fn seize(&mut self, key: &Key, clock: Clock, number: u64)
-        requires { HasRoom self.old.facilities key.now }
-        ensures { entities_of self.new ≡ done key.now deeds.Seize clock number (entities_of self.old) }
-    {
-        let mut facility = self.facility(key);
-        facility.seize(number, clock);
-        self.facilities.set(key, facility);
-    }
-
-    // Its owner gives a facility back, and the next transaction takes it, where there is one.
-    fn release(&mut self, key: &Key, clock: Clock, next: Option<u64>)
-        requires { HasRoom self.old.facilities key.now }
-        ensures { entities_of self.new ≡ done key.now (deeds.Release next) clock 0 (entities_of self.old) }
-    {
-        let mut facility = self.facility(key);
-        give_back(&mut facility, next, clock);
-        self.facilities.set(key, facility);
-    }
-
-    // Units of a storage come into use.
-    fn enter(&mut self, key: &Key, units: u64, clock: Clock)
-        requires { HasRoom self.old.storages key.now }
-        ensures { entities_of self.new ≡ done key.now (deeds.Enter units) clock 0 (entities_of self.old) }
-    {
-        let mut storage = self.storage(key);
-        storage.enter(units, clock);
-        self.storages.set(key, storage);
-    }
-
-    // Units of a storage are given back, and those who have a share of them come in.
-    fn leave(&mut self, key: &Key, units: u64, shares: &[Option<u64>], clock: Clock)
-        requires { HasRoom self.old.storages key.now }
-        ensures { entities_of self.new ≡ done key.now (deeds.Leave units shares.now) clock 0 (entities_of self.old) }
-    {
-        let mut storage = self.storage(key);
-        storage.leave(units, clock);
-        enter_all(&mut storage, shares, clock);
-        self.storages.set(key, storage);
-    }
-
     // The clock goes on.
     pub(crate) fn go_on(&mut self, before: Clock, now: Clock)
         ensures { entities_of self.new ≡ later before now (entities_of self.old) }
@@ -316,7 +196,6 @@ impl Entities {
             queues,
             storages,
             comings,
-            ready: None,
         })
     }
 }

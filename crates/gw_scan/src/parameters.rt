@@ -1,10 +1,12 @@
-// ASSIGN and LOOP, and the value of a parameter: ask and test, and change nothing.
-ghost use Rattle.std.specs.Prelude.{◌≡◌, pos, option_copied};
+// ASSIGN and LOOP: what a block sets of a parameter; and the value of a parameter.
+ghost use Rattle.std.specs.Prelude.{◌≡◌, ℕ, Some, IsSome, pos, option_copied};
 ghost use Rattle.gw_entities.specs.Parameters.{parameter_at};
 ghost use Rattle.gw_meaning.specs.Statements.{A, B, operand};
 ghost use Rattle.gw_meaning.specs.Evaluation.{value_there, value_held, parameter_value, ◌~>◌};
-ghost use Rattle.gw_meaning.specs.Step.{by_sign, or_zero, assign_to, assign_with, assign_prog, left_of, loop_back, loop_to, loop_with, loop_prog};
-ghost use Rattle.gw_scan.specs.Deciding.{Decides, Comes};
+ghost use Rattle.gw_meaning.specs.Step.{for_one, by_sign, or_zero, assign_to, assign_with, assign_prog, left_of, loop_back, loop_to, loop_with, loop_prog};
+ghost use Rattle.gw_meaning.specs.declared.transaction.Transaction.{Transaction};
+ghost use Rattle.gw_scan.specs.Stepping.{Acts};
+ghost use Rattle.gw_scan.specs.Deciding.{Decides, Comes, changing};
 
 use crate::case::{Case, Halt, ask_label};
 use crate::expression::arithmetic;
@@ -12,82 +14,123 @@ use crate::notes::Notes;
 use crate::state::State;
 use gw_expr::{Expr, Node, Operator, Stop};
 use gw_meaning::operands::{A, B};
-use gw_meaning::{Asker, Block, Change, End, Fate, Move, Sign, StatementId, TransactionChange};
+use gw_meaning::{Asker, Block, End, Sign, StatementId, Transaction, TransactionChange};
 use gw_names::Key;
 use gw_nums::{ArithmeticFault, Val};
 
 impl State {
     // A parameter is set, or something is added to it or taken from it.
     #[inline(never)]
-    pub(crate) fn assign_of(
-        &self,
+    pub(crate) fn act_assign(
+        &mut self,
         case: Case,
-        asker: &Asker,
         notes: &mut Notes,
         id: StatementId,
         block: &Block,
-    ) -> Result<Move, Halt>
-        ensures { Decides case.entry.version.now case.entry.seed
-            (assign_prog self.now asker.now id block.now.sign (operand block.now A) (operand block.now B))
-            result notes.old notes.new }
+    ) -> Result<(), Halt>
+        requires { IsSome self.old.active }
+        ensures { (x : Transaction) → self.old.active ≡ Some x → Acts case.entry.version.now case.entry.seed
+            (assign_prog self.old (for_one self.old x) id block.now.sign (operand block.now A) (operand block.now B))
+            result self.old self.new notes.old notes.new }
     {
-        let parameter = self.entity(case, asker, notes, block.operand(A))?;
-        self.assign_at(case, asker, notes, id, block, parameter)
-    }
-
-    fn assign_at(
-        &self,
-        case: Case,
-        asker: &Asker,
-        notes: &mut Notes,
-        id: StatementId,
-        block: &Block,
-        key: Key,
-    ) -> Result<Move, Halt>
-        ensures { Decides case.entry.version.now case.entry.seed
-            (value_there self.now asker.now (operand block.now B) ~>
-            (λ v. assign_with id block.now.sign key (parameter_at self.now.parameters asker.now.number key) v))
-            result notes.old notes.new }
-    {
-        let value = self.value_there(case, asker, notes, block.operand(B))?;
-        let was = self.parameters.get(asker.number, &key);
-        assign_with(id, block.sign, key, was, value)
+        let Some(x) = &self.active else {
+            unreachable!()
+        };
+        let change = self.assign_of(case, x, notes, block);
+        self.enter_changing(id, change, notes)
     }
 
     // A parameter loses 1, and the transaction goes to a block while it is not 0.
     #[inline(never)]
-    pub(crate) fn loop_of(
-        &self,
+    pub(crate) fn act_loop(
+        &mut self,
         case: Case,
-        asker: &Asker,
         notes: &mut Notes,
         id: StatementId,
         block: &Block,
-    ) -> Result<Move, Halt>
-        ensures { Decides case.entry.version.now case.entry.seed
-            (loop_prog self.now asker.now id (operand block.now A) (operand block.now B))
-            result notes.old notes.new }
+    ) -> Result<(), Halt>
+        requires { IsSome self.old.active }
+        ensures { (x : Transaction) → self.old.active ≡ Some x → Acts case.entry.version.now case.entry.seed
+            (loop_prog self.old (for_one self.old x) id (operand block.now A) (operand block.now B))
+            result self.old self.new notes.old notes.new }
     {
-        let key = self.entity(case, asker, notes, block.operand(A))?;
-        self.loop_at(case, asker, notes, id, key, block.operand(B))
+        let Some(x) = &self.active else {
+            unreachable!()
+        };
+        let change = self.loop_of(case, x, notes, block);
+        self.enter_changing(id, change, notes)
     }
 
+    // What an ASSIGN sets.
+    #[inline(always)]
+    fn assign_of(
+        &self,
+        case: Case,
+        x: &Transaction,
+        notes: &mut Notes,
+        block: &Block,
+    ) -> Result<Option<TransactionChange>, Halt>
+        ensures { (id : ℕ) → Decides case.entry.version.now case.entry.seed
+            (assign_prog self.now (for_one self.now x.now) id block.now.sign (operand block.now A)
+            (operand block.now B))
+            (changing id result) notes.old notes.new }
+    {
+        let parameter = self.entity(case, x, notes, block.operand(A))?;
+        self.assign_at(case, x, notes, block, parameter)
+    }
+
+    #[inline(always)]
+    fn assign_at(
+        &self,
+        case: Case,
+        x: &Transaction,
+        notes: &mut Notes,
+        block: &Block,
+        key: Key,
+    ) -> Result<Option<TransactionChange>, Halt>
+        ensures { (id : ℕ) → Decides case.entry.version.now case.entry.seed
+            (value_there self.now (for_one self.now x.now) (operand block.now B) ~>
+            (λ v. assign_with id block.now.sign key (parameter_at self.now.parameters x.now.number key) v))
+            (changing id result) notes.old notes.new }
+    {
+        let value = self.value_there(case, &self.for_one(x), notes, block.operand(B))?;
+        let was = self.parameters.get(x.number, &key);
+        assign_with(block.sign, key, was, value)
+    }
+
+    // What a LOOP sets, and where the transaction goes.
+    #[inline(always)]
+    fn loop_of(
+        &self,
+        case: Case,
+        x: &Transaction,
+        notes: &mut Notes,
+        block: &Block,
+    ) -> Result<Option<TransactionChange>, Halt>
+        ensures { (id : ℕ) → Decides case.entry.version.now case.entry.seed
+            (loop_prog self.now (for_one self.now x.now) id (operand block.now A) (operand block.now B))
+            (changing id result) notes.old notes.new }
+    {
+        let key = self.entity(case, x, notes, block.operand(A))?;
+        self.loop_at(case, x, notes, key, block.operand(B))
+    }
+
+    #[inline(always)]
     fn loop_at(
         &self,
         case: Case,
-        asker: &Asker,
+        x: &Transaction,
         notes: &mut Notes,
-        id: StatementId,
         key: Key,
         label: Option<&Expr>,
-    ) -> Result<Move, Halt>
-        ensures { Decides case.entry.version.now case.entry.seed
-            (left_of (parameter_at self.now.parameters asker.now.number key) ~>
-            (λ left. loop_with id key left (option_copied label.entry))) result notes.old notes.new }
+    ) -> Result<Option<TransactionChange>, Halt>
+        ensures { (id : ℕ) → Decides case.entry.version.now case.entry.seed
+            (left_of (parameter_at self.now.parameters x.now.number key) ~>
+            (λ left. loop_with id key left (option_copied label.entry))) (changing id result) notes.old notes.new }
     {
-        let was = self.parameters.get(asker.number, &key);
+        let was = self.parameters.get(x.number, &key);
         let left = left_of(was)?;
-        loop_with(case, notes, id, key, left, label)
+        loop_with(case, notes, key, left, label)
     }
 
     // The value of a parameter of the transaction that asks.
@@ -132,26 +175,21 @@ fn or_zero(value: Option<Val>) -> Val
 }
 
 fn assign_with(
-    id: StatementId,
     sign: Sign,
     key: Key,
     was: Option<Val>,
     value: Val,
-) -> Result<Move, Halt>
-    ensures { Comes (assign_with id sign key was value) result }
+) -> Result<Option<TransactionChange>, Halt>
+    ensures { (id : ℕ) → Comes (assign_with id sign key was value) (changing id result) }
 {
     let to = arithmetic(by_sign(sign, was, value))?;
-    assign_to(id, key, to)
+    assign_to(key, to)
 }
 
-fn assign_to(id: StatementId, key: Key, to: Val) -> Result<Move, Halt>
-    ensures { Comes (assign_to id key to) result }
+fn assign_to(key: Key, to: Val) -> Result<Option<TransactionChange>, Halt>
+    ensures { (id : ℕ) → Comes (assign_to id key to) (changing id result) }
 {
-    Ok(Move::Enter {
-        id,
-        change: Change::Transaction(TransactionChange::Assign { key, to }),
-        fate: Fate::Active,
-    })
+    Ok(Some(TransactionChange::Assign { key, to }))
 }
 
 // What a LOOP leaves of a parameter.
@@ -177,30 +215,28 @@ fn one() -> Val
 fn loop_with(
     case: Case,
     notes: &mut Notes,
-    id: StatementId,
     key: Key,
     left: Val,
     label: Option<&Expr>,
-) -> Result<Move, Halt>
-    ensures { Decides case.entry.version.now case.entry.seed (loop_with id key left (option_copied label.entry))
-        result notes.old notes.new }
+) -> Result<Option<TransactionChange>, Halt>
+    ensures { (id : ℕ) → Decides case.entry.version.now case.entry.seed
+        (loop_with id key left (option_copied label.entry)) (changing id result) notes.old notes.new }
 {
     if left.magnitude() == 0 {
-        return assign_to(id, key, left);
+        return assign_to(key, left);
     }
-    loop_to(case, notes, id, key, left, label)
+    loop_to(case, notes, key, left, label)
 }
 
 fn loop_to(
     case: Case,
     notes: &mut Notes,
-    id: StatementId,
     key: Key,
     left: Val,
     label: Option<&Expr>,
-) -> Result<Move, Halt>
-    ensures { Decides case.entry.version.now case.entry.seed (loop_to id key left (option_copied label.entry))
-        result notes.old notes.new }
+) -> Result<Option<TransactionChange>, Halt>
+    ensures { (id : ℕ) → Decides case.entry.version.now case.entry.seed
+        (loop_to id key left (option_copied label.entry)) (changing id result) notes.old notes.new }
 {
     let Some(expr) = label else {
         return Err(Halt::End(End::Error(Stop::NoNextBlock)));
@@ -208,21 +244,21 @@ fn loop_to(
     match expr.node() {
         Node::Label(name) => {
             let to = ask_label(case.version, notes, name)?;
-            loop_back(id, key, left, to)
+            loop_back(key, left, to)
         }
         _ => Err(Halt::End(End::Error(Stop::NoNextBlock))),
     }
 }
 
-fn loop_back(id: StatementId, key: Key, left: Val, to: Option<StatementId>) -> Result<Move, Halt>
-    ensures { Comes (loop_back id key left to) result }
+fn loop_back(
+    key: Key,
+    left: Val,
+    to: Option<StatementId>,
+) -> Result<Option<TransactionChange>, Halt>
+    ensures { (id : ℕ) → Comes (loop_back id key left to) (changing id result) }
 {
     match to {
-        Some(to) => Ok(Move::Enter {
-            id,
-            change: Change::Transaction(TransactionChange::Loop { key, left, to }),
-            fate: Fate::Active,
-        }),
+        Some(to) => Ok(Some(TransactionChange::Loop { key, left, to })),
         None => Err(Halt::End(End::Error(Stop::NoNextBlock))),
     }
 }

@@ -1,56 +1,64 @@
-// MARK, PRIORITY and BUFFER: what a block makes of its transaction, and where that stands then.
-ghost use Rattle.std.specs.Prelude.{◌≡◌};
+// MARK and PRIORITY: the mark time and the priority that a block gives to its transaction.
+ghost use Rattle.std.specs.Prelude.{◌≡◌, ℕ, Some, IsSome};
 ghost use Rattle.gw_meaning.specs.Statements.{A, operand};
-ghost use Rattle.gw_meaning.specs.Step.{mark_prog, priority_prog, buffer_prog};
-ghost use Rattle.gw_scan.specs.Deciding.{Decides, Comes};
+ghost use Rattle.gw_meaning.specs.Step.{for_one, mark_prog, priority_prog};
+ghost use Rattle.gw_meaning.specs.Listing.{Listing};
+ghost use Rattle.gw_meaning.specs.declared.transaction.Transaction.{Transaction};
+ghost use Rattle.gw_scan.specs.Stepping.{Acts};
+ghost use Rattle.gw_scan.specs.Deciding.{Decides, changing};
 
 use crate::case::{Case, Halt};
 use crate::notes::Notes;
 use crate::state::State;
 use gw_meaning::operands::A;
-use gw_meaning::{Asker, Block, Change, Fate, Move, StatementId, TransactionChange};
+use gw_meaning::{Block, StatementId, Transaction, TransactionChange};
 
 impl State {
-    // The transaction gets the priority that the operand says, and stays active.
+    // A transaction is marked with the clock.
+    #[inline(always)]
+    pub(crate) fn act_mark(&mut self, notes: &Notes, id: StatementId) -> Result<(), Halt>
+        requires { IsSome self.old.active }
+        ensures { (version : Listing) (seed : ℕ) →
+            Acts version seed (mark_prog id) result self.old self.new notes.now notes.now }
+    {
+        self.enter_changing(id, Ok(Some(TransactionChange::Mark)), notes)
+    }
+
+    // A transaction gets another priority, and stays active.
     #[inline(never)]
-    pub(crate) fn priority_of(
-        &self,
+    pub(crate) fn act_priority(
+        &mut self,
         case: Case,
-        asker: &Asker,
         notes: &mut Notes,
         id: StatementId,
         block: &Block,
-    ) -> Result<Move, Halt>
-        ensures { Decides case.entry.version.now case.entry.seed
-            (priority_prog self.now asker.now id (operand block.now A)) result notes.old notes.new }
+    ) -> Result<(), Halt>
+        requires { IsSome self.old.active }
+        ensures { (x : Transaction) → self.old.active ≡ Some x → Acts case.entry.version.now case.entry.seed
+            (priority_prog self.old (for_one self.old x) id (operand block.now A))
+            result self.old self.new notes.old notes.new }
     {
-        let to = self.value_there(case, asker, notes, block.operand(A))?;
-        Ok(Move::Enter {
-            id,
-            change: Change::Transaction(TransactionChange::Priority { to }),
-            fate: Fate::Active,
-        })
+        let Some(x) = &self.active else {
+            unreachable!()
+        };
+        let change = self.priority_of(case, x, notes, block);
+        self.enter_changing(id, change, notes)
     }
-}
 
-// The transaction is marked with the clock.
-pub fn mark_of(id: StatementId) -> Result<Move, Halt>
-    ensures { Comes (mark_prog id) result }
-{
-    Ok(Move::Enter {
-        id,
-        change: Change::Transaction(TransactionChange::Mark),
-        fate: Fate::Active,
-    })
-}
-
-// The transaction lets its equals on the current chain move first.
-pub fn buffer_of(id: StatementId) -> Result<Move, Halt>
-    ensures { Comes (buffer_prog id) result }
-{
-    Ok(Move::Enter {
-        id,
-        change: Change::Nothing,
-        fate: Fate::Current,
-    })
+    // The priority that the operand says.
+    #[inline(always)]
+    fn priority_of(
+        &self,
+        case: Case,
+        x: &Transaction,
+        notes: &mut Notes,
+        block: &Block,
+    ) -> Result<Option<TransactionChange>, Halt>
+        ensures { (id : ℕ) → Decides case.entry.version.now case.entry.seed
+            (priority_prog self.now (for_one self.now x.now) id (operand block.now A))
+            (changing id result) notes.old notes.new }
+    {
+        let to = self.value_there(case, &self.for_one(x), notes, block.operand(A))?;
+        Ok(Some(TransactionChange::Priority { to }))
+    }
 }

@@ -1,21 +1,18 @@
 // QUEUE and DEPART, made where they are decided: the queue is looked up once.
-ghost use Rattle.std.specs.Prelude.{◌≡◌, IsSome, Some, option_copied};
+ghost use Rattle.std.specs.Prelude.{◌≡◌, IsSome, Some};
 ghost use Rattle.gw_entities.specs.Comings.{came};
 ghost use Rattle.gw_meaning.specs.declared.transaction.Transaction.{Transaction};
 ghost use Rattle.gw_meaning.specs.Entities.{line_at};
-ghost use Rattle.gw_meaning.specs.Evaluation.{units_prog, ◌~>◌};
 ghost use Rattle.gw_meaning.specs.Statements.{A, B, operand};
-ghost use Rattle.gw_meaning.specs.Step.{for_one, queue_units, queue_prog, depart_units, depart_prog};
+ghost use Rattle.gw_meaning.specs.Step.{for_one, is_too_many, queue_units, queue_prog, depart_units, depart_prog};
 ghost use Rattle.gw_scan.specs.Stepping.{Acts, Goes};
 
 use crate::case::{Case, Halt};
 use crate::entering::enter_active;
 use crate::notes::Notes;
-use crate::queues::is_too_many;
 use crate::state::State;
 use gw_entities::Queue;
-use gw_expr::{Expr, Stop};
-use gw_meaning::operands::{A, B};
+use gw_expr::Stop;
 use gw_meaning::{Block, End, StatementId};
 use gw_names::Key;
 
@@ -34,35 +31,10 @@ impl State {
             (queue_prog self.old (for_one self.old x) id (operand block.now A) (operand block.now B))
             result self.old self.new notes.old notes.new }
     {
-        let Some(x) = &self.active else {
-            unreachable!()
-        };
-        let key = self.entity(case, &self.for_one(x), notes, block.operand(A))?;
-        self.act_queue_at(case, notes, id, key, block.operand(B))
-    }
-
-    // The same, to a queue that is known.
-    #[inline(always)]
-    fn act_queue_at(
-        &mut self,
-        case: Case,
-        notes: &mut Notes,
-        id: StatementId,
-        key: Key,
-        units: Option<&Expr>,
-    ) -> Result<(), Halt>
-        requires { IsSome self.old.active }
-        ensures { (x : Transaction) → self.old.active ≡ Some x → Acts case.entry.version.now case.entry.seed
-            (units_prog self.old (for_one self.old x) (option_copied units.entry) ~>
-            (λ n. queue_units id key (line_at self.old.entities key) n)) result self.old self.new notes.old notes.new }
-    {
-        let Some(x) = &self.active else {
-            unreachable!()
-        };
-        let units = self.units(case, &self.for_one(x), notes, units)?;
-        self.come(id, key, units)?;
-        self.take_draws(notes);
-        Ok(())
+        let key = self.own_entity(case, notes, block)?;
+        let units = self.own_units(case, notes, block)?;
+        let come = self.come(id, key, units);
+        self.with_draws(come, notes)
     }
 
     // So many units come, unless a count would be too great.
@@ -103,36 +75,10 @@ impl State {
             (depart_prog self.old (for_one self.old x) x id (operand block.now A) (operand block.now B))
             result self.old self.new notes.old notes.new }
     {
-        let Some(x) = &self.active else {
-            unreachable!()
-        };
-        let key = self.entity(case, &self.for_one(x), notes, block.operand(A))?;
-        self.act_depart_at(case, notes, id, &key, block.operand(B))
-    }
-
-    // The same, from a queue that is known.
-    #[inline(always)]
-    fn act_depart_at(
-        &mut self,
-        case: Case,
-        notes: &mut Notes,
-        id: StatementId,
-        key: &Key,
-        units: Option<&Expr>,
-    ) -> Result<(), Halt>
-        requires { IsSome self.old.active }
-        ensures { (x : Transaction) → self.old.active ≡ Some x → Acts case.entry.version.now case.entry.seed
-            (units_prog self.old (for_one self.old x) (option_copied units.entry) ~>
-            (λ n. depart_units id key.now (line_at self.old.entities key.now)
-            (came self.old.entities.comings key.now x.number) n)) result self.old self.new notes.old notes.new }
-    {
-        let Some(x) = &self.active else {
-            unreachable!()
-        };
-        let units = self.units(case, &self.for_one(x), notes, units)?;
-        self.go(id, key, units)?;
-        self.take_draws(notes);
-        Ok(())
+        let key = self.own_entity(case, notes, block)?;
+        let units = self.own_units(case, notes, block)?;
+        let gone = self.go(id, &key, units);
+        self.with_draws(gone, notes)
     }
 
     // So many units leave, unless fewer are there or a count would be too great.
@@ -162,4 +108,11 @@ impl State {
         self.entities.queues.set_at(key, place, queue);
         Ok(())
     }
+}
+
+// Whether a content or a count of entries is beyond what it may be.
+pub fn is_too_many(count: u64) -> bool
+    ensures { result ≡ is_too_many count }
+{
+    count > 1_000_000_000
 }

@@ -1,5 +1,6 @@
 // SEIZE and RELEASE, made where they are decided: the facility is looked up once.
-ghost use Rattle.std.specs.Prelude.{◌≡◌, IsSome, Some, is_some};
+ghost use Rattle.std.specs.Prelude.{◌≡◌, IsSome, Some, is_some, option_copied};
+ghost use Rattle.std.specs.Option.{option_map};
 ghost use Rattle.gw_meaning.specs.declared.transaction.Transaction.{Transaction};
 ghost use Rattle.gw_meaning.specs.Machine.{delay_at};
 ghost use Rattle.gw_meaning.specs.Entities.{facility_at};
@@ -10,13 +11,11 @@ ghost use Rattle.gw_scan.specs.Stepping.{Acts, Goes};
 use crate::case::{Case, Halt};
 use crate::entering::enter_active;
 use crate::entities::give_back;
-use crate::entity_change::{let_first_in, reserve_first};
-use crate::facilities::{is_owner, number_of};
+use crate::letting_in::{let_first_in, reserve_first};
 use crate::notes::Notes;
 use crate::state::State;
 use gw_expr::Stop;
-use gw_meaning::operands::A;
-use gw_meaning::{Block, End, StatementId};
+use gw_meaning::{Block, End, StatementId, Transaction};
 use gw_names::Key;
 
 impl State {
@@ -34,13 +33,9 @@ impl State {
             (seize_prog self.old (for_one self.old x) id (operand block.now A))
             result self.old self.new notes.old notes.new }
     {
-        let Some(x) = &self.active else {
-            unreachable!()
-        };
-        let key = self.entity(case, &self.for_one(x), notes, block.operand(A))?;
-        self.seize(id, key)?;
-        self.take_draws(notes);
-        Ok(())
+        let key = self.own_entity(case, notes, block)?;
+        let seized = self.seize(id, key);
+        self.with_draws(seized, notes)
     }
 
     // The same, of a facility that is known.
@@ -77,13 +72,9 @@ impl State {
             (release_prog self.old (for_one self.old x) x id (operand block.now A))
             result self.old self.new notes.old notes.new }
     {
-        let Some(x) = &self.active else {
-            unreachable!()
-        };
-        let key = self.entity(case, &self.for_one(x), notes, block.operand(A))?;
-        self.give_back(id, &key)?;
-        self.take_draws(notes);
-        Ok(())
+        let key = self.own_entity(case, notes, block)?;
+        let given = self.give_back(id, &key);
+        self.with_draws(given, notes)
     }
 
     // The same, of a facility that is known.
@@ -110,5 +101,24 @@ impl State {
         self.entities.set_facility(key, place, facility);
         let_first_in(&mut self.delays, &mut self.current, &mut self.counts, key);
         Ok(())
+    }
+}
+
+// Whether the transaction with a number owns it.
+fn is_owner(owner: Option<u64>, number: u64) -> bool
+    ensures { result ≡ is_owner owner number }
+{
+    match owner {
+        Some(owner) => owner == number,
+        None => false,
+    }
+}
+
+fn number_of(x: Option<&Transaction>) -> Option<u64>
+    ensures { result ≡ option_map (λ (x : Transaction). x.number) (option_copied x.entry) }
+{
+    match x {
+        Some(x) => Some(x.number),
+        None => None,
     }
 }

@@ -69,7 +69,7 @@ fn halted(halt: Halt, state: &State, notes: &mut Notes) -> Result<Turn, AllocErr
     }
 }
 
-/// The end that a step would come to here, or `None` where the run goes on.
+/// The end that a step would come to here, or `None` where the run goes on: a step of a copy tells.
 pub fn end_at(
     alloc: Global,
     version: &Version,
@@ -78,15 +78,25 @@ pub fn end_at(
 ) -> Result<Option<End>, AllocError>
     ensures { IfOk result (EndsAs (step version.now seed state.now)) }
 {
-    let mut notes = Notes::new(alloc, state);
     let case = Case {
         alloc,
         version,
         seed,
     };
-    match state.decide(case, &mut notes) {
-        Ok(_) => Ok(None),
-        Err(Halt::End(end)) => Ok(Some(end)),
-        Err(Halt::Memory) => Err(AllocError),
+    let mut probe = state.copy()?;
+    probe.next_end(case)
+}
+
+impl State {
+    // The end that the next step comes to, or `None` where it is made.
+    fn next_end(&mut self, case: Case) -> Result<Option<End>, AllocError>
+        ensures { IfOk result (EndsAs (step case.entry.version.now case.entry.seed self.old)) }
+    {
+        let mut notes = Notes::new(case.alloc, self);
+        match self.act(case, &mut notes) {
+            Ok(()) => Ok(None),
+            Err(Halt::End(end)) => Ok(Some(end)),
+            Err(Halt::Memory) => Err(AllocError),
+        }
     }
 }

@@ -1,5 +1,5 @@
 // ENTER and LEAVE, made where they are decided: the storage is looked up once.
-ghost use Rattle.std.specs.Prelude.{◌≡◌, IsSome, Some, option_copied};
+ghost use Rattle.std.specs.Prelude.{◌≡◌, IsSome, Some};
 ghost use Rattle.gw_expr.specs.Term.{Defined};
 ghost use Rattle.gw_names.specs.declared.key.Key.TheVariants as keys;
 ghost use Rattle.gw_entities.specs.Tables.{IsPlace};
@@ -14,14 +14,14 @@ ghost use Rattle.gw_scan.specs.Stepping.{Acts, Goes};
 use crate::case::{Case, Halt, ask_fits};
 use crate::entering::enter_active;
 use crate::entities::enter_all;
-use crate::entity_change::reserve_some;
+use crate::letting_in::reserve_some;
 use crate::notes::Notes;
-use crate::queues::is_too_many;
+use crate::queueing::is_too_many;
+use crate::shares::{all_shares, beside};
 use crate::state::State;
-use crate::storages::{all_shares, beside};
 use gw_entities::Storage;
-use gw_expr::{Expr, Node, Stop};
-use gw_meaning::operands::{A, B};
+use gw_expr::{Node, Stop};
+use gw_meaning::operands::A;
 use gw_meaning::{Block, End, Row, StatementId};
 use gw_names::{Key, Name};
 
@@ -44,9 +44,7 @@ impl State {
             return Err(Halt::End(End::Error(Stop::Range)));
         };
         match expr.node() {
-            Node::Defined(name) => {
-                self.act_enter_defined(case, notes, id, name, block.operand(B))
-            }
+            Node::Defined(name) => self.act_enter_defined(case, notes, id, name, block),
             _ => Err(Halt::End(End::Error(Stop::Range))),
         }
     }
@@ -59,17 +57,14 @@ impl State {
         notes: &mut Notes,
         id: StatementId,
         name: &Name,
-        units: Option<&Expr>,
+        block: &Block,
     ) -> Result<(), Halt>
         requires { IsSome self.old.active }
         ensures { (x : Transaction) → self.old.active ≡ Some x → Acts case.entry.version.now case.entry.seed
-            (enter_prog self.old (for_one self.old x) id (Some (Defined name.now)) (option_copied units.entry))
+            (enter_prog self.old (for_one self.old x) id (Some (Defined name.now)) (operand block.now B))
             result self.old self.new notes.old notes.new }
     {
-        let Some(x) = &self.active else {
-            unreachable!()
-        };
-        let units = self.units(case, &self.for_one(x), notes, units)?;
+        let units = self.own_units(case, notes, block)?;
         self.act_enter_units(case, notes, id, name, units)
     }
 
@@ -116,9 +111,8 @@ impl State {
         let (place, storage) = self.entities.look_for_storage(&key);
         let wanted = beside(u64::from(units), storage.level().content());
         let fits = ask_fits(case.version, notes, name, wanted)?;
-        self.enter_or_wait(id, key, place, storage, units, fits)?;
-        self.take_draws(notes);
-        Ok(())
+        let entered = self.enter_or_wait(id, key, place, storage, units, fits);
+        self.with_draws(entered, notes)
     }
 
     // Units that fit come into use, whoever waits; else the transaction waits.
@@ -172,9 +166,7 @@ impl State {
             return Err(Halt::End(End::Error(Stop::Range)));
         };
         match expr.node() {
-            Node::Defined(name) => {
-                self.act_leave_defined(case, notes, id, name, block.operand(B))
-            }
+            Node::Defined(name) => self.act_leave_defined(case, notes, id, name, block),
             _ => Err(Halt::End(End::Error(Stop::Range))),
         }
     }
@@ -187,17 +179,14 @@ impl State {
         notes: &mut Notes,
         id: StatementId,
         name: &Name,
-        units: Option<&Expr>,
+        block: &Block,
     ) -> Result<(), Halt>
         requires { IsSome self.old.active }
         ensures { (x : Transaction) → self.old.active ≡ Some x → Acts case.entry.version.now case.entry.seed
-            (leave_prog self.old (for_one self.old x) id (Some (Defined name.now)) (option_copied units.entry))
+            (leave_prog self.old (for_one self.old x) id (Some (Defined name.now)) (operand block.now B))
             result self.old self.new notes.old notes.new }
     {
-        let Some(x) = &self.active else {
-            unreachable!()
-        };
-        let units = self.units(case, &self.for_one(x), notes, units)?;
+        let units = self.own_units(case, notes, block)?;
         self.act_leave_units(case, notes, id, name, units)
     }
 
@@ -224,9 +213,8 @@ impl State {
             return Err(Halt::End(End::Error(Stop::LeaveTooMany)));
         }
         let shares = self.shares(case, notes, name, &key, content - units)?;
-        self.leave_for(id, &key, place, storage, units, &shares)?;
-        self.take_draws(notes);
-        Ok(())
+        let left = self.leave_for(id, &key, place, storage, units, &shares);
+        self.with_draws(left, notes)
     }
 
     // Units are given back, and those who have a share come in.

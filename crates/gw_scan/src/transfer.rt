@@ -1,78 +1,98 @@
-// TRANSFER: ask and draw, and change nothing.
-ghost use Rattle.std.specs.Prelude.{◌≡◌, ◌<◌, if◌then◌else◌, nat_lt, option_copied};
+// TRANSFER: where the transaction goes is asked and drawn.
+ghost use Rattle.std.specs.Prelude.{◌≡◌, ◌<◌, ℕ, IsSome, if◌then◌else◌, nat_lt, option_copied};
 ghost use Rattle.gw_meaning.specs.Evaluation.{millionths};
-ghost use Rattle.gw_meaning.specs.declared.moves.Change.TheVariants as changes;
-ghost use Rattle.gw_meaning.specs.declared.moves.Fate.TheVariants as fates;
-ghost use Rattle.gw_meaning.specs.declared.moves.Move.TheVariants as moves;
 ghost use Rattle.gw_meaning.specs.Statements.{A, B, C, operand};
 ghost use Rattle.gw_meaning.specs.Step.{by_fraction, go_to, lead_to, transfer_prog};
-ghost use Rattle.gw_scan.specs.Deciding.{Decides, Comes};
+ghost use Rattle.gw_scan.specs.Stepping.{Acts};
+ghost use Rattle.gw_scan.specs.Deciding.{Decides, Comes, changing};
 
 use crate::case::{Case, Halt, ask_label};
 use crate::draws::{draw, millionths};
 use crate::notes::Notes;
+use crate::state::State;
 use gw_expr::{Expr, Node, Stop};
 use gw_meaning::operands::{A, B, C};
-use gw_meaning::{Block, Change, End, Fate, Move, StatementId, TransactionChange};
+use gw_meaning::{Block, End, StatementId, TransactionChange};
 
-// The transaction is sent to a block, or goes on to the next one.
-#[inline(never)]
-pub fn transfer_of(
+impl State {
+    // A transaction is sent to a block, or goes on to the next one.
+    #[inline(never)]
+    pub(crate) fn act_transfer(
+        &mut self,
+        case: Case,
+        notes: &mut Notes,
+        id: StatementId,
+        block: &Block,
+    ) -> Result<(), Halt>
+        requires { IsSome self.old.active }
+        ensures { Acts case.entry.version.now case.entry.seed
+            (transfer_prog id (operand block.now A) (operand block.now B) (operand block.now C))
+            result self.old self.new notes.old notes.new }
+    {
+        let change = transfer_of(case, notes, block);
+        self.enter_changing(id, change, notes)
+    }
+}
+
+// Where it is sent.
+#[inline(always)]
+fn transfer_of(
     case: Case,
     notes: &mut Notes,
-    id: StatementId,
     block: &Block,
-) -> Result<Move, Halt>
-    ensures { Decides case.entry.version.now case.entry.seed
+) -> Result<Option<TransactionChange>, Halt>
+    ensures { (id : ℕ) → Decides case.entry.version.now case.entry.seed
         (transfer_prog id (operand block.now A) (operand block.now B) (operand block.now C))
-        result notes.old notes.new }
+        (changing id result) notes.old notes.new }
 {
     transfer(
         case,
         notes,
-        id,
         block.operand(A),
         block.operand(B),
         block.operand(C),
     )
 }
 
+#[inline(always)]
 fn transfer(
     case: Case,
     notes: &mut Notes,
-    id: StatementId,
     fraction: Option<&Expr>,
     near: Option<&Expr>,
     far: Option<&Expr>,
-) -> Result<Move, Halt>
-    ensures { Decides case.entry.version.now case.entry.seed (transfer_prog id (option_copied fraction.entry)
-        (option_copied near.entry) (option_copied far.entry)) result notes.old notes.new }
+) -> Result<Option<TransactionChange>, Halt>
+    ensures { (id : ℕ) → Decides case.entry.version.now case.entry.seed
+        (transfer_prog id (option_copied fraction.entry) (option_copied near.entry) (option_copied far.entry))
+        (changing id result) notes.old notes.new }
 {
     let Some(expr) = fraction else {
-        return lead_to(case, notes, id, near);
+        return lead_to(case, notes, near);
     };
     match expr.node() {
-        Node::Fraction(part) => by_fraction(case, notes, id, *part, near, far),
-        _ => lead_to(case, notes, id, near),
+        Node::Fraction(part) => by_fraction(case, notes, *part, near, far),
+        _ => lead_to(case, notes, near),
     }
 }
 
+#[inline(always)]
 fn by_fraction(
     case: Case,
     notes: &mut Notes,
-    id: StatementId,
     part: u32,
     near: Option<&Expr>,
     far: Option<&Expr>,
-) -> Result<Move, Halt>
-    ensures { Decides case.entry.version.now case.entry.seed
-        (by_fraction id part (option_copied near.entry) (option_copied far.entry)) result notes.old notes.new }
+) -> Result<Option<TransactionChange>, Halt>
+    ensures { (id : ℕ) → Decides case.entry.version.now case.entry.seed
+        (by_fraction id part (option_copied near.entry) (option_copied far.entry))
+        (changing id result) notes.old notes.new }
 {
     let number = draw(case, notes, 1)?;
-    lead_to(case, notes, id, chosen(number, part, near, far))
+    lead_to(case, notes, chosen(number, part, near, far))
 }
 
 // The far operand where the number that was drawn is below the fraction, else the near one.
+#[inline(always)]
 fn chosen<'a>(
     number: u32,
     part: u32,
@@ -90,46 +110,33 @@ fn chosen<'a>(
 }
 
 // To the block with a label, or to the next block where there is none.
+#[inline(always)]
 fn lead_to(
     case: Case,
     notes: &mut Notes,
-    id: StatementId,
     label: Option<&Expr>,
-) -> Result<Move, Halt>
-    ensures { Decides case.entry.version.now case.entry.seed (lead_to id (option_copied label.entry))
-        result notes.old notes.new }
+) -> Result<Option<TransactionChange>, Halt>
+    ensures { (id : ℕ) → Decides case.entry.version.now case.entry.seed (lead_to id (option_copied label.entry))
+        (changing id result) notes.old notes.new }
 {
     let Some(expr) = label else {
-        return Ok(go_on(id));
+        return Ok(None);
     };
     match expr.node() {
         Node::Label(name) => {
             let to = ask_label(case.version, notes, name)?;
-            go_to(id, to)
+            go_to(to)
         }
-        _ => Ok(go_on(id)),
+        _ => Ok(None),
     }
 }
 
-fn go_to(id: StatementId, to: Option<StatementId>) -> Result<Move, Halt>
-    ensures { Comes (go_to id to) result }
+#[inline(always)]
+fn go_to(to: Option<StatementId>) -> Result<Option<TransactionChange>, Halt>
+    ensures { (id : ℕ) → Comes (go_to id to) (changing id result) }
 {
     match to {
-        Some(to) => Ok(Move::Enter {
-            id,
-            change: Change::Transaction(TransactionChange::Transfer { to }),
-            fate: Fate::Active,
-        }),
+        Some(to) => Ok(Some(TransactionChange::Transfer { to })),
         None => Err(Halt::End(End::Error(Stop::NoNextBlock))),
-    }
-}
-
-fn go_on(id: StatementId) -> Move
-    ensures { result ≡ moves.Enter id changes.Nothing fates.Active }
-{
-    Move::Enter {
-        id,
-        change: Change::Nothing,
-        fate: Fate::Active,
     }
 }

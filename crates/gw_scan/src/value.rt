@@ -1,13 +1,17 @@
 // What operands stand for: values, entities and units.
-ghost use Rattle.std.specs.Prelude.{◌≡◌, ◌++◌, option_copied};
+ghost use Rattle.std.specs.Prelude.{◌≡◌, ◌++◌, Some, IsSome, option_copied};
+ghost use Rattle.gw_meaning.specs.declared.transaction.Transaction.{Transaction};
 ghost use Rattle.gw_meaning.specs.Evaluation.{value_prog, value_or_zero, value_there, numbered, named, entity_prog, units_prog, ◌~>◌};
+ghost use Rattle.gw_meaning.specs.Statements.{A, B, operand};
+ghost use Rattle.gw_meaning.specs.Step.{for_one};
 ghost use Rattle.gw_scan.specs.Deciding.{Decides, Comes};
 
 use crate::case::{Case, Halt, ask_name};
 use crate::notes::Notes;
 use crate::state::State;
 use gw_expr::{Atom, Expr, Node, Stop};
-use gw_meaning::{Asker, End};
+use gw_meaning::operands::{A, B};
+use gw_meaning::{Asker, Block, End, Transaction};
 use gw_names::{Key, Name};
 use gw_nums::Val;
 
@@ -71,17 +75,17 @@ impl State {
         }
     }
 
-    // The entity that an operand names.
+    // The entity that an operand names, for a transaction.
     #[inline(always)]
     pub(crate) fn entity(
         &self,
         case: Case,
-        asker: &Asker,
+        x: &Transaction,
         notes: &mut Notes,
         operand: Option<&Expr>,
     ) -> Result<Key, Halt>
         ensures { Decides case.entry.version.now case.entry.seed
-            (entity_prog self.now asker.now (option_copied operand.entry))
+            (entity_prog self.now (for_one self.now x.now) (option_copied operand.entry))
             result notes.old notes.new }
     {
         let Some(expr) = operand else {
@@ -92,7 +96,7 @@ impl State {
                 let number = ask_name(case.version, notes, name)?;
                 named(name, number)
             }
-            _ => self.computed_entity(case, asker, notes, expr),
+            _ => self.computed_entity(case, &self.for_one(x), notes, expr),
         }
     }
 
@@ -111,27 +115,63 @@ impl State {
         numbered(number)
     }
 
-    // How many units an operand says, and 1 where it is absent.
+    // How many units an operand says, for a transaction, and 1 where it is absent.
     #[inline(always)]
     pub(crate) fn units(
         &self,
         case: Case,
-        asker: &Asker,
+        x: &Transaction,
         notes: &mut Notes,
         operand: Option<&Expr>,
     ) -> Result<u32, Halt>
         ensures { Decides case.entry.version.now case.entry.seed
-            (units_prog self.now asker.now (option_copied operand.entry))
+            (units_prog self.now (for_one self.now x.now) (option_copied operand.entry))
             result notes.old notes.new }
     {
         let Some(expr) = operand else {
             return Ok(1);
         };
-        let units = self.value(case, asker, notes, expr)?;
+        let units = self.value(case, &self.for_one(x), notes, expr)?;
         if units.get() < 1 {
             return Err(Halt::End(End::Error(Stop::BadCount)));
         }
         Ok(units.magnitude() as u32)
+    }
+
+    // The entity that a block names, for the active transaction.
+    #[inline(always)]
+    pub(crate) fn own_entity(
+        &self,
+        case: Case,
+        notes: &mut Notes,
+        block: &Block,
+    ) -> Result<Key, Halt>
+        requires { IsSome self.now.active }
+        ensures { (x : Transaction) → self.now.active ≡ Some x → Decides case.entry.version.now case.entry.seed
+            (entity_prog self.now (for_one self.now x) (operand block.now A)) result notes.old notes.new }
+    {
+        let Some(x) = &self.active else {
+            unreachable!()
+        };
+        self.entity(case, x, notes, block.operand(A))
+    }
+
+    // How many units a block says, for the active transaction.
+    #[inline(always)]
+    pub(crate) fn own_units(
+        &self,
+        case: Case,
+        notes: &mut Notes,
+        block: &Block,
+    ) -> Result<u32, Halt>
+        requires { IsSome self.now.active }
+        ensures { (x : Transaction) → self.now.active ≡ Some x → Decides case.entry.version.now case.entry.seed
+            (units_prog self.now (for_one self.now x) (operand block.now B)) result notes.old notes.new }
+    {
+        let Some(x) = &self.active else {
+            unreachable!()
+        };
+        self.units(case, x, notes, block.operand(B))
     }
 }
 

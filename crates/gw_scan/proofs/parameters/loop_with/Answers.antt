@@ -2,12 +2,13 @@ use Rattle.std.proofs.Common.{◌≡◌, nat_eq, true}
 use Rattle.std.proofs.lemmas.Bool.{eq-eqb}
 use Rattle.gw_nums.specs.Range.{magnitude}
 use Rattle.gw_meaning.specs.Step.{assign_to}
+use Rattle.gw_scan.specs.Deciding.{changing}
 use Rattle.gw_scan.proofs.Binding.{decides_comes}
 use Rattle.gw_scan.proofs.parameters.loop_with.Goals as goal
 
 pub returns-then-magnitude-eq0 : goal.returns-then-magnitude-eq0
-returns-then-magnitude-eq0 c =
+returns-then-magnitude-eq0 c id =
     let zero : nat_eq (magnitude c.args.left) 0 ≡ true =
     eq-eqb (magnitude c.args.left) 0 (rw c.magnitude.ensures.value at c.if-magnitude-eq0.true) in
-    rw zero (decides_comes c.args.case.version.now c.args.case.seed (assign_to c.args.id c.args.key c.args.left) c.assign_to.result
-    c.args.notes.now c.assign_to.ensures)
+    rw zero (decides_comes c.args.case.version.now c.args.case.seed (assign_to id c.args.key c.args.left) (changing id c.assign_to.result)
+    c.args.notes.now (c.assign_to.ensures id))

@@ -10,7 +10,7 @@ use Rattle.gw_meaning.specs.Evaluation.{Eval, ◌~>◌}
 use Rattle.gw_meaning.specs.Step.{shares_prog, leave_for, leave_units}
 use Rattle.gw_scan.specs.Deciding.{Decides}
 use Rattle.gw_scan.specs.Stepping.{Goes}
-use Rattle.gw_scan.proofs.Acting.{acts_then, acts_exit, acts_went, acts_stays}
+use Rattle.gw_scan.proofs.Acting.{acts_then, acts_exit}
 use Rattle.gw_scan.proofs.state.State.act_leave_units.Goals as goal
 
 pub returns-in_err-shares : goal.returns-in_err-shares
@@ -40,40 +40,6 @@ returns-in_err-shares c x is =
     c.in_err-shares.ensures in
     acts_exit t seed shares rest _ _ _ c.in_err-shares.field-0.0 s _ _ whole p.1 p.2 said
 
-pub returns-in_err-leave_for : goal.returns-in_err-leave_for
-returns-in_err-leave_for c x is =
-    let t = c.args.case.version.now in
-    let seed = c.args.case.seed in
-    let s = c.args.self.now in
-    let id = c.args.id in
-    let units = c.from-units.result in
-    let name = c.args.name.now in
-    let copy = c.in_ok-clone.field-0 in
-    let key = keys.Defined name in
-    let store = store_at s.entities key in
-    let same : copy ≡ name = c.in_ok-clone.ensures.cases in
-    let held : c.look_for_storage-place.result.1 ≡ store = search (rules, same) in
-    let content : c.content-content.result ≡ store.level.content = search (rules, held) in
-    let enough : nat_lt store.level.content units ≡ false = rw (← content) (grind (arith, nat_tests)) in
-    let shares = shares_prog name (store.level.content - units) [] (delay_at s.delays key) in
-    let rest : List (Option ℕ) → Eval Move = λ given. leave_for id key store units given in
-    let enters : leave_units s id name store units ≡ (shares ~> rest) = rw enough refl in
-    let whole : leave_units s id name store c.args.units ≡ (shares ~> rest) = ap (leave_units s id name store) (sym c.from-units.ensures) ∙ enters in
-    let asked : shares_prog name (c.content-content.result - units) [] (delay_at s.delays (keys.Defined copy)) ≡ shares =
-    ap (λ n. shares_prog name (n - units) [] (delay_at s.delays (keys.Defined copy))) content ∙
-    ap (λ (n : List ℕ). shares_prog name (store.level.content - units) [] (delay_at s.delays (keys.Defined n))) same in
-    let p = err_from_is_err_and c.from_residual-in_err-leave_for.result c.from_residual-in_err-leave_for.ensures.1 in
-    let said = subst (λ (p : Eval (List (Option ℕ))). Decides t seed p (Ok c.in_ok-shares.shares) c.args.notes.now c.shares.new.notes) asked
-    c.in_ok-shares.ensures in
-    let stopped = c.in_err-leave_for.ensures x is in
-    let G : Store → Type 0 = λ st. Goes (leave_for id (keys.Defined copy) st units c.in_ok-shares.shares) (Err c.in_err-leave_for.field-0.0) s
-    c.leave_for.new.self in
-    let H : List ℕ → Type 0 = λ n. Goes (leave_for id (keys.Defined n) store units c.in_ok-shares.shares) (Err c.in_err-leave_for.field-0.0) s
-    c.leave_for.new.self in
-    let stays = subst H same (subst G held stopped) in
-    rw whole (acts_then t seed shares rest c.in_ok-shares.shares _ s _ _ _ _ said
-    (acts_stays t seed (rest c.in_ok-shares.shares) _ _ c.in_err-leave_for.field-0.0 s _ _ p.1 p.2 stays))
-
 pub returns : goal.returns
 returns c x is =
     let t = c.args.case.version.now in
@@ -98,9 +64,11 @@ returns c x is =
     ap (λ (n : List ℕ). shares_prog name (store.level.content - units) [] (delay_at s.delays (keys.Defined n))) same in
     let said = subst (λ (p : Eval (List (Option ℕ))). Decides t seed p (Ok c.in_ok-shares.shares) c.args.notes.now c.shares.new.notes) asked
     c.in_ok-shares.ensures in
-    let went = c.in_ok-leave_for.ensures x is in
-    let G : Store → Type 0 = λ st. Goes (leave_for id (keys.Defined copy) st units c.in_ok-shares.shares) (Ok tt) s c.leave_for.new.self in
-    let H : List ℕ → Type 0 = λ n. Goes (leave_for id (keys.Defined n) store units c.in_ok-shares.shares) (Ok tt) s c.leave_for.new.self in
+    let went = c.leave_for-left.ensures x is in
+    let G : Store → Type 0 = λ st. Goes (leave_for id (keys.Defined copy) st units c.in_ok-shares.shares) c.leave_for-left.result s
+    c.leave_for-left.new.self in
+    let H : List ℕ → Type 0 = λ n. Goes (leave_for id (keys.Defined n) store units c.in_ok-shares.shares) c.leave_for-left.result s
+    c.leave_for-left.new.self in
     let goes = subst H same (subst G held went) in
-    rw whole (acts_then t seed shares rest c.in_ok-shares.shares (Ok tt) s c.take_draws.new.self _ c.shares.new.notes c.shares.new.notes said
-    (acts_went t seed (rest c.in_ok-shares.shares) s c.leave_for.new.self c.take_draws.new.self c.shares.new.notes goes c.take_draws.ensures))
+    rw whole (acts_then t seed shares rest c.in_ok-shares.shares _ s _ _ _ _ said
+    (c.with_draws.ensures t seed (rest c.in_ok-shares.shares) s goes))

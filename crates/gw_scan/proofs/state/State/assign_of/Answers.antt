@@ -1,36 +1,37 @@
-use Rattle.std.proofs.Common.{◌≡◌, option_copied, refl}
+use Rattle.std.proofs.Common.{◌≡◌, option_copied, refl, ap}
 use Rattle.std.proofs.lemmas.Result.{err_from_is_err_and}
 use Rattle.gw_names.specs.declared.key.Key.{Key}
 use Rattle.gw_entities.specs.Parameters.{parameter_at}
 use Rattle.gw_meaning.specs.declared.moves.Move.{Move}
 use Rattle.gw_meaning.specs.Statements.{A, B, operand}
 use Rattle.gw_meaning.specs.Evaluation.{Eval, value_there, entity_prog, ◌~>◌}
-use Rattle.gw_meaning.specs.Step.{assign_prog, assign_with}
+use Rattle.gw_meaning.specs.Step.{for_one, assign_prog, assign_with}
+use Rattle.gw_scan.specs.Deciding.{changing}
 use Rattle.gw_scan.proofs.Binding.{decides_exit, decides_whole}
 use Rattle.gw_scan.proofs.state.State.assign_of.Goals as goal
 
 pub returns : goal.returns
-returns c =
+returns c id =
     let case = c.args.case in
     let s = c.args.self.now in
-    let q = c.args.asker.now in
+    let q = for_one s c.args.x.now in
     let b = c.args.block.now in
     let rest : Key → Eval Move = λ key. value_there s q (operand b B) ~>
-    (λ v. assign_with c.args.id b.sign key (parameter_at s.parameters q.number key) v) in
+    (λ v. assign_with id b.sign key (parameter_at s.parameters q.number key) v) in
     let entity = entity_prog s q (option_copied c.operand.result) in
-    let whole : assign_prog s q c.args.id b.sign (operand b A) (operand b B) ≡ (entity ~> rest) = rw c.operand.ensures refl in
-    decides_whole case.version.now case.seed entity rest _ c.in_ok-parameter.parameter _ _ _ _ whole c.in_ok-parameter.ensures c.assign_at.ensures
+    let whole : assign_prog s q id b.sign (operand b A) (operand b B) ≡ (entity ~> rest) = rw c.operand.ensures refl in
+    decides_whole case.version.now case.seed entity rest _ c.in_ok-parameter.parameter _ _ _ _ whole c.in_ok-parameter.ensures (c.assign_at.ensures id)
 
 pub returns-in_err-parameter : goal.returns-in_err-parameter
-returns-in_err-parameter c =
+returns-in_err-parameter c id =
     let p = err_from_is_err_and c.from_residual.result c.from_residual.ensures.1 in
     let t = c.args.case.version.now in
     let seed = c.args.case.seed in
     let s = c.args.self.now in
-    let q = c.args.asker.now in
+    let q = for_one s c.args.x.now in
     let b = c.args.block.now in
     let first = entity_prog s q (option_copied c.operand.result) in
     let rest : Key → Eval Move = λ key. value_there s q (operand b B) ~>
-    (λ v. assign_with c.args.id b.sign key (parameter_at s.parameters q.number key) v) in
-    let whole : assign_prog s q c.args.id b.sign (operand b A) (operand b B) ≡ (first ~> rest) = rw c.operand.ensures refl in
-    decides_exit t seed first rest _ _ _ c.in_err-parameter.field-0.0 _ _ whole p.1 p.2 c.in_err-parameter.ensures
+    (λ v. assign_with id b.sign key (parameter_at s.parameters q.number key) v) in
+    let whole : assign_prog s q id b.sign (operand b A) (operand b B) ≡ (first ~> rest) = rw c.operand.ensures refl in
+    decides_exit t seed first rest _ _ _ c.in_err-parameter.field-0.0 _ _ whole (ap (changing id) p.1) p.2 c.in_err-parameter.ensures

@@ -9,7 +9,7 @@ use Rattle.gw_meaning.specs.declared.moves.Move.{Move}
 use Rattle.gw_meaning.specs.declared.moves.Move.TheVariants as moves
 use Rattle.gw_meaning.specs.Statements.{A, operand}
 use Rattle.gw_meaning.specs.Evaluation.{Eval, gives, ends_with, stops_if, value_or_zero, ◌~>◌}
-use Rattle.gw_meaning.specs.Step.{terminate_prog}
+use Rattle.gw_meaning.specs.Step.{for_one, terminate_prog}
 use Rattle.gw_scan.specs.declared.case.Halt.TheVariants as halts
 use Rattle.gw_scan.specs.Deciding.{entered}
 use Rattle.gw_scan.proofs.Binding.{decides_exit, decides_whole, decides_comes}
@@ -22,10 +22,10 @@ returns-in_err-count c id =
     let seed = c.args.case.seed in
     let s = c.args.self.now in
     let b = c.args.block.now in
-    let first = value_or_zero s c.args.asker.now (option_copied c.operand.result) in
+    let first = value_or_zero s c.for_one.result (option_copied c.operand.result) in
     let rest : ℤ → Eval Move =
     λ n. stops_if (is_negative n) BadCount (gives (moves.Enter id changes.Nothing (fates.Destroyed (magnitude n)))) in
-    let whole : terminate_prog s c.args.asker.now id (operand b A) ≡ (first ~> rest) = rw c.operand.ensures refl in
+    let whole : terminate_prog s (for_one s c.args.x.now) id (operand b A) ≡ (first ~> rest) = rw (← c.for_one.ensures, c.operand.ensures) refl in
     decides_exit t seed first rest _ _ _ c.in_err-count.field-0.0 _ _ whole (ap (entered id) p.1) p.2 c.in_err-count.ensures
 
 pub returns-then-is_negative : goal.returns-then-is_negative
@@ -34,10 +34,10 @@ returns-then-is_negative c id =
     let seed = c.args.case.seed in
     let s = c.args.self.now in
     let b = c.args.block.now in
-    let first = value_or_zero s c.args.asker.now (option_copied c.operand.result) in
+    let first = value_or_zero s c.for_one.result (option_copied c.operand.result) in
     let rest : ℤ → Eval Move =
     λ n. stops_if (is_negative n) BadCount (gives (moves.Enter id changes.Nothing (fates.Destroyed (magnitude n)))) in
-    let whole : terminate_prog s c.args.asker.now id (operand b A) ≡ (first ~> rest) = rw c.operand.ensures refl in
+    let whole : terminate_prog s (for_one s c.args.x.now) id (operand b A) ≡ (first ~> rest) = rw (← c.for_one.ensures, c.operand.ensures) refl in
     let n = c.in_ok-count.count in
     let below : is_negative n ≡ true = search rules in
     let here : rest n ≡ ends_with (ends.Error BadCount) = rw below refl in
@@ -50,10 +50,10 @@ returns c id =
     let seed = c.args.case.seed in
     let s = c.args.self.now in
     let b = c.args.block.now in
-    let first = value_or_zero s c.args.asker.now (option_copied c.operand.result) in
+    let first = value_or_zero s c.for_one.result (option_copied c.operand.result) in
     let rest : ℤ → Eval Move =
     λ n. stops_if (is_negative n) BadCount (gives (moves.Enter id changes.Nothing (fates.Destroyed (magnitude n)))) in
-    let whole : terminate_prog s c.args.asker.now id (operand b A) ≡ (first ~> rest) = rw c.operand.ensures refl in
+    let whole : terminate_prog s (for_one s c.args.x.now) id (operand b A) ≡ (first ~> rest) = rw (← c.for_one.ensures, c.operand.ensures) refl in
     let n = c.in_ok-count.count in
     let m = moves.Enter id changes.Nothing (fates.Destroyed c.magnitude.result) in
     let here : rest n ≡ gives m = search rules in

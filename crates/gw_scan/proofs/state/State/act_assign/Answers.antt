@@ -1,0 +1,15 @@
+use Rattle.std.proofs.Common.{◌≡◌, rules}
+use Rattle.gw_meaning.specs.Statements.{A, B, operand}
+use Rattle.gw_meaning.specs.Step.{for_one, assign_prog}
+use Rattle.gw_scan.specs.Deciding.{changing}
+use Rattle.gw_scan.proofs.Acting.{acts_made}
+use Rattle.gw_scan.proofs.state.State.act_assign.Goals as goal
+
+pub returns : goal.returns
+returns c x is =
+    let s = c.args.self.now in
+    let b = c.args.block.now in
+    let same : c.in-Some.x ≡ x = search rules in
+    rw (← same) (acts_made c.args.case.version.now c.args.case.seed (assign_prog s (for_one s c.in-Some.x) c.args.id b.sign (operand b A) (operand b B))
+    (changing c.args.id c.assign_of-change.result) c.enter_changing.result s c.enter_changing.new.self c.args.notes.now c.assign_of-change.new.notes
+    (c.assign_of-change.ensures c.args.id) c.enter_changing.ensures)

@@ -1,0 +1,25 @@
+use Rattle.std.proofs.Common.{◌≡◌, Err, ap, rules}
+use Rattle.gw_meaning.specs.Step.{step}
+use Rattle.gw_scan.specs.Noted.{Noted}
+use Rattle.gw_scan.specs.declared.case.Halt.TheVariants as halts
+use Rattle.gw_scan.proofs.StepLaws.{acted, foretold, goes_on, ends_as}
+use Rattle.gw_scan.proofs.state.State.next_end.Goals as goal
+
+pub returns-in-Ok : goal.returns-in-Ok
+returns-in-Ok c =
+    let t = c.args.case.version.now in
+    let seed = c.args.case.seed in
+    let s = c.args.self.now in
+    let same = ap (λ (n : Noted). n.streams) c.new-notes.ensures in
+    goes_on (step t seed s) c.act.new.self (acted t seed s c.act.new.self c.new-notes.result c.act.new.notes same c.in-Ok.ensures)
+
+pub returns-in-Err-End : goal.returns-in-Err-End
+returns-in-Err-End c =
+    let t = c.args.case.version.now in
+    let seed = c.args.case.seed in
+    let s = c.args.self.now in
+    let same = ap (λ (n : Noted). n.streams) c.new-notes.ensures in
+    let end = c.in-Err-End.end in
+    let halt : c.in-Err-End.field-0 ≡ halts.End end = search rules in
+    ends_as (step t seed s) end
+    (foretold t seed s (Err (halts.End end)) c.new-notes.result c.act.new.notes same (rw halt at c.in-Err-End.ensures).0)

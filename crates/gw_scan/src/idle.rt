@@ -1,0 +1,70 @@
+// None is active: the first of the current chain is picked, or the clock moves on.
+ghost use Rattle.std.specs.Prelude.{◌≡◌, OnOk, OnErr};
+ghost use Rattle.gw_meaning.specs.Changes.{moved};
+ghost use Rattle.gw_meaning.specs.Step.{pick_prog, clock_prog, least_time};
+ghost use Rattle.gw_meaning.specs.declared.moves.Move.TheVariants as moves;
+ghost use Rattle.gw_scan.specs.Deciding.{Decides, clocked};
+ghost use Rattle.gw_scan.specs.Stepping.{Acts};
+
+use crate::case::{Case, Halt, ask_within};
+use crate::notes::Notes;
+use crate::state::State;
+use gw_meaning::End;
+use gw_nums::Clock;
+use std::alloc::AllocError;
+
+impl State {
+    // None is active: the first of the current chain, or else the clock moves on. Nothing is drawn.
+    #[inline(always)]
+    pub(crate) fn act_idle(&mut self, case: Case, notes: &mut Notes) -> Result<(), Halt>
+        requires { notes.old.streams ≡ self.old.streams }
+        ensures { Acts case.entry.version.now case.entry.seed (pick_prog self.old self.old.current)
+            result self.old self.new notes.old notes.new }
+    {
+        if !self.current.is_empty() {
+            self.pick();
+            return Ok(());
+        }
+        let time = self.next_time(case, notes)?;
+        self.advance(time)?;
+        Ok(())
+    }
+
+    // To which time the clock moves on: the least of the future chain.
+    #[inline(always)]
+    fn next_time(&self, case: Case, notes: &mut Notes) -> Result<Clock, Halt>
+        ensures told { Decides case.entry.version.now case.entry.seed (clock_prog (least_time self.now.future))
+            (clocked result) notes.old notes.new }
+        ensures streams { notes.new.streams ≡ notes.old.streams }
+    {
+        let Some(time) = self.future.least_time() else {
+            return Err(Halt::End(End::Dry));
+        };
+        match ask_within(case.version, notes, time)? {
+            Some(time) => Ok(time),
+            None => Err(Halt::End(End::Horizon)),
+        }
+    }
+
+    // The first of the current chain becomes active.
+    #[inline(always)]
+    fn pick(&mut self)
+        ensures { self.new ≡ moved self.old moves.Pick }
+    {
+        if let Some(x) = self.current.take_first() {
+            self.active = Some(x);
+        }
+    }
+
+    // The clock moves on, and those who are due stand on the current chain.
+    fn advance(&mut self, clock: Clock) -> Result<(), AllocError>
+        ensures ok { OnOk result (self.new ≡ moved self.old (moves.Clock clock)) }
+        ensures err { OnErr result (self.new ≡ self.old) }
+    {
+        self.current.reserve(self.future.len())?;
+        self.future.take_due(&mut self.current, clock.time())?;
+        self.entities.go_on(self.clocks.clock(), clock);
+        self.clocks.advance(clock);
+        Ok(())
+    }
+}

@@ -1,0 +1,114 @@
+// Room for those who are let in behind a RELEASE or a LEAVE, and the first of a delay chain let in.
+ghost use Rattle.std.specs.Prelude.{◌≡◌, ◌+◌, ◌-◌, ◌<◌, ◌≤◌, [], ◌∷◌, Some, length, IfOk, OnOk};
+ghost use Rattle.gw_meaning.specs.Machine.{Machine, delay_at};
+ghost use Rattle.gw_meaning.specs.Changes.{some_let_in};
+ghost use Rattle.gw_chains.specs.Chains.{delays_of, first_of, with_share, IsWithin, AreWithin, HasRoomToLetIn, HasRoomToLetAllIn};
+
+use gw_chains::{Counts, DelayChains, PriorityChain, has_share, let_in};
+use gw_meaning::Transaction;
+use gw_names::Key;
+use std::alloc::AllocError;
+
+// Makes room for the first that waits for a facility to be let in.
+#[inline(always)]
+pub fn reserve_first(
+    delays: &DelayChains,
+    current: &mut PriorityChain,
+    counts: &mut Counts,
+    key: &Key,
+) -> Result<(), AllocError>
+    ensures ok { OnOk result (HasRoomToLetIn (first_of (delay_at (delays_of delays.now.chains) key.now))
+        (current.new.room - 1) counts.new.limit) }
+    ensures one { OnOk result (0 < current.new.room) }
+    ensures current { current.new.items ≡ current.old.items }
+    ensures counts { counts.new.entries ≡ counts.old.entries }
+    ensures limit { counts.old.limit ≤ counts.new.limit }
+{
+    current.reserve(2)?;
+    let Some(x) = delays.first(key) else {
+        return Ok(());
+    };
+    reserve_block(x, counts)
+}
+
+// Makes room for those who wait for a storage and have a share to be let in.
+pub fn reserve_some(
+    delays: &DelayChains,
+    current: &mut PriorityChain,
+    counts: &mut Counts,
+    key: &Key,
+    shares: &[Option<u64>],
+) -> Result<(), AllocError>
+    ensures ok { OnOk result (HasRoomToLetAllIn (with_share shares.now (delay_at (delays_of delays.now.chains) key.now))
+        (current.new.room - 1) counts.new.limit) }
+    ensures one { OnOk result (0 < current.new.room) }
+    ensures current { current.new.items ≡ current.old.items }
+    ensures counts { counts.new.entries ≡ counts.old.entries }
+    ensures limit { counts.old.limit ≤ counts.new.limit }
+{
+    current.reserve(1)?;
+    let Some(chain) = delays.chain(key) else {
+        return Ok(());
+    };
+    let count = reserve_blocks(chain, shares, counts)?;
+    current.reserve(count)
+}
+
+// Makes room for the counts of the blocks at which those with a share wait. How many they are, and one more.
+fn reserve_blocks(
+    chain: &PriorityChain,
+    shares: &[Option<u64>],
+    counts: &mut Counts,
+) -> Result<usize, AllocError>
+    ensures count { IfOk result (λ count. count ≡ length (with_share shares.now chain.now.items) + 1) }
+    ensures within { OnOk result (AreWithin (with_share shares.now chain.now.items) counts.new.limit) }
+    ensures entries { counts.new.entries ≡ counts.old.entries }
+    ensures limit { counts.old.limit ≤ counts.new.limit }
+{
+    let mut count = 1;
+    for i in 0..chain.len() {
+        let Some(x) = chain.get(i) else {
+            unreachable!()
+        };
+        if has_share(shares, i) {
+            reserve_block(x, counts)?;
+            count += 1;
+        }
+    }
+    Ok(count)
+}
+
+// Makes room for the count of the block at which a transaction waits.
+fn reserve_block(x: &Transaction, counts: &mut Counts) -> Result<(), AllocError>
+    ensures ok { OnOk result (IsWithin x.now.destination counts.new.limit) }
+    ensures entries { counts.new.entries ≡ counts.old.entries }
+    ensures limit { counts.old.limit ≤ counts.new.limit }
+{
+    match x.destination.id() {
+        Some(id) => counts.reserve(id),
+        None => Ok(()),
+    }
+}
+
+// The first that waits for a facility, where there is one, is let in.
+#[inline(always)]
+pub fn let_first_in(
+    delays: &mut DelayChains,
+    current: &mut PriorityChain,
+    counts: &mut Counts,
+    key: &Key,
+)
+    requires { HasRoomToLetIn (first_of (delay_at (delays_of delays.old.chains) key.now))
+        current.old.room counts.old.limit }
+    ensures { (s : Machine) →
+        record s { delays = delays_of delays.new.chains; current = current.new.items; counts = counts.new.entries } ≡
+        some_let_in key.now (Some 1 ∷ []) [] (delay_at (delays_of delays.old.chains) key.now) (record s {
+          delays = delays_of delays.old.chains;
+          current = current.old.items;
+          counts = counts.old.entries;
+        }) }
+{
+    if let Some(x) = delays.take_first(key) {
+        let_in(current, counts, x);
+    }
+}

@@ -1,0 +1,95 @@
+// The shares of a LEAVE: who of a delay chain is let in, and with how many units.
+ghost use Rattle.std.specs.Prelude.{◌≡◌, []};
+ghost use Rattle.gw_entities.specs.Records.{capped};
+ghost use Rattle.gw_meaning.specs.Machine.{delay_at};
+ghost use Rattle.gw_meaning.specs.Step.{beside, share_of, in_use, shares_prog, all_shares};
+ghost use Rattle.gw_scan.specs.Deciding.{Decides};
+
+use crate::case::{Case, Halt, ask_fits};
+use crate::notes::Notes;
+use crate::state::State;
+use gw_chains::PriorityChain;
+use gw_meaning::Row;
+use gw_names::{Key, Name};
+
+impl State {
+    // For each that waits for a storage, with so many units in use, the units with which it is let in.
+    pub(crate) fn shares(
+        &self,
+        case: Case,
+        notes: &mut Notes,
+        name: &Name,
+        key: &Key,
+        content: u64,
+    ) -> Result<Row<Option<u64>>, Halt>
+        ensures { Decides case.entry.version.now case.entry.seed
+            (shares_prog name.now content [] (delay_at self.now.delays key.now)) result notes.old notes.new }
+    {
+        match self.delays.chain(key) {
+            Some(chain) => shares_of(case, notes, name, chain, content),
+            None => Ok(Row::from_vec(Vec::new(case.alloc))),
+        }
+    }
+}
+
+// So many units beside those in use.
+pub fn beside(units: u64, content: u64) -> u64
+    ensures { result ≡ beside units content }
+{
+    units.saturating_add(content)
+}
+
+// Each of a delay chain, from the front, is let in where its units fit beside those that are in use by then.
+fn shares_of(
+    case: Case,
+    notes: &mut Notes,
+    name: &Name,
+    chain: &PriorityChain,
+    mut content: u64,
+) -> Result<Row<Option<u64>>, Halt>
+    ensures { Decides case.entry.version.now case.entry.seed
+        (shares_prog name.now content [] chain.now.items) result notes.old notes.new }
+{
+    let mut shares = Vec::new(case.alloc);
+    for i in 0..chain.len() {
+        let Some(x) = chain.get(i) else {
+            unreachable!()
+        };
+        let asked = u64::from(x.asked);
+        let fits = ask_fits(case.version, notes, name, beside(asked, content))?;
+        shares.push(share_of(asked, fits))?;
+        content = in_use(content, asked, fits);
+    }
+    Ok(Row::from_vec(shares))
+}
+
+// The units in use behind one who is let in where its units fit.
+fn in_use(content: u64, units: u64, fits: bool) -> u64
+    ensures { result ≡ in_use content units fits }
+{
+    if fits {
+        beside(units, content)
+    } else {
+        content
+    }
+}
+
+// The units with which one is let in, where they fit.
+fn share_of(units: u64, fits: bool) -> Option<u64>
+    ensures { result ≡ share_of units fits }
+{
+    if fits { Some(units) } else { None }
+}
+
+// The units of those who are let in.
+pub fn all_shares(shares: &[Option<u64>]) -> u64
+    ensures { result ≡ capped (all_shares shares.now) }
+{
+    let mut sum: u64 = 0;
+    for share in shares {
+        if let Some(units) = share {
+            sum = sum.saturating_add(*units);
+        }
+    }
+    sum
+}
