@@ -66,7 +66,7 @@ impl State {
     }
 
     // A transaction lets its equals on the current chain move first.
-    #[inline(always)]
+    #[inline(never)]
     pub(crate) fn act_buffer(&mut self, notes: &Notes, id: StatementId) -> Result<(), Halt>
         ensures { (version : Listing) (seed : ℕ) →
             Acts version seed (buffer_prog id) result self.old self.new notes.now notes.now }

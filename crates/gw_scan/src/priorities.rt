@@ -15,7 +15,7 @@ use gw_meaning::{Block, StatementId, Transaction, TransactionChange};
 
 impl State {
     // A transaction is marked with the clock.
-    #[inline(always)]
+    #[inline(never)]
     pub(crate) fn act_mark(&mut self, notes: &Notes, id: StatementId) -> Result<(), Halt>
         requires { IsSome self.old.active }
         ensures { (version : Listing) (seed : ℕ) →
