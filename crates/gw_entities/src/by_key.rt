@@ -75,6 +75,21 @@ impl<V: Copy> ByKey<V> {
         }
     }
 
+    /// The value of an entity of which it is known where it lies: `fresh` where it has none.
+    #[inline(always)]
+    pub fn value_at(&self, key: &Key, place: Option<usize>, fresh: V) -> V
+        requires { IsPlace self.now.entries key.now place }
+        ensures { result ≡ unwrap_or (value_of self.now.entries key.now) fresh }
+    {
+        let Some(index) = place else {
+            return fresh;
+        };
+        match self.map.get_index(index) {
+            Some((_, value)) => *value,
+            None => unreachable!(),
+        }
+    }
+
     /// Makes room for an entity of which it is known where it lies, as [`ByKey::reserve`] does.
     #[inline(always)]
     pub fn reserve_at(&mut self, key: &Key, place: Option<usize>) -> Result<(), AllocError>

@@ -5,7 +5,7 @@ ghost use Rattle.gw_expr.specs.declared.atom.Atom.TheVariants as atoms;
 use crate::atom::Atom;
 use crate::attribute::Subject;
 use crate::token::Token;
-use gw_names::{Class, Name};
+use gw_names::{Class, Name, StorageName};
 use gw_nums::Val;
 use std::alloc::AllocError;
 use std::marker::Model;
@@ -30,7 +30,7 @@ pub enum Node {
     /// A fraction, in millionths.
     Fraction(u32),
     /// The name of a storage's definition.
-    Defined(Name),
+    Defined(StorageName),
 }
 
 impl Model for Expr {
@@ -119,7 +119,7 @@ impl Expr {
         ensures { result ≡ Defined name }
     {
         Expr {
-            node: Node::Defined(name),
+            node: Node::Defined(StorageName::new(name)),
         }
     }
 
@@ -140,7 +140,7 @@ impl Expr {
             Node::Named(name) => Ok(Expr::named(name.clone()?)),
             Node::Label(name) => Ok(Expr::label(name.clone()?)),
             Node::Fraction(millionths) => Ok(Expr::fraction(*millionths)),
-            Node::Defined(name) => Ok(Expr::defined(name.clone()?)),
+            Node::Defined(name) => Ok(Expr::defined(name.name().clone()?)),
         }
     }
 }

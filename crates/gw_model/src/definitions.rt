@@ -1,4 +1,4 @@
-ghost use Rattle.std.specs.Prelude.{◌≡◌, ℕ, List, is_some, option_copied};
+ghost use Rattle.std.specs.Prelude.{◌≡◌, ℕ, List, is_some, not, option_copied};
 ghost use Rattle.std.specs.BTreeMap as tree;
 ghost use Rattle.std.specs.Ordering.{nat_cmp};
 ghost use Rattle.std.specs.Cmp.Lexicographic.{slice_cmp};
@@ -90,7 +90,7 @@ fn is_undefined(definitions: &BTreeMap<Name, Definition>, expr: &Expr) -> bool
         is_undefined (λ name. tree.get (slice_cmp nat_cmp) definitions.now name) expr.now }
 {
     match expr.node() {
-        Node::Defined(name) => !is_storage_or_equ(definitions.get(name)),
+        Node::Defined(name) => is_no_storage(definitions, name.name()),
         Node::Value(atom) => has_no_value(definitions, atom),
         Node::Computed(tokens) => any_lacks_a_value(definitions, tokens),
         Node::Named(_) | Node::Label(_) | Node::Fraction(_) => false,
@@ -154,7 +154,7 @@ fn is_equ_named(definitions: &BTreeMap<Name, Definition>, expr: &Expr) -> bool
         is_equ_named (λ name. tree.get (slice_cmp nat_cmp) definitions.now name) expr.now }
 {
     match expr.node() {
-        Node::Defined(name) => is_equ(definitions, name),
+        Node::Defined(name) => is_equ(definitions, name.name()),
         Node::Value(atom) => is_of_equ(definitions, atom),
         Node::Computed(tokens) => any_is_of_equ(definitions, tokens),
         Node::Named(_) | Node::Label(_) | Node::Fraction(_) => false,
@@ -196,6 +196,13 @@ fn is_equ(definitions: &BTreeMap<Name, Definition>, name: &Name) -> bool
         Some(Definition::Storage { .. } | Definition::Variable { .. } | Definition::Function(_))
         | None => false,
     }
+}
+
+// Whether a name is that of no storage, and of no EQU in the place of one.
+fn is_no_storage(definitions: &BTreeMap<Name, Definition>, name: &Name) -> bool
+    ensures { result ≡ not (is_storage_or_equ (tree.get (slice_cmp nat_cmp) definitions.now name.now)) }
+{
+    !is_storage_or_equ(definitions.get(name))
 }
 
 // Whether a definition is a storage, or an EQU in the place of one.

@@ -222,6 +222,7 @@ impl Version {
 
     /// The number that the name stands for, by an EQU.
     #[tactic(auto, using(crate::proofs::Once::number_once))]
+    #[inline(always)]
     pub fn number_of(&self, name: &Name) -> Option<Val>
         ensures { result ≡ number_at self.now name.now }
     {
@@ -265,6 +266,7 @@ impl Version {
     }
 
     /// Whether so many units fit into the storage of this name, where nothing of it is in use.
+    #[inline(always)]
     pub fn fits(&self, name: &Name, units: u64) -> bool
         ensures { result ≡ nat_le units (capacity_at self.now name.now) }
     {

@@ -1,5 +1,5 @@
 -- The head of a name, by which most names are told apart at once. (Our own.)
-use Rattle.std.specs.Prelude.{ℕ, zero, suc, List, [], ◌∷◌, slice_index}
+use Rattle.std.specs.Prelude.{ℕ, ◌%◌, zero, suc, List, [], ◌∷◌, slice_index}
 use Rattle.std.specs.Int.{w64, from_be_bytes}
 
 -- so many bytes of a text from an index on, with zeros behind its end
@@ -10,3 +10,7 @@ bytes_from text i (suc n) = slice_index text i ∷ bytes_from text (suc i) n
 -- the first eight bytes of a text as one number, the first byte the highest
 unfoldable pub head_of : List ℕ → ℕ
 head_of text = from_be_bytes w64 (bytes_from text 0 8)
+
+-- a small number by which names are spread
+abbrev pub mark_of : List ℕ → ℕ
+mark_of text = head_of text % 127

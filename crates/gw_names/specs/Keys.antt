@@ -13,6 +13,12 @@ told_by (Num number) = 0 ∷ number ∷ []
 told_by (Named name) = 1 ∷ name
 told_by (Defined name) = 2 ∷ name
 
+-- the name in a key, where it has one
+abbrev pub name_in : Key → List ℕ
+name_in (Num number) = []
+name_in (Named name) = name
+name_in (Defined name) = name
+
 -- whether two keys are one
 abbrev pub key_eq : Key → Key → Bool
 key_eq = on told_by (pointwise nat_eq)

@@ -8,9 +8,11 @@ mod class;
 mod key;
 mod name;
 mod spelling;
+mod storage_name;
 mod verb;
 
 pub use class::{CLASSES, Class, is_class};
 pub use key::Key;
 pub use name::Name;
+pub use storage_name::StorageName;
 pub use verb::{BlockVerb, CommandVerb, DefinitionVerb, VERBS, Verb};

@@ -5,7 +5,7 @@ ghost use Rattle.std.specs.Ordering.{nat_cmp};
 ghost use Rattle.std.specs.Cmp.Lexicographic.{slice_cmp};
 ghost use Rattle.gw_names.specs.Names.{name_of, is_name_text, is_name_byte, is_barred};
 ghost use Rattle.gw_names.specs.Words.{upper_of};
-ghost use Rattle.gw_names.specs.Heads.{head_of};
+ghost use Rattle.gw_names.specs.Heads.{head_of, mark_of};
 
 use crate::class::is_class;
 use crate::spelling::Spelling;
@@ -26,14 +26,15 @@ pub struct Name {
 impl Model for Name {
     ghost use Rattle.std.specs.Prelude.{ℕ, List, ◌≡◌, Some};
     ghost use Rattle.gw_names.specs.Names.{name_of};
-    ghost use Rattle.gw_names.specs.Heads.{head_of};
+    ghost use Rattle.gw_names.specs.Heads.{head_of, mark_of};
 
     ghost Value = { List ℕ };
 
     ghost view = { λ n. n.spelling.value.bytes.items };
 
     ghost invariant = { λ n. (name_of n.spelling.value.bytes.items ≡ Some n.spelling.value.bytes.items)
-        × (n.spelling.value.head ≡ head_of n.spelling.value.bytes.items) };
+        × (n.spelling.value.head ≡ head_of n.spelling.value.bytes.items)
+        × (n.spelling.value.mark ≡ mark_of n.spelling.value.bytes.items) };
 }
 
 impl Name {
@@ -68,6 +69,14 @@ impl Name {
         ensures { result ≡ head_of self.now }
     {
         self.spelling.head
+    }
+
+    /// The head's remainder by 127, which spreads names over small numbers.
+    #[inline(always)]
+    pub fn mark(&self) -> u64
+        ensures { result ≡ mark_of self.now }
+    {
+        self.spelling.mark
     }
 
     // Whether the two are the same name. Heads that differ tell at once, and so do equal heads of short names.

@@ -1,12 +1,15 @@
 ghost use Rattle.std.specs.Prelude.{◌≡◌, slice_index};
-ghost use Rattle.gw_names.specs.Heads.{head_of};
+ghost use Rattle.gw_names.specs.Heads.{head_of, mark_of};
 
 /// How a name is spelled, with its head: the first eight bytes as a big-endian number, with zeros behind a shorter
-/// name. Names whose heads differ are told apart by them alone.
+/// name. Names whose heads differ are told apart by them alone. The head's remainder is kept, too, since to divide costs
+/// more than to look.
 #[derive(Debug, Drop)]
 pub struct Spelling {
     /// The first eight bytes as a number.
     pub head: u64,
+    /// The head's remainder by 127.
+    pub mark: u64,
     /// Every byte.
     pub bytes: Vec<u8>,
 }
@@ -16,9 +19,12 @@ impl Spelling {
     pub fn new(bytes: Vec<u8>) -> Spelling
         ensures bytes { result.bytes ≡ bytes }
         ensures head { result.head ≡ head_of bytes.items }
+        ensures mark { result.mark ≡ mark_of bytes.items }
     {
+        let head = head_of(bytes.as_slice());
         Spelling {
-            head: head_of(bytes.as_slice()),
+            head,
+            mark: head % 127,
             bytes,
         }
     }

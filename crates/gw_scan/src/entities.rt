@@ -108,6 +108,15 @@ impl Entities {
         self.facilities.look(key, Facility::new())
     }
 
+    // A facility of which it is known where it lies.
+    #[inline(always)]
+    pub(crate) fn facility_there(&self, key: &Key, place: Option<usize>) -> Facility
+        requires { IsPlace self.now.facilities.entries key.now place }
+        ensures { result ≡ facility_at (entities_of self.now) key.now }
+    {
+        self.facilities.value_at(key, place, Facility::new())
+    }
+
     // Makes room for a facility of which it is known where it lies.
     #[inline(always)]
     pub(crate) fn reserve_facility(
@@ -142,6 +151,15 @@ impl Entities {
         ensures value { result.1 ≡ store_at (entities_of self.now) key.now }
     {
         self.storages.look(key, Storage::new())
+    }
+
+    // A storage of which it is known where it lies.
+    #[inline(always)]
+    pub(crate) fn storage_there(&self, key: &Key, place: Option<usize>) -> Storage
+        requires { IsPlace self.now.storages.entries key.now place }
+        ensures { result ≡ store_at (entities_of self.now) key.now }
+    {
+        self.storages.value_at(key, place, Storage::new())
     }
 
     // Makes room for a storage of which it is known where it lies.
@@ -212,6 +230,7 @@ pub fn give_back(facility: &mut Facility, next: Option<u64>, clock: Clock)
 }
 
 // The units of each share come into use, one by one.
+#[inline(always)]
 pub fn enter_all(storage: &mut Storage, shares: &[Option<u64>], clock: Clock)
     ensures { storage.new ≡ all_entered shares.now clock storage.old }
 {

@@ -1,5 +1,7 @@
 // Room for those who are let in behind a RELEASE or a LEAVE, and the first of a delay chain let in.
 ghost use Rattle.std.specs.Prelude.{◌≡◌, ◌+◌, ◌-◌, ◌<◌, ◌≤◌, [], ◌∷◌, Some, length, IfOk, OnOk};
+ghost use Rattle.std.specs.Option.{option_map};
+ghost use Rattle.gw_meaning.specs.declared.transaction.Transaction.{Transaction};
 ghost use Rattle.gw_meaning.specs.Machine.{Machine, delay_at};
 ghost use Rattle.gw_meaning.specs.Changes.{some_let_in};
 ghost use Rattle.gw_chains.specs.Chains.{delays_of, first_of, with_share, IsWithin, AreWithin, HasRoomToLetIn, HasRoomToLetAllIn};
@@ -9,14 +11,16 @@ use gw_meaning::Transaction;
 use gw_names::Key;
 use std::alloc::AllocError;
 
-// Makes room for the first that waits for a facility to be let in.
+// Makes room for the first that waits for a facility to be let in. Gives its number, where there is one.
 #[inline(always)]
 pub fn reserve_first(
     delays: &DelayChains,
     current: &mut PriorityChain,
     counts: &mut Counts,
     key: &Key,
-) -> Result<(), AllocError>
+) -> Result<Option<u64>, AllocError>
+    ensures number { IfOk result (λ number. number ≡
+        option_map (λ (x : Transaction). x.number) (first_of (delay_at (delays_of delays.now.chains) key.now))) }
     ensures ok { OnOk result (HasRoomToLetIn (first_of (delay_at (delays_of delays.now.chains) key.now))
         (current.new.room - 1) counts.new.limit) }
     ensures one { OnOk result (0 < current.new.room) }
@@ -26,13 +30,37 @@ pub fn reserve_first(
 {
     current.reserve(2)?;
     let Some(x) = delays.first(key) else {
-        return Ok(());
+        return Ok(None);
     };
-    reserve_block(x, counts)
+    reserve_block(x, counts)?;
+    Ok(Some(x.number))
 }
 
 // Makes room for those who wait for a storage and have a share to be let in.
+#[inline(always)]
 pub fn reserve_some(
+    delays: &DelayChains,
+    current: &mut PriorityChain,
+    counts: &mut Counts,
+    key: &Key,
+    shares: &[Option<u64>],
+) -> Result<(), AllocError>
+    ensures ok { OnOk result (HasRoomToLetAllIn (with_share shares.now (delay_at (delays_of delays.now.chains) key.now))
+        (current.new.room - 1) counts.new.limit) }
+    ensures one { OnOk result (0 < current.new.room) }
+    ensures current { current.new.items ≡ current.old.items }
+    ensures counts { counts.new.entries ≡ counts.old.entries }
+    ensures limit { counts.old.limit ≤ counts.new.limit }
+{
+    if shares.is_empty() {
+        return current.reserve(1);
+    }
+    reserve_shares(delays, current, counts, key, shares)
+}
+
+// The same, where there are shares.
+#[inline(never)]
+fn reserve_shares(
     delays: &DelayChains,
     current: &mut PriorityChain,
     counts: &mut Counts,
@@ -110,5 +138,29 @@ pub fn let_first_in(
 {
     if let Some(x) = delays.take_first(key) {
         let_in(current, counts, x);
+    }
+}
+
+// Of those who wait for a storage each with a share is let in.
+#[inline(always)]
+pub fn let_some_in(
+    delays: &mut DelayChains,
+    current: &mut PriorityChain,
+    counts: &mut Counts,
+    key: &Key,
+    shares: &[Option<u64>],
+)
+    requires { HasRoomToLetAllIn (with_share shares.now (delay_at (delays_of delays.old.chains) key.now))
+        current.old.room counts.old.limit }
+    ensures { (s : Machine) →
+        record s { delays = delays_of delays.new.chains; current = current.new.items; counts = counts.new.entries } ≡
+        some_let_in key.now shares.now [] (delay_at (delays_of delays.old.chains) key.now) (record s {
+          delays = delays_of delays.old.chains;
+          current = current.old.items;
+          counts = counts.old.entries;
+        }) }
+{
+    if !shares.is_empty() {
+        delays.let_in_some(key, shares, current, counts);
     }
 }

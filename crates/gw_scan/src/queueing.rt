@@ -45,7 +45,7 @@ impl State {
             Goes (queue_units id key (line_at self.old.entities key) units) result self.old self.new }
     {
         let units = u64::from(units);
-        let (place, mut queue) = self.entities.queues.look(&key, Queue::new());
+        let (place, queue) = self.entities.queues.look(&key, Queue::new());
         if is_too_many(queue.entries().saturating_add(units))
             || is_too_many(queue.level().content().saturating_add(units))
         {
@@ -55,6 +55,7 @@ impl State {
         self.entities.queues.reserve_at(&key, place)?;
         self.entities.comings.reserve()?;
         let number = enter_active(&mut self.active, &mut self.counts, id);
+        let mut queue = self.entities.queues.value_at(&key, place, Queue::new());
         queue.enter(units, self.clocks.clock());
         self.entities.queues.set_at(&key, place, queue);
         self.entities.comings.add(key, number);
@@ -94,7 +95,7 @@ impl State {
         };
         let units = u64::from(units);
         let at_once = self.entities.comings.has(key, x.number);
-        let (place, mut queue) = self.entities.queues.look(key, Queue::new());
+        let (place, queue) = self.entities.queues.look(key, Queue::new());
         if at_once && is_too_many(queue.zero_entries().saturating_add(units)) {
             return Err(Halt::End(End::Error(Stop::TooManyUnits)));
         }
@@ -104,6 +105,7 @@ impl State {
         self.counts.reserve(id)?;
         self.entities.queues.reserve_at(key, place)?;
         enter_active(&mut self.active, &mut self.counts, id);
+        let mut queue = self.entities.queues.value_at(key, place, Queue::new());
         queue.depart(units, self.clocks.clock(), at_once);
         self.entities.queues.set_at(key, place, queue);
         Ok(())

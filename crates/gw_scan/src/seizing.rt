@@ -1,6 +1,5 @@
 // SEIZE and RELEASE, made where they are decided: the facility is looked up once.
-ghost use Rattle.std.specs.Prelude.{◌≡◌, IsSome, Some, is_some, option_copied};
-ghost use Rattle.std.specs.Option.{option_map};
+ghost use Rattle.std.specs.Prelude.{◌≡◌, IsSome, Some, is_some};
 ghost use Rattle.gw_meaning.specs.declared.transaction.Transaction.{Transaction};
 ghost use Rattle.gw_meaning.specs.Machine.{delay_at};
 ghost use Rattle.gw_meaning.specs.Entities.{facility_at};
@@ -15,7 +14,7 @@ use crate::letting_in::{let_first_in, reserve_first};
 use crate::notes::Notes;
 use crate::state::State;
 use gw_expr::Stop;
-use gw_meaning::{Block, End, StatementId, Transaction};
+use gw_meaning::{Block, End, StatementId};
 use gw_names::Key;
 
 impl State {
@@ -45,7 +44,7 @@ impl State {
         ensures { (x : Transaction) → self.old.active ≡ Some x →
             Goes (seize_or_wait id key (is_some (facility_at self.old.entities key).owner)) result self.old self.new }
     {
-        let (place, mut facility) = self.entities.look_for_facility(&key);
+        let (place, facility) = self.entities.look_for_facility(&key);
         if facility.is_owned() {
             self.refuse(id, key, 1)?;
             return Ok(());
@@ -53,6 +52,7 @@ impl State {
         self.counts.reserve(id)?;
         self.entities.reserve_facility(&key, place)?;
         let number = enter_active(&mut self.active, &mut self.counts, id);
+        let mut facility = self.entities.facility_there(&key, place);
         facility.seize(number, self.clocks.clock());
         self.entities.set_facility(&key, place, facility);
         Ok(())
@@ -88,15 +88,15 @@ impl State {
         let Some(x) = &self.active else {
             unreachable!()
         };
-        let (place, mut facility) = self.entities.look_for_facility(key);
+        let (place, facility) = self.entities.look_for_facility(key);
         if !is_owner(facility.owner(), x.number) {
             return Err(Halt::End(End::Error(Stop::NotOwner)));
         }
-        let next = number_of(self.delays.first(key));
         self.counts.reserve(id)?;
         self.entities.reserve_facility(key, place)?;
-        reserve_first(&self.delays, &mut self.current, &mut self.counts, key)?;
+        let next = reserve_first(&self.delays, &mut self.current, &mut self.counts, key)?;
         enter_active(&mut self.active, &mut self.counts, id);
+        let mut facility = self.entities.facility_there(key, place);
         give_back(&mut facility, next, self.clocks.clock());
         self.entities.set_facility(key, place, facility);
         let_first_in(&mut self.delays, &mut self.current, &mut self.counts, key);
@@ -111,14 +111,5 @@ fn is_owner(owner: Option<u64>, number: u64) -> bool
     match owner {
         Some(owner) => owner == number,
         None => false,
-    }
-}
-
-fn number_of(x: Option<&Transaction>) -> Option<u64>
-    ensures { result ≡ option_map (λ (x : Transaction). x.number) (option_copied x.entry) }
-{
-    match x {
-        Some(x) => Some(x.number),
-        None => None,
     }
 }

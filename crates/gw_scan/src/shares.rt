@@ -14,6 +14,7 @@ use gw_names::{Key, Name};
 
 impl State {
     // For each that waits for a storage, with so many units in use, the units with which it is let in.
+    #[inline(always)]
     pub(crate) fn shares(
         &self,
         case: Case,
@@ -25,10 +26,13 @@ impl State {
         ensures { Decides case.entry.version.now case.entry.seed
             (shares_prog name.now content [] (delay_at self.now.delays key.now)) result notes.old notes.new }
     {
-        match self.delays.chain(key) {
-            Some(chain) => shares_of(case, notes, name, chain, content),
-            None => Ok(Row::from_vec(Vec::new(case.alloc))),
+        let Some(chain) = self.delays.chain(key) else {
+            return Ok(Row::from_vec(Vec::new(case.alloc)));
+        };
+        if chain.is_empty() {
+            return Ok(Row::from_vec(Vec::new(case.alloc)));
         }
+        shares_of(case, notes, name, chain, content)
     }
 }
 
@@ -40,6 +44,7 @@ pub fn beside(units: u64, content: u64) -> u64
 }
 
 // Each of a delay chain, from the front, is let in where its units fit beside those that are in use by then.
+#[inline(never)]
 fn shares_of(
     case: Case,
     notes: &mut Notes,
@@ -82,6 +87,7 @@ fn share_of(units: u64, fits: bool) -> Option<u64>
 }
 
 // The units of those who are let in.
+#[inline(always)]
 pub fn all_shares(shares: &[Option<u64>]) -> u64
     ensures { result ≡ capped (all_shares shares.now) }
 {

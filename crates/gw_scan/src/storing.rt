@@ -14,7 +14,7 @@ ghost use Rattle.gw_scan.specs.Stepping.{Acts, Goes};
 use crate::case::{Case, Halt, ask_fits};
 use crate::entering::enter_active;
 use crate::entities::enter_all;
-use crate::letting_in::reserve_some;
+use crate::letting_in::{let_some_in, reserve_some};
 use crate::notes::Notes;
 use crate::queueing::is_too_many;
 use crate::shares::{all_shares, beside};
@@ -23,7 +23,7 @@ use gw_entities::Storage;
 use gw_expr::{Node, Stop};
 use gw_meaning::operands::A;
 use gw_meaning::{Block, End, Row, StatementId};
-use gw_names::{Key, Name};
+use gw_names::{Key, StorageName};
 
 impl State {
     // Units of a storage come into use, or are waited for where they do not fit.
@@ -56,7 +56,7 @@ impl State {
         case: Case,
         notes: &mut Notes,
         id: StatementId,
-        name: &Name,
+        name: &StorageName,
         block: &Block,
     ) -> Result<(), Halt>
         requires { IsSome self.old.active }
@@ -75,7 +75,7 @@ impl State {
         case: Case,
         notes: &mut Notes,
         id: StatementId,
-        name: &Name,
+        name: &StorageName,
         units: u32,
     ) -> Result<(), Halt>
         requires { IsSome self.old.active }
@@ -84,7 +84,7 @@ impl State {
             (enter_storage id name.now (store_at self.old.entities (keys.Defined name.now)) units))
             result self.old self.new notes.old notes.new }
     {
-        let large = ask_fits(case.version, notes, name, u64::from(units))?;
+        let large = ask_fits(case.version, notes, name.name(), u64::from(units))?;
         self.act_enter_storage(case, notes, id, name, units, large)
     }
 
@@ -95,7 +95,7 @@ impl State {
         case: Case,
         notes: &mut Notes,
         id: StatementId,
-        name: &Name,
+        name: &StorageName,
         units: u32,
         large: bool,
     ) -> Result<(), Halt>
@@ -107,10 +107,10 @@ impl State {
         if !large {
             return Err(Halt::End(End::Error(Stop::TooManyUnits)));
         }
-        let key = Key::Defined(name.clone()?);
-        let (place, storage) = self.entities.look_for_storage(&key);
+        let key = name.key();
+        let (place, storage) = self.entities.look_for_storage(key);
         let wanted = beside(u64::from(units), storage.level().content());
-        let fits = ask_fits(case.version, notes, name, wanted)?;
+        let fits = ask_fits(case.version, notes, name.name(), wanted)?;
         let entered = self.enter_or_wait(id, key, place, storage, units, fits);
         self.with_draws(entered, notes)
     }
@@ -120,20 +120,20 @@ impl State {
     fn enter_or_wait(
         &mut self,
         id: StatementId,
-        key: Key,
+        key: &Key,
         place: Option<usize>,
-        mut storage: Storage,
+        storage: Storage,
         units: u32,
         fits: bool,
     ) -> Result<(), Halt>
         requires active { IsSome self.old.active }
-        requires place { IsPlace self.old.entities.storages key place }
-        requires storage { storage ≡ store_at self.old.entities key }
+        requires place { IsPlace self.old.entities.storages key.now place }
+        requires storage { storage ≡ store_at self.old.entities key.now }
         ensures { (x : Transaction) → self.old.active ≡ Some x →
-            Goes (enter_or_wait id key storage units fits) result self.old self.new }
+            Goes (enter_or_wait id key.now storage units fits) result self.old self.new }
     {
         if !fits {
-            self.refuse(id, key, units)?;
+            self.refuse(id, key.clone()?, units)?;
             return Ok(());
         }
         let units = u64::from(units);
@@ -141,10 +141,11 @@ impl State {
             return Err(Halt::End(End::Error(Stop::TooManyUnits)));
         }
         self.counts.reserve(id)?;
-        self.entities.reserve_storage(&key, place)?;
+        self.entities.reserve_storage(key, place)?;
         enter_active(&mut self.active, &mut self.counts, id);
+        let mut storage = self.entities.storage_there(key, place);
         storage.enter(units, self.clocks.clock());
-        self.entities.set_storage(&key, place, storage);
+        self.entities.set_storage(key, place, storage);
         Ok(())
     }
 
@@ -178,7 +179,7 @@ impl State {
         case: Case,
         notes: &mut Notes,
         id: StatementId,
-        name: &Name,
+        name: &StorageName,
         block: &Block,
     ) -> Result<(), Halt>
         requires { IsSome self.old.active }
@@ -197,7 +198,7 @@ impl State {
         case: Case,
         notes: &mut Notes,
         id: StatementId,
-        name: &Name,
+        name: &StorageName,
         units: u32,
     ) -> Result<(), Halt>
         requires { IsSome self.old.active }
@@ -205,15 +206,15 @@ impl State {
             (leave_units self.old id name.now (store_at self.old.entities (keys.Defined name.now)) units)
             result self.old self.new notes.old notes.new }
     {
-        let key = Key::Defined(name.clone()?);
-        let (place, storage) = self.entities.look_for_storage(&key);
+        let key = name.key();
+        let (place, storage) = self.entities.look_for_storage(key);
         let units = u64::from(units);
         let content = storage.level().content();
         if content < units {
             return Err(Halt::End(End::Error(Stop::LeaveTooMany)));
         }
-        let shares = self.shares(case, notes, name, &key, content - units)?;
-        let left = self.leave_for(id, &key, place, storage, units, &shares);
+        let shares = self.shares(case, notes, name.name(), key, content - units)?;
+        let left = self.leave_for(id, key, place, storage, units, &shares);
         self.with_draws(left, notes)
     }
 
@@ -224,7 +225,7 @@ impl State {
         id: StatementId,
         key: &Key,
         place: Option<usize>,
-        mut storage: Storage,
+        storage: Storage,
         units: u64,
         shares: &Row<Option<u64>>,
     ) -> Result<(), Halt>
@@ -248,11 +249,17 @@ impl State {
             shares,
         )?;
         enter_active(&mut self.active, &mut self.counts, id);
+        let mut storage = self.entities.storage_there(key, place);
         storage.leave(units, self.clocks.clock());
         enter_all(&mut storage, shares, self.clocks.clock());
         self.entities.set_storage(key, place, storage);
-        self.delays
-            .let_in_some(key, shares, &mut self.current, &mut self.counts);
+        let_some_in(
+            &mut self.delays,
+            &mut self.current,
+            &mut self.counts,
+            key,
+            shares,
+        );
         Ok(())
     }
 }

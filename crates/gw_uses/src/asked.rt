@@ -45,12 +45,12 @@ impl Asked<'_> {
     #[inline(always)]
     pub(crate) fn mark(self) -> u64 {
         match self {
-            Asked::Fits(name, units) => name.head().wrapping_add(units),
+            Asked::Fits(name, units) => name.mark().wrapping_add(units),
             Asked::Label(name)
             | Asked::Name(name)
             | Asked::Storage(name)
             | Asked::Variable(name)
-            | Asked::Function(name) => name.head(),
+            | Asked::Function(name) => name.mark(),
         }
     }
 

@@ -15,7 +15,7 @@ use std::alloc::{AllocError, Global};
 use std::marker::Model;
 
 // How many places are kept at which items were found.
-const NEAR: usize = 127;
+const NEAR: usize = 128;
 
 /// For each item of any kind the first step that used it, if any did, in the order in which they were noted.
 #[derive(Debug, Drop)]
@@ -95,7 +95,7 @@ impl ItemSteps {
     // Notes that a step used this item, which its slot did not tell.
     #[inline(never)]
     fn note_at(&mut self, item: &Item, step: u64, slot: usize) -> Result<(), AllocError>
-        requires { slot < 127 }
+        requires { slot < 128 }
         ensures ok { OnOk result ((q : Item) →
             step_of self.new q ≡ or_later (step_of self.old q) (if same_item item.now q then Some step else None)) }
         ensures err { OnErr result (self.new ≡ self.old) }
@@ -162,7 +162,7 @@ impl ItemSteps {
 // Where an item that goes by a number is looked for first.
 #[inline(always)]
 fn slot_of(number: u64) -> usize
-    ensures { result < 127 }
+    ensures { result < 128 }
 {
     (number % NEAR as u64) as usize
 }

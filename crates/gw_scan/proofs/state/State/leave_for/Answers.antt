@@ -26,11 +26,11 @@ returns c x is =
       counts = c.enter_active.new.counts.entries;
     } in
     let after : Machine = record rest {
-      delays = delays_of c.let_in_some.new.self.chains;
-      current = c.let_in_some.new.current.items;
-      counts = c.let_in_some.new.counts.entries;
+      delays = delays_of c.let_some_in.new.delays.chains;
+      current = c.let_some_in.new.current.items;
+      counts = c.let_some_in.new.counts.entries;
     } in
-    let let_in : after ≡ admitted key deed start = c.let_in_some.ensures rest in
+    let let_in : after ≡ admitted key deed start = c.let_some_in.ensures rest in
     let same : start ≡ base = search (rules, counts) in
     let whole : after ≡ admitted key deed base = let_in ∙ ap (admitted key deed) same in
     (m, search rules, rw is (search (rules, whole)))
