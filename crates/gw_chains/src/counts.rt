@@ -1,12 +1,18 @@
 ghost use Rattle.std.specs.Prelude.{◌≡◌, ◌<◌, ◌≤◌, [], All, IfOk, OnOk};
 ghost use Rattle.gw_meaning.specs.declared.moves.Arrival.{Arrival};
-ghost use Rattle.gw_meaning.specs.Machine.{count_at};
+ghost use Rattle.gw_meaning.specs.Machine.{count_at, raised};
 ghost use Rattle.gw_meaning.specs.Changes.{left, crossed, content_behind, made_one};
 
 use gw_meaning::{Arrival, Count, Fate, StatementId};
 use gw_table::Table;
 use std::alloc::{AllocError, Global};
 use std::marker::Model;
+
+const NOTHING: Count = Count {
+    entries: 0,
+    content: 0,
+    made: 0,
+};
 
 /// What is counted at each block, in the order of first use.
 #[derive(Drop)]
@@ -40,11 +46,7 @@ impl Counts {
     {
         match self.table.get(id.number()) {
             Some(count) => count,
-            None => Count {
-                entries: 0,
-                content: 0,
-                made: 0,
-            },
+            None => NOTHING,
         }
     }
 
@@ -85,7 +87,7 @@ impl Counts {
     }
 
     /// A transaction leaves a block and enters another, in which it stays or where it is destroyed.
-    #[tactic(auto, using(crate::proofs::CountLaws::with_count_is))]
+    #[tactic(auto, using(crate::proofs::CountLaws::count_in_is, crate::proofs::CountLaws::with_count_is))]
     #[inline(always)]
     pub fn cross(&mut self, from: StatementId, to: StatementId, fate: &Fate)
         requires { to < self.old.limit }
@@ -93,13 +95,11 @@ impl Counts {
         ensures limit { self.new.limit ≡ self.old.limit }
     {
         self.leave(from);
-        let count = self.at(to);
-        let count = Count {
-            entries: count.entries.saturating_add(1),
-            content: content_behind(fate, count.content),
-            ..count
-        };
-        self.table.set(to.number(), count);
+        // Apart, so that a count that is there is found once and changed where it stands.
+        match self.table.get(to.number()) {
+            Some(count) => self.table.set(to.number(), entered(count, fate)),
+            None => self.table.set(to.number(), entered(NOTHING, fate)),
+        }
     }
 
     /// A GENERATE made one more.
@@ -124,6 +124,21 @@ impl Counts {
     {
         let table = self.table.copy()?;
         Ok(Counts { table })
+    }
+}
+
+// What is counted at a block behind the entry of a transaction.
+#[inline(always)]
+fn entered(count: Count, fate: &Fate) -> Count
+    ensures { result ≡ record count {
+      entries = raised count.entries;
+      content = content_behind fate.now count.content;
+    } }
+{
+    Count {
+        entries: count.entries.saturating_add(1),
+        content: content_behind(fate, count.content),
+        ..count
     }
 }
 

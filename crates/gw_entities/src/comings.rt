@@ -54,14 +54,38 @@ impl Comings {
     }
 
     /// Whether a transaction came to a queue.
+    #[inline(always)]
     pub fn has(&self, key: &Key, number: u64) -> bool
+        ensures { result ≡ came self.now.comings key.now number }
+    {
+        !self.few.is_empty() && self.is_known(key, number)
+    }
+
+    // Whether a transaction came to a queue, where some came.
+    #[inline(never)]
+    fn is_known(&self, key: &Key, number: u64) -> bool
         ensures { result ≡ came self.now.comings key.now number }
     {
         is_among(&self.few, key, number) || self.many.has(key, number)
     }
 
     /// Makes room for one more coming. It changes none, and room that was there stays.
+    #[inline(always)]
     pub fn reserve(&mut self) -> Result<(), AllocError>
+        ensures ok { OnOk result (0 < self.new.room) }
+        ensures comings { self.new.comings ≡ self.old.comings }
+        ensures room { self.old.room ≤ self.new.room }
+    {
+        if self.few.len() < FEW_COMINGS && self.few.len() < self.few.capacity() {
+            return Ok(());
+        }
+        self.grow()
+    }
+
+    // Makes room for one more coming, where the list may have none.
+    #[cold]
+    #[inline(never)]
+    fn grow(&mut self) -> Result<(), AllocError>
         ensures ok { OnOk result (0 < self.new.room) }
         ensures comings { self.new.comings ≡ self.old.comings }
         ensures room { self.old.room ≤ self.new.room }
@@ -73,6 +97,7 @@ impl Comings {
     }
 
     /// A transaction comes to a queue: behind the others, unless it came there already.
+    #[inline(always)]
     pub fn add(&mut self, key: Key, number: u64)
         requires { 0 < self.old.room }
         ensures { self.new.comings ≡ with_coming self.old.comings key number }
@@ -88,7 +113,21 @@ impl Comings {
     }
 
     /// Forgets who came. What many comings took is given back, since to clear a set costs what it can hold.
+    #[inline(always)]
     pub fn clear(&mut self)
+        ensures { self.new.comings ≡ [] }
+    {
+        // One is taken out without a loop: few ticks have more.
+        if self.few.len() == 1 {
+            self.few.pop();
+        } else {
+            self.clear_all();
+        }
+    }
+
+    // Forgets who came, however many.
+    #[inline(never)]
+    fn clear_all(&mut self)
         ensures { self.new.comings ≡ [] }
     {
         if self.few.len() >= FEW_COMINGS {

@@ -69,6 +69,7 @@ impl ManyComings {
     }
 
     // A transaction comes to a queue: behind the others, unless it came there already.
+    #[inline(never)]
     pub fn add(&mut self, key: Key, number: u64)
         requires { 0 < self.old.room }
         ensures { self.new.comings ≡ with_coming self.old.comings key number }

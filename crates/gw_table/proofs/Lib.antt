@@ -1,3 +1,4 @@
 pub mod Laws
-pub mod PairLaws
-pub mod PlaceLaws
+pub mod LookupLaws
+pub mod RoomLaws
+pub mod SetLaws

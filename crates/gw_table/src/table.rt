@@ -1,6 +1,5 @@
-ghost use Rattle.std.specs.Prelude.{◌≡◌, ◌<◌, ◌≤◌, [], length, take, IfOk, OnOk};
+ghost use Rattle.std.specs.Prelude.{◌≡◌, ◌<◌, ◌≤◌, [], length, slice_get, IfOk, OnOk};
 ghost use Rattle.gw_table.specs.Pairs.{value_in, with_value, HasRoom};
-ghost use Rattle.gw_table.specs.Places.{IsPlaceIn};
 
 use std::alloc::{AllocError, Global};
 use std::marker::Model;
@@ -8,27 +7,27 @@ use std::marker::Model;
 /// A map from small numbers to values: pairs, in the order of first insertion.
 #[derive(Drop)]
 pub struct Table<V: Copy> {
-    pairs: Vec<(u64, V)>,
-    // At the number of a pair the place of that pair; at another number any place.
-    places: Vec<u32>,
+    // At each number its value, if it has one.
+    values: Vec<Option<V>>,
+    // The numbers that have a value, in the order of first insertion.
+    numbers: Vec<u32>,
 }
 
 impl<V: Copy> Model for Table<V> {
     ghost use Rattle.std.specs.Prelude.{length, vec_capacity};
-    ghost use Rattle.std.specs.Map.{keys_of};
     ghost use Rattle.gw_table.specs.Pairs.{Pairs, pairs_code};
-    ghost use Rattle.gw_table.specs.Places.{limit_of, IsPlaced};
+    ghost use Rattle.gw_table.specs.Values.{pairs_of, limit_of, IsListed};
 
     ghost Value = { Pairs V };
 
     ghost coded = { pairs_code V.code };
 
     ghost view = { λ t. record {
-      entries = t.pairs.items;
-      limit = limit_of (length t.places.items) (vec_capacity t.pairs);
+      entries = pairs_of t.values.items t.numbers.items;
+      limit = limit_of (length t.values.items) (vec_capacity t.numbers);
     } };
 
-    ghost invariant = { λ t. IsPlaced (keys_of t.pairs.items) t.places.items };
+    ghost invariant = { λ t. IsListed t.numbers.items t.values.items };
 }
 
 impl<V: Copy> Table<V> {
@@ -37,8 +36,8 @@ impl<V: Copy> Table<V> {
         ensures { result.entries ≡ [] }
     {
         Table {
-            pairs: Vec::new(alloc),
-            places: Vec::new(alloc),
+            values: Vec::new(alloc),
+            numbers: Vec::new(alloc),
         }
     }
 
@@ -46,14 +45,15 @@ impl<V: Copy> Table<V> {
     pub fn len(&self) -> usize
         ensures { result ≡ length self.now.entries }
     {
-        self.pairs.len()
+        self.numbers.len()
     }
 
-    /// The pairs, in the order of first insertion.
-    pub fn as_slice(&self) -> &[(u64, V)]
-        ensures { result.now ≡ self.now.entries }
+    /// The pair at a place in the order of first insertion.
+    pub fn pair(&self, place: usize) -> Option<(u64, V)>
+        ensures { result ≡ slice_get self.now.entries place }
     {
-        self.pairs.as_slice()
+        let number = u64::from(*self.numbers.get(place)?);
+        Some((number, self.get(number)?))
     }
 
     /// The value at a number.
@@ -61,10 +61,7 @@ impl<V: Copy> Table<V> {
     pub fn get(&self, number: u64) -> Option<V>
         ensures { result ≡ value_in self.now.entries number }
     {
-        match self.place_of(number) {
-            Some(place) => Some(self.pairs[place].1),
-            None => None,
-        }
+        *self.values.get(number as usize)?
     }
 
     /// Makes room for a number, for good. It changes no pair, and where memory is refused it leaves the room that
@@ -74,14 +71,14 @@ impl<V: Copy> Table<V> {
         ensures entries { self.new.entries ≡ self.old.entries }
         ensures limit { self.old.limit ≤ self.new.limit }
     {
-        let is_there = (number as usize) < self.places.len();
-        if is_there && self.places.len() <= self.pairs.capacity() {
+        let is_there = (number as usize) < self.values.len();
+        if is_there && self.values.len() <= self.numbers.capacity() {
             return Ok(());
         }
         self.grow(number)
     }
 
-    // Makes the table so long that it has a place for this number, and room for as many pairs.
+    // Makes the table so long that it has a place for this number, and room for as many numbers.
     #[cold]
     #[inline(never)]
     fn grow(&mut self, number: u64) -> Result<(), AllocError>
@@ -92,10 +89,10 @@ impl<V: Copy> Table<V> {
         if number > u32::MAX as u64 {
             return Err(AllocError);
         }
-        let size = self.places.len().max(number as usize + 1);
-        self.pairs.reserve(size - self.pairs.len())?;
-        if size > self.places.len() {
-            self.places.resize(size, 0)?;
+        let size = self.values.len().max(number as usize + 1);
+        self.numbers.reserve(size - self.numbers.len())?;
+        if size > self.values.len() {
+            self.values.resize(size, None)?;
         }
         Ok(())
     }
@@ -107,41 +104,21 @@ impl<V: Copy> Table<V> {
         ensures entries { self.new.entries ≡ with_value self.old.entries number value }
         ensures limit { self.new.limit ≡ self.old.limit }
     {
-        match self.place_of(number) {
-            Some(place) => self.pairs[place] = (number, value),
-            None => {
-                self.places[number as usize] = self.pairs.len() as u32;
-                self.pairs.push_reserved((number, value));
-            }
+        let place = number as usize;
+        if self.values[place].is_none() {
+            self.numbers.push_reserved(number as u32);
         }
-    }
-
-    /// Drops the last pairs, down to so many.
-    pub fn truncate(&mut self, len: usize)
-        ensures entries { self.new.entries ≡ take len self.old.entries }
-        ensures limit { self.new.limit ≡ self.old.limit }
-    {
-        self.pairs.truncate(len);
+        self.values[place] = Some(value);
     }
 
     /// A table of the same pairs, which takes no more memory than they need: its room has to be reserved anew.
     pub fn copy(&self) -> Result<Table<V>, AllocError>
         ensures { IfOk result (λ t. t.entries ≡ self.now.entries) }
     {
-        let alloc = *self.pairs.allocator();
+        let alloc = *self.numbers.allocator();
         Ok(Table {
-            pairs: Vec::from_slice(alloc, &self.pairs)?,
-            places: Vec::from_slice(alloc, &self.places)?,
+            values: Vec::from_slice(alloc, &self.values)?,
+            numbers: Vec::from_slice(alloc, &self.numbers)?,
         })
-    }
-
-    // Where the pair of a number lies.
-    #[inline(always)]
-    fn place_of(&self, number: u64) -> Option<usize>
-        ensures { IsPlaceIn self.now.entries number result }
-    {
-        let place = *self.places.get(number as usize)? as usize;
-        let pair = self.pairs.get(place)?;
-        if pair.0 == number { Some(place) } else { None }
     }
 }
