@@ -1,4 +1,5 @@
 pub mod Comings
+pub mod Few
 pub mod Levels
 pub mod Parameters
 pub mod Places

@@ -1,10 +1,10 @@
 -- The parameters of transactions: for each transaction that has some, by its number, its values by key in order of
 -- first assignment. (Manual. Our own: the order of the transactions.)
-use Rattle.std.specs.Prelude.{ℕ, ℤ, nat_eq, List, [], ◌∷◌, Option, if◌then◌else◌, unwrap_or, map}
+use Rattle.std.specs.Prelude.{ℕ, ℤ, nat_eq, List, [], ◌∷◌, Option, if◌then◌else◌, unwrap_or}
 use Rattle.std.specs.Map.{lookup}
 use Rattle.indexmap.specs.IndexMap.{swap_remove_by}
 use Rattle.gw_names.specs.declared.key.Key.{Key}
-use Rattle.gw_entities.specs.Tables.{Touched, value_of, with_value}
+use Rattle.gw_entities.specs.Tables.{value_of, with_value}
 
 abbrev pub Held : Type 0
 Held = List (ℕ × List (Key × ℤ))
@@ -30,7 +30,3 @@ assigned held number key value = with_values held number (with_value (values_at 
 -- without the parameters of a transaction: those of the last one come to their place
 abbrev pub without : Held → ℕ → Held
 without held number = swap_remove_by (λ h. nat_eq number h.0) held
-
--- what the map below keeps
-abbrev pub held_of : List (ℕ × Touched ℤ) → Held
-held_of entries = map (λ e. (e.0, e.1.entries)) entries

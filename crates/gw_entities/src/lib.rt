@@ -14,6 +14,7 @@ mod many_comings;
 mod parameters;
 mod queue;
 mod storage;
+mod values;
 
 pub use by_key::ByKey;
 pub use comings::Comings;

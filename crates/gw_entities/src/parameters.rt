@@ -1,10 +1,10 @@
-ghost use Rattle.std.specs.Prelude.{◌≡◌, ℤ, [], None, Some, drop, suc, slice_get, nat_eq, IsTrue, IsFalse, IfSome, IfNone, IfOk, OnOk, OnErr};
+ghost use Rattle.std.specs.Prelude.{◌≡◌, ℤ, List, [], None, Some, drop, suc, slice_get, nat_eq, IsTrue, IsFalse, IfSome, IfNone, IfOk, OnOk, OnErr};
 ghost use Rattle.std.specs.List.{IsDistinct};
 ghost use Rattle.std.specs.Map.{keys_of, lookup};
-ghost use Rattle.gw_entities.specs.Tables.{Touched};
-ghost use Rattle.gw_entities.specs.Parameters.{parameter_at, assigned, without, held_of};
+ghost use Rattle.gw_names.specs.declared.key.Key.{Key};
+ghost use Rattle.gw_entities.specs.Parameters.{parameter_at, assigned, without};
 
-use crate::by_key::ByKey;
+use crate::values::Values;
 use gw_names::Key;
 use gw_nums::Val;
 use indexmap::IndexMap;
@@ -19,17 +19,16 @@ const FEW_TRANSACTIONS: usize = 8;
 #[derive(Drop)]
 pub struct Parameters {
     // The values of each transaction that has some.
-    held: IndexMap<u64, ByKey<Val>>,
+    held: IndexMap<u64, Values>,
 }
 
 impl Model for Parameters {
     ghost use Rattle.std.specs.Prelude.{ℕ, ℤ, List};
     ghost use Rattle.gw_names.specs.declared.key.Key.{Key};
-    ghost use Rattle.gw_entities.specs.Parameters.{held_of};
 
     ghost Value = { List (ℕ × List (Key × ℤ)) };
 
-    ghost view = { λ p. held_of p.held.entries };
+    ghost view = { λ p. p.held.entries };
 }
 
 impl Parameters {
@@ -43,6 +42,7 @@ impl Parameters {
     }
 
     /// The value of a parameter of a transaction, if it has one.
+    #[inline(always)]
     pub fn get(&self, number: u64, key: &Key) -> Option<Val>
         ensures { result ≡ parameter_at self.now number key.now }
     {
@@ -107,8 +107,8 @@ impl Parameters {
 
 // Where a transaction lies, if it has parameters: the first few are looked through.
 #[inline(always)]
-fn place(held: &IndexMap<u64, ByKey<Val>>, number: u64) -> Option<usize>
-    ensures there { IfSome result (λ i. (values : Touched ℤ) × (slice_get held.now.entries i ≡ Some (number, values))) }
+fn place(held: &IndexMap<u64, Values>, number: u64) -> Option<usize>
+    ensures there { IfSome result (λ i. (values : List (Key × ℤ)) × (slice_get held.now.entries i ≡ Some (number, values))) }
     ensures none { IfNone result (lookup (nat_eq number) held.now.entries ≡ None) }
     ensures apart { IsDistinct nat_eq (keys_of held.now.entries) }
 {
@@ -125,8 +125,8 @@ fn place(held: &IndexMap<u64, ByKey<Val>>, number: u64) -> Option<usize>
 
 // Whether a transaction lies at an index.
 #[inline(always)]
-fn is_at(held: &IndexMap<u64, ByKey<Val>>, index: usize, number: u64) -> bool
-    ensures there { IsTrue result → (values : Touched ℤ) × (slice_get held.now.entries index ≡ Some (number, values)) }
+fn is_at(held: &IndexMap<u64, Values>, index: usize, number: u64) -> bool
+    ensures there { IsTrue result → (values : List (Key × ℤ)) × (slice_get held.now.entries index ≡ Some (number, values)) }
     ensures other { IsFalse result → lookup (nat_eq number) (drop index held.now.entries) ≡
         lookup (nat_eq number) (drop (suc index) held.now.entries) }
 {
@@ -139,8 +139,8 @@ fn is_at(held: &IndexMap<u64, ByKey<Val>>, index: usize, number: u64) -> bool
 // The same as `place`, by the hash of the number.
 #[cold]
 #[inline(never)]
-fn place_by_hash(held: &IndexMap<u64, ByKey<Val>>, number: u64) -> Option<usize>
-    ensures there { IfSome result (λ i. (values : Touched ℤ) × (slice_get held.now.entries i ≡ Some (number, values))) }
+fn place_by_hash(held: &IndexMap<u64, Values>, number: u64) -> Option<usize>
+    ensures there { IfSome result (λ i. (values : List (Key × ℤ)) × (slice_get held.now.entries i ≡ Some (number, values))) }
     ensures none { IfNone result (lookup (nat_eq number) held.now.entries ≡ None) }
 {
     match held.get_full(&number) {
@@ -151,16 +151,16 @@ fn place_by_hash(held: &IndexMap<u64, ByKey<Val>>, number: u64) -> Option<usize>
 
 // Sets the first parameter of a transaction that has none.
 fn assign_first(
-    held: &mut IndexMap<u64, ByKey<Val>>,
+    held: &mut IndexMap<u64, Values>,
     number: u64,
     key: &Key,
     value: Val,
 ) -> Result<(), AllocError>
     requires { lookup (nat_eq number) held.old.entries ≡ None }
-    ensures ok { OnOk result (held_of held.new.entries ≡ assigned (held_of held.old.entries) number key.now value) }
-    ensures err { OnErr result (held_of held.new.entries ≡ held_of held.old.entries) }
+    ensures ok { OnOk result (held.new.entries ≡ assigned held.old.entries number key.now value) }
+    ensures err { OnErr result (held.new.entries ≡ held.old.entries) }
 {
-    let mut values = ByKey::new(*held.allocator());
+    let mut values = Values::new(*held.allocator());
     values.put(key, value)?;
     match held.insert(number, values) {
         Ok(_) => Ok(()),

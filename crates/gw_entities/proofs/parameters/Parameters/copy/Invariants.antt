@@ -1,6 +1,5 @@
 use Rattle.std.proofs.Common.{◌≡◌, take}
-use Rattle.gw_entities.specs.Parameters.{held_of}
 use Rattle.gw_entities.proofs.parameters.Parameters.copy.Given as goal
 
 abbrev pub invariant-loop-i : goal.invariant-loop-i
-invariant-loop-i l = held_of l.held.entries ≡ take l.i l.self
+invariant-loop-i l = l.held.entries ≡ take l.i l.self

@@ -1,0 +1,159 @@
+ghost use Rattle.std.specs.Prelude.{◌≡◌, [], None, IfOk, IfSome, IfNone, OnOk, OnErr};
+ghost use Rattle.gw_names.specs.declared.key.Key.TheVariants as keys;
+ghost use Rattle.gw_names.specs.Keys.{key_eq};
+ghost use Rattle.gw_entities.specs.Few.{StandsFirst};
+ghost use Rattle.gw_entities.specs.Tables.{value_of, with_value};
+
+use crate::by_key::ByKey;
+use gw_names::Key;
+use gw_nums::Val;
+use std::alloc::{AllocError, Global};
+use std::marker::Model;
+
+// So many parameters of a transaction are looked through one by one, and those behind them by their hash. Most
+// transactions have no more.
+const FEW_PARAMETERS: usize = 8;
+
+// The values of a transaction by parameter, in order of first assignment: the first few in a list, and those behind
+// them by their hash.
+#[derive(Drop)]
+pub struct Values {
+    few: Vec<(Key, Val)>,
+    // None while there are fewer than a few.
+    many: ByKey<Val>,
+}
+
+impl Model for Values {
+    ghost use Rattle.std.specs.Prelude.{◌≡◌, ◌<◌, ◌++◌, ℤ, List, [], length};
+    ghost use Rattle.gw_names.specs.declared.key.Key.{Key};
+
+    ghost Value = { List (Key × ℤ) };
+
+    ghost view = { λ v. v.few.items ++ v.many.entries };
+
+    // The 8 is FEW_PARAMETERS.
+    ghost invariant = { λ v. length v.few.items < 8 → v.many.entries ≡ [] };
+}
+
+impl Values {
+    // No parameter.
+    pub fn new(alloc: Global) -> Values
+        ensures { result ≡ [] }
+    {
+        Values {
+            few: Vec::new(alloc),
+            many: ByKey::new(alloc),
+        }
+    }
+
+    // The value of a parameter, if it has one.
+    #[inline(always)]
+    pub fn get(&self, key: &Key) -> Option<Val>
+        ensures { result ≡ value_of self.now key.now }
+    {
+        let Key::Num(number) = key else {
+            return self.get_named(key);
+        };
+        match place_of_number(&self.few, *number) {
+            Some(index) => Some(self.few[index].1),
+            None => by_hash(&self.many, key),
+        }
+    }
+
+    // The same, of a parameter with a name.
+    #[inline(never)]
+    fn get_named(&self, key: &Key) -> Option<Val>
+        ensures { result ≡ value_of self.now key.now }
+    {
+        match place_of_name(&self.few, key) {
+            Some(index) => Some(self.few[index].1),
+            None => self.many.get(key),
+        }
+    }
+
+    // Sets a parameter, or changes nothing where memory is refused.
+    pub fn put(&mut self, key: &Key, value: Val) -> Result<(), AllocError>
+        ensures ok { OnOk result (self.new ≡ with_value self.old key.now value) }
+        ensures err { OnErr result (self.new ≡ self.old) }
+    {
+        if let Some(index) = place(&self.few, key) {
+            self.few[index].1 = value;
+            return Ok(());
+        }
+        if self.few.len() < FEW_PARAMETERS {
+            self.few.push((key.clone()?, value))?;
+            return Ok(());
+        }
+        self.many.put(key, value)
+    }
+
+    // The same values.
+    pub fn copy(&self) -> Result<Values, AllocError>
+        ensures { IfOk result (λ v. v ≡ self.now) }
+    {
+        Ok(Values {
+            few: self.few.clone()?,
+            many: self.many.copy()?,
+        })
+    }
+}
+
+// The value of a parameter, looked for by its hash.
+#[cold]
+#[inline(never)]
+fn by_hash(many: &ByKey<Val>, key: &Key) -> Option<Val>
+    ensures { result ≡ value_of many.now.entries key.now }
+{
+    many.get(key)
+}
+
+// Where a parameter lies in a list, if it does.
+#[inline(always)]
+fn place(few: &[(Key, Val)], key: &Key) -> Option<usize>
+    ensures there { IfSome result (λ i. StandsFirst (key_eq key.now) few.now i) }
+    ensures none { IfNone result (value_of few.now key.now ≡ None) }
+{
+    match key {
+        Key::Num(number) => place_of_number(few, *number),
+        _ => place_of_name(few, key),
+    }
+}
+
+// The same, of a parameter with a number.
+#[inline(always)]
+fn place_of_number(few: &[(Key, Val)], number: u32) -> Option<usize>
+    ensures there { IfSome result (λ i. StandsFirst (key_eq (keys.Num number)) few.now i) }
+    ensures none { IfNone result (value_of few.now (keys.Num number) ≡ None) }
+{
+    for (index, held) in few.iter().enumerate() {
+        if is_number(&held.0, number) {
+            return Some(index);
+        }
+    }
+    None
+}
+
+// The same, of a parameter with a name.
+#[inline(never)]
+fn place_of_name(few: &[(Key, Val)], key: &Key) -> Option<usize>
+    ensures there { IfSome result (λ i. StandsFirst (key_eq key.now) few.now i) }
+    ensures none { IfNone result (value_of few.now key.now ≡ None) }
+{
+    for (index, held) in few.iter().enumerate() {
+        if *key == held.0 {
+            return Some(index);
+        }
+    }
+    None
+}
+
+// Whether a key is a number.
+#[inline(always)]
+fn is_number(key: &Key, number: u32) -> bool
+    ensures { result ≡ key_eq (keys.Num number) key.now }
+{
+    match key {
+        Key::Num(kept) => *kept == number,
+        _ => false,
+    }
+}
