@@ -29,7 +29,7 @@ least_put [] e = refl
 least_put (x ∷ xs) e = ap (sooner x.time) (least_put xs e) ∙ sooner_swap x.time e.time (least_time xs)
 
 -- one more of those gone over
-next_taken : (es : List Event) (i : ℕ) (e : Event) → i < length es → e ≡ get_or es i e → take (i + 1) es ≡ take i es ++ e ∷ []
+pub next_taken : (es : List Event) (i : ℕ) (e : Event) → i < length es → e ≡ get_or es i e → take (i + 1) es ≡ take i es ++ e ∷ []
 next_taken es i e h is = take_more es i e h ∙ ap (λ x. take i es ++ x ∷ []) (sym is)
 
 pub least_one : (es : List Event) (i : ℕ) (e : Event) (old new : ℕ) → i < length es → e ≡ get_or es i e → Some old ≡ least_time (take i es) →
