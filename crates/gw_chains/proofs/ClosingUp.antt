@@ -192,7 +192,7 @@ pub after_first : (t : ℕ) (F : List Event) (C current : List Transaction) (i :
     (ticks' first' : ℕ) → IsFirst (Some t) i F → e ≡ get_or F i e → IsLeast (take i F) ticks first →
     current ≡ lined_up (get_or F i e).transaction C →
     ((all : List Event) → (start : List Transaction) → (xs : List Transaction) → ClosingUp t all start (i + 1) (i + 1 - 1) F ticks first xs →
-        ClosingUp t all start next (next - 1) events ticks' first' xs) →
+    ClosingUp t all start next (next - 1) events ticks' first' xs) →
     ClosingUp t F C next (next - 1) events ticks' first' current
 after_first t F C current i e ticks first next events ticks' first' known is least up closing =
     let there = first_is t i F e known is in

@@ -278,7 +278,13 @@ fn close_up(events: &mut [Event], from: usize, least: &mut Least, time: Time) ->
 
 // The same from an index on, where some have been taken and so many are kept.
 #[inline(always)]
-fn take_more(events: &mut [Event], from: usize, kept: Kept, current: &mut PriorityChain, time: Time) -> Kept
+fn take_more(
+    events: &mut [Event],
+    from: usize,
+    kept: Kept,
+    current: &mut PriorityChain,
+    time: Time,
+) -> Kept
     requires within { (kept.len ≤ from) × (from ≤ length events.old) }
     requires room { length events.old ≤ current.old.room + from }
     ensures closing { (all : List Event) → (start : List Transaction) →
