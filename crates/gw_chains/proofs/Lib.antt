@@ -3,3 +3,4 @@ pub mod DelayLaws
 pub mod LetIn
 pub mod ChainLaws
 pub mod SegmentLaws
+pub mod ClosingUp

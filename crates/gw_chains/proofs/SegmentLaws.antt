@@ -1,9 +1,8 @@
 -- Laws of the future chain in segments: what goes for two lists one after the other, and for a segment with none due.
 use Rattle.std.proofs.Common.{◌≡◌, ℕ, suc, ◌-◌, ◌+◌, ◌<◌, ◌≤◌, Bool, nat_eq, arith, true, false, not, List, [], ◌∷◌, Option, None, Some, ◌++◌, length, refl, sym, ap, ◌∙◌, filter, append_assoc, append-nil, min, take, drop, get_or, set, length-set, true≢false, take-append-drop, All}
-use Rattle.std.specs.List.{remove}
 use Rattle.std.proofs.lemmas.Bool.{cond_both}
 use Rattle.std.proofs.lemmas.Bool.Decides.{nat_tests}
-use Rattle.std.proofs.lemmas.List.{drop_more, take_more, take_more_set, drop-set-lt, length-take, take-take, take-append-le}
+use Rattle.std.proofs.lemmas.List.{drop_more, take_more, take_more_set, drop-set-lt}
 use Rattle.std.proofs.lemmas.List.Elements.{filter-append, All-same, All-push, All-head, All-drop}
 use Rattle.std.proofs.Math.Seq.{drop-append-add}
 use Rattle.gw_nums.specs.Range.{is_below}
@@ -29,13 +28,8 @@ least_put [] e = refl
 least_put (x ∷ xs) e = ap (sooner x.time) (least_put xs e) ∙ sooner_swap x.time e.time (least_time xs)
 
 -- one more of those gone over
-next_taken : (es : List Event) (i : ℕ) (e : Event) → i < length es → e ≡ get_or es i e → take (i + 1) es ≡ take i es ++ e ∷ []
+pub next_taken : (es : List Event) (i : ℕ) (e : Event) → i < length es → e ≡ get_or es i e → take (i + 1) es ≡ take i es ++ e ∷ []
 next_taken es i e h is = take_more es i e h ∙ ap (λ x. take i es ++ x ∷ []) (sym is)
-
-pub least_one : (es : List Event) (i : ℕ) (e : Event) (old new : ℕ) → i < length es → e ≡ get_or es i e → Some old ≡ least_time (take i es) →
-    new ≡ min e.time old → Some new ≡ least_time (take (i + 1) es)
-least_one es i e old new h is so_far now = ap (λ n. Some n) now ∙ (ap (sooner e.time) so_far ∙
-    sym (ap least_time (next_taken es i e h is) ∙ least_put (take i es) e))
 
 pub least_append : (xs ys : List Event) → least_time (xs ++ ys) ≡ soonest (least_time xs) (least_time ys)
 least_append [] ys = refl
@@ -95,61 +89,6 @@ none_leaves t (e ∷ es) none = go (is_due t e) refl none (λ h. none_leaves t e
 
 pub all_kept : (t : ℕ) (es : List Event) → is_later (least_time es) t ≡ true → filter (λ e. not (is_due t e)) es ≡ es
 all_kept t es h = none_leaves t es (none_due t es h)
-
--- Some of the events of F have left. Of the others none before an index is due.
-pub record Leaving (t : ℕ) (F : List Event) (C : List Transaction) (from : ℕ) (events : List Event) (current : List Transaction) : Type 0 where
-  pub before : due t (take from events) ≡ []
-  pub kept : filter (λ e. not (is_due t e)) events ≡ filter (λ e. not (is_due t e)) F
-  pub current_is : all_lined_up (due t events) current ≡ all_lined_up (due t F) C
-
--- the next one moves up
-pub moved_up : (es : List Event) (i : ℕ) (e : Event) → i + 1 < length es → e ≡ get_or es (i + 1) e → remove (set es i e) (i + 1) ≡ remove es i
-moved_up es i e h is =
-    let low : i < length es = omega (arith, h) in
-    let next : suc i ≡ i + 1 = omega arith in
-    let behind : suc (i + 1) ≡ (i + 1) + 1 = omega arith in
-    let front = take_more_set es i e low in
-    let rest : drop (suc (i + 1)) (set es i e) ≡ drop (suc (i + 1)) es = drop-set-lt (suc (i + 1)) es i e (omega arith) in
-    let old : drop (suc i) es ≡ e ∷ drop (suc (i + 1)) es =
-    ap (λ n. drop n es) next ∙ (item_drop es (i + 1) e h is ∙ ap (λ n. e ∷ drop n es) (sym behind)) in
-    ap (λ xs. xs ++ drop (suc (i + 1)) (set es i e)) front ∙ (append_assoc (take i es) (e ∷ []) (drop (suc (i + 1)) (set es i e)) ∙
-    (ap (λ xs. take i es ++ e ∷ xs) rest ∙ ap (λ xs. take i es ++ xs) (sym old)))
-
--- one that is due leaves, where none before it is due
-module _ (t : ℕ) (es : List Event) (i : ℕ) (e : Event) (h : i < length es) (is : e ≡ get_or es i e) (now : is_due t e ≡ true)
-    (before : due t (take i es) ≡ []) where
-  split : es ≡ take i es ++ e ∷ drop (suc i) es
-  split =
-      let one : i + 1 ≡ suc i = omega arith in
-      sym (take-append-drop i es) ∙ ap (λ zs. take i es ++ zs) (item_drop es i e h is ∙ ap (λ n. e ∷ drop n es) one)
-
-  leaving_due : due t es ≡ e.transaction ∷ due t (remove es i)
-  leaving_due =
-      let old : due t es ≡ e.transaction ∷ due t (drop (suc i) es) =
-      ap (due t) split ∙ (due_append t (take i es) (e ∷ drop (suc i) es) ∙ rw (before, now) refl) in
-      let new : due t (remove es i) ≡ due t (drop (suc i) es) = due_append t (take i es) (drop (suc i) es) ∙ rw before refl in
-      old ∙ ap (λ xs. e.transaction ∷ xs) (sym new)
-
-  leaving_kept : filter (λ e. not (is_due t e)) (remove es i) ≡ filter (λ e. not (is_due t e)) es
-  leaving_kept =
-      let p : Event → Bool = λ e. not (is_due t e) in
-      let old : filter p es ≡ filter p (take i es) ++ filter p (drop (suc i) es) =
-      ap (filter p) split ∙ (filter-append p (take i es) (e ∷ drop (suc i) es) ∙ rw now refl) in
-      filter-append p (take i es) (drop (suc i) es) ∙ sym old
-
-  leaving_front : take i (remove es i) ≡ take i es
-  leaving_front =
-      let long : i ≤ length (take i es) = omega (arith, length-take i es) in
-      take-append-le i (take i es) (drop (suc i) es) long ∙ take-take i i es (omega arith)
-
-pub one_leaves : (t : ℕ) (F : List Event) (C : List Transaction) (from i : ℕ) (e : Event) (es : List Event) (current : List Transaction) →
-    i < length es → e ≡ get_or es i e → is_due t e ≡ true → due t (take i es) ≡ [] → Leaving t F C from es current →
-    Leaving t F C i (remove es i) (lined_up e.transaction current)
-one_leaves t F C from i e es current h is now before k = record {
-  before = ap (due t) (leaving_front t es i e h is now before) ∙ before;
-  kept = leaving_kept t es i e h is now before ∙ k.kept;
-  current_is = ap (λ xs. all_lined_up xs current) (sym (leaving_due t es i e h is now before)) ∙ k.current_is;
-}
 
 -- the segments one after the other
 pub all_items_append : (ss rs : List Closed) → all_items (ss ++ rs) ≡ all_items ss ++ all_items rs

@@ -1,6 +1,8 @@
 -- The future chain in segments. (Our own: it says how the chain is kept, and nothing of what it holds.)
-use Rattle.std.specs.Prelude.{◌≡◌, ℕ, List, [], ◌∷◌, ◌++◌, Option, Some, None, Bool, true, false, not, ◌==◌, length, nat_lt}
+use Rattle.std.specs.Prelude.{◌≡◌, ℕ, List, [], ◌∷◌, ◌++◌, Option, Some, None, Bool, true, false, not, ◌==◌, ◌≤◌, IsSomeAnd, slice_get, length, take, drop, filter, nat_le, nat_lt, if◌then◌else◌}
+use Rattle.gw_meaning.specs.declared.transaction.Transaction.{Transaction}
 use Rattle.gw_meaning.specs.declared.transaction.Event.{Event}
+use Rattle.gw_meaning.specs.Changes.{is_due, due, all_lined_up}
 use Rattle.gw_meaning.specs.Step.{least_time, sooner}
 
 -- a closed segment, which takes no more
@@ -32,3 +34,34 @@ is_later (Some least) time = nat_lt time least
 -- a clock step to a time may change it: it is shared only where none on it is due so early
 abbrev pub IsReady : ℕ → Closed → Type 0
 IsReady time s = is_later (least_time s.items) time ≡ false → s.is_shared ≡ false
+
+-- the time of so many ticks, where there is one
+abbrev pub time_of : ℕ → Option ℕ
+time_of ticks = if nat_le ticks 1001000000000 then Some ticks else None
+
+-- the first one with a time, where there is a time, is at an index
+abbrev pub IsFirst : Option ℕ → ℕ → List Event → Type 0
+IsFirst None index events = Unit {0}
+IsFirst (Some time) index events = (due time (take index events) ≡ []) ×
+    IsSomeAnd (slice_get events index) (λ e. is_due time e ≡ true)
+
+abbrev pub IsFirstDue : ℕ → Option ℕ → List Event → Type 0
+IsFirstDue time None events = Unit {0}
+IsFirstDue time (Some index) events = IsFirst (Some time) index events
+
+-- the least time of transactions, in ticks, and where the first one with it is
+pub record IsLeast (events : List Event) (ticks index : ℕ) : Type 0 where
+  pub least : least_time events ≡ time_of ticks
+  pub first : IsFirst (time_of ticks) index events
+
+-- A clock step went over the transactions of a segment, all of them, in front of an index: so many are kept and closed
+-- up, and the others are on the current chain, behind those of the start.
+pub record ClosingUp
+    (time : ℕ) (all : List Event) (start : List Transaction) (index kept : ℕ)
+    (events : List Event) (ticks first : ℕ) (current : List Transaction) : Type 0 where
+  pub long : length events ≡ length all
+  pub within : kept ≤ index
+  pub rest : drop index events ≡ drop index all
+  pub kept_is : take kept events ≡ filter (λ e. not (is_due time e)) (take index all)
+  pub least : IsLeast (filter (λ e. not (is_due time e)) (take index all)) ticks first
+  pub current_is : current ≡ all_lined_up (due time (take index all)) start

@@ -93,6 +93,20 @@ impl PriorityChain {
         }
     }
 
+    // Puts a transaction equal to another on it. Where that goes to the end, as most do, it is copied right there.
+    #[inline(always)]
+    pub(crate) fn line_up_equal(&mut self, x: &Transaction)
+        requires { 0 < self.old.room }
+        ensures items { self.new.items ≡ lined_up x.now self.old.items }
+        ensures room { self.old.room ≤ self.new.room + 1 }
+    {
+        if self.goes_last(x) {
+            self.transactions.push_back_reserved(same(x));
+        } else {
+            self.insert(same(x));
+        }
+    }
+
     // Whether a transaction goes to the end, as most do.
     fn goes_last(&self, x: &Transaction) -> bool
         ensures { IsTrue result → lined_up x.now self.now.items ≡ self.now.items ++ x.now ∷ [] }
@@ -174,6 +188,21 @@ impl PriorityChain {
     {
         let transactions = self.transactions.clone()?;
         Ok(PriorityChain { transactions })
+    }
+}
+
+// A transaction equal to another.
+#[inline(always)]
+pub(crate) fn same(x: &Transaction) -> Transaction
+    ensures { result ≡ x.now }
+{
+    Transaction {
+        number: x.number,
+        priority: x.priority,
+        mark: x.mark,
+        current: x.current,
+        destination: x.destination,
+        asked: x.asked,
     }
 }
 

@@ -1,21 +1,23 @@
-ghost use Rattle.std.specs.Prelude.{◌≡◌, ◌+◌, ◌-◌, ◌++◌, ◌∷◌, ◌≤◌, ◌<◌, [], length, take, drop, filter, not, true, Some, slice_get, IfSome, IfNone, IfOk, OnOk, ◌^◌, ◌==◌};
-ghost use Rattle.std.specs.List.{remove};
+ghost use Rattle.std.specs.Prelude.{◌≡◌, ◌+◌, ◌-◌, ◌++◌, ◌∷◌, ◌≤◌, ◌<◌, List, [], length, take, drop, filter, not, Some, IfNone, IfOk, OnOk, ◌^◌, ◌==◌};
+ghost use Rattle.gw_meaning.specs.declared.transaction.Transaction.{Transaction};
+ghost use Rattle.gw_meaning.specs.declared.transaction.Event.{Event};
 ghost use Rattle.gw_meaning.specs.Changes.{all_lined_up, due, is_due};
 ghost use Rattle.gw_meaning.specs.Step.{least_time, sooner};
-ghost use Rattle.gw_chains.specs.Segments.{soonest, is_later};
+ghost use Rattle.gw_chains.specs.Segments.{soonest, is_later, IsFirst, IsFirstDue, IsLeast, ClosingUp};
 
-use crate::chain::PriorityChain;
-use gw_meaning::{Event, Transaction};
+use crate::chain::{PriorityChain, same};
+use gw_meaning::Event;
 use gw_nums::Time;
 use std::alloc::{AllocError, Global};
 use std::marker::Model;
 
 // A part of the future chain, in the order of coming onto it. It knows its least time, so that a clock step passes
-// over it where none on it is due.
+// over it where none on it is due, and where the first one with that time is, so that nobody is looked for.
 #[derive(Drop)]
 pub struct Segment {
     events: Vec<Event>,
     least: Option<Time>,
+    first: usize,
 }
 
 impl Model for Segment {
@@ -24,6 +26,7 @@ impl Model for Segment {
     ghost use Rattle.gw_meaning.specs.declared.transaction.Event.{Event};
     ghost use Rattle.gw_meaning.specs.Step.{least_time};
     ghost use Rattle.gw_chains.specs.Chains.{Chain};
+    ghost use Rattle.gw_chains.specs.Segments.{IsFirst};
 
     ghost Value = { Chain Event };
 
@@ -32,7 +35,7 @@ impl Model for Segment {
       room = vec_capacity s.events - vec_len s.events;
     } };
 
-    ghost invariant = { λ s. s.least ≡ least_time s.events.items };
+    ghost invariant = { λ s. (s.least ≡ least_time s.events.items) × IsFirst s.least s.first s.events.items };
 }
 
 impl Segment {
@@ -43,6 +46,7 @@ impl Segment {
         Segment {
             events: Vec::new(alloc),
             least: None,
+            first: 0,
         }
     }
 
@@ -101,7 +105,10 @@ impl Segment {
         ensures items { self.new.items ≡ self.old.items ++ event ∷ [] }
         ensures room { self.old.room ≤ self.new.room + 1 }
     {
-        self.least = Some(sooner(event.time, self.least));
+        if is_later(self.least, event.time) {
+            self.least = Some(event.time);
+            self.first = self.events.len();
+        }
         self.events.push_reserved(event);
     }
 
@@ -113,10 +120,26 @@ impl Segment {
         ensures future { self.new.items ≡ filter (λ e. not (is_due time e)) self.old.items }
         ensures room { current.old.room ≤ current.new.room + length self.old.items }
     {
-        if is_later(self.least, time) {
+        let Some(index) = self.first_due(time) else {
             return;
+        };
+        let kept = take_from(&mut self.events, index, current, time);
+        self.events.truncate(kept.len);
+        self.least = Time::new(kept.least.ticks);
+        self.first = kept.least.first;
+    }
+
+    // Where the first one is that is due at a time.
+    #[inline(always)]
+    fn first_due(&self, time: Time) -> Option<usize>
+        ensures none { IfNone result (due time self.now.items ≡ []) }
+        ensures first { IsFirstDue time result self.now.items }
+    {
+        match self.least {
+            Some(least) if least == time => Some(self.first),
+            Some(least) if least < time => first_due(&self.events, time),
+            _ => None,
         }
-        self.least = take_due(&mut self.events, current, time);
     }
 
     // An equal segment.
@@ -127,6 +150,7 @@ impl Segment {
         Ok(Segment {
             events,
             least: self.least,
+            first: self.first,
         })
     }
 }
@@ -141,35 +165,14 @@ pub(crate) fn is_later(least: Option<Time>, time: Time) -> bool
     }
 }
 
-// Moves the transactions of a time to the current chain, and keeps the others in their order: the least time of these.
-// Few are due at one time, so the search for them is what costs: each that is due leaves alone.
-#[inline(always)]
-fn take_due(events: &mut Vec<Event>, current: &mut PriorityChain, time: Time) -> Option<Time>
-    requires { length events.old.items ≤ current.old.room }
-    ensures current { current.new.items ≡ all_lined_up (due time events.old.items) current.old.items }
-    ensures future { events.new.items ≡ filter (λ e. not (is_due time e)) events.old.items }
-    ensures room { current.old.room ≤ current.new.room + length events.old.items }
-    ensures least { result ≡ least_time events.new.items }
-{
-    let mut from = 0;
-    while let Some(index) = first_due(events, from, time) {
-        current.line_up(same(&events[index]).transaction);
-        take_out(events, index);
-        from = index;
-    }
-    least_of(events)
-}
-
-// The first one that is due at a time, where none before an index is.
-fn first_due(events: &[Event], from: usize, time: Time) -> Option<usize>
-    requires within { from ≤ length events.now }
-    requires before { due time (take from events.now) ≡ [] }
+// The first one that is due at a time. A clock step to a later time than the least looks for it.
+#[cold]
+#[inline(never)]
+fn first_due(events: &[Event], time: Time) -> Option<usize>
     ensures none { IfNone result (due time events.now ≡ []) }
-    ensures within { IfSome result (λ i. i < length events.now) }
-    ensures before { IfSome result (λ i. due time (take i events.now) ≡ []) }
-    ensures due { IfSome result (λ i. IfSome (slice_get events.now i) (λ e. is_due time e ≡ true)) }
+    ensures first { IsFirstDue time result events.now }
 {
-    for i in from..events.len() {
+    for i in 0..events.len() {
         if events[i].time == time {
             return Some(i);
         }
@@ -177,63 +180,142 @@ fn first_due(events: &[Event], from: usize, time: Time) -> Option<usize>
     None
 }
 
-// Takes an event out: those behind it move up. Most chains are short, and std's `remove` does much before the first one
-// moves.
-#[inline(always)]
-fn take_out(events: &mut Vec<Event>, index: usize)
-    requires { index < length events.old.items }
-    ensures { events.new.items ≡ remove events.old.items index }
-{
-    let last = events.len() - 1;
-    move_up(events, index);
-    events.truncate(last);
+// The least time of transactions in order, and where the first one with it is.
+#[derive(Clone, Copy)]
+struct Least {
+    // In ticks, and more than any time has where there are none.
+    ticks: u64,
+    first: usize,
 }
 
-// Those behind an event move up by one place, the first of them over it.
-#[inline(always)]
-fn move_up(events: &mut [Event], index: usize)
-    requires { index < length events.old }
-    ensures { take (length events.old - 1) events.new ≡ remove events.old index }
-{
-    for i in index..events.len() - 1 {
-        events[i] = same(&events[i + 1]);
+impl Least {
+    // Of none.
+    #[inline(always)]
+    fn none() -> Least
+        ensures { IsLeast [] result.ticks result.first }
+    {
+        Least {
+            ticks: u64::MAX,
+            first: 0,
+        }
     }
+
+    // One more comes behind so many, with this time.
+    #[inline(always)]
+    fn meet(&mut self, time: Time, index: usize)
+        ensures { (events : List Event) → (event : Event) → length events ≡ index → event.time ≡ time →
+            IsLeast events self.old.ticks self.old.first →
+            IsLeast (events ++ event ∷ []) self.new.ticks self.new.first }
+    {
+        let ticks = time.ticks();
+        if ticks < self.ticks {
+            self.ticks = ticks;
+            self.first = index;
+        }
+    }
+}
+
+// How many stay, and the least time of those.
+#[derive(Clone, Copy)]
+struct Kept {
+    len: usize,
+    least: Least,
+}
+
+// Moves the transactions of a time to the current chain, of which this is the first. The others close up, in their order.
+#[inline(always)]
+fn take_from(events: &mut [Event], index: usize, current: &mut PriorityChain, time: Time) -> Kept
+    requires first { IsFirst (Some time) index events.old }
+    requires room { length events.old ≤ current.old.room }
+    ensures closed { ClosingUp time events.old current.old.items (length events.old) result.len
+        events.new result.least.ticks result.least.first current.new.items }
+    ensures room { current.old.room ≤ current.new.room + length events.old }
+{
+    current.line_up_equal(&events[index].transaction);
+    let mut least = least_of(&events[..index]);
+    let next = close_up(events, index + 1, &mut least, time);
+    let kept = Kept {
+        len: next - 1,
+        least,
+    };
+    if next == events.len() {
+        return kept;
+    }
+    take_more(events, next, kept, current, time)
+}
+
+// The least time of events.
+#[inline(always)]
+fn least_of(events: &[Event]) -> Least
+    ensures { IsLeast events.now result.ticks result.first }
+{
+    let mut least = Least::none();
+    for i in 0..events.len() {
+        least.meet(events[i].time, i);
+    }
+    least
+}
+
+// From an index on, those in front of the next one that is due, if any, move up by one. Where that one is, else the end.
+#[inline(always)]
+fn close_up(events: &mut [Event], from: usize, least: &mut Least, time: Time) -> usize
+    requires within { (0 < from) × (from ≤ length events.old) }
+    ensures within { (from ≤ result) × (result ≤ length events.old) }
+    ensures closing { (all : List Event) → (start : List Transaction) → (current : List Transaction) →
+        ClosingUp time all start from (from - 1) events.old least.old.ticks least.old.first current →
+        ClosingUp time all start result (result - 1) events.new least.new.ticks least.new.first current }
+{
+    for i in from..events.len() {
+        let event = &events[i];
+        if event.time == time {
+            return i;
+        }
+        least.meet(event.time, i - 1);
+        events[i - 1] = same_event(event);
+    }
+    events.len()
+}
+
+// The same from an index on, where some have been taken and so many are kept.
+#[inline(always)]
+fn take_more(
+    events: &mut [Event],
+    from: usize,
+    kept: Kept,
+    current: &mut PriorityChain,
+    time: Time,
+) -> Kept
+    requires within { (kept.len ≤ from) × (from ≤ length events.old) }
+    requires room { length events.old ≤ current.old.room + from }
+    ensures closing { (all : List Event) → (start : List Transaction) →
+        ClosingUp time all start from kept.len events.old kept.least.ticks kept.least.first current.old.items →
+        ClosingUp time all start (length events.old) result.len events.new result.least.ticks result.least.first
+        current.new.items }
+    ensures room { current.old.room + from ≤ current.new.room + length events.old }
+{
+    let mut kept = kept;
+    for i in from..events.len() {
+        let event = &events[i];
+        if event.time == time {
+            current.line_up_equal(&event.transaction);
+        } else {
+            kept.least.meet(event.time, kept.len);
+            events[kept.len] = same_event(event);
+            kept.len += 1;
+        }
+    }
+    kept
 }
 
 // An event equal to another.
 #[inline(always)]
-fn same(event: &Event) -> Event
+fn same_event(event: &Event) -> Event
     ensures { result ≡ event.now }
 {
-    let x = &event.transaction;
     Event {
         time: event.time,
-        transaction: Transaction {
-            number: x.number,
-            priority: x.priority,
-            mark: x.mark,
-            current: x.current,
-            destination: x.destination,
-            asked: x.asked,
-        },
+        transaction: same(&event.transaction),
     }
-}
-
-// The least time of events. Each is compared with a time and no option, since the first one's is there to begin with.
-fn least_of(events: &[Event]) -> Option<Time>
-    ensures { result ≡ least_time events.now }
-{
-    if events.is_empty() {
-        return None;
-    }
-    let mut least = events[0].time;
-    for i in 1..events.len() {
-        let time = events[i].time;
-        if time < least {
-            least = time;
-        }
-    }
-    Some(least)
 }
 
 // The sooner of two times, where there are any.

@@ -1,6 +1,6 @@
-use Rattle.std.proofs.Common.{◌≡◌, Some, take}
-use Rattle.gw_meaning.specs.Step.{least_time}
+use Rattle.std.proofs.Common.{take}
+use Rattle.gw_chains.specs.Segments.{IsLeast}
 use Rattle.gw_chains.proofs.segment.least_of.Given as goal
 
 abbrev pub invariant-loop-i : goal.invariant-loop-i
-invariant-loop-i l = Some l.least ≡ least_time (take l.i l.events)
+invariant-loop-i l = IsLeast (take l.i l.events) l.least.ticks l.least.first
