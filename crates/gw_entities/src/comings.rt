@@ -58,12 +58,15 @@ impl Comings {
     pub fn has(&self, key: &Key, number: u64) -> bool
         ensures { result ≡ came self.now.comings key.now number }
     {
-        !self.few.is_empty() && self.is_known(key, number)
+        if self.few.len() < FEW_COMINGS {
+            return is_among(&self.few, key, number);
+        }
+        self.is_among_many(key, number)
     }
 
-    // Whether a transaction came to a queue, where some came.
+    // Whether a transaction came to a queue, where there may be some behind the first few.
     #[inline(never)]
-    fn is_known(&self, key: &Key, number: u64) -> bool
+    fn is_among_many(&self, key: &Key, number: u64) -> bool
         ensures { result ≡ came self.now.comings key.now number }
     {
         is_among(&self.few, key, number) || self.many.has(key, number)
@@ -148,6 +151,7 @@ impl Comings {
 }
 
 // Whether a transaction came to a queue, among those in a list.
+#[inline(always)]
 fn is_among(few: &[(Key, u64)], key: &Key, number: u64) -> bool
     ensures { result ≡ came few.now key.now number }
 {

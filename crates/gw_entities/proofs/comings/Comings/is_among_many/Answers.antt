@@ -1,5 +1,5 @@
 use Rattle.gw_entities.proofs.ComingLaws.{came_early, came_late}
-use Rattle.gw_entities.proofs.comings.Comings.is_known.Goals as goal
+use Rattle.gw_entities.proofs.comings.Comings.is_among_many.Goals as goal
 
 pub returns-then-is_among : goal.returns-then-is_among
 returns-then-is_among c =
