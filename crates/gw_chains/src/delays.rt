@@ -87,6 +87,7 @@ impl DelayChains {
     }
 
     /// The first that waits for a facility.
+    #[inline(always)]
     pub fn first(&self, key: &Key) -> Option<&Transaction>
         ensures { option_copied result ≡ first_of (delay_at (delays_of self.now.chains) key.now) }
     {
@@ -129,6 +130,7 @@ impl DelayChains {
     }
 
     /// The first that waits for a facility goes.
+    #[inline(always)]
     pub fn take_first(&mut self, key: &Key) -> Option<Transaction>
         ensures first { result ≡ first_of (delay_at (delays_of self.old.chains) key.now) }
         ensures delays { delays_of self.new.chains ≡

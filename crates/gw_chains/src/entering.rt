@@ -18,6 +18,7 @@ pub fn place(x: &mut Transaction, id: StatementId)
 }
 
 /// A transaction that waited at a block enters it, and goes to the current chain.
+#[inline(always)]
 pub fn let_in(current: &mut PriorityChain, counts: &mut Counts, mut x: Transaction)
     requires room { 0 < current.old.room }
     requires counts { IsWithin x.destination counts.old.limit }
