@@ -256,6 +256,7 @@ impl Version {
 
     /// How many units the storage of this name has; 0 where there is no such storage.
     #[tactic(auto, using(crate::proofs::Once::capacity_once))]
+    #[inline(always)]
     pub fn capacity(&self, name: &Name) -> u64
         ensures { result ≡ capacity_at self.now name.now }
     {
