@@ -61,6 +61,7 @@ impl State {
     }
 
     // Of the run, or of the transaction that asks.
+    #[inline(always)]
     fn own_value(&self, asker: &Asker, class: Class) -> Result<Val, Halt>
         ensures { Comes (own_value self.now asker.now class) result }
     {
@@ -79,8 +80,27 @@ impl State {
         }
     }
 
-    // Of the transaction that asks: one of its parameters.
-    fn of_parameter(
+    // Of the transaction that asks: one of its parameters, most of which have a number.
+    #[inline(never)]
+    pub(crate) fn of_parameter(
+        &self,
+        case: Case,
+        asker: &Asker,
+        notes: &mut Notes,
+        of: &Subject,
+    ) -> Result<Val, Halt>
+        ensures { Decides case.entry.version.now case.entry.seed
+            (subject_prog of.now ~> (λ key. parameter_value self.now asker.now key)) result notes.old notes.new }
+    {
+        let Subject::Number(number) = of else {
+            return self.of_named_parameter(case, asker, notes, of);
+        };
+        let key = entity_of(*number)?;
+        self.parameter(asker, &key)
+    }
+
+    #[inline(never)]
+    fn of_named_parameter(
         &self,
         case: Case,
         asker: &Asker,
@@ -95,6 +115,7 @@ impl State {
     }
 
     // Of a facility or a queue.
+    #[inline(never)]
     fn of_entity(
         &self,
         case: Case,
@@ -124,6 +145,7 @@ impl State {
     }
 
     // Of a storage.
+    #[inline(never)]
     fn of_storage(&self, class: Class, of: &Subject) -> Result<Val, Halt>
         ensures { Comes (storage_prog of.now (λ key. storage_value self.now class key)) result }
     {
@@ -146,6 +168,7 @@ impl State {
     }
 
     // The units of a storage that are left.
+    #[inline(never)]
     fn units_left(&self, case: Case, notes: &mut Notes, of: &Subject) -> Result<Val, Halt>
         ensures { Decides case.entry.version.now case.entry.seed (left_prog self.now of.now)
             result notes.old notes.new }
@@ -168,6 +191,7 @@ impl State {
     }
 
     // Of a block.
+    #[inline(never)]
     fn of_block(
         &self,
         case: Case,
@@ -258,6 +282,7 @@ fn subject(case: Case, notes: &mut Notes, of: &Subject) -> Result<Key, Halt>
 }
 
 // The entity with a number, from 1.
+#[inline(always)]
 fn entity_of(number: u32) -> Result<Key, Halt>
     ensures { Comes (subject_prog (subjects.Number number)) result }
 {
@@ -268,6 +293,7 @@ fn entity_of(number: u32) -> Result<Key, Halt>
 }
 
 // A random number, 0 to 999, from the stream that an attribute is of.
+#[inline(never)]
 fn random(case: Case, notes: &mut Notes, of: &Subject) -> Result<Val, Halt>
     ensures { Decides case.entry.version.now case.entry.seed (random_prog of.now) result notes.old notes.new }
 {

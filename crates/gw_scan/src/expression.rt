@@ -39,7 +39,7 @@ impl State {
     // The value of a constant, of a name that stands for a number, or of an attribute.
     #[inline(always)]
     #[cycle(nested)]
-    #[tactic(auto, unfolding(gw_meaning::specs::Evaluation::atom_prog))]
+    #[tactic(auto, unfolding(gw_meaning::specs::Evaluation::atom_prog, gw_meaning::specs::Evaluation::attribute_prog))]
     fn atom(
         &self,
         case: Case,
@@ -58,6 +58,7 @@ impl State {
                 let value = ask_name(case.version, notes, name)?;
                 number_given(value)
             }
+            Atom::Attribute(Class::P, of) => self.of_parameter(case, asker, notes, of),
             Atom::Attribute(class, of) => {
                 if is_of_variable(*class) {
                     self.of_variable(case, asker, notes, depth, of)

@@ -134,6 +134,7 @@ impl State {
     }
 
     // The value of a parameter of the transaction that asks.
+    #[inline(always)]
     pub(crate) fn parameter(&self, asker: &Asker, key: &Key) -> Result<Val, Halt>
         ensures { Comes (parameter_value self.now asker.now key.now) result }
     {
