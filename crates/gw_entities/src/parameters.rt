@@ -150,6 +150,7 @@ fn place_by_hash(held: &IndexMap<u64, Values>, number: u64) -> Option<usize>
 }
 
 // Sets the first parameter of a transaction that has none.
+#[inline(never)]
 fn assign_first(
     held: &mut IndexMap<u64, Values>,
     number: u64,

@@ -1,4 +1,4 @@
-ghost use Rattle.std.specs.Prelude.{◌≡◌, [], None, IfOk, IfSome, IfNone, OnOk, OnErr};
+ghost use Rattle.std.specs.Prelude.{◌≡◌, ◌<◌, ◌++◌, [], length, None, IfOk, IfSome, IfNone, OnOk, OnErr};
 ghost use Rattle.gw_names.specs.declared.key.Key.TheVariants as keys;
 ghost use Rattle.gw_names.specs.Keys.{key_eq};
 ghost use Rattle.gw_entities.specs.Few.{StandsFirst};
@@ -80,11 +80,7 @@ impl Values {
             self.few[index].1 = value;
             return Ok(());
         }
-        if self.few.len() < FEW_PARAMETERS {
-            self.few.push((key.clone()?, value))?;
-            return Ok(());
-        }
-        self.many.put(key, value)
+        put_behind(&mut self.few, &mut self.many, key, value)
     }
 
     // The same values.
@@ -96,6 +92,28 @@ impl Values {
             many: self.many.copy()?,
         })
     }
+}
+
+// Sets a parameter that is not among the first few.
+#[inline(never)]
+fn put_behind(
+    few: &mut Vec<(Key, Val)>,
+    many: &mut ByKey<Val>,
+    key: &Key,
+    value: Val,
+) -> Result<(), AllocError>
+    requires none { value_of few.old.items key.now ≡ None }
+    requires behind { length few.old.items < 8 → many.old.entries ≡ [] }
+    ensures ok { OnOk result
+        (few.new.items ++ many.new.entries ≡ with_value (few.old.items ++ many.old.entries) key.now value) }
+    ensures err { OnErr result (few.new.items ++ many.new.entries ≡ few.old.items ++ many.old.entries) }
+    ensures behind { length few.new.items < 8 → many.new.entries ≡ [] }
+{
+    if few.len() < FEW_PARAMETERS {
+        few.push((key.clone()?, value))?;
+        return Ok(());
+    }
+    many.put(key, value)
 }
 
 // The value of a parameter, looked for by its hash.
