@@ -6,9 +6,9 @@ use Rattle.gw_meaning.specs.declared.moves.Move.TheVariants as moves
 use Rattle.gw_scan.proofs.state.State.enter_or_wait.Goals as goal
 
 pub returns-then-not-fits : goal.returns-then-not-fits
-returns-then-not-fits c x is = (moves.Refuse c.args.id c.args.key c.args.units, search rules, search rules)
+returns-then-not-fits c x is = (moves.Refuse c.args.id c.args.key.now c.args.units, search rules, search rules)
 
 pub returns : goal.returns
 returns c x is =
-    let m = moves.Enter c.args.id (changes.Entity (c.args.key, deeds.Enter c.args.units)) fates.Active in
+    let m = moves.Enter c.args.id (changes.Entity (c.args.key.now, deeds.Enter c.args.units)) fates.Active in
     (m, search rules, rw is (search rules))
