@@ -123,7 +123,8 @@ fn bytes(node: &Node) -> &[u8]
     ensures { result.now ≡ bytes_of (term_of node.now) }
 {
     match node {
-        Node::Named(name) | Node::Label(name) => name.as_bytes(),
+        Node::Named(name) => name.name().as_bytes(),
+        Node::Label(name) => name.as_bytes(),
         Node::Defined(name) => name.name().as_bytes(),
         _ => b"",
     }

@@ -17,7 +17,8 @@ one_later i = omega arith
 
 module _ {K V : Type 0} (test : K → Bool) where
   -- up to an entry whose key does not pass, none is found where none was before it
-  later : (es : List (K × V)) (i : ℕ) (e : K × V) → slice_get es i ≡ Some e → test e.0 ≡ false → lookup test (take i es) ≡ None → lookup test (take (suc i) es) ≡ None
+  later : (es : List (K × V)) (i : ℕ) (e : K × V) → slice_get es i ≡ Some e → test e.0 ≡ false → lookup test (take i es) ≡ None →
+      lookup test (take (suc i) es) ≡ None
   later [] i e at other none = absurd cc
   later (x ∷ xs) zero e at other none =
       let same : x ≡ e = cc in

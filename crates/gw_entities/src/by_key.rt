@@ -199,7 +199,11 @@ impl<V: Copy> ByKey<V> {
     {
         match place {
             Some(index) => self.write(index, value),
-            None => self.set_behind(key, value),
+            // A value of its own goes behind the others, so that the one above is changed where it lies.
+            None => {
+                let behind = value;
+                self.set_behind(key, behind);
+            }
         }
     }
 

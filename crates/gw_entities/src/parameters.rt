@@ -108,7 +108,8 @@ impl Parameters {
 // Where a transaction lies, if it has parameters: the first few are looked through.
 #[inline(always)]
 fn place(held: &IndexMap<u64, Values>, number: u64) -> Option<usize>
-    ensures there { IfSome result (λ i. (values : List (Key × ℤ)) × (slice_get held.now.entries i ≡ Some (number, values))) }
+    ensures there { IfSome result (λ i. (values : List (Key × ℤ)) ×
+        (slice_get held.now.entries i ≡ Some (number, values))) }
     ensures none { IfNone result (lookup (nat_eq number) held.now.entries ≡ None) }
     ensures apart { IsDistinct nat_eq (keys_of held.now.entries) }
 {
@@ -126,7 +127,8 @@ fn place(held: &IndexMap<u64, Values>, number: u64) -> Option<usize>
 // Whether a transaction lies at an index.
 #[inline(always)]
 fn is_at(held: &IndexMap<u64, Values>, index: usize, number: u64) -> bool
-    ensures there { IsTrue result → (values : List (Key × ℤ)) × (slice_get held.now.entries index ≡ Some (number, values)) }
+    ensures there { IsTrue result → (values : List (Key × ℤ)) ×
+        (slice_get held.now.entries index ≡ Some (number, values)) }
     ensures other { IsFalse result → lookup (nat_eq number) (drop index held.now.entries) ≡
         lookup (nat_eq number) (drop (suc index) held.now.entries) }
 {
@@ -140,7 +142,8 @@ fn is_at(held: &IndexMap<u64, Values>, index: usize, number: u64) -> bool
 #[cold]
 #[inline(never)]
 fn place_by_hash(held: &IndexMap<u64, Values>, number: u64) -> Option<usize>
-    ensures there { IfSome result (λ i. (values : List (Key × ℤ)) × (slice_get held.now.entries i ≡ Some (number, values))) }
+    ensures there { IfSome result (λ i. (values : List (Key × ℤ)) ×
+        (slice_get held.now.entries i ≡ Some (number, values))) }
     ensures none { IfNone result (lookup (nat_eq number) held.now.entries ≡ None) }
 {
     match held.get_full(&number) {

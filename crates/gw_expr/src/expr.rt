@@ -5,7 +5,7 @@ ghost use Rattle.gw_expr.specs.declared.atom.Atom.TheVariants as atoms;
 use crate::atom::Atom;
 use crate::attribute::Subject;
 use crate::token::Token;
-use gw_names::{Class, Name, StorageName};
+use gw_names::{Class, EntityName, Name, StorageName};
 use gw_nums::Val;
 use std::alloc::AllocError;
 use std::marker::Model;
@@ -24,7 +24,7 @@ pub enum Node {
     /// An expression in parentheses, in postfix order.
     Computed(Vec<Token>),
     /// The name of an entity.
-    Named(Name),
+    Named(EntityName),
     /// A block's label.
     Label(Name),
     /// A fraction, in millionths.
@@ -92,7 +92,7 @@ impl Expr {
         ensures { result ≡ Named name }
     {
         Expr {
-            node: Node::Named(name),
+            node: Node::Named(EntityName::new(name)),
         }
     }
 
@@ -137,7 +137,7 @@ impl Expr {
         match &self.node {
             Node::Value(atom) => Ok(Expr::value(atom.clone()?)),
             Node::Computed(tokens) => Ok(Expr::computed(tokens.clone()?)),
-            Node::Named(name) => Ok(Expr::named(name.clone()?)),
+            Node::Named(name) => Ok(Expr::named(name.name().clone()?)),
             Node::Label(name) => Ok(Expr::label(name.clone()?)),
             Node::Fraction(millionths) => Ok(Expr::fraction(*millionths)),
             Node::Defined(name) => Ok(Expr::defined(name.name().clone()?)),

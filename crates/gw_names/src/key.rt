@@ -18,6 +18,7 @@ pub enum Key {
 impl Clone for Key {
     ghost is_clone = { λ key copy. copy ≡ key };
 
+    #[inline(always)]
     fn clone(&self) -> Result<Key, AllocError> {
         match self {
             Key::Num(number) => Ok(Key::Num(*number)),

@@ -5,6 +5,7 @@
 #![tactic(auto)]
 
 mod class;
+mod entity_name;
 mod key;
 mod name;
 mod spelling;
@@ -12,6 +13,7 @@ mod storage_name;
 mod verb;
 
 pub use class::{CLASSES, Class, is_class};
+pub use entity_name::EntityName;
 pub use key::Key;
 pub use name::Name;
 pub use storage_name::StorageName;

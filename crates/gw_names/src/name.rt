@@ -63,14 +63,6 @@ impl Name {
         self.spelling.bytes.as_slice()
     }
 
-    /// The name's first eight bytes as a big-endian number, with zeros behind a shorter name.
-    #[inline(always)]
-    pub fn head(&self) -> u64
-        ensures { result ≡ head_of self.now }
-    {
-        self.spelling.head
-    }
-
     /// The head's remainder by 127, which spreads names over small numbers.
     #[inline(always)]
     pub fn mark(&self) -> u64
@@ -102,6 +94,7 @@ impl Name {
 impl Clone for Name {
     ghost is_clone = { λ name copy. copy ≡ name };
 
+    #[inline(always)]
     fn clone(&self) -> Result<Name, AllocError> {
         Ok(Name {
             spelling: Arc::try_clone(&self.spelling)?,

@@ -2,8 +2,8 @@ ghost use Rattle.std.specs.Prelude.{◌≡◌, slice_index};
 ghost use Rattle.gw_names.specs.Heads.{head_of, mark_of};
 
 /// How a name is spelled, with its head: the first eight bytes as a big-endian number, with zeros behind a shorter
-/// name. Names whose heads differ are told apart by them alone. The head's remainder is kept, too, since to divide costs
-/// more than to look.
+/// name. Names whose heads differ are told apart by them alone. The head's remainder is kept, too, since to divide
+/// costs more than to look.
 #[derive(Debug, Drop)]
 pub struct Spelling {
     /// The first eight bytes as a number.

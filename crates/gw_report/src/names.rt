@@ -101,7 +101,8 @@ fn add_term(names: &mut IndexSet<Key>, expr: &Expr) -> Result<(), AllocError>
     match expr.node() {
         Node::Value(atom) => add_atom(names, atom),
         Node::Computed(tokens) => add_tokens(names, tokens),
-        Node::Named(name) | Node::Label(name) => add_name(names, name),
+        Node::Named(name) => add_name(names, name.name()),
+        Node::Label(name) => add_name(names, name),
         Node::Defined(name) => add_name(names, name.name()),
         Node::Fraction(_) => Ok(()),
     }

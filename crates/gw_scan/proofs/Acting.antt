@@ -14,8 +14,8 @@ use Rattle.gw_meaning.specs.Questions.{Answer, ask}
 use Rattle.gw_meaning.specs.Evaluation.{Eval, asks, gives, ◌~>◌}
 use Rattle.gw_meaning.specs.Changes.{decided, moved}
 use Rattle.gw_meaning.specs.Step.{try_prog, attempt_prog, pick_prog, clock_prog, least_time}
-use Rattle.gw_scan.specs.declared.case.Halt.{Halt}
-use Rattle.gw_scan.specs.declared.case.Halt.TheVariants as halts
+use Rattle.gw_scan.specs.declared.halt.Why.{Why}
+use Rattle.gw_scan.specs.declared.halt.Why.TheVariants as whys
 use Rattle.gw_scan.specs.Noted.{Noted, Asks, Keeps, Tries}
 use Rattle.gw_scan.specs.Deciding.{Decides, generated, starting}
 use Rattle.gw_scan.specs.Stepping.{Acts, Goes, Makes}
@@ -29,7 +29,7 @@ clock_is_next s (x ∷ xs) none = absurd (omega (arith, none))
 
 module _ (t : Listing) (seed : ℕ) where
   -- a GENERATE is entered with the transaction that it makes next
-  pub decides_generated : (p : Eval (Option Arrival)) (id : ℕ) (r : Result (Option Arrival) Halt) (old new : Noted) →
+  pub decides_generated : (p : Eval (Option Arrival)) (id : ℕ) (r : Result (Option Arrival) Why) (old new : Noted) →
       Decides t seed p r old new →
       Decides t seed (p ~> (λ next. gives (moves.Enter id (changes.Generate next) fates.Active))) (generated id r) old new
   decides_generated p id (Ok next) old new h =
@@ -38,7 +38,7 @@ module _ (t : Listing) (seed : ℕ) where
   decides_generated p id (Err halt) old new h = decides_halt t seed p _ halt old new h
 
   -- a START is made with the first transactions that were decided
-  pub decides_starting : (p : Eval (List Arrival)) (count : ℕ) (r : Result (List Arrival) Halt) (old new : Noted) →
+  pub decides_starting : (p : Eval (List Arrival)) (count : ℕ) (r : Result (List Arrival) Why) (old new : Noted) →
       Decides t seed p r old new →
       Decides t seed (p ~> (λ first. gives (moves.Start count first))) (starting count r) old new
   decides_starting p count (Ok first) old new h =
@@ -47,18 +47,18 @@ module _ (t : Listing) (seed : ℕ) where
   decides_starting p count (Err halt) old new h = decides_halt t seed p _ halt old new h
 
   -- a move that was decided is made
-  pub acts_made : (p : Eval Move) (d : Result Move Halt) (r : Result (Unit {0}) Halt) (before after : Machine) (old new : Noted) →
+  pub acts_made : (p : Eval Move) (d : Result Move Why) (r : Result (Unit {0}) Why) (before after : Machine) (old new : Noted) →
       Decides t seed p d old new → Makes d new.streams r before after → Acts t seed p r before after old new
   acts_made p (Ok m) (Ok u) before after old new h made = (m, h, made)
   acts_made p (Ok m) (Err halt) before after old new h made =
-      (subst (λ (e : Halt). Decides t seed p (Err e) old new) (sym made.0) (decides_keeps t seed p (Ok m) old new h), made.1)
+      (subst (λ (e : Why). Decides t seed p (Err e) old new) (sym made.0) (decides_keeps t seed p (Ok m) old new h), made.1)
   acts_made p (Err halt) (Ok u) before after old new h made = absurd made
   acts_made p (Err halt) (Err other) before after old new h made =
-      (subst (λ (e : Halt). Decides t seed p (Err e) old new) (sym made.0) h, made.1)
+      (subst (λ (e : Why). Decides t seed p (Err e) old new) (sym made.0) h, made.1)
 
   -- behind a question that was noted
   pub acts_asked :
-      (i : Item) (k : Answer i → Eval Move) (r : Result (Unit {0}) Halt) (before after : Machine) (xs ys zs : Noted) → Asks xs i ys →
+      (i : Item) (k : Answer i → Eval Move) (r : Result (Unit {0}) Why) (before after : Machine) (xs ys zs : Noted) → Asks xs i ys →
       Acts t seed (k (ask t seed i)) r before after ys zs → Acts t seed (asks i k) r before after xs zs
   acts_asked i k (Ok u) before after xs ys zs asked h = (h.0, decides_asked t seed i k (Ok h.0) xs ys zs asked h.1, h.2)
   acts_asked i k (Err halt) before after xs ys zs asked h = (decides_asked t seed i k (Err halt) xs ys zs asked h.0, h.1)
@@ -70,7 +70,7 @@ module _ (t : Listing) (seed : ℕ) where
       (m, h, made ∙ sym (ap (λ xs. decided s m xs) same ∙ idle_undrawn s m idle))
 
   -- a block is tried: the one that a transaction goes to, or the one after its own, for which it asked
-  pub acts_tried : (s : Machine) (x : Transaction) (to id : Option ℕ) (r : Result (Unit {0}) Halt) (before after : Machine)
+  pub acts_tried : (s : Machine) (x : Transaction) (to id : Option ℕ) (r : Result (Unit {0}) Why) (before after : Machine)
       (xs ys zs : Noted) → Tries t x to id xs ys → Acts t seed (try_prog s x id) r before after ys zs →
       Acts t seed (attempt_prog s x to) r before after xs zs
   acts_tried s x (Some to) id r before after xs ys zs tried h =
@@ -82,28 +82,28 @@ module _ (t : Listing) (seed : ℕ) where
 
   -- one evaluation behind another, of which a move is made
   pub acts_then :
-      {A : Type 0} (p : Eval A) (k : A → Eval Move) (a : A) (r : Result (Unit {0}) Halt) (before after : Machine) (xs ys zs : Noted) →
+      {A : Type 0} (p : Eval A) (k : A → Eval Move) (a : A) (r : Result (Unit {0}) Why) (before after : Machine) (xs ys zs : Noted) →
       Decides t seed p (Ok a) xs ys → Acts t seed (k a) r before after ys zs → Acts t seed (p ~> k) r before after xs zs
   acts_then p k a (Ok u) before after xs ys zs first h = (h.0, decides_then t seed p k a (Ok h.0) xs ys zs first h.1, h.2)
   acts_then p k a (Err halt) before after xs ys zs first h = (decides_then t seed p k a (Err halt) xs ys zs first h.0, h.1)
 
   -- the exit by `?` behind the first evaluation
   pub acts_exit :
-      {A : Type 0} (p : Eval A) (k : A → Eval Move) (q : Eval Move) (r : Result (Unit {0}) Halt) (e halt : Halt) (s : Machine) (xs ys : Noted) →
+      {A : Type 0} (p : Eval A) (k : A → Eval Move) (q : Eval Move) (r : Result (Unit {0}) Why) (e halt : Why) (s : Machine) (xs ys : Noted) →
       q ≡ (p ~> k) → r ≡ Err e → e ≡ halt → Decides t seed p (Err halt) xs ys → Acts t seed q r s s xs ys
   acts_exit {A} p k q r e halt s xs ys whole is same h =
       let exit : r ≡ Err halt = is ∙ ap (λ f. Err f) same in
-      let F : Result (Unit {0}) Halt → Type 0 = λ m. Acts t seed q m s s xs ys in
+      let F : Result (Unit {0}) Why → Type 0 = λ m. Acts t seed q m s s xs ys in
       let G : Eval Move → Type 0 = λ m. Decides t seed m (Err halt) xs ys in
       subst F (sym exit) (subst G (sym whole) (decides_halt t seed p k halt xs ys h), refl)
 
   -- where memory is refused, nothing changes
   pub acts_memory :
-      (q : Eval Move) (r : Result (Unit {0}) Halt) (e : Halt) (s : Machine) (xs ys : Noted) → r ≡ Err e → e ≡ halts.Memory →
+      (q : Eval Move) (r : Result (Unit {0}) Why) (e : Why) (s : Machine) (xs ys : Noted) → r ≡ Err e → e ≡ whys.Memory →
       Keeps xs ys → Acts t seed q r s s xs ys
   acts_memory q r e s xs ys is same h =
-      let exit : r ≡ Err halts.Memory = is ∙ ap (λ f. Err f) same in
-      let F : Result (Unit {0}) Halt → Type 0 = λ m. Acts t seed q m s s xs ys in
+      let exit : r ≡ Err whys.Memory = is ∙ ap (λ f. Err f) same in
+      let F : Result (Unit {0}) Why → Type 0 = λ m. Acts t seed q m s s xs ys in
       subst F (sym exit) (h, refl)
 
   -- a move that neither asked nor drew, made with the streams that were noted before
@@ -115,12 +115,12 @@ module _ (t : Listing) (seed : ℕ) where
 
   -- or none was made
   pub acts_stays :
-      (p : Eval Move) (r : Result (Unit {0}) Halt) (e halt : Halt) (before after : Machine) (xs : Noted) →
+      (p : Eval Move) (r : Result (Unit {0}) Why) (e halt : Why) (before after : Machine) (xs : Noted) →
       r ≡ Err e → e ≡ halt → Goes p (Err halt) before after → Acts t seed p r before after xs xs
   acts_stays p r e halt before after xs is same h =
       let exit : r ≡ Err halt = is ∙ ap (λ f. Err f) same in
-      let F : Result (Unit {0}) Halt → Type 0 = λ m. Acts t seed p m before after xs xs in
+      let F : Result (Unit {0}) Why → Type 0 = λ m. Acts t seed p m before after xs xs in
       subst F (sym exit) (stays halt h) where
-        stays : (halt : Halt) → Goes p (Err halt) before after → Acts t seed p (Err halt) before after xs xs
-        stays (halts.End end) h = (decides_comes t seed p (Err (halts.End end)) xs h.0, h.1)
-        stays halts.Memory h = (decides_comes t seed p (Err halts.Memory) xs tt, h)
+        stays : (halt : Why) → Goes p (Err halt) before after → Acts t seed p (Err halt) before after xs xs
+        stays (whys.End end) h = (decides_comes t seed p (Err (whys.End end)) xs h.0, h.1)
+        stays whys.Memory h = (decides_comes t seed p (Err whys.Memory) xs tt, h)

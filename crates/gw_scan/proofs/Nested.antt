@@ -7,7 +7,7 @@ use Rattle.gw_meaning.specs.declared.item.Item.TheVariants as items
 use Rattle.gw_meaning.specs.Listing.{Listing, variable_at, function_at}
 use Rattle.gw_meaning.specs.Machine.{Machine}
 use Rattle.gw_meaning.specs.Evaluation.{Eval, expression_given, function_given, term_prog, argument_prog, definitions_prog}
-use Rattle.gw_scan.specs.declared.case.Halt.{Halt}
+use Rattle.gw_scan.specs.declared.halt.Why.{Why}
 use Rattle.gw_scan.specs.Noted.{Noted, Asks}
 use Rattle.gw_scan.specs.Deciding.{Decides}
 use Rattle.gw_scan.proofs.Binding.{decides_asked}
@@ -19,7 +19,7 @@ with_one_less s q depth o = expression_given (term_prog s q (definitions_prog (d
 one_less : (m : ℕ) → suc m - 1 ≡ m
 one_less m = omega arith
 
-pub variable_decides : (t : Listing) (seed : ℕ) (s : Machine) (q : Asker) (depth : ℕ) (name : List ℕ) (o : Option Term) (r : Result ℤ Halt) (xs ys zs : Noted)
+pub variable_decides : (t : Listing) (seed : ℕ) (s : Machine) (q : Asker) (depth : ℕ) (name : List ℕ) (o : Option Term) (r : Result ℤ Why) (xs ys zs : Noted)
     → (depth == 0) ≡ false → variable_at t name ≡ o → Asks xs (items.Variable name) ys
     → Decides t seed (with_one_less s q depth o) r ys zs → Decides t seed ((definitions_prog depth s q).variable name) r xs zs
 unfolding definitions_prog
@@ -36,7 +36,7 @@ abbrev function_less : Machine → Asker → ℕ → Option Function → Eval �
 function_less s q depth o = function_given (argument_prog s q (definitions_prog (depth - 1) s q)) o
 
 pub function_decides : (t : Listing) (seed : ℕ) (s : Machine) (q : Asker) (depth : ℕ) (name : List ℕ)
-    (o : Option Function) (r : Result ℤ Halt) (xs ys zs : Noted)
+    (o : Option Function) (r : Result ℤ Why) (xs ys zs : Noted)
     → (depth == 0) ≡ false → function_at t name ≡ o → Asks xs (items.Function name) ys
     → Decides t seed (function_less s q depth o) r ys zs → Decides t seed ((definitions_prog depth s q).function name) r xs zs
 unfolding definitions_prog

@@ -11,51 +11,51 @@ use Rattle.gw_meaning.specs.Listing.{Listing}
 use Rattle.gw_meaning.specs.Questions.{result_of, items_of}
 use Rattle.gw_meaning.specs.Evaluation.{Eval, gives, ends_with}
 use Rattle.gw_scan.specs.Noted.{Noted, Reads, Keeps}
-use Rattle.gw_scan.specs.declared.case.Halt.{Halt}
-use Rattle.gw_scan.specs.declared.case.Halt.TheVariants as halts
+use Rattle.gw_scan.specs.declared.halt.Why.{Why}
+use Rattle.gw_scan.specs.declared.halt.Why.TheVariants as whys
 
 -- the result, the questions and the streams behind the draws are the evaluation's; only want of memory leaves them
 -- open, and it keeps what was noted of earlier steps
-abbrev pub Decides : {A : Type 0} → Listing → ℕ → Eval A → Result A Halt → Noted → Noted → Type 0
+abbrev pub Decides : {A : Type 0} → Listing → ℕ → Eval A → Result A Why → Noted → Noted → Type 0
 Decides t seed p (Ok a) old new =
     (result_of t seed (p old.streams) ≡ Ok (a, new.streams)) × Reads old (items_of t seed (p old.streams)) new
-Decides t seed p (Err (halts.End end)) old new =
+Decides t seed p (Err (whys.End end)) old new =
     (result_of t seed (p old.streams) ≡ Err end) × Reads old (items_of t seed (p old.streams)) new
-Decides t seed p (Err halts.Memory) old new = Keeps old new
+Decides t seed p (Err whys.Memory) old new = Keeps old new
 
 -- the same, of an evaluation that neither asks nor draws; only want of memory leaves it open
-abbrev pub Comes : {A : Type 0} → Eval A → Result A Halt → Type 0
+abbrev pub Comes : {A : Type 0} → Eval A → Result A Why → Type 0
 Comes p (Ok a) = p ≡ gives a
-Comes p (Err (halts.End end)) = p ≡ ends_with end
-Comes p (Err halts.Memory) = Unit {0}
+Comes p (Err (whys.End end)) = p ≡ ends_with end
+Comes p (Err whys.Memory) = Unit {0}
 
 -- a block that changes nothing is entered, where it was decided what becomes of its transaction
-abbrev pub entered : ℕ → Result Fate Halt → Result Move Halt
+abbrev pub entered : ℕ → Result Fate Why → Result Move Why
 entered id (Ok fate) = Ok (moves.Enter id changes.Nothing fate)
 entered id (Err halt) = Err halt
 
 -- a GENERATE is entered, where it was decided which transaction it makes next, if any
-abbrev pub generated : ℕ → Result (Option Arrival) Halt → Result Move Halt
+abbrev pub generated : ℕ → Result (Option Arrival) Why → Result Move Why
 generated id (Ok next) = Ok (moves.Enter id (changes.Generate next) fates.Active)
 generated id (Err halt) = Err halt
 
 -- a block that changes its transaction alone is entered, where a change was decided, if any
-abbrev pub changing : ℕ → Result (Option TransactionChange) Halt → Result Move Halt
+abbrev pub changing : ℕ → Result (Option TransactionChange) Why → Result Move Why
 changing id (Ok (Some change)) = Ok (moves.Enter id (changes.Transaction change) fates.Active)
 changing id (Ok None) = Ok (moves.Enter id changes.Nothing fates.Active)
 changing id (Err halt) = Err halt
 
 -- a START is made, where its first transactions were decided
-abbrev pub starting : ℕ → Result (List Arrival) Halt → Result Move Halt
+abbrev pub starting : ℕ → Result (List Arrival) Why → Result Move Why
 starting count (Ok arrivals) = Ok (moves.Start count arrivals)
 starting count (Err halt) = Err halt
 
 -- the clock moves on, where it was decided to which time
-abbrev pub clocked : Result ℕ Halt → Result Move Halt
+abbrev pub clocked : Result ℕ Why → Result Move Why
 clocked (Ok time) = Ok (moves.Clock time)
 clocked (Err halt) = Err halt
 
 -- the result of a function that changes a value in place, with the value that stands there behind it
-abbrev pub in_place : {A : Type 0} → Result (Unit {0}) Halt → A → Result A Halt
+abbrev pub in_place : {A : Type 0} → Result (Unit {0}) Why → A → Result A Why
 in_place (Ok u) a = Ok a
 in_place (Err halt) a = Err halt

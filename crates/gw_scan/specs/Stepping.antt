@@ -10,8 +10,8 @@ use Rattle.gw_meaning.specs.Machine.{Machine, raised}
 use Rattle.gw_meaning.specs.Changes.{decided, moved}
 use Rattle.gw_meaning.specs.Evaluation.{Eval, gives, ends_with}
 use Rattle.gw_scan.specs.Deciding.{Decides}
-use Rattle.gw_scan.specs.declared.case.Halt.{Halt}
-use Rattle.gw_scan.specs.declared.case.Halt.TheVariants as halts
+use Rattle.gw_scan.specs.declared.halt.Why.{Why}
+use Rattle.gw_scan.specs.declared.halt.Why.TheVariants as whys
 use Rattle.gw_scan.specs.declared.steps.Turn.{Turn}
 use Rattle.gw_scan.specs.declared.steps.Turn.TheVariants as turns
 
@@ -32,30 +32,30 @@ Follows (turns.Ended end) items old new = Forgets old.step old.streams old new
 
 -- the move that was decided is made, with these streams behind its draws; where none was, or memory is refused, nothing
 -- changes
-abbrev pub Makes : Result Move Halt → List Stream → Result (Unit {0}) Halt → Machine → Machine → Type 0
+abbrev pub Makes : Result Move Why → List Stream → Result (Unit {0}) Why → Machine → Machine → Type 0
 Makes (Ok m) streams (Ok u) before after = after ≡ decided before m streams
-Makes (Ok m) streams (Err halt) before after = (halt ≡ halts.Memory) × (after ≡ before)
+Makes (Ok m) streams (Err halt) before after = (halt ≡ whys.Memory) × (after ≡ before)
 Makes (Err halt) streams (Err other) before after = (other ≡ halt) × (after ≡ before)
 Makes (Err halt) streams (Ok u) before after = ⊥
 
 -- the move to which an evaluation comes is made, with the streams behind its draws; where it comes to none, nothing
 -- changes
-abbrev pub Acts : Listing → ℕ → Eval Move → Result (Unit {0}) Halt → Machine → Machine → Noted → Noted → Type 0
+abbrev pub Acts : Listing → ℕ → Eval Move → Result (Unit {0}) Why → Machine → Machine → Noted → Noted → Type 0
 Acts t seed p (Ok u) before after old new =
     (m : Move) × Decides t seed p (Ok m) old new × (after ≡ decided before m new.streams)
 Acts t seed p (Err halt) before after old new = Decides t seed p (Err halt) old new × (after ≡ before)
 
 -- the move to which an evaluation that neither asks nor draws comes is made; where it comes to none, or memory is
 -- refused, nothing changes
-abbrev pub Goes : Eval Move → Result (Unit {0}) Halt → Machine → Machine → Type 0
+abbrev pub Goes : Eval Move → Result (Unit {0}) Why → Machine → Machine → Type 0
 Goes p (Ok u) before after = (m : Move) × (p ≡ gives m) × (after ≡ moved before m)
-Goes p (Err (halts.End end)) before after = (p ≡ ends_with end) × (after ≡ before)
-Goes p (Err halts.Memory) before after = after ≡ before
+Goes p (Err (whys.End end)) before after = (p ≡ ends_with end) × (after ≡ before)
+Goes p (Err whys.Memory) before after = after ≡ before
 
 -- no step was made: the run ends here, or memory was refused
-abbrev pub Halts : {E : Type 0} → Halt → Result Turn E → Type 0
-Halts (halts.End end) (Ok turn) = turn ≡ turns.Ended end
-Halts halts.Memory (Err error) = Unit {0}
+abbrev pub Halts : {E : Type 0} → Why → Result Turn E → Type 0
+Halts (whys.End end) (Ok turn) = turn ≡ turns.Ended end
+Halts whys.Memory (Err error) = Unit {0}
 Halts halt result = ⊥
 
 -- the end of the definition, or none where it goes

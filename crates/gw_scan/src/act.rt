@@ -8,11 +8,11 @@ ghost use Rattle.gw_meaning.specs.declared.transaction.Transaction.{Transaction}
 ghost use Rattle.gw_meaning.specs.Step.{move_prog, attempt_prog, try_prog, meet_prog};
 ghost use Rattle.gw_scan.specs.Stepping.{Acts};
 
-use crate::case::{Case, Halt, ask_block, ask_next};
+use crate::case::{Case, ask_block, ask_next};
+use crate::halt::Halt;
 use crate::notes::Notes;
 use crate::state::State;
-use gw_expr::Stop;
-use gw_meaning::{Block, End, StatementId};
+use gw_meaning::{Block, StatementId};
 use gw_names::BlockVerb;
 
 impl State {
@@ -62,11 +62,11 @@ impl State {
             result self.old self.new notes.old notes.new }
     {
         let Some(id) = id else {
-            return Err(Halt::End(End::Error(Stop::NoNextBlock)));
+            return Err(Halt::NO_NEXT_BLOCK);
         };
         match ask_block(case.version, notes, id)? {
             Some(block) => self.act_at(case, notes, id, block),
-            None => Err(Halt::End(End::Error(Stop::NoNextBlock))),
+            None => Err(Halt::NO_NEXT_BLOCK),
         }
     }
 
@@ -100,7 +100,7 @@ impl State {
             BlockVerb::Buffer => self.act_buffer(notes, id),
             BlockVerb::Assign => self.act_assign(case, notes, id, block),
             BlockVerb::Loop => self.act_loop(case, notes, id, block),
-            _ => Err(Halt::End(End::Error(Stop::NoNextBlock))),
+            _ => Err(Halt::NO_NEXT_BLOCK),
         }
     }
 }

@@ -4,12 +4,13 @@ ghost use Rattle.gw_meaning.specs.Machine.{live, count_at};
 ghost use Rattle.gw_meaning.specs.Step.{arrival_prog, arrival_in_time, arrival_at, first_of, first_arrival, prime_prog, arrivals_prog, with_arrival};
 ghost use Rattle.gw_scan.specs.Deciding.{Decides, Comes};
 
-use crate::case::{Case, Halt, ask_block};
+use crate::case::{Case, ask_block};
+use crate::halt::Halt;
 use crate::notes::Notes;
 use crate::state::State;
-use gw_expr::{Expr, Stop};
+use gw_expr::Expr;
 use gw_meaning::operands::{A, B, C, D, E};
-use gw_meaning::{Arrival, Asker, Block, End, Row, StatementId};
+use gw_meaning::{Arrival, Asker, Block, Row, StatementId};
 use gw_nums::Val;
 use std::alloc::AllocError;
 
@@ -47,7 +48,7 @@ impl State {
         if let Some(limit) = limit {
             let limit = self.value(case, asker, notes, limit)?;
             if limit.is_negative() {
-                return Err(Halt::End(End::Error(Stop::BadCount)));
+                return Err(Halt::BAD_COUNT);
             }
             if limit.magnitude() <= self.count(id).made {
                 return Ok(None);
@@ -81,10 +82,10 @@ impl State {
         ensures { Comes (arrival_at self.now id time priority) result }
     {
         if time.is_negative() {
-            return Err(Halt::End(End::Error(Stop::NegativeTime)));
+            return Err(Halt::NEGATIVE_TIME);
         }
         if self.is_full() {
-            return Err(Halt::End(End::Error(Stop::TooManyTransactions)));
+            return Err(Halt::TOO_MANY_TRANSACTIONS);
         }
         Ok(Some(Arrival {
             id,

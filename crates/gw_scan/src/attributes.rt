@@ -1,18 +1,18 @@
 // The values of attributes: what a state says of itself, of the transaction that asks, of an entity or of a block.
 ghost use Rattle.std.specs.Prelude.{◌≡◌, pos};
 ghost use Rattle.gw_expr.specs.declared.attribute.Subject.TheVariants as subjects;
-ghost use Rattle.gw_meaning.specs.Evaluation.{amount, own_value, owned, subject_prog, parameter_value, entity_value, storage_prog, storage_value, block_count, counted, block_value, drawn_prog, random_prog, random_part, millionths, thousandth, attribute_prog, ◌~>◌, left_prog, units_left};
+ghost use Rattle.gw_meaning.specs.Evaluation.{amount, own_value, owned, subject_prog, named, numbered, parameter_value, entity_value, storage_prog, storage_value, block_count, counted, block_value, drawn_prog, random_prog, random_part, millionths, thousandth, attribute_prog, ◌~>◌, left_prog, units_left};
 ghost use Rattle.gw_meaning.specs.Step.{for_none, for_one};
 ghost use Rattle.gw_scan.specs.Deciding.{Decides, Comes};
 
-use crate::case::{Case, Halt, ask_capacity, ask_label, ask_name};
+use crate::case::{Case, ask_capacity, ask_label, ask_name};
+use crate::halt::Halt;
 use crate::draws::{draw, millionths};
 use crate::notes::Notes;
 use crate::state::State;
-use crate::value::named;
-use gw_expr::{Stop, Subject};
-use gw_meaning::{Asker, End, StatementId, Transaction};
-use gw_names::{Class, Key};
+use gw_expr::Subject;
+use gw_meaning::{Asker, StatementId, Transaction};
+use gw_names::{Class, Key, Name};
 use gw_nums::{Millionths, Time, Val};
 
 impl State {
@@ -56,7 +56,7 @@ impl State {
             Class::R => self.units_left(case, notes, of),
             Class::N | Class::W => self.of_block(case, notes, class, of),
             Class::Rn => random(case, notes, of),
-            _ => Err(Halt::End(End::Error(Stop::Range))),
+            _ => Err(Halt::RANGE),
         }
     }
 
@@ -71,12 +71,12 @@ impl State {
             Class::Ac1 => amount(clock),
             Class::Tg1 => amount(asker.remaining),
             Class::M1 | Class::Xn1 | Class::Pr if !asker.is_transaction => {
-                Err(Halt::End(End::Error(Stop::NoParameter)))
+                Err(Halt::NO_PARAMETER)
             }
             Class::M1 => amount(clock.saturating_sub(asker.mark.ticks())),
             Class::Xn1 => amount(asker.number),
             Class::Pr => Ok(asker.priority),
-            _ => Err(Halt::End(End::Error(Stop::Range))),
+            _ => Err(Halt::RANGE),
         }
     }
 
@@ -140,7 +140,7 @@ impl State {
             Class::Qc => amount(self.entities.queue(key).entries()),
             Class::Qm => amount(self.entities.queue(key).greatest()),
             Class::Qz => amount(self.entities.queue(key).zero_entries()),
-            _ => Err(Halt::End(End::Error(Stop::Range))),
+            _ => Err(Halt::RANGE),
         }
     }
 
@@ -151,7 +151,7 @@ impl State {
     {
         match of {
             Subject::Name(name) => self.storage_value(class, &Key::Defined(name.clone()?)),
-            _ => Err(Halt::End(End::Error(Stop::Range))),
+            _ => Err(Halt::RANGE),
         }
     }
 
@@ -163,7 +163,7 @@ impl State {
             Class::S => amount(storage.level().content()),
             Class::Sc => amount(storage.entries()),
             Class::Sm => amount(storage.greatest()),
-            _ => Err(Halt::End(End::Error(Stop::Range))),
+            _ => Err(Halt::RANGE),
         }
     }
 
@@ -178,7 +178,7 @@ impl State {
                 let capacity = ask_capacity(case.version, notes, name)?;
                 self.left_of(capacity, &Key::Defined(name.clone()?))
             }
-            _ => Err(Halt::End(End::Error(Stop::Range))),
+            _ => Err(Halt::RANGE),
         }
     }
 
@@ -207,7 +207,7 @@ impl State {
                 let id = ask_label(case.version, notes, name)?;
                 self.counted(class, id)
             }
-            _ => Err(Halt::End(End::Error(Stop::Range))),
+            _ => Err(Halt::RANGE),
         }
     }
 
@@ -216,7 +216,7 @@ impl State {
     {
         match id {
             Some(id) => self.block_value(class, id),
-            None => Err(Halt::End(End::Error(Stop::Range))),
+            None => Err(Halt::RANGE),
         }
     }
 
@@ -226,7 +226,7 @@ impl State {
         match class {
             Class::N => amount(self.count(id).entries),
             Class::W => amount(self.count(id).content),
-            _ => Err(Halt::End(End::Error(Stop::Range))),
+            _ => Err(Halt::RANGE),
         }
     }
 }
@@ -249,11 +249,11 @@ fn amount(number: u64) -> Result<Val, Halt>
     ensures { Comes (amount number) result }
 {
     if number > 1_000_000_000 {
-        return Err(Halt::End(End::Error(Stop::Range)));
+        return Err(Halt::RANGE);
     }
     match Val::new(number as i64) {
         Some(value) => Ok(value),
-        None => Err(Halt::End(End::Error(Stop::Range))),
+        None => Err(Halt::RANGE),
     }
 }
 
@@ -272,13 +272,33 @@ fn subject(case: Case, notes: &mut Notes, of: &Subject) -> Result<Key, Halt>
     ensures { Decides case.entry.version.now case.entry.seed (subject_prog of.now) result notes.old notes.new }
 {
     match of {
-        Subject::Own => Err(Halt::End(End::Error(Stop::Range))),
+        Subject::Own => Err(Halt::RANGE),
         Subject::Number(number) => entity_of(*number),
         Subject::Name(name) => {
             let number = ask_name(case.version, notes, name)?;
-            named(name, number)
+            key_named(name, number)
         }
     }
+}
+
+// The key of the entity with a name, or with the number that the name stands for.
+fn key_named(name: &Name, number: Option<Val>) -> Result<Key, Halt>
+    ensures { Comes (named name.now number) result }
+{
+    match number {
+        Some(number) => key_numbered(number),
+        None => Ok(Key::Named(name.clone()?)),
+    }
+}
+
+// The key of the entity with a number, from 1.
+fn key_numbered(number: Val) -> Result<Key, Halt>
+    ensures { Comes (numbered number) result }
+{
+    if number.get() < 1 {
+        return Err(Halt::RANGE);
+    }
+    Ok(Key::Num(number.magnitude() as u32))
 }
 
 // The entity with a number, from 1.
@@ -287,7 +307,7 @@ fn entity_of(number: u32) -> Result<Key, Halt>
     ensures { Comes (subject_prog (subjects.Number number)) result }
 {
     if number < 1 {
-        return Err(Halt::End(End::Error(Stop::Range)));
+        return Err(Halt::RANGE);
     }
     Ok(Key::Num(number))
 }
@@ -315,7 +335,7 @@ fn drawn(case: Case, notes: &mut Notes, of: &Subject) -> Result<u32, Halt>
 {
     match of {
         Subject::Number(j) if 1 <= *j && *j <= 7 => draw(case, notes, *j as usize),
-        _ => Err(Halt::End(End::Error(Stop::Range))),
+        _ => Err(Halt::RANGE),
     }
 }
 

@@ -6,12 +6,12 @@ ghost use Rattle.gw_meaning.specs.Listing.{block_at, after_at, label_at, number_
 
 use crate::notes::Notes;
 use gw_expr::Expr;
-use gw_meaning::{Block, Command, End, Function, Item, StatementId, Transaction};
+use gw_meaning::{Block, Command, Function, Item, StatementId, Transaction};
 use gw_model::Version;
 use gw_names::Name;
 use gw_nums::{Clock, Time, Val};
 use gw_uses::Asked;
-use std::alloc::{AllocError, AllocFailed, Global};
+use std::alloc::{AllocError, Global};
 
 /// The version and the seed that a run is of, and where a step finds memory.
 #[derive(Clone, Copy)]
@@ -19,35 +19,6 @@ pub struct Case<'a> {
     pub alloc: Global,
     pub version: &'a Version,
     pub seed: u64,
-}
-
-/// Why no step was made: the run ends here, or a growth was refused, on the way to the move or to make it.
-#[derive(Clone, Copy, Debug, PartialEq, Eq)]
-pub enum Halt {
-    End(End),
-    Memory,
-}
-
-impl From<AllocError> for Halt {
-    ghost use Rattle.std.specs.Prelude.{◌≡◌};
-    ghost use Rattle.gw_scan.specs.declared.case.Halt.TheVariants as halts;
-
-    ghost from_gives = { λ _ e. e ≡ halts.Memory };
-
-    fn from(_: AllocError) -> Halt {
-        Halt::Memory
-    }
-}
-
-impl<T: Drop> From<AllocFailed<T>> for Halt {
-    ghost use Rattle.std.specs.Prelude.{◌≡◌};
-    ghost use Rattle.gw_scan.specs.declared.case.Halt.TheVariants as halts;
-
-    ghost from_gives = { λ _ e. e ≡ halts.Memory };
-
-    fn from(_: AllocFailed<T>) -> Halt {
-        Halt::Memory
-    }
 }
 
 // Which block is this?

@@ -7,11 +7,12 @@ ghost use Rattle.gw_scan.specs.Deciding.{Decides, starting};
 ghost use Rattle.gw_scan.specs.Stepping.{Acts, Makes};
 
 use crate::attributes::for_none;
-use crate::case::{Case, Halt, ask_command, ask_generates};
+use crate::case::{Case, ask_command, ask_generates};
+use crate::halt::Halt;
 use crate::making::make_all;
 use crate::notes::Notes;
 use crate::state::State;
-use gw_meaning::{Arrival, Command, End, Row};
+use gw_meaning::{Arrival, Command, Row};
 use std::alloc::AllocError;
 
 impl State {
@@ -50,7 +51,7 @@ impl State {
                 self.take_draws(notes);
                 Ok(())
             }
-            None => Err(Halt::End(End::CommandsDone)),
+            None => Err(Halt::COMMANDS_DONE),
         }
     }
 

@@ -5,13 +5,14 @@ ghost use Rattle.gw_nums.specs.Range.{is_value, magnitude};
 ghost use Rattle.gw_meaning.specs.Evaluation.{draw, in_range, millionths, modifier_of, sample, sample_within, spread, time_by, time_prog};
 ghost use Rattle.gw_scan.specs.Deciding.{Decides, Comes};
 
-use crate::case::{Case, Halt};
+use crate::case::Case;
+use crate::halt::Halt;
 use crate::expression::is_of_function;
 use crate::notes::Notes;
 use crate::state::State;
 use crate::value::DEEPEST;
-use gw_expr::{Atom, Expr, Node, Stop, Subject};
-use gw_meaning::{Asker, End, Item};
+use gw_expr::{Atom, Expr, Node, Subject};
+use gw_meaning::{Asker, Item};
 use gw_nums::{Millionths, Val, times};
 
 // A draw from stream j, which reads the seed where it is the first one since the stream was set.
@@ -112,7 +113,7 @@ fn multiplied(mean: Val, by: Millionths) -> Result<Val, Halt>
 {
     match times(mean, by) {
         Some(time) => Ok(time),
-        None => Err(Halt::End(End::Error(Stop::Range))),
+        None => Err(Halt::RANGE),
     }
 }
 
@@ -137,7 +138,7 @@ fn sample_within(case: Case, notes: &mut Notes, mean: Val, range: u64) -> Result
     let number = draw(case, notes, 1)?;
     match spread(mean, range, number) {
         Some(time) => Ok(time),
-        None => Err(Halt::End(End::Error(Stop::Range))),
+        None => Err(Halt::RANGE),
     }
 }
 

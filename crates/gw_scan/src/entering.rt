@@ -10,7 +10,7 @@ ghost use Rattle.gw_meaning.specs.declared.transaction.Transaction.{Transaction}
 ghost use Rattle.gw_meaning.specs.Changes.{crossed, placed, bound, moved};
 ghost use Rattle.gw_scan.specs.Stepping.{Acts, Goes};
 
-use crate::case::Halt;
+use crate::halt::Halt;
 use crate::notes::Notes;
 use crate::state::State;
 use gw_chains::{Counts, place};
@@ -21,13 +21,14 @@ use std::alloc::AllocError;
 impl State {
     // It waits on the delay chain of a facility or a storage, and asks so many units.
     #[inline(never)]
-    pub(crate) fn refuse(&mut self, id: StatementId, key: Key, units: u32) -> Result<(), AllocError>
-        ensures ok { OnOk result (self.new ≡ moved self.old (moves.Refuse id key units)) }
+    pub(crate) fn refuse(&mut self, id: StatementId, key: &Key, units: u32) -> Result<(), AllocError>
+        ensures ok { OnOk result (self.new ≡ moved self.old (moves.Refuse id key.now units)) }
         ensures err { OnErr result (self.new ≡ self.old) }
     {
-        self.delays.reserve(&key)?;
+        self.delays.reserve(key)?;
+        let chain = key.clone()?;
         if let Some(x) = self.active.take() {
-            self.delays.line_up(key, bind(x, id, units));
+            self.delays.line_up(chain, bind(x, id, units));
         }
         Ok(())
     }

@@ -4,12 +4,13 @@ ghost use Rattle.gw_meaning.specs.Evaluation.{arithmetic, negated_last, applied_
 ghost use Rattle.gw_scan.specs.Deciding.{Decides, Comes, in_place};
 
 use crate::attributes::random_part;
-use crate::case::{Case, Halt, ask_function, ask_name, ask_variable};
+use crate::case::{Case, ask_function, ask_name, ask_variable};
+use crate::halt::Halt;
 use crate::notes::Notes;
 use crate::state::State;
 use crate::waiting_values::WaitingValues;
-use gw_expr::{Atom, Expr, Node, Operator, Stop, Subject, Token};
-use gw_meaning::{Asker, End, Function};
+use gw_expr::{Atom, Expr, Node, Operator, Subject, Token};
+use gw_meaning::{Asker, Function};
 use gw_names::Class;
 use gw_nums::{ArithmeticFault, Millionths, Val};
 
@@ -32,7 +33,7 @@ impl State {
         match operand.node() {
             Node::Value(atom) => self.atom(case, asker, notes, depth, atom),
             Node::Computed(tokens) => self.computed(case, asker, notes, depth, tokens),
-            _ => Err(Halt::End(End::Error(Stop::Range))),
+            _ => Err(Halt::RANGE),
         }
     }
 
@@ -88,14 +89,14 @@ impl State {
             result notes.old notes.new }
     {
         let Subject::Name(name) = of else {
-            return Err(Halt::End(End::Error(Stop::Range)));
+            return Err(Halt::RANGE);
         };
         if depth == 0 {
-            return Err(Halt::End(End::Error(Stop::VariableDepth)));
+            return Err(Halt::VARIABLE_DEPTH);
         }
         match ask_variable(case.version, notes, name)? {
             Some(expression) => self.term(case, asker, notes, depth - 1, expression),
-            None => Err(Halt::End(End::Error(Stop::Range))),
+            None => Err(Halt::RANGE),
         }
     }
 
@@ -134,14 +135,14 @@ impl State {
             result notes.old notes.new }
     {
         let Subject::Name(name) = of else {
-            return Err(Halt::End(End::Error(Stop::Range)));
+            return Err(Halt::RANGE);
         };
         if depth == 0 {
-            return Err(Halt::End(End::Error(Stop::VariableDepth)));
+            return Err(Halt::VARIABLE_DEPTH);
         }
         match ask_function(case.version, notes, name)? {
             Some(function) => self.function(case, asker, notes, depth - 1, function),
-            None => Err(Halt::End(End::Error(Stop::Range))),
+            None => Err(Halt::RANGE),
         }
     }
 
@@ -297,7 +298,7 @@ fn point_found(y: Option<Millionths>) -> Result<Millionths, Halt>
 {
     match y {
         Some(y) => Ok(y),
-        None => Err(Halt::End(End::Error(Stop::Range))),
+        None => Err(Halt::RANGE),
     }
 }
 
@@ -307,7 +308,7 @@ fn number_given(number: Option<Val>) -> Result<Val, Halt>
 {
     match number {
         Some(number) => Ok(number),
-        None => Err(Halt::End(End::Error(Stop::Range))),
+        None => Err(Halt::RANGE),
     }
 }
 
@@ -316,7 +317,7 @@ fn negated_last(values: &mut WaitingValues) -> Result<(), Halt>
     ensures { Comes (negated_last values.old) (in_place result values.new) }
 {
     let Some(value) = values.pop() else {
-        return Err(Halt::End(End::Error(Stop::Range)));
+        return Err(Halt::RANGE);
     };
     values.push(value.negated())?;
     Ok(())
@@ -327,10 +328,10 @@ fn applied_last(operator: Operator, values: &mut WaitingValues) -> Result<(), Ha
     ensures { Comes (applied_last operator values.old) (in_place result values.new) }
 {
     let Some(b) = values.pop() else {
-        return Err(Halt::End(End::Error(Stop::Range)));
+        return Err(Halt::RANGE);
     };
     let Some(a) = values.pop() else {
-        return Err(Halt::End(End::Error(Stop::Range)));
+        return Err(Halt::RANGE);
     };
     let value = arithmetic(operator.apply(a, b))?;
     values.push(value)?;
@@ -343,8 +344,8 @@ pub fn arithmetic(found: Result<Val, ArithmeticFault>) -> Result<Val, Halt>
 {
     match found {
         Ok(value) => Ok(value),
-        Err(ArithmeticFault::Range) => Err(Halt::End(End::Error(Stop::Range))),
-        Err(ArithmeticFault::ZeroDivisor) => Err(Halt::End(End::Error(Stop::ZeroDivisor))),
+        Err(ArithmeticFault::Range) => Err(Halt::RANGE),
+        Err(ArithmeticFault::ZeroDivisor) => Err(Halt::ZERO_DIVISOR),
     }
 }
 
@@ -354,6 +355,6 @@ fn last_value(values: &mut WaitingValues) -> Result<Val, Halt>
 {
     match values.pop() {
         Some(value) => Ok(value),
-        None => Err(Halt::End(End::Error(Stop::Range))),
+        None => Err(Halt::RANGE),
     }
 }

@@ -11,15 +11,15 @@ ghost use Rattle.gw_meaning.specs.declared.transaction.Transaction.{Transaction}
 ghost use Rattle.gw_scan.specs.Deciding.{Decides, entered};
 ghost use Rattle.gw_scan.specs.Stepping.{Acts, Makes};
 
-use crate::case::{Case, Halt};
+use crate::case::Case;
+use crate::halt::Halt;
 use crate::notes::Notes;
 use crate::progress::Progress;
 use crate::state::State;
 use gw_chains::{FutureChain, PriorityChain, place};
 use gw_entities::Parameters;
-use gw_expr::Stop;
 use gw_meaning::operands::{A, B};
-use gw_meaning::{Block, End, Event, Fate, StatementId, Transaction};
+use gw_meaning::{Block, Event, Fate, StatementId, Transaction};
 use std::alloc::AllocError;
 
 impl State {
@@ -90,7 +90,7 @@ impl State {
         let asker = self.for_one(x);
         let time = self.time(case, &asker, notes, block.operand(A), block.operand(B))?;
         if time.is_negative() {
-            return Err(Halt::End(End::Error(Stop::NegativeTime)));
+            return Err(Halt::NEGATIVE_TIME);
         }
         Ok(self.delay(time.magnitude()))
     }
@@ -123,7 +123,7 @@ impl State {
     {
         let count = self.value_or_zero(case, &self.for_one(x), notes, block.operand(A))?;
         if count.is_negative() {
-            return Err(Halt::End(End::Error(Stop::BadCount)));
+            return Err(Halt::BAD_COUNT);
         }
         Ok(Fate::Destroyed {
             count: count.magnitude(),

@@ -11,20 +11,21 @@ ghost use Rattle.gw_meaning.specs.declared.transaction.Transaction.{Transaction}
 ghost use Rattle.gw_scan.specs.Stepping.{Acts, Makes};
 
 use crate::attributes::for_none;
-use crate::case::{Case, Halt};
+use crate::case::Case;
+use crate::halt::Halt;
 use crate::changing::change_active;
 use crate::entering::enter_active;
 use crate::making::make;
 use crate::notes::Notes;
 use crate::state::State;
-use gw_expr::Stop;
 use gw_meaning::operands::{A, B, D, E};
-use gw_meaning::{Arrival, Block, End, StatementId, Transaction, TransactionChange};
+use gw_meaning::{Arrival, Block, StatementId, Transaction, TransactionChange};
 use std::alloc::AllocError;
 
 impl State {
-    // A transaction comes off its GENERATE, which makes the next one.
-    #[inline(always)]
+    // A transaction comes off its GENERATE, which makes the next one. Apart, so that the way to a block stays small
+    // enough for rt to inline it.
+    #[inline(never)]
     pub(crate) fn act_generate(
         &mut self,
         case: Case,
@@ -60,7 +61,7 @@ impl State {
             (operand block.now E)) (generated id result) notes.old notes.new }
     {
         if x.current.number() != 0 {
-            return Err(Halt::End(End::Error(Stop::NoNextBlock)));
+            return Err(Halt::NO_NEXT_BLOCK);
         }
         self.arrival(
             case,

@@ -6,10 +6,10 @@ ghost use Rattle.gw_meaning.specs.declared.moves.Move.TheVariants as moves;
 ghost use Rattle.gw_scan.specs.Deciding.{Decides, clocked};
 ghost use Rattle.gw_scan.specs.Stepping.{Acts};
 
-use crate::case::{Case, Halt, ask_within};
+use crate::case::{Case, ask_within};
+use crate::halt::Halt;
 use crate::notes::Notes;
 use crate::state::State;
-use gw_meaning::End;
 use gw_nums::Clock;
 use std::alloc::AllocError;
 
@@ -38,11 +38,11 @@ impl State {
         ensures streams { notes.new.streams ≡ notes.old.streams }
     {
         let Some(time) = self.future.least_time() else {
-            return Err(Halt::End(End::Dry));
+            return Err(Halt::DRY);
         };
         match ask_within(case.version, notes, time)? {
             Some(time) => Ok(time),
-            None => Err(Halt::End(End::Horizon)),
+            None => Err(Halt::HORIZON),
         }
     }
 

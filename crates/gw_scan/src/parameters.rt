@@ -8,13 +8,14 @@ ghost use Rattle.gw_meaning.specs.declared.transaction.Transaction.{Transaction}
 ghost use Rattle.gw_scan.specs.Stepping.{Acts};
 ghost use Rattle.gw_scan.specs.Deciding.{Decides, Comes, changing};
 
-use crate::case::{Case, Halt, ask_label};
+use crate::case::{Case, ask_label};
+use crate::halt::Halt;
 use crate::expression::arithmetic;
 use crate::notes::Notes;
 use crate::state::State;
-use gw_expr::{Expr, Node, Operator, Stop};
+use gw_expr::{Expr, Node, Operator};
 use gw_meaning::operands::{A, B};
-use gw_meaning::{Asker, Block, End, Sign, StatementId, Transaction, TransactionChange};
+use gw_meaning::{Asker, Block, Sign, StatementId, Transaction, TransactionChange};
 use gw_names::Key;
 use gw_nums::{ArithmeticFault, Val};
 
@@ -76,7 +77,8 @@ impl State {
             (changing id result) notes.old notes.new }
     {
         let parameter = self.entity(case, x, notes, block.operand(A))?;
-        self.assign_at(case, x, notes, block, parameter)
+        let key = parameter.key()?;
+        self.assign_at(case, x, notes, block, key)
     }
 
     #[inline(always)]
@@ -111,7 +113,8 @@ impl State {
             (loop_prog self.now (for_one self.now x.now) id (operand block.now A) (operand block.now B))
             (changing id result) notes.old notes.new }
     {
-        let key = self.entity(case, x, notes, block.operand(A))?;
+        let parameter = self.entity(case, x, notes, block.operand(A))?;
+        let key = parameter.key()?;
         self.loop_at(case, x, notes, key, block.operand(B))
     }
 
@@ -139,7 +142,7 @@ impl State {
         ensures { Comes (parameter_value self.now asker.now key.now) result }
     {
         if !asker.is_transaction {
-            return Err(Halt::End(End::Error(Stop::NoParameter)));
+            return Err(Halt::NO_PARAMETER);
         }
         value_held(self.parameters.get(asker.number, key))
     }
@@ -151,7 +154,7 @@ fn value_held(value: Option<Val>) -> Result<Val, Halt>
 {
     match value {
         Some(value) => Ok(value),
-        None => Err(Halt::End(End::Error(Stop::NoParameter))),
+        None => Err(Halt::NO_PARAMETER),
     }
 }
 
@@ -199,7 +202,7 @@ fn left_of(was: Option<Val>) -> Result<Val, Halt>
 {
     match was {
         Some(value) => arithmetic(Operator::Minus.apply(value, one())),
-        None => Err(Halt::End(End::Error(Stop::NoParameter))),
+        None => Err(Halt::NO_PARAMETER),
     }
 }
 
@@ -240,14 +243,14 @@ fn loop_to(
         (loop_to id key left (option_copied label.entry)) (changing id result) notes.old notes.new }
 {
     let Some(expr) = label else {
-        return Err(Halt::End(End::Error(Stop::NoNextBlock)));
+        return Err(Halt::NO_NEXT_BLOCK);
     };
     match expr.node() {
         Node::Label(name) => {
             let to = ask_label(case.version, notes, name)?;
             loop_back(key, left, to)
         }
-        _ => Err(Halt::End(End::Error(Stop::NoNextBlock))),
+        _ => Err(Halt::NO_NEXT_BLOCK),
     }
 }
 
@@ -260,6 +263,6 @@ fn loop_back(
 {
     match to {
         Some(to) => Ok(Some(TransactionChange::Loop { key, left, to })),
-        None => Err(Halt::End(End::Error(Stop::NoNextBlock))),
+        None => Err(Halt::NO_NEXT_BLOCK),
     }
 }

@@ -7,7 +7,8 @@ ghost use Rattle.gw_meaning.specs.declared.transaction.Transaction.{Transaction}
 ghost use Rattle.gw_scan.specs.Stepping.{Acts};
 ghost use Rattle.gw_scan.specs.Deciding.{Decides, changing};
 
-use crate::case::{Case, Halt};
+use crate::case::Case;
+use crate::halt::Halt;
 use crate::notes::Notes;
 use crate::state::State;
 use gw_meaning::operands::A;

@@ -5,15 +5,17 @@ ghost use Rattle.gw_meaning.specs.declared.transaction.Transaction.{Transaction}
 ghost use Rattle.gw_meaning.specs.Entities.{line_at};
 ghost use Rattle.gw_meaning.specs.Statements.{A, B, operand};
 ghost use Rattle.gw_meaning.specs.Step.{for_one, is_too_many, queue_units, queue_prog, depart_units, depart_prog};
+ghost use Rattle.gw_scan.specs.Entity.{key_of};
 ghost use Rattle.gw_scan.specs.Stepping.{Acts, Goes};
 
-use crate::case::{Case, Halt};
+use crate::case::Case;
+use crate::halt::Halt;
 use crate::entering::enter_active;
+use crate::entity::Entity;
 use crate::notes::Notes;
 use crate::state::State;
 use gw_entities::Queue;
-use gw_expr::Stop;
-use gw_meaning::{Block, End, StatementId};
+use gw_meaning::{Block, StatementId};
 use gw_names::Key;
 
 impl State {
@@ -31,34 +33,49 @@ impl State {
             (queue_prog self.old (for_one self.old x) id (operand block.now A) (operand block.now B))
             result self.old self.new notes.old notes.new }
     {
-        let key = self.own_entity(case, notes, block)?;
+        let entity = self.own_entity(case, notes, block)?;
         let units = self.own_units(case, notes, block)?;
-        let come = self.come(id, key, units);
+        let come = self.come_known(id, entity, units);
         self.with_draws(come, notes)
+    }
+
+    // So many units come to a queue that is known.
+    #[inline(always)]
+    fn come_known(&mut self, id: StatementId, entity: Entity, units: u32) -> Result<(), Halt>
+        requires { IsSome self.old.active }
+        ensures { (x : Transaction) → self.old.active ≡ Some x →
+            Goes (queue_units id (key_of entity.entry) (line_at self.old.entities (key_of entity.entry)) units)
+            result self.old self.new }
+    {
+        match entity {
+            Entity::Named(key) => self.come(id, key, units),
+            Entity::Numbered(number) => self.come(id, &Key::Num(number), units),
+        }
     }
 
     // So many units come, unless a count would be too great.
     #[inline(always)]
-    fn come(&mut self, id: StatementId, key: Key, units: u32) -> Result<(), Halt>
+    fn come(&mut self, id: StatementId, key: &Key, units: u32) -> Result<(), Halt>
         requires { IsSome self.old.active }
         ensures { (x : Transaction) → self.old.active ≡ Some x →
-            Goes (queue_units id key (line_at self.old.entities key) units) result self.old self.new }
+            Goes (queue_units id key.now (line_at self.old.entities key.now) units) result self.old self.new }
     {
         let units = u64::from(units);
-        let (place, queue) = self.entities.queues.look(&key, Queue::new());
+        let (place, queue) = self.entities.queues.look(key, Queue::new());
         if is_too_many(queue.entries().saturating_add(units))
             || is_too_many(queue.level().content().saturating_add(units))
         {
-            return Err(Halt::End(End::Error(Stop::TooManyUnits)));
+            return Err(Halt::TOO_MANY_UNITS);
         }
         self.counts.reserve(id)?;
-        self.entities.queues.reserve_at(&key, place)?;
+        self.entities.queues.reserve_at(key, place)?;
         self.entities.comings.reserve()?;
+        let coming = key.clone()?;
         let number = enter_active(&mut self.active, &mut self.counts, id);
-        let mut queue = self.entities.queues.value_at(&key, place, Queue::new());
+        let mut queue = self.entities.queues.value_at(key, place, Queue::new());
         queue.enter(units, self.clocks.clock());
-        self.entities.queues.set_at(&key, place, queue);
-        self.entities.comings.add(key, number);
+        self.entities.queues.set_at(key, place, queue);
+        self.entities.comings.add(coming, number);
         Ok(())
     }
 
@@ -76,10 +93,24 @@ impl State {
             (depart_prog self.old (for_one self.old x) x id (operand block.now A) (operand block.now B))
             result self.old self.new notes.old notes.new }
     {
-        let key = self.own_entity(case, notes, block)?;
+        let entity = self.own_entity(case, notes, block)?;
         let units = self.own_units(case, notes, block)?;
-        let gone = self.go(id, &key, units);
+        let gone = self.go_known(id, entity, units);
         self.with_draws(gone, notes)
+    }
+
+    // So many units leave a queue that is known.
+    #[inline(always)]
+    fn go_known(&mut self, id: StatementId, entity: Entity, units: u32) -> Result<(), Halt>
+        requires { IsSome self.old.active }
+        ensures { (x : Transaction) → self.old.active ≡ Some x →
+            Goes (depart_units id (key_of entity.entry) (line_at self.old.entities (key_of entity.entry))
+            (came self.old.entities.comings (key_of entity.entry) x.number) units) result self.old self.new }
+    {
+        match entity {
+            Entity::Named(key) => self.go(id, key, units),
+            Entity::Numbered(number) => self.go(id, &Key::Num(number), units),
+        }
     }
 
     // So many units leave, unless fewer are there or a count would be too great.
@@ -97,10 +128,10 @@ impl State {
         let at_once = self.entities.comings.has(key, x.number);
         let (place, queue) = self.entities.queues.look(key, Queue::new());
         if at_once && is_too_many(queue.zero_entries().saturating_add(units)) {
-            return Err(Halt::End(End::Error(Stop::TooManyUnits)));
+            return Err(Halt::TOO_MANY_UNITS);
         }
         if queue.level().content() < units {
-            return Err(Halt::End(End::Error(Stop::DepartTooMany)));
+            return Err(Halt::DEPART_TOO_MANY);
         }
         self.counts.reserve(id)?;
         self.entities.queues.reserve_at(key, place)?;

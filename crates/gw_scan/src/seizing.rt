@@ -5,16 +5,18 @@ ghost use Rattle.gw_meaning.specs.Machine.{delay_at};
 ghost use Rattle.gw_meaning.specs.Entities.{facility_at};
 ghost use Rattle.gw_meaning.specs.Statements.{A, operand};
 ghost use Rattle.gw_meaning.specs.Step.{for_one, seize_or_wait, seize_prog, first_number, is_owner, release_to, release_prog};
+ghost use Rattle.gw_scan.specs.Entity.{key_of};
 ghost use Rattle.gw_scan.specs.Stepping.{Acts, Goes};
 
-use crate::case::{Case, Halt};
+use crate::case::Case;
+use crate::halt::Halt;
 use crate::entering::enter_active;
 use crate::entities::give_back;
+use crate::entity::Entity;
 use crate::letting_in::{let_first_in, reserve_first};
 use crate::notes::Notes;
 use crate::state::State;
-use gw_expr::Stop;
-use gw_meaning::{Block, End, StatementId};
+use gw_meaning::{Block, StatementId};
 use gw_names::Key;
 
 impl State {
@@ -32,29 +34,44 @@ impl State {
             (seize_prog self.old (for_one self.old x) id (operand block.now A))
             result self.old self.new notes.old notes.new }
     {
-        let key = self.own_entity(case, notes, block)?;
-        let seized = self.seize(id, key);
+        let entity = self.own_entity(case, notes, block)?;
+        let seized = self.seize_known(id, entity);
         self.with_draws(seized, notes)
     }
 
     // The same, of a facility that is known.
     #[inline(always)]
-    fn seize(&mut self, id: StatementId, key: Key) -> Result<(), Halt>
+    fn seize_known(&mut self, id: StatementId, entity: Entity) -> Result<(), Halt>
         requires { IsSome self.old.active }
         ensures { (x : Transaction) → self.old.active ≡ Some x →
-            Goes (seize_or_wait id key (is_some (facility_at self.old.entities key).owner)) result self.old self.new }
+            Goes (seize_or_wait id (key_of entity.entry)
+            (is_some (facility_at self.old.entities (key_of entity.entry)).owner)) result self.old self.new }
     {
-        let (place, facility) = self.entities.look_for_facility(&key);
+        match entity {
+            Entity::Named(key) => self.seize(id, key),
+            Entity::Numbered(number) => self.seize(id, &Key::Num(number)),
+        }
+    }
+
+    // The same, of the facility with a key.
+    #[inline(always)]
+    fn seize(&mut self, id: StatementId, key: &Key) -> Result<(), Halt>
+        requires { IsSome self.old.active }
+        ensures { (x : Transaction) → self.old.active ≡ Some x →
+            Goes (seize_or_wait id key.now (is_some (facility_at self.old.entities key.now).owner))
+            result self.old self.new }
+    {
+        let (place, facility) = self.entities.look_for_facility(key);
         if facility.is_owned() {
             self.refuse(id, key, 1)?;
             return Ok(());
         }
         self.counts.reserve(id)?;
-        self.entities.reserve_facility(&key, place)?;
+        self.entities.reserve_facility(key, place)?;
         let number = enter_active(&mut self.active, &mut self.counts, id);
-        let mut facility = self.entities.facility_there(&key, place);
+        let mut facility = self.entities.facility_there(key, place);
         facility.seize(number, self.clocks.clock());
-        self.entities.set_facility(&key, place, facility);
+        self.entities.set_facility(key, place, facility);
         Ok(())
     }
 
@@ -72,12 +89,27 @@ impl State {
             (release_prog self.old (for_one self.old x) x id (operand block.now A))
             result self.old self.new notes.old notes.new }
     {
-        let key = self.own_entity(case, notes, block)?;
-        let given = self.give_back(id, &key);
+        let entity = self.own_entity(case, notes, block)?;
+        let given = self.give_back_known(id, entity);
         self.with_draws(given, notes)
     }
 
     // The same, of a facility that is known.
+    #[inline(always)]
+    fn give_back_known(&mut self, id: StatementId, entity: Entity) -> Result<(), Halt>
+        requires { IsSome self.old.active }
+        ensures { (x : Transaction) → self.old.active ≡ Some x →
+            Goes (release_to id (key_of entity.entry)
+            (is_owner (facility_at self.old.entities (key_of entity.entry)).owner x.number)
+            (first_number (delay_at self.old.delays (key_of entity.entry)))) result self.old self.new }
+    {
+        match entity {
+            Entity::Named(key) => self.give_back(id, key),
+            Entity::Numbered(number) => self.give_back(id, &Key::Num(number)),
+        }
+    }
+
+    // The same, of the facility with a key.
     #[inline(always)]
     fn give_back(&mut self, id: StatementId, key: &Key) -> Result<(), Halt>
         requires { IsSome self.old.active }
@@ -90,7 +122,7 @@ impl State {
         };
         let (place, facility) = self.entities.look_for_facility(key);
         if !is_owner(facility.owner(), x.number) {
-            return Err(Halt::End(End::Error(Stop::NotOwner)));
+            return Err(Halt::NOT_OWNER);
         }
         self.counts.reserve(id)?;
         self.entities.reserve_facility(key, place)?;

@@ -5,7 +5,8 @@ ghost use Rattle.gw_meaning.specs.Machine.{delay_at};
 ghost use Rattle.gw_meaning.specs.Step.{beside, share_of, in_use, shares_prog, all_shares};
 ghost use Rattle.gw_scan.specs.Deciding.{Decides};
 
-use crate::case::{Case, Halt, ask_fits};
+use crate::case::{Case, ask_fits};
+use crate::halt::Halt;
 use crate::notes::Notes;
 use crate::state::State;
 use gw_chains::PriorityChain;

@@ -4,7 +4,8 @@ ghost use Rattle.gw_meaning.specs.Step.{step, step_items};
 ghost use Rattle.gw_scan.specs.Stepping.{Steps, Counts, EndsAs, Follows, Halts};
 ghost use Rattle.gw_scan.specs.Noted.{Forgets};
 
-use crate::case::{Case, Halt};
+use crate::case::Case;
+use crate::halt::{Halt, Why};
 use crate::notes::Notes;
 use crate::state::State;
 use crate::tally::Tally;
@@ -63,9 +64,9 @@ fn halted(halt: Halt, state: &State, notes: &mut Notes) -> Result<Turn, AllocErr
     ensures notes { Forgets notes.old.step state.now.streams notes.old notes.new }
 {
     notes.forget(state);
-    match halt {
-        Halt::End(end) => Ok(Turn::Ended(end)),
-        Halt::Memory => Err(AllocError),
+    match halt.why() {
+        Why::End(end) => Ok(Turn::Ended(end)),
+        Why::Memory => Err(AllocError),
     }
 }
 
@@ -95,8 +96,10 @@ impl State {
         let mut notes = Notes::new(case.alloc, self);
         match self.act(case, &mut notes) {
             Ok(()) => Ok(None),
-            Err(Halt::End(end)) => Ok(Some(end)),
-            Err(Halt::Memory) => Err(AllocError),
+            Err(halt) => match halt.why() {
+                Why::End(end) => Ok(Some(end)),
+                Why::Memory => Err(AllocError),
+            },
         }
     }
 }

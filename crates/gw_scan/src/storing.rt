@@ -11,7 +11,8 @@ ghost use Rattle.gw_meaning.specs.Statements.{A, B, operand};
 ghost use Rattle.gw_meaning.specs.Step.{for_one, enter_or_wait, enter_storage, enter_prog, leave_for, leave_units, leave_prog};
 ghost use Rattle.gw_scan.specs.Stepping.{Acts, Goes};
 
-use crate::case::{Case, Halt, ask_fits};
+use crate::case::{Case, ask_fits};
+use crate::halt::Halt;
 use crate::entering::enter_active;
 use crate::entities::enter_all;
 use crate::letting_in::{let_some_in, reserve_some};
@@ -20,9 +21,9 @@ use crate::queueing::is_too_many;
 use crate::shares::{all_shares, beside};
 use crate::state::State;
 use gw_entities::Storage;
-use gw_expr::{Node, Stop};
+use gw_expr::Node;
 use gw_meaning::operands::A;
-use gw_meaning::{Block, End, Row, StatementId};
+use gw_meaning::{Block, Row, StatementId};
 use gw_names::{Key, StorageName};
 
 impl State {
@@ -41,11 +42,11 @@ impl State {
             result self.old self.new notes.old notes.new }
     {
         let Some(expr) = block.operand(A) else {
-            return Err(Halt::End(End::Error(Stop::Range)));
+            return Err(Halt::RANGE);
         };
         match expr.node() {
             Node::Defined(name) => self.act_enter_defined(case, notes, id, name, block),
-            _ => Err(Halt::End(End::Error(Stop::Range))),
+            _ => Err(Halt::RANGE),
         }
     }
 
@@ -105,7 +106,7 @@ impl State {
             result self.old self.new notes.old notes.new }
     {
         if !large {
-            return Err(Halt::End(End::Error(Stop::TooManyUnits)));
+            return Err(Halt::TOO_MANY_UNITS);
         }
         let key = name.key();
         let (place, storage) = self.entities.look_for_storage(key);
@@ -133,12 +134,12 @@ impl State {
             Goes (enter_or_wait id key.now storage units fits) result self.old self.new }
     {
         if !fits {
-            self.refuse(id, key.clone()?, units)?;
+            self.refuse(id, key, units)?;
             return Ok(());
         }
         let units = u64::from(units);
         if is_too_many(storage.entries().saturating_add(units)) {
-            return Err(Halt::End(End::Error(Stop::TooManyUnits)));
+            return Err(Halt::TOO_MANY_UNITS);
         }
         self.counts.reserve(id)?;
         self.entities.reserve_storage(key, place)?;
@@ -164,11 +165,11 @@ impl State {
             result self.old self.new notes.old notes.new }
     {
         let Some(expr) = block.operand(A) else {
-            return Err(Halt::End(End::Error(Stop::Range)));
+            return Err(Halt::RANGE);
         };
         match expr.node() {
             Node::Defined(name) => self.act_leave_defined(case, notes, id, name, block),
-            _ => Err(Halt::End(End::Error(Stop::Range))),
+            _ => Err(Halt::RANGE),
         }
     }
 
@@ -211,7 +212,7 @@ impl State {
         let units = u64::from(units);
         let content = storage.level().content();
         if content < units {
-            return Err(Halt::End(End::Error(Stop::LeaveTooMany)));
+            return Err(Halt::LEAVE_TOO_MANY);
         }
         let shares = self.shares(case, notes, name.name(), key, content - units)?;
         let left = self.leave_for(id, key, place, storage, units, &shares);
@@ -237,7 +238,7 @@ impl State {
     {
         let shares = shares.as_slice();
         if is_too_many(storage.entries().saturating_add(all_shares(shares))) {
-            return Err(Halt::End(End::Error(Stop::TooManyUnits)));
+            return Err(Halt::TOO_MANY_UNITS);
         }
         self.counts.reserve(id)?;
         self.entities.reserve_storage(key, place)?;

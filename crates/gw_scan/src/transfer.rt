@@ -6,13 +6,14 @@ ghost use Rattle.gw_meaning.specs.Step.{by_fraction, go_to, lead_to, transfer_pr
 ghost use Rattle.gw_scan.specs.Stepping.{Acts};
 ghost use Rattle.gw_scan.specs.Deciding.{Decides, Comes, changing};
 
-use crate::case::{Case, Halt, ask_label};
+use crate::case::{Case, ask_label};
+use crate::halt::Halt;
 use crate::draws::{draw, millionths};
 use crate::notes::Notes;
 use crate::state::State;
-use gw_expr::{Expr, Node, Stop};
+use gw_expr::{Expr, Node};
 use gw_meaning::operands::{A, B, C};
-use gw_meaning::{Block, End, StatementId, TransactionChange};
+use gw_meaning::{Block, StatementId, TransactionChange};
 
 impl State {
     // A transaction is sent to a block, or goes on to the next one.
@@ -137,6 +138,6 @@ fn go_to(to: Option<StatementId>) -> Result<Option<TransactionChange>, Halt>
 {
     match to {
         Some(to) => Ok(Some(TransactionChange::Transfer { to })),
-        None => Err(Halt::End(End::Error(Stop::NoNextBlock))),
+        None => Err(Halt::NO_NEXT_BLOCK),
     }
 }

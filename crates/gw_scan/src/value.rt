@@ -1,18 +1,20 @@
 // What operands stand for: values, entities and units.
 ghost use Rattle.std.specs.Prelude.{◌≡◌, ◌++◌, Some, IsSome, option_copied};
 ghost use Rattle.gw_meaning.specs.declared.transaction.Transaction.{Transaction};
-ghost use Rattle.gw_meaning.specs.Evaluation.{value_prog, value_or_zero, value_there, numbered, named, entity_prog, units_prog, ◌~>◌};
+ghost use Rattle.gw_meaning.specs.Evaluation.{value_prog, value_or_zero, value_there, numbered, entity_prog, units_prog, ◌~>◌};
 ghost use Rattle.gw_meaning.specs.Statements.{A, B, operand};
 ghost use Rattle.gw_meaning.specs.Step.{for_one};
-ghost use Rattle.gw_scan.specs.Deciding.{Decides, Comes};
+ghost use Rattle.gw_scan.specs.Deciding.{Decides};
+ghost use Rattle.gw_scan.specs.Entity.{keyed};
 
-use crate::case::{Case, Halt, ask_name};
+use crate::case::{Case, ask_name};
+use crate::entity::{Entity, named, numbered};
+use crate::halt::Halt;
 use crate::notes::Notes;
 use crate::state::State;
-use gw_expr::{Atom, Expr, Node, Stop};
+use gw_expr::{Atom, Expr, Node};
 use gw_meaning::operands::{A, B};
-use gw_meaning::{Asker, Block, End, Transaction};
-use gw_names::{Key, Name};
+use gw_meaning::{Asker, Block, Transaction};
 use gw_nums::Val;
 
 // How many VARIABLEs and FUNCTIONs may stand in each other.
@@ -52,7 +54,7 @@ impl State {
     {
         match operand {
             Some(expr) => self.value(case, asker, notes, expr),
-            None => Err(Halt::End(End::Error(Stop::Range))),
+            None => Err(Halt::RANGE),
         }
     }
 
@@ -77,23 +79,23 @@ impl State {
 
     // The entity that an operand names, for a transaction.
     #[inline(always)]
-    pub(crate) fn entity(
+    pub(crate) fn entity<'a>(
         &self,
         case: Case,
         x: &Transaction,
         notes: &mut Notes,
-        operand: Option<&Expr>,
-    ) -> Result<Key, Halt>
+        operand: Option<&'a Expr>,
+    ) -> Result<Entity<'a>, Halt>
         ensures { Decides case.entry.version.now case.entry.seed
             (entity_prog self.now (for_one self.now x.now) (option_copied operand.entry))
-            result notes.old notes.new }
+            (keyed result) notes.old notes.new }
     {
         let Some(expr) = operand else {
-            return Err(Halt::End(End::Error(Stop::Range)));
+            return Err(Halt::RANGE);
         };
         match expr.node() {
             Node::Named(name) => {
-                let number = ask_name(case.version, notes, name)?;
+                let number = ask_name(case.version, notes, name.name())?;
                 named(name, number)
             }
             _ => self.computed_entity(case, &self.for_one(x), notes, expr),
@@ -101,15 +103,16 @@ impl State {
     }
 
     // The entity whose number is the value of an operand.
-    fn computed_entity(
+    #[inline(always)]
+    fn computed_entity<'a>(
         &self,
         case: Case,
         asker: &Asker,
         notes: &mut Notes,
         operand: &Expr,
-    ) -> Result<Key, Halt>
+    ) -> Result<Entity<'a>, Halt>
         ensures { Decides case.entry.version.now case.entry.seed
-            (value_prog self.now asker.now operand.now ~> numbered) result notes.old notes.new }
+            (value_prog self.now asker.now operand.now ~> numbered) (keyed result) notes.old notes.new }
     {
         let number = self.value(case, asker, notes, operand)?;
         numbered(number)
@@ -133,22 +136,22 @@ impl State {
         };
         let units = self.value(case, &self.for_one(x), notes, expr)?;
         if units.get() < 1 {
-            return Err(Halt::End(End::Error(Stop::BadCount)));
+            return Err(Halt::BAD_COUNT);
         }
         Ok(units.magnitude() as u32)
     }
 
     // The entity that a block names, for the active transaction.
     #[inline(always)]
-    pub(crate) fn own_entity(
+    pub(crate) fn own_entity<'a>(
         &self,
         case: Case,
         notes: &mut Notes,
-        block: &Block,
-    ) -> Result<Key, Halt>
+        block: &'a Block,
+    ) -> Result<Entity<'a>, Halt>
         requires { IsSome self.now.active }
         ensures { (x : Transaction) → self.now.active ≡ Some x → Decides case.entry.version.now case.entry.seed
-            (entity_prog self.now (for_one self.now x) (operand block.now A)) result notes.old notes.new }
+            (entity_prog self.now (for_one self.now x) (operand block.now A)) (keyed result) notes.old notes.new }
     {
         let Some(x) = &self.active else {
             unreachable!()
@@ -173,25 +176,4 @@ impl State {
         };
         self.units(case, x, notes, block.operand(B))
     }
-}
-
-// The entity with a name, or with the number that the name stands for.
-#[inline(always)]
-pub fn named(name: &Name, number: Option<Val>) -> Result<Key, Halt>
-    ensures { Comes (named name.now number) result }
-{
-    match number {
-        Some(number) => numbered(number),
-        None => Ok(Key::Named(name.clone()?)),
-    }
-}
-
-// The entity with a number, from 1.
-fn numbered(number: Val) -> Result<Key, Halt>
-    ensures { Comes (numbered number) result }
-{
-    if number.get() < 1 {
-        return Err(Halt::End(End::Error(Stop::Range)));
-    }
-    Ok(Key::Num(number.magnitude() as u32))
 }

@@ -6,7 +6,7 @@ use Rattle.gw_scan.specs.Deciding.{Decides}
 use Rattle.gw_chains.proofs.ChainLaws.{item_drop}
 use Rattle.std.specs.Prelude.{Err}
 use Rattle.std.proofs.lemmas.Result.{err_from_is_err_and}
-use Rattle.gw_scan.specs.declared.case.Halt.TheVariants as halts
+use Rattle.gw_scan.specs.declared.halt.Why.TheVariants as whys
 use Rattle.gw_scan.proofs.Binding.{decides_asked, decides_gives, decides_memory, reads_one, reads_keep}
 use Rattle.gw_scan.proofs.shares.shares_of.Goals as goal
 
@@ -46,5 +46,5 @@ returns-in_err-push c =
     let p = err_from_is_err_and c.from_residual-in_err-push.result c.from_residual-in_err-push.ensures.1 in
     let noted = c.in_ok-fits.ensures.ok in
     let read = reads_one c.loop-i.notes _ c.ask_fits.new.notes noted in
-    let kept = c.loop-i.invariant (Err halts.Memory) c.ask_fits.new.notes (reads_keep c.loop-i.notes c.ask_fits.new.notes _ read) in
+    let kept = c.loop-i.invariant (Err whys.Memory) c.ask_fits.new.notes (reads_keep c.loop-i.notes c.ask_fits.new.notes _ read) in
     decides_memory t seed (shares_prog c.args.name.now c.args.content [] c.args.chain.now.items) _ _ c.args.notes.now c.ask_fits.new.notes p.1 p.2 kept

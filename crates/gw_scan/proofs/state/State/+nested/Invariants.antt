@@ -1,5 +1,5 @@
 use Rattle.std.proofs.Common.{[], ℤ, ◌+◌, ◌*◌, List, Result, drop}
-use Rattle.gw_scan.specs.declared.case.Halt.{Halt}
+use Rattle.gw_scan.specs.declared.halt.Why.{Why}
 use Rattle.gw_scan.specs.Noted.{Noted}
 use Rattle.gw_meaning.specs.Evaluation.{tokens_prog, definitions_prog}
 use Rattle.gw_scan.specs.Deciding.{Decides}
@@ -38,7 +38,7 @@ decreases-function l = l.depth * 9 + 8
 -- what the rest comes to is what all come to
 abbrev pub invariant-computed-loop-token : goal.invariant-computed-loop-token
 invariant-computed-loop-token l =
-    (r : Result (List ℤ) Halt) (all : Noted) →
+    (r : Result (List ℤ) Why) (all : Noted) →
     Decides l.case.version.now l.case.seed
     (tokens_prog l.self l.asker (definitions_prog l.depth l.self l.asker) (drop l.token-index l.tokens) l.values) r l.notes all →
     Decides l.case.version.now l.case.seed (tokens_prog l.self l.asker (definitions_prog l.depth l.self l.asker) l.tokens [])

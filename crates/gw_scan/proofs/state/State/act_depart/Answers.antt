@@ -7,19 +7,20 @@ use Rattle.gw_meaning.specs.Entities.{line_at}
 use Rattle.gw_meaning.specs.Evaluation.{Eval, entity_prog, units_prog, ◌~>◌}
 use Rattle.gw_meaning.specs.Statements.{A, B, operand}
 use Rattle.gw_meaning.specs.Step.{for_one, depart_units}
+use Rattle.gw_scan.specs.Entity.{key_of}
 use Rattle.gw_scan.proofs.Acting.{acts_then, acts_exit}
 use Rattle.gw_scan.proofs.state.State.act_depart.Goals as goal
 
-pub returns-in_err-key : goal.returns-in_err-key
-returns-in_err-key c x is =
+pub returns-in_err-entity : goal.returns-in_err-entity
+returns-in_err-entity c x is =
     let p = err_from_is_err_and c.from_residual.result c.from_residual.ensures.1 in
     let s = c.args.self.now in
     let q = for_one s x in
     let b = c.args.block.now in
     let rest : Key → Eval Move = λ key. units_prog s q (operand b B) ~>
     (λ n. depart_units c.args.id key (line_at s.entities key) (came s.entities.comings key x.number) n) in
-    acts_exit c.args.case.version.now c.args.case.seed (entity_prog s q (operand b A)) rest _ _ _ c.in_err-key.field-0.0 s _ _ refl p.1 p.2
-    (c.in_err-key.ensures x is)
+    acts_exit c.args.case.version.now c.args.case.seed (entity_prog s q (operand b A)) rest _ _ _ c.in_err-entity.field-0.0 s _ _ refl p.1 p.2
+    (c.in_err-entity.ensures x is)
 
 pub returns-in_err-units : goal.returns-in_err-units
 returns-in_err-units c x is =
@@ -31,9 +32,9 @@ returns-in_err-units c x is =
     let b = c.args.block.now in
     let rest : Key → Eval Move = λ key. units_prog s q (operand b B) ~>
     (λ n. depart_units c.args.id key (line_at s.entities key) (came s.entities.comings key x.number) n) in
-    let key = c.in_ok-key.key in
+    let key = key_of c.in_ok-entity.entity in
     let last : ℕ → Eval Move = λ n. depart_units c.args.id key (line_at s.entities key) (came s.entities.comings key x.number) n in
-    acts_then t seed (entity_prog s q (operand b A)) rest key _ s _ _ _ _ (c.in_ok-key.ensures x is)
+    acts_then t seed (entity_prog s q (operand b A)) rest key _ s _ _ _ _ (c.in_ok-entity.ensures x is)
     (acts_exit t seed (units_prog s q (operand b B)) last _ _ _ c.in_err-units.field-0.0 s _ _ refl p.1 p.2 (c.in_err-units.ensures x is))
 
 pub returns : goal.returns
@@ -45,9 +46,9 @@ returns c x is =
     let b = c.args.block.now in
     let rest : Key → Eval Move = λ key. units_prog s q (operand b B) ~>
     (λ n. depart_units c.args.id key (line_at s.entities key) (came s.entities.comings key x.number) n) in
-    let key = c.in_ok-key.key in
+    let key = key_of c.in_ok-entity.entity in
     let last : ℕ → Eval Move = λ n. depart_units c.args.id key (line_at s.entities key) (came s.entities.comings key x.number) n in
     let n = c.in_ok-units.units in
-    acts_then t seed (entity_prog s q (operand b A)) rest key _ s _ _ _ _ (c.in_ok-key.ensures x is)
+    acts_then t seed (entity_prog s q (operand b A)) rest key _ s _ _ _ _ (c.in_ok-entity.ensures x is)
     (acts_then t seed (units_prog s q (operand b B)) last n _ s _ _ _ _ (c.in_ok-units.ensures x is)
-    (c.with_draws.ensures t seed (last n) s (c.go-gone.ensures x is)))
+    (c.with_draws.ensures t seed (last n) s (c.go_known-gone.ensures x is)))

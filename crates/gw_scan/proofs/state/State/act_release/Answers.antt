@@ -7,17 +7,18 @@ use Rattle.gw_meaning.specs.Machine.{delay_at}
 use Rattle.gw_meaning.specs.Evaluation.{Eval, entity_prog}
 use Rattle.gw_meaning.specs.Statements.{A, operand}
 use Rattle.gw_meaning.specs.Step.{for_one, first_number, is_owner, release_to}
+use Rattle.gw_scan.specs.Entity.{key_of}
 use Rattle.gw_scan.proofs.Acting.{acts_then, acts_exit}
 use Rattle.gw_scan.proofs.state.State.act_release.Goals as goal
 
-pub returns-in_err-key : goal.returns-in_err-key
-returns-in_err-key c x is =
+pub returns-in_err-entity : goal.returns-in_err-entity
+returns-in_err-entity c x is =
     let p = err_from_is_err_and c.from_residual.result c.from_residual.ensures.1 in
     let s = c.args.self.now in
     let rest : Key → Eval Move = λ key. release_to c.args.id key
     (is_owner (facility_at s.entities key).owner x.number) (first_number (delay_at s.delays key)) in
     acts_exit c.args.case.version.now c.args.case.seed (entity_prog s (for_one s x) (operand c.args.block.now A)) rest _ _ _
-    c.in_err-key.field-0.0 s _ _ refl p.1 p.2 (c.in_err-key.ensures x is)
+    c.in_err-entity.field-0.0 s _ _ refl p.1 p.2 (c.in_err-entity.ensures x is)
 
 pub returns : goal.returns
 returns c x is =
@@ -26,6 +27,6 @@ returns c x is =
     let s = c.args.self.now in
     let rest : Key → Eval Move = λ key. release_to c.args.id key
     (is_owner (facility_at s.entities key).owner x.number) (first_number (delay_at s.delays key)) in
-    let key = c.in_ok-key.key in
-    acts_then t seed (entity_prog s (for_one s x) (operand c.args.block.now A)) rest key _ s _ _ _ _ (c.in_ok-key.ensures x is)
-    (c.with_draws.ensures t seed (rest key) s (c.give_back-given.ensures x is))
+    let key = key_of c.in_ok-entity.entity in
+    acts_then t seed (entity_prog s (for_one s x) (operand c.args.block.now A)) rest key _ s _ _ _ _ (c.in_ok-entity.ensures x is)
+    (c.with_draws.ensures t seed (rest key) s (c.give_back_known-given.ensures x is))

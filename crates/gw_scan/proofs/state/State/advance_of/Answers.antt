@@ -9,7 +9,7 @@ use Rattle.gw_meaning.specs.declared.moves.Move.TheVariants as moves
 use Rattle.gw_meaning.specs.Statements.{A, B, operand}
 use Rattle.gw_meaning.specs.Evaluation.{Eval, gives, ends_with, stops_if, time_prog, ◌~>◌}
 use Rattle.gw_meaning.specs.Step.{for_one, advance_prog, delay_of}
-use Rattle.gw_scan.specs.declared.case.Halt.TheVariants as halts
+use Rattle.gw_scan.specs.declared.halt.Why.TheVariants as whys
 use Rattle.gw_scan.specs.Deciding.{entered}
 use Rattle.gw_scan.proofs.Binding.{decides_exit, decides_whole, decides_comes}
 use Rattle.gw_scan.proofs.state.State.advance_of.Goals as goal
@@ -54,6 +54,6 @@ returns-then-is_negative c id =
     rw (← c.for_one-asker.ensures, c.operand.ensures, c.operand-2.ensures) refl in
     let below : is_negative t ≡ true = search rules in
     let here : rest t ≡ ends_with (ends.Error NegativeTime) = rw below refl in
-    decides_whole c.args.case.version.now c.args.case.seed time rest _ t (Err (halts.End (ends.Error NegativeTime))) c.args.notes.now c.time.new.notes
+    decides_whole c.args.case.version.now c.args.case.seed time rest _ t (Err (whys.End (ends.Error NegativeTime))) c.args.notes.now c.time.new.notes
     c.time.new.notes whole c.in_ok-time.ensures
-    (decides_comes c.args.case.version.now c.args.case.seed (rest t) (Err (halts.End (ends.Error NegativeTime))) c.time.new.notes here)
+    (decides_comes c.args.case.version.now c.args.case.seed (rest t) (Err (whys.End (ends.Error NegativeTime))) c.time.new.notes here)

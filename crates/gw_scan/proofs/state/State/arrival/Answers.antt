@@ -7,7 +7,7 @@ use Rattle.gw_meaning.specs.declared.moves.Arrival.{Arrival}
 use Rattle.gw_meaning.specs.Machine.{count_at}
 use Rattle.gw_meaning.specs.Evaluation.{Eval, gives, ends_with, value_prog, ◌~>◌}
 use Rattle.gw_meaning.specs.Step.{arrival_prog, arrival_within}
-use Rattle.gw_scan.specs.declared.case.Halt.TheVariants as halts
+use Rattle.gw_scan.specs.declared.halt.Why.TheVariants as whys
 use Rattle.gw_scan.proofs.Binding.{decides_exit, decides_whole, decides_comes}
 use Rattle.std.proofs.Common.{◌≡◌, Option, option_copied, ℤ, rules}
 use Rattle.gw_meaning.specs.Machine.{count_at}
@@ -74,8 +74,8 @@ returns-then-is_negative c =
     let n = c.in_ok-limit.limit in
     let below : is_negative n ≡ true = search rules in
     let here : rest n ≡ ends_with (ends.Error BadCount) = rw below refl in
-    decides_whole t seed first rest _ n (Err (halts.End (ends.Error BadCount))) c.args.notes.now c.value.new.notes c.value.new.notes whole c.in_ok-limit.ensures
-    (decides_comes t seed (rest n) (Err (halts.End (ends.Error BadCount))) c.value.new.notes here)
+    decides_whole t seed first rest _ n (Err (whys.End (ends.Error BadCount))) c.args.notes.now c.value.new.notes c.value.new.notes whole c.in_ok-limit.ensures
+    (decides_comes t seed (rest n) (Err (whys.End (ends.Error BadCount))) c.value.new.notes here)
 
 pub returns-then-magnitude-count : goal.returns-then-magnitude-count
 returns-then-magnitude-count c =

@@ -5,7 +5,7 @@ use Rattle.gw_meaning.specs.Evaluation.{◌~>◌}
 use Rattle.gw_meaning.specs.Step.{arrivals_prog, prime_prog, with_arrival}
 use Rattle.gw_chains.proofs.ChainLaws.{item_drop}
 use Rattle.std.specs.Prelude.{Err}
-use Rattle.gw_scan.specs.declared.case.Halt.TheVariants as halts
+use Rattle.gw_scan.specs.declared.halt.Why.TheVariants as whys
 use Rattle.gw_scan.proofs.Binding.{decides_exit, decides_whole, decides_gives, decides_memory, reads_keep}
 use Rattle.gw_scan.proofs.state.State.arrivals.Goals as goal
 
@@ -53,5 +53,5 @@ returns-in_err-put_if c =
     let t = c.args.case.version.now in
     let seed = c.args.case.seed in
     let p = err_from_is_err_and c.from_residual-in_err-put_if.result c.from_residual-in_err-put_if.ensures.1 in
-    let kept = c.loop-id.invariant (Err halts.Memory) c.prime.new.notes (reads_keep c.loop-id.notes c.prime.new.notes _ c.in_ok-arrival.ensures.1) in
+    let kept = c.loop-id.invariant (Err whys.Memory) c.prime.new.notes (reads_keep c.loop-id.notes c.prime.new.notes _ c.in_ok-arrival.ensures.1) in
     decides_memory t seed (arrivals_prog c.args.self.now c.args.asker.now c.args.ids.now []) _ _ c.args.notes.now c.prime.new.notes p.1 p.2 kept

@@ -1,7 +1,7 @@
 use Rattle.std.proofs.Common.{List, [], Result, drop}
 use Rattle.gw_meaning.specs.declared.moves.Arrival.{Arrival}
 use Rattle.gw_meaning.specs.Step.{arrivals_prog}
-use Rattle.gw_scan.specs.declared.case.Halt.{Halt}
+use Rattle.gw_scan.specs.declared.halt.Why.{Why}
 use Rattle.gw_scan.specs.Noted.{Noted}
 use Rattle.gw_scan.specs.Deciding.{Decides}
 use Rattle.gw_scan.proofs.state.State.arrivals.Given as goal
@@ -9,6 +9,6 @@ use Rattle.gw_scan.proofs.state.State.arrivals.Given as goal
 -- what the rest comes to is what all comes to
 abbrev pub invariant-loop-id : goal.invariant-loop-id
 invariant-loop-id l =
-    (r : Result (List Arrival) Halt) (all : Noted) →
+    (r : Result (List Arrival) Why) (all : Noted) →
     Decides l.case.version.now l.case.seed (arrivals_prog l.self l.asker (drop l.id-index l.ids) l.arrivals.items) r l.notes all →
     Decides l.case.version.now l.case.seed (arrivals_prog l.self l.asker l.ids []) r l.fn.notes all

@@ -7,5 +7,5 @@ use Rattle.gw_scan.proofs.state.State.come.Goals as goal
 
 pub returns : goal.returns
 returns c x is =
-    let m = moves.Enter c.args.id (changes.Entity (c.args.key, deeds.Queue c.args.units)) fates.Active in
+    let m = moves.Enter c.args.id (changes.Entity (c.args.key.now, deeds.Queue c.args.units)) fates.Active in
     (m, search rules, rw is (search rules))

@@ -1,7 +1,8 @@
-use Rattle.std.proofs.Common.{◌≡◌, ℤ, refl}
+use Rattle.std.proofs.Common.{◌≡◌, ℤ, refl, ap}
 use Rattle.std.proofs.lemmas.Result.{err_from_is_err_and}
 use Rattle.gw_names.specs.declared.key.Key.{Key}
 use Rattle.gw_meaning.specs.Evaluation.{Eval, value_prog, numbered, ◌~>◌}
+use Rattle.gw_scan.specs.Entity.{keyed}
 use Rattle.gw_scan.proofs.Binding.{decides_exit, decides_then, decides_comes}
 use Rattle.gw_scan.proofs.state.State.computed_entity.Goals as goal
 
@@ -14,7 +15,7 @@ returns-in_err-number c =
     let first = value_prog s c.args.asker.now c.args.operand.now in
     let rest : ℤ → Eval Key = numbered in
     let whole : (first ~> rest) ≡ (first ~> rest) = refl in
-    decides_exit t seed first rest _ _ _ c.in_err-number.field-0.0 _ _ whole p.1 p.2 c.in_err-number.ensures
+    decides_exit t seed first rest _ _ _ c.in_err-number.field-0.0 _ _ whole (ap keyed p.1) p.2 c.in_err-number.ensures
 
 pub returns : goal.returns
 returns c =
@@ -24,4 +25,4 @@ returns c =
     let first = value_prog s c.args.asker.now c.args.operand.now in
     let rest : ℤ → Eval Key = numbered in
     decides_then t seed first rest c.in_ok-number.number _ _ _ _ c.in_ok-number.ensures
-    (decides_comes t seed (numbered c.in_ok-number.number) c.numbered.result _ c.numbered.ensures)
+    (decides_comes t seed (numbered c.in_ok-number.number) (keyed c.numbered.result) _ c.numbered.ensures)

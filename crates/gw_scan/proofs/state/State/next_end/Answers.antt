@@ -1,7 +1,7 @@
 use Rattle.std.proofs.Common.{◌≡◌, Err, ap, rules}
 use Rattle.gw_meaning.specs.Step.{step}
 use Rattle.gw_scan.specs.Noted.{Noted}
-use Rattle.gw_scan.specs.declared.case.Halt.TheVariants as halts
+use Rattle.gw_scan.specs.declared.halt.Why.TheVariants as whys
 use Rattle.gw_scan.proofs.StepLaws.{acted, foretold, goes_on, ends_as}
 use Rattle.gw_scan.proofs.state.State.next_end.Goals as goal
 
@@ -20,6 +20,6 @@ returns-in-Err-End c =
     let s = c.args.self.now in
     let same = ap (λ (n : Noted). n.streams) c.new-notes.ensures in
     let end = c.in-Err-End.end in
-    let halt : c.in-Err-End.field-0 ≡ halts.End end = search rules in
+    let halt : c.in-Err-End.field-0 ≡ whys.End end = search rules in
     ends_as (step t seed s) end
-    (foretold t seed s (Err (halts.End end)) c.new-notes.result c.act.new.notes same (rw halt at c.in-Err-End.ensures).0)
+    (foretold t seed s (Err (whys.End end)) c.new-notes.result c.act.new.notes same (rw halt at c.in-Err-End.ensures).0)

@@ -10,12 +10,12 @@ use Rattle.gw_scan.proofs.state.State.seize.Goals as goal
 
 pub returns-then-is_owned : goal.returns-then-is_owned
 returns-then-is_owned c x is =
-    let m = moves.Refuse c.args.id c.args.key 1 in
-    let owned : is_some (facility_at c.args.self.now.entities c.args.key).owner ≡ true = search rules in
+    let m = moves.Refuse c.args.id c.args.key.now 1 in
+    let owned : is_some (facility_at c.args.self.now.entities c.args.key.now).owner ≡ true = search rules in
     (m, rw owned (λ i. gives m), search rules)
 
 pub returns : goal.returns
 returns c x is =
-    let m = moves.Enter c.args.id (changes.Entity (c.args.key, deeds.Seize)) fates.Active in
-    let free : is_some (facility_at c.args.self.now.entities c.args.key).owner ≡ false = search rules in
+    let m = moves.Enter c.args.id (changes.Entity (c.args.key.now, deeds.Seize)) fates.Active in
+    let free : is_some (facility_at c.args.self.now.entities c.args.key.now).owner ≡ false = search rules in
     (m, rw free (λ i. gives m), rw is (search rules))

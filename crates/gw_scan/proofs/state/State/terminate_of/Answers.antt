@@ -10,7 +10,7 @@ use Rattle.gw_meaning.specs.declared.moves.Move.TheVariants as moves
 use Rattle.gw_meaning.specs.Statements.{A, operand}
 use Rattle.gw_meaning.specs.Evaluation.{Eval, gives, ends_with, stops_if, value_or_zero, ◌~>◌}
 use Rattle.gw_meaning.specs.Step.{for_one, terminate_prog}
-use Rattle.gw_scan.specs.declared.case.Halt.TheVariants as halts
+use Rattle.gw_scan.specs.declared.halt.Why.TheVariants as whys
 use Rattle.gw_scan.specs.Deciding.{entered}
 use Rattle.gw_scan.proofs.Binding.{decides_exit, decides_whole, decides_comes}
 use Rattle.gw_scan.proofs.state.State.terminate_of.Goals as goal
@@ -41,8 +41,8 @@ returns-then-is_negative c id =
     let n = c.in_ok-count.count in
     let below : is_negative n ≡ true = search rules in
     let here : rest n ≡ ends_with (ends.Error BadCount) = rw below refl in
-    decides_whole t seed first rest _ n (Err (halts.End (ends.Error BadCount))) c.args.notes.now c.value_or_zero.new.notes c.value_or_zero.new.notes
-    whole c.in_ok-count.ensures (decides_comes t seed (rest n) (Err (halts.End (ends.Error BadCount))) c.value_or_zero.new.notes here)
+    decides_whole t seed first rest _ n (Err (whys.End (ends.Error BadCount))) c.args.notes.now c.value_or_zero.new.notes c.value_or_zero.new.notes
+    whole c.in_ok-count.ensures (decides_comes t seed (rest n) (Err (whys.End (ends.Error BadCount))) c.value_or_zero.new.notes here)
 
 pub returns : goal.returns
 returns c id =

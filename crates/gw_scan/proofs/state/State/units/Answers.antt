@@ -5,7 +5,7 @@ use Rattle.gw_expr.specs.declared.stop.Stop.TheVariants.{BadCount}
 use Rattle.gw_meaning.specs.declared.item.End.TheVariants as ends
 use Rattle.gw_meaning.specs.Evaluation.{Eval, gives, ends_with, stops_if, value_prog, units_prog, ◌~>◌}
 use Rattle.gw_meaning.specs.Step.{for_one}
-use Rattle.gw_scan.specs.declared.case.Halt.TheVariants as halts
+use Rattle.gw_scan.specs.declared.halt.Why.TheVariants as whys
 use Rattle.gw_scan.proofs.Binding.{decides_exit, decides_whole, decides_comes}
 use Rattle.gw_scan.proofs.state.State.units.Goals as goal
 
@@ -31,8 +31,8 @@ returns-then-get-lt1 c =
     let n = c.in_ok-units.units in
     let below : is_below n (pos 1) ≡ true = search rules in
     let here : rest n ≡ ends_with (ends.Error BadCount) = rw below refl in
-    decides_whole t seed first rest _ n (Err (halts.End (ends.Error BadCount))) c.args.notes.now c.value.new.notes c.value.new.notes whole c.in_ok-units.ensures
-    (decides_comes t seed (rest n) (Err (halts.End (ends.Error BadCount))) c.value.new.notes here)
+    decides_whole t seed first rest _ n (Err (whys.End (ends.Error BadCount))) c.args.notes.now c.value.new.notes c.value.new.notes whole c.in_ok-units.ensures
+    (decides_comes t seed (rest n) (Err (whys.End (ends.Error BadCount))) c.value.new.notes here)
 
 pub returns : goal.returns
 returns c =

@@ -1,0 +1,29 @@
+-- Why no step was made, by the number of a halt. (Our own; a stop has the number that a report prints behind an X.)
+use Rattle.std.specs.Prelude.{ℕ, List, [], ◌∷◌, get_or}
+use Rattle.gw_expr.specs.declared.stop.Stop.TheVariants as stops
+use Rattle.gw_meaning.specs.declared.item.End.TheVariants as ends
+use Rattle.gw_scan.specs.declared.halt.Why.{Why}
+use Rattle.gw_scan.specs.declared.halt.Why.TheVariants as whys
+
+-- for each number, from 0
+abbrev pub all_whys : List Why
+all_whys =
+    whys.Memory ∷
+    whys.End (ends.Error stops.NegativeTime) ∷
+    whys.End (ends.Error stops.NotOwner) ∷
+    whys.End (ends.Error stops.LeaveTooMany) ∷
+    whys.End (ends.Error stops.DepartTooMany) ∷
+    whys.End (ends.Error stops.NoParameter) ∷
+    whys.End (ends.Error stops.ZeroDivisor) ∷
+    whys.End (ends.Error stops.Range) ∷
+    whys.End (ends.Error stops.NoNextBlock) ∷
+    whys.End (ends.Error stops.TooManyTransactions) ∷
+    whys.End (ends.Error stops.VariableDepth) ∷
+    whys.End (ends.Error stops.BadCount) ∷
+    whys.End (ends.Error stops.TooManyUnits) ∷
+    whys.End ends.CommandsDone ∷
+    whys.End ends.Horizon ∷
+    whys.End ends.Dry ∷ []
+
+abbrev pub why_of : ℕ → Why
+why_of number = get_or all_whys number whys.Memory

@@ -1,0 +1,101 @@
+// Why no step was made.
+ghost use Rattle.std.specs.Prelude.{◌≡◌};
+
+use gw_expr::Stop;
+use gw_meaning::End;
+use std::alloc::{AllocError, AllocFailed};
+use std::marker::Model;
+
+/// Why no step was made: the run ends here, or a growth was refused, on the way to the move or to make it.
+#[derive(Clone, Copy, Debug, PartialEq, Eq)]
+pub enum Why {
+    Memory,
+    End(End),
+}
+
+// For each number of a halt why no step was made.
+const WHYS: [Why; 16] = [
+    Why::Memory,
+    Why::End(End::Error(Stop::NegativeTime)),
+    Why::End(End::Error(Stop::NotOwner)),
+    Why::End(End::Error(Stop::LeaveTooMany)),
+    Why::End(End::Error(Stop::DepartTooMany)),
+    Why::End(End::Error(Stop::NoParameter)),
+    Why::End(End::Error(Stop::ZeroDivisor)),
+    Why::End(End::Error(Stop::Range)),
+    Why::End(End::Error(Stop::NoNextBlock)),
+    Why::End(End::Error(Stop::TooManyTransactions)),
+    Why::End(End::Error(Stop::VariableDepth)),
+    Why::End(End::Error(Stop::BadCount)),
+    Why::End(End::Error(Stop::TooManyUnits)),
+    Why::End(End::CommandsDone),
+    Why::End(End::Horizon),
+    Why::End(End::Dry),
+];
+
+/// Why no step was made, as one number: so a result that may be a halt is handed back in registers. A stop has its own
+/// number.
+#[derive(Debug, Drop)]
+pub struct Halt {
+    number: u32,
+}
+
+impl Model for Halt {
+    ghost use Rattle.gw_scan.specs.declared.halt.Why.{Why};
+    ghost use Rattle.gw_scan.specs.Halts.{why_of};
+
+    ghost Value = { Why };
+
+    ghost view = { λ h. why_of h.number };
+}
+
+impl Halt {
+    pub const MEMORY: Halt = Halt { number: 0 };
+    pub const NEGATIVE_TIME: Halt = Halt { number: 1 };
+    pub const NOT_OWNER: Halt = Halt { number: 2 };
+    pub const LEAVE_TOO_MANY: Halt = Halt { number: 3 };
+    pub const DEPART_TOO_MANY: Halt = Halt { number: 4 };
+    pub const NO_PARAMETER: Halt = Halt { number: 5 };
+    pub const ZERO_DIVISOR: Halt = Halt { number: 6 };
+    pub const RANGE: Halt = Halt { number: 7 };
+    pub const NO_NEXT_BLOCK: Halt = Halt { number: 8 };
+    pub const TOO_MANY_TRANSACTIONS: Halt = Halt { number: 9 };
+    pub const VARIABLE_DEPTH: Halt = Halt { number: 10 };
+    pub const BAD_COUNT: Halt = Halt { number: 11 };
+    pub const TOO_MANY_UNITS: Halt = Halt { number: 12 };
+    pub const COMMANDS_DONE: Halt = Halt { number: 13 };
+    pub const HORIZON: Halt = Halt { number: 14 };
+    pub const DRY: Halt = Halt { number: 15 };
+
+    /// Why no step was made.
+    pub fn why(self) -> Why
+        ensures { result ≡ self }
+    {
+        match WHYS.get(self.number as usize) {
+            Some(why) => *why,
+            None => Why::Memory,
+        }
+    }
+}
+
+impl From<AllocError> for Halt {
+    ghost use Rattle.std.specs.Prelude.{◌≡◌};
+    ghost use Rattle.gw_scan.specs.declared.halt.Why.TheVariants as whys;
+
+    ghost from_gives = { λ _ e. e ≡ whys.Memory };
+
+    fn from(_: AllocError) -> Halt {
+        Halt::MEMORY
+    }
+}
+
+impl<T: Drop> From<AllocFailed<T>> for Halt {
+    ghost use Rattle.std.specs.Prelude.{◌≡◌};
+    ghost use Rattle.gw_scan.specs.declared.halt.Why.TheVariants as whys;
+
+    ghost from_gives = { λ _ e. e ≡ whys.Memory };
+
+    fn from(_: AllocFailed<T>) -> Halt {
+        Halt::MEMORY
+    }
+}
