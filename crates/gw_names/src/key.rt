@@ -39,9 +39,9 @@ impl PartialEq for Key {
     #[inline(always)]
     fn eq(&self, other: &Key) -> bool {
         match (self, other) {
-            (Key::Num(a), Key::Num(b)) => a == b,
-            (Key::Named(a), Key::Named(b)) => a == b,
-            (Key::Defined(a), Key::Defined(b)) => a == b,
+            (Key::Num(a), Key::Num(b)) => *a == *b,
+            (Key::Named(a), Key::Named(b)) => *a == *b,
+            (Key::Defined(a), Key::Defined(b)) => *a == *b,
             _ => false,
         }
     }

@@ -120,8 +120,8 @@ impl State {
         let Some(x) = &self.active else {
             unreachable!()
         };
-        let (place, facility) = self.entities.look_for_facility(key);
-        if !is_owner(facility.owner(), x.number) {
+        let (place, held) = self.entities.look_for_facility(key);
+        if !is_owner(held.owner(), x.number) {
             return Err(Halt::NOT_OWNER);
         }
         self.counts.reserve(id)?;
