@@ -1,4 +1,4 @@
-ghost use Rattle.std.specs.Prelude.{◌≡◌, None, IfOk, OnOk, IfErr};
+ghost use Rattle.std.specs.Prelude.{◌≡◌, ◌≤◌, length, None, IfOk, OnOk, IfErr};
 ghost use Rattle.gw_model.specs.Faults.{IsFault, label_fault_of};
 ghost use Rattle.gw_model.specs.Tables.{AreTablesOf};
 
@@ -14,8 +14,8 @@ use std::collections::BTreeMap;
 /// What a version looks its answers up in.
 #[derive(Debug, Drop)]
 pub struct Tables {
-    /// For each number the place of its statement.
-    pub places: Vec<Option<Place>>,
+    /// For each number the place of its block.
+    pub places: Vec<Place>,
     /// The number of blocks.
     pub blocks: u64,
     /// The commands, in order.
@@ -33,6 +33,7 @@ pub struct Tables {
 impl Tables {
     /// The tables of these lines. Their labels and the names of definitions may have no fault.
     pub fn new(alloc: Global, lines: &[Numbered]) -> Result<Tables, ModelFault>
+        requires { length lines.now ≤ 2000 }
         ensures tables { IfOk result (λ tables. AreTablesOf lines.now tables) }
         ensures sound { OnOk result (label_fault_of lines.now ≡ None) }
         ensures err { IfErr result (IsFault (label_fault_of lines.now)) }
