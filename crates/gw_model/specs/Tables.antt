@@ -6,6 +6,7 @@ use Rattle.std.specs.BTreeMap as tree
 use Rattle.std.specs.Ordering.{nat_cmp}
 use Rattle.std.specs.Cmp.Lexicographic.{slice_cmp}
 use Rattle.gw_meaning.specs.Numbers.{AreNumbered}
+use Rattle.gw_model.specs.ByName.{value_of}
 use Rattle.gw_model.specs.Well.{Well}
 use Rattle.gw_meaning.specs.Listing.{Listing, is_block, block_of, first_block, generates_in, labelled_in, defined_in, command_of, is_start}
 use Rattle.gw_meaning.specs.declared.statement.Block.{Block}
@@ -50,9 +51,8 @@ pub record AreTablesOf (lines : List Numbered) (tables : Tables) : Type 0 where
   pub commands : tables.commands.items ≡ filter_map command_of lines
   pub starts : tables.starts ≡ length (filter is_start (filter_map command_of lines))
   pub generates : tables.generates.items ≡ generates_in lines
-  pub labels : (name : List ℕ) → tree.get (slice_cmp nat_cmp) tables.labels name ≡ labelled_in name lines
-  pub definitions : (name : List ℕ) →
-      tree.get (slice_cmp nat_cmp) tables.definitions name ≡ defined_in name lines
+  pub labels : (name : List ℕ) → value_of tables.labels name ≡ labelled_in name lines
+  pub definitions : (name : List ℕ) → value_of tables.definitions name ≡ defined_in name lines
 
 -- a version that is well-formed, whose statements have numbers of their own, and that has its tables
 pub record IsKept (t : Listing) (tables : Tables) : Type 0 where

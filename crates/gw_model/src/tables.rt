@@ -2,14 +2,13 @@ ghost use Rattle.std.specs.Prelude.{◌≡◌, ◌≤◌, length, None, IfOk, On
 ghost use Rattle.gw_model.specs.Faults.{IsFault, label_fault_of};
 ghost use Rattle.gw_model.specs.Tables.{AreTablesOf};
 
+use crate::by_name::ByName;
 use crate::fault::ModelFault;
 use crate::lists::{commands_of, count_blocks, count_starts, generates_of};
 use crate::names::{Names, sound_names};
 use crate::places::{Place, places_of};
 use gw_meaning::{Command, Definition, Numbered, StatementId};
-use gw_names::Name;
 use std::alloc::Global;
-use std::collections::BTreeMap;
 
 /// What a version looks its answers up in.
 #[derive(Debug, Drop)]
@@ -25,9 +24,9 @@ pub struct Tables {
     /// The ids of the GENERATEs, in order.
     pub generates: Vec<StatementId>,
     /// The number of the block with each label.
-    pub labels: BTreeMap<Name, StatementId>,
+    pub labels: ByName<StatementId>,
     /// What each name is defined as.
-    pub definitions: BTreeMap<Name, Definition>,
+    pub definitions: ByName<Definition>,
 }
 
 impl Tables {
@@ -53,8 +52,8 @@ impl Tables {
             commands,
             starts,
             generates,
-            labels,
-            definitions,
+            labels: ByName::from_map(alloc, labels)?,
+            definitions: ByName::from_map(alloc, definitions)?,
         })
     }
 }
