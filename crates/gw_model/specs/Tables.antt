@@ -1,14 +1,14 @@
 -- What the tables of a version hold: for each number the place of its block, and the commands, the GENERATEs, the
 -- labels and the definitions. (Our own.)
 use Rattle.std.specs.Prelude.{ℕ, Bool, false, ◌||◌, is_some, ◌+◌, ◌≡◌, ◌==◌, List, [], ◌∷◌, Option, Some, None, if◌then◌else◌, length, filter, get_or, option_and_then, slice_get}
-use Rattle.std.specs.List.{filter_map}
+use Rattle.std.specs.List.{filter_map, list_any}
 use Rattle.std.specs.BTreeMap as tree
 use Rattle.std.specs.Ordering.{nat_cmp}
 use Rattle.std.specs.Cmp.Lexicographic.{slice_cmp}
 use Rattle.gw_meaning.specs.Numbers.{AreNumbered}
 use Rattle.gw_model.specs.ByName.{value_of}
 use Rattle.gw_model.specs.Well.{Well}
-use Rattle.gw_meaning.specs.Listing.{Listing, is_block, block_of, first_block, generates_in, labelled_in, defined_in, command_of, is_start}
+use Rattle.gw_meaning.specs.Listing.{Listing, is_block, block_of, first_block, generates_in, labelled_in, defined_in, command_of, definition_of, number_of, is_start}
 use Rattle.gw_meaning.specs.declared.statement.Block.{Block}
 use Rattle.gw_meaning.specs.declared.statement.Numbered.{Numbered}
 use Rattle.gw_model.specs.declared.names.Names.{Names}
@@ -44,6 +44,10 @@ is_told names (Some name) =
     is_some (tree.get (slice_cmp nat_cmp) names.labels name)
     || is_some (tree.get (slice_cmp nat_cmp) names.definitions name)
 
+-- whether a statement is an EQU
+abbrev pub is_equ : Numbered → Bool
+is_equ line = is_some (number_of (definition_of line))
+
 -- the tables of these lines
 pub record AreTablesOf (lines : List Numbered) (tables : Tables) : Type 0 where
   pub places : (number : ℕ) → get_or tables.places.items number nowhere ≡ place_in 0 0 lines number
@@ -51,6 +55,7 @@ pub record AreTablesOf (lines : List Numbered) (tables : Tables) : Type 0 where
   pub commands : tables.commands.items ≡ filter_map command_of lines
   pub starts : tables.starts ≡ length (filter is_start (filter_map command_of lines))
   pub generates : tables.generates.items ≡ generates_in lines
+  pub has_equ : tables.has_equ ≡ list_any is_equ lines
   pub labels : (name : List ℕ) → value_of tables.labels name ≡ labelled_in name lines
   pub definitions : (name : List ℕ) → value_of tables.definitions name ≡ defined_in name lines
 

@@ -4,7 +4,7 @@ ghost use Rattle.gw_model.specs.Tables.{AreTablesOf};
 
 use crate::by_name::ByName;
 use crate::fault::ModelFault;
-use crate::lists::{commands_of, count_blocks, count_starts, generates_of};
+use crate::lists::{any_is_equ, commands_of, count_blocks, count_starts, generates_of};
 use crate::names::{Names, sound_names};
 use crate::places::{Place, places_of};
 use gw_meaning::{Command, Definition, Numbered, StatementId};
@@ -25,6 +25,8 @@ pub struct Tables {
     pub generates: Vec<StatementId>,
     /// The number of the block with each label.
     pub labels: ByName<StatementId>,
+    /// Whether a statement is an EQU: where none is, no name stands for a number.
+    pub has_equ: bool,
     /// What each name is defined as.
     pub definitions: ByName<Definition>,
 }
@@ -52,6 +54,7 @@ impl Tables {
             commands,
             starts,
             generates,
+            has_equ: any_is_equ(lines),
             labels: ByName::from_map(alloc, labels)?,
             definitions: ByName::from_map(alloc, definitions)?,
         })

@@ -217,11 +217,14 @@ impl Version {
     }
 
     /// The number that the name stands for, by an EQU.
-    #[tactic(auto, using(crate::proofs::Once::number_once))]
+    #[tactic(auto, using(crate::proofs::Once::number_once, crate::proofs::Once::no_number))]
     #[inline(always)]
     pub fn number_of(&self, name: &Name) -> Option<Val>
         ensures { result ≡ number_at self.now name.now }
     {
+        if !self.tabled.tables.has_equ {
+            return None;
+        }
         match self.tabled.tables.definitions.get(name) {
             Some(Definition::Equ { value }) => Some(*value),
             _ => None,
