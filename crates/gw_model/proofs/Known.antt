@@ -1,5 +1,5 @@
 -- what the scans for a label that no block has, for a definition that is not there, and for an EQU's that is named as a storage find
-use Rattle.std.proofs.Common.{◌≡◌, ℕ, zero, suc, List, [], ◌∷◌, refl, Bool, false, cond, not, Option, Some, None, is_some, ap, subst, ◌∙◌, true, ◌&&◌, sym}
+use Rattle.std.proofs.Common.{◌≡◌, ℕ, zero, suc, List, [], ◌∷◌, refl, Bool, false, cond, not, Option, Some, None, is_some, ap, ◌∙◌, true, ◌&&◌, sym}
 use Rattle.std.specs.Prelude.{ℤ, get_or}
 use Rattle.std.specs.List.{list_any, slice_get}
 use Rattle.std.proofs.lemmas.Option.{get_or_from_slice_get}
@@ -8,7 +8,7 @@ use Rattle.gw_expr.specs.declared.atom.Atom.{Atom}
 use Rattle.gw_expr.specs.declared.atom.Atom.TheVariants as atoms
 use Rattle.gw_expr.specs.declared.token.Token.{Token}
 use Rattle.gw_expr.specs.declared.token.Token.TheVariants as tokens
-use Rattle.gw_meaning.specs.Listing.{operand_of, operands_of, defined_in, expression_of, labelled_in, number_of, units_of}
+use Rattle.gw_meaning.specs.Listing.{operand_of, operands_of, defined_in, labelled_in, number_of}
 use Rattle.gw_meaning.specs.declared.function.Function.{Function}
 use Rattle.gw_meaning.specs.Evaluation.{is_of_function}
 use Rattle.gw_meaning.specs.declared.statement.Definition.{Definition}

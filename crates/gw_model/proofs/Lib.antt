@@ -7,3 +7,4 @@ pub mod Making
 pub mod Apart
 pub mod Known
 pub mod Answering
+pub mod Named

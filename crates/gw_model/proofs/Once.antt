@@ -1,15 +1,17 @@
 -- Where no label stands twice, the definition of a name says all that is said of the name.
-use Rattle.std.proofs.Common.{◌≡◌, ℕ, Bool, true, false, List, [], ◌∷◌, Option, Some, None, unwrap_or, refl, ap, sym, ◌∙◌}
+use Rattle.std.proofs.Common.{◌≡◌, ℕ, Bool, true, false, List, [], ◌∷◌, Option, Some, None, is_some, unwrap_or, refl, ap, sym, ◌∙◌}
 use Rattle.std.specs.Str.{bytes_eq}
+use Rattle.std.specs.List.{list_any}
 use Rattle.std.proofs.lemmas.Bool.{or_parts}
 use Rattle.std.proofs.lemmas.Slice.Eq.{bytes_eq-Decides}
 use Rattle.gw_meaning.specs.declared.statement.Body.{Body}
 use Rattle.gw_meaning.specs.declared.statement.Body.TheVariants as bodies
 use Rattle.gw_meaning.specs.declared.statement.Definition.{Definition}
 use Rattle.gw_meaning.specs.declared.statement.Numbered.{Numbered}
-use Rattle.gw_meaning.specs.Listing.{Listing, has_label, definition_of_body, definition_if, defines, or_next, defined_in, first_said, units_of, number_of, expression_of, function_of, definition_at, capacity_at, number_at, variable_at, function_at}
+use Rattle.gw_meaning.specs.Listing.{Listing, has_label, definition_of, definition_of_body, definition_if, defines, or_next, defined_in, first_said, units_of, number_of, number_in, expression_of, function_of, definition_at, capacity_at, number_at, variable_at, function_at}
 use Rattle.gw_model.specs.Faults.{is_labelled, has_label_twice}
 use Rattle.gw_model.specs.Listed.{counted_label}
+use Rattle.gw_model.specs.Tables.{is_equ}
 use Rattle.gw_model.specs.Well.{Well}
 use Rattle.gw_model.proofs.Apart.{labels_once}
 
@@ -88,3 +90,22 @@ variable_once t name well = said_once name expression_of refl t.lines (labels_on
 
 pub function_once : (t : Listing) (name : List ℕ) → Well t → function_at t name ≡ function_of (definition_at t name)
 function_once t name well = said_once name function_of refl t.lines (labels_once t.lines well.labels_apart)
+
+-- where no statement is an EQU, no name stands for a number
+is_none : {X : Type 0} (o : Option X) → is_some o ≡ false → o ≡ None
+is_none None h = refl
+is_none (Some x) h = absurd cc
+
+no_number_if : (b : Bool) (d : Option Definition) → is_some (number_of d) ≡ false → number_of (definition_if b d) ≡ None
+no_number_if true d h = is_none (number_of d) h
+no_number_if false d h = refl
+
+no_number_in : (name : List ℕ) (lines : List Numbered) → list_any is_equ lines ≡ false → number_in name lines ≡ None
+no_number_in name [] h = refl
+no_number_in name (line ∷ lines) h =
+    let parts = or_parts (is_equ line) (list_any is_equ lines) h in
+    ap (λ o. or_next o (number_in name lines)) (no_number_if (has_label name line.statement.label) (definition_of line) parts.0) ∙
+    no_number_in name lines parts.1
+
+pub no_number : (t : Listing) (name : List ℕ) → list_any is_equ t.lines ≡ false → number_at t name ≡ None
+no_number t name h = no_number_in name t.lines h

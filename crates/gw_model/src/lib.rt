@@ -2,6 +2,7 @@
 //! replications and the step limit, all well-formed, and what it answers.
 #![tactic(auto)]
 
+mod by_name;
 mod definitions;
 mod fault;
 mod labels;

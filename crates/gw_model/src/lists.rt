@@ -1,8 +1,9 @@
 ghost use Rattle.std.specs.Prelude.{◌≡◌, IfOk, length, filter, option_copied};
-ghost use Rattle.std.specs.List.{filter_map};
+ghost use Rattle.std.specs.List.{filter_map, list_any};
 ghost use Rattle.gw_meaning.specs.Listing.{command_of, is_block, is_start, generates_in, nth};
+ghost use Rattle.gw_model.specs.Tables.{is_equ};
 
-use gw_meaning::{Command, Numbered, StatementId};
+use gw_meaning::{Body, Command, Definition, Numbered, StatementId};
 use std::alloc::{AllocError, Global};
 
 /// The number of blocks among the lines.
@@ -51,6 +52,13 @@ pub fn generates_of(alloc: Global, lines: &[Numbered]) -> Result<Vec<StatementId
     Ok(numbers)
 }
 
+/// Whether one of the statements is an EQU.
+pub fn any_is_equ(lines: &[Numbered]) -> bool
+    ensures { result ≡ list_any is_equ lines.now }
+{
+    lines.iter().any(|line| is_equ(line))
+}
+
 /// The i-th item, from 1.
 pub fn nth<T>(items: &[T], i: u64) -> Option<&T>
     ensures { option_copied result ≡ nth items.now i }
@@ -66,6 +74,15 @@ fn is_start(command: &Command) -> bool
 {
     match command {
         Command::Start { .. } => true,
+        _ => false,
+    }
+}
+
+fn is_equ(line: &Numbered) -> bool
+    ensures { result ≡ is_equ line.now }
+{
+    match &line.statement.body {
+        Body::Definition(Definition::Equ { .. }) => true,
         _ => false,
     }
 }

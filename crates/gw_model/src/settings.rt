@@ -1,4 +1,4 @@
-ghost use Rattle.std.specs.Prelude.{◌≡◌, IfOk, IfErr};
+ghost use Rattle.std.specs.Prelude.{◌≡◌, ◌≤◌, length, IfOk, OnOk, IfErr};
 ghost use Rattle.gw_model.specs.Faults.{IsFault, fault_of, label_fault_of};
 ghost use Rattle.gw_model.specs.Listed.{listing_of};
 
@@ -19,6 +19,7 @@ pub fn checked_horizon(
     ensures value { IfOk result (λ time. time ≡ horizon) }
     ensures left { IfOk result
         (λ time. fault_of (listing_of lines.now time replications.now limit) ≡ label_fault_of lines.now) }
+    ensures short { OnOk result (length lines.now ≤ 2000) }
     ensures fault { IfErr result (IsFault (fault_of (listing_of lines.now horizon replications.now limit))) }
 {
     if is_too_long(lines, replications) {

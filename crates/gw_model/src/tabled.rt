@@ -1,4 +1,4 @@
-ghost use Rattle.std.specs.Prelude.{◌≡◌, None, IfOk, OnOk, IfErr};
+ghost use Rattle.std.specs.Prelude.{◌≡◌, ◌≤◌, length, None, IfOk, OnOk, IfErr};
 ghost use Rattle.gw_model.specs.Faults.{IsFault, label_fault_of};
 ghost use Rattle.gw_model.specs.Tables.{AreTablesOf};
 
@@ -20,6 +20,7 @@ pub struct Tabled {
 impl Tabled {
     /// These lines with their tables. Their labels and the names of definitions may have no fault.
     pub fn new(alloc: Global, lines: Vec<Numbered>) -> Result<Tabled, ModelFault>
+        requires { length lines.items ≤ 2000 }
         ensures lines { IfOk result (λ tabled. tabled.lines ≡ lines) }
         ensures tables { IfOk result (λ tabled. AreTablesOf lines.items tabled.tables) }
         ensures sound { OnOk result (label_fault_of lines.items ≡ None) }

@@ -1,21 +1,20 @@
-ghost use Rattle.std.specs.Prelude.{◌≡◌, None, IfOk, OnOk, IfErr};
+ghost use Rattle.std.specs.Prelude.{◌≡◌, ◌≤◌, length, None, IfOk, OnOk, IfErr};
 ghost use Rattle.gw_model.specs.Faults.{IsFault, label_fault_of};
 ghost use Rattle.gw_model.specs.Tables.{AreTablesOf};
 
+use crate::by_name::ByName;
 use crate::fault::ModelFault;
-use crate::lists::{commands_of, count_blocks, count_starts, generates_of};
+use crate::lists::{any_is_equ, commands_of, count_blocks, count_starts, generates_of};
 use crate::names::{Names, sound_names};
 use crate::places::{Place, places_of};
 use gw_meaning::{Command, Definition, Numbered, StatementId};
-use gw_names::Name;
 use std::alloc::Global;
-use std::collections::BTreeMap;
 
 /// What a version looks its answers up in.
 #[derive(Debug, Drop)]
 pub struct Tables {
-    /// For each number the place of its statement.
-    pub places: Vec<Option<Place>>,
+    /// For each number the place of its block.
+    pub places: Vec<Place>,
     /// The number of blocks.
     pub blocks: u64,
     /// The commands, in order.
@@ -25,14 +24,17 @@ pub struct Tables {
     /// The ids of the GENERATEs, in order.
     pub generates: Vec<StatementId>,
     /// The number of the block with each label.
-    pub labels: BTreeMap<Name, StatementId>,
+    pub labels: ByName<StatementId>,
+    /// Whether a statement is an EQU: where none is, no name stands for a number.
+    pub has_equ: bool,
     /// What each name is defined as.
-    pub definitions: BTreeMap<Name, Definition>,
+    pub definitions: ByName<Definition>,
 }
 
 impl Tables {
     /// The tables of these lines. Their labels and the names of definitions may have no fault.
     pub fn new(alloc: Global, lines: &[Numbered]) -> Result<Tables, ModelFault>
+        requires { length lines.now ≤ 2000 }
         ensures tables { IfOk result (λ tables. AreTablesOf lines.now tables) }
         ensures sound { OnOk result (label_fault_of lines.now ≡ None) }
         ensures err { IfErr result (IsFault (label_fault_of lines.now)) }
@@ -52,8 +54,9 @@ impl Tables {
             commands,
             starts,
             generates,
-            labels,
-            definitions,
+            has_equ: any_is_equ(lines),
+            labels: ByName::from_map(alloc, labels)?,
+            definitions: ByName::from_map(alloc, definitions)?,
         })
     }
 }

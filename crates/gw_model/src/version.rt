@@ -4,7 +4,7 @@ ghost use Rattle.gw_meaning.specs.Listing.{block_at, after_at, position_at, labe
 use crate::fault::ModelFault;
 use crate::lines::{number, spliced};
 use crate::lists::nth;
-use crate::places::{after_of, line_of, position_of};
+use crate::places::{after_of, block_of, position_of};
 use crate::replications::seed_of;
 use crate::settings::checked_horizon;
 use crate::tabled::Tabled;
@@ -179,20 +179,16 @@ impl Version {
     }
 
     /// The block with this id.
+    #[inline(always)]
     pub fn block(&self, id: StatementId) -> Option<&Block>
         ensures { option_copied result ≡ block_at self.now id }
     {
-        match line_of(
-            self.tabled.lines.as_slice(),
-            self.tabled.tables.places.as_slice(),
-            id,
-        ) {
-            Some(line) => line.block(),
-            None => None,
-        }
+        let tabled = &*self.tabled;
+        block_of(tabled.lines.as_slice(), tabled.tables.places.as_slice(), id)
     }
 
     /// The id of the block after the block with this id.
+    #[inline(always)]
     pub fn after(&self, id: StatementId) -> Option<StatementId>
         ensures { result ≡ after_at self.now id }
     {
@@ -221,11 +217,14 @@ impl Version {
     }
 
     /// The number that the name stands for, by an EQU.
-    #[tactic(auto, using(crate::proofs::Once::number_once))]
+    #[tactic(auto, using(crate::proofs::Once::number_once, crate::proofs::Once::no_number))]
     #[inline(always)]
     pub fn number_of(&self, name: &Name) -> Option<Val>
         ensures { result ≡ number_at self.now name.now }
     {
+        if !self.tabled.tables.has_equ {
+            return None;
+        }
         match self.tabled.tables.definitions.get(name) {
             Some(Definition::Equ { value }) => Some(*value),
             _ => None,
