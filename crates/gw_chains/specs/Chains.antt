@@ -1,5 +1,6 @@
 -- The chains of transactions, and who is let in from one to another. (Our own.)
-use Rattle.std.specs.Prelude.{ℕ, ◌-◌, ◌<◌, ◌^◌, Bool, false, List, [], ◌∷◌, ◌≤◌, Option, Some, None, is_some, option_map, unwrap_or, slice_get, length}
+use Rattle.std.specs.Prelude.{ℕ, ◌-◌, ◌<◌, ◌^◌, Bool, false, List, [], ◌∷◌, ◌≤◌, Option, Some, None, is_some}
+use Rattle.std.specs.Prelude.{option_map, unwrap_or, slice_get, length}
 use Rattle.gw_names.specs.declared.key.Key.{Key}
 use Rattle.gw_entities.specs.Tables.{value_of, with_value}
 use Rattle.gw_meaning.specs.declared.transaction.Transaction.{Transaction}

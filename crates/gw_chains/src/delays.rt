@@ -1,4 +1,5 @@
-ghost use Rattle.std.specs.Prelude.{◌≡◌, ◌<◌, [], length, min, option_copied, Some, None, drop, suc, slice_get, IsTrue, IsFalse, IfSome, IfNone, IfOk, OnOk};
+ghost use Rattle.std.specs.Prelude.{◌≡◌, ◌<◌, [], length, min, option_copied, Some, None, drop, suc, slice_get, IsTrue};
+ghost use Rattle.std.specs.Prelude.{IsFalse, IfSome, IfNone, IfOk, OnOk};
 ghost use Rattle.std.specs.List.{IsDistinct};
 ghost use Rattle.std.specs.Map.{keys_of};
 ghost use Rattle.indexmap.specs.IndexMap.{spare};
@@ -7,7 +8,8 @@ ghost use Rattle.gw_entities.specs.Tables.{value_of, with_value};
 ghost use Rattle.gw_meaning.specs.Changes.{lined_up, some_let_in};
 ghost use Rattle.gw_meaning.specs.declared.transaction.Transaction.{Transaction};
 ghost use Rattle.gw_meaning.specs.Machine.{Machine, delay_at, waiting};
-ghost use Rattle.gw_chains.specs.Chains.{Chain, delays_of, items_of, HasRoomOn, HasPlace, first_of, without_first, with_share, HasRoomToLetAllIn};
+ghost use Rattle.gw_chains.specs.Chains.{Chain, delays_of, items_of, HasRoomOn, HasPlace, first_of, without_first};
+ghost use Rattle.gw_chains.specs.Chains.{with_share, HasRoomToLetAllIn};
 
 use crate::chain::PriorityChain;
 use crate::counts::Counts;
