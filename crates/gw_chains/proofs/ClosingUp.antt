@@ -24,7 +24,8 @@ one_longer [] e = refl
 one_longer (x ∷ xs) e = omega (arith, one_longer xs e)
 
 item_behind : (es : List Event) (e : Event) → slice_get (es ++ e ∷ []) (length es) ≡ Some e
-item_behind es e = slice_get_read (es ++ e ∷ []) (length (es ++ e ∷ [])) (length es) e refl (omega (arith, one_longer es e)) (sym (get_or-append_seam es e [] e))
+item_behind es e = slice_get_read (es ++ e ∷ []) (length (es ++ e ∷ [])) (length es) e refl
+    (omega (arith, one_longer es e)) (sym (get_or-append_seam es e [] e))
 
 item_ahead : (es : List Event) (e x : Event) (i : ℕ) → slice_get es i ≡ Some x → slice_get (es ++ e ∷ []) i ≡ Some x
 item_ahead es e x i h =

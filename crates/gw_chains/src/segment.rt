@@ -233,8 +233,8 @@ struct Kept {
     least: Least,
 }
 
-// Moves the transactions of a time, of which the one at an index is the first, to the current chain. The others stay, in
-// their order: the least time of those.
+// Moves the transactions of a time, of which the one at an index is the first, to the current chain. The others stay,
+// in their order: gives the least time of those.
 #[inline(always)]
 fn take_out(events: &mut Vec<Event>, index: usize, current: &mut PriorityChain, time: Time) -> Least
     requires first { IsFirst (Some time) index events.old.items }
