@@ -5,8 +5,8 @@ ghost use Rattle.gw_entities.specs.Tables.{value_of, with_value, IsPlace};
 ghost use Rattle.gw_meaning.specs.Changes.{lined_up, some_let_in};
 ghost use Rattle.gw_meaning.specs.declared.transaction.Transaction.{Transaction};
 ghost use Rattle.gw_meaning.specs.Machine.{Machine, delay_at, waiting};
-ghost use Rattle.gw_chains.specs.Chains.{Chain, delays_of, items_of, IsQueue, HasRoomOn, HasPlace, first_of, without_first};
-ghost use Rattle.gw_chains.specs.Chains.{with_share, HasRoomToLetAllIn};
+ghost use Rattle.gw_chains.specs.Chains.{Chain, delays_of, items_of, first_of, without_first, with_share};
+ghost use Rattle.gw_chains.specs.Chains.{IsQueue, HasRoomOn, HasPlace, HasRoomToLetAllIn};
 
 use crate::chain::PriorityChain;
 use crate::counts::Counts;
@@ -149,7 +149,7 @@ impl DelayChains {
         self.reserve_at(key, place)
     }
 
-    /// The same, where it is known where the chain of the facility or the storage lies. It lies there from then on, too.
+    /// The same, where it is known where the chain of the facility or the storage lies. It stays there.
     #[inline(always)]
     pub fn reserve_at(&mut self, key: &Key, place: Option<usize>) -> Result<(), AllocError>
         requires { IsPlace self.old.chains key.now place }

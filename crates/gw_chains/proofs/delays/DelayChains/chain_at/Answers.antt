@@ -15,4 +15,5 @@ pub unreachable-requires : goal.unreachable-requires
 unreachable-requires c =
     let cs = c.self.inside.chains.entries in
     let key = c.args.key.now in
-    never_read cs c.in-Some.index key (place_of_queue cs key c.args.place c.in-Some.index c.in-Some.is (rw (← c.self.view_is) at c.requires)) c.in-None.ensures.entry
+    let there = place_of_queue cs key c.args.place c.in-Some.index c.in-Some.is (rw (← c.self.view_is) at c.requires) in
+    never_read cs c.in-Some.index key there c.in-None.ensures.entry

@@ -40,7 +40,8 @@ pub unreachable-requires : goal.unreachable-requires
 unreachable-requires c =
     let cs = c.self.inside.chains.entries in
     let key = c.args.key.now in
-    never cs c.in-Some.index key (place_of_queue cs key c.args.place c.in-Some.index c.in-Some.is (rw (← c.self.view_is) at c.requires.place)) c.in_default-get_index_mut.ensures.value
+    let there = place_of_queue cs key c.args.place c.in-Some.index c.in-Some.is (rw (← c.self.view_is) at c.requires.place) in
+    never cs c.in-Some.index key there c.in_default-get_index_mut.ensures.value
 
 pub invariant_of-self : goal.invariant_of-self
 invariant_of-self c =
