@@ -1,6 +1,6 @@
 -- Laws of a clock step over a segment: who stays, their least time, and where the first one with it is.
 use Rattle.std.proofs.Common.{◌≡◌, ℕ, ◌+◌, ◌<◌, ◌≤◌, Bool, arith, rules, true, false, not, List, [], ◌∷◌, Option, None, Some, ◌++◌, length, refl, sym, ap, ◌∙◌, filter, append-nil, min, take, drop, get_or, set, length-set}
-use Rattle.std.specs.Prelude.{◌-◌, slice_get, IsSomeAnd, IsSome, IfSome, nat_lt, nat_le}
+use Rattle.std.specs.Prelude.{slice_get, IsSomeAnd, IsSome, IfSome, nat_lt, nat_le}
 use Rattle.std.proofs.lemmas.Bool.Decides.{nat_tests}
 use Rattle.std.proofs.lemmas.List.{drop_more, take_more_set, drop-set-lt, take-append-le, take_all, length-take, get_or_append_left}
 use Rattle.std.proofs.lemmas.List.Elements.{filter-append}
@@ -10,7 +10,8 @@ use Rattle.gw_meaning.specs.declared.transaction.Transaction.{Transaction}
 use Rattle.gw_meaning.specs.declared.transaction.Event.{Event}
 use Rattle.gw_meaning.specs.Changes.{lined_up, all_lined_up, due, is_due}
 use Rattle.gw_meaning.specs.Step.{least_time, sooner}
-use Rattle.gw_chains.specs.Segments.{is_later, time_of, IsFirst, IsLeast, ClosingUp}
+use Rattle.gw_chains.specs.Segments.{is_later, time_of, IsFirst, IsLeast}
+use Rattle.gw_chains.specs.ClosingUp.{ClosingUp}
 use Rattle.gw_chains.proofs.ChainLaws.{item_drop}
 use Rattle.gw_chains.proofs.SegmentLaws.{least_put, next_taken, due_append, all_lined_append, none_due, none_leaves}
 
@@ -23,7 +24,8 @@ one_longer [] e = refl
 one_longer (x ∷ xs) e = omega (arith, one_longer xs e)
 
 item_behind : (es : List Event) (e : Event) → slice_get (es ++ e ∷ []) (length es) ≡ Some e
-item_behind es e = slice_get_read (es ++ e ∷ []) (length (es ++ e ∷ [])) (length es) e refl (omega (arith, one_longer es e)) (sym (get_or-append_seam es e [] e))
+item_behind es e = slice_get_read (es ++ e ∷ []) (length (es ++ e ∷ [])) (length es) e refl
+    (omega (arith, one_longer es e)) (sym (get_or-append_seam es e [] e))
 
 item_ahead : (es : List Event) (e x : Event) (i : ℕ) → slice_get es i ≡ Some x → slice_get (es ++ e ∷ []) i ≡ Some x
 item_ahead es e x i h =
@@ -85,9 +87,6 @@ later_ticks ticks t h = go (nat_le ticks 1001000000000) refl where
 
 time_within : (t : ℕ) → t ≤ 1001000000000 → time_of t ≡ Some t
 time_within t h = let is : nat_le t 1001000000000 ≡ true = grind (arith, nat_tests) in rw is refl
-
-pub least_none : IsLeast [] 18446744073709551615 0
-least_none = record { least = refl; first = tt }
 
 pub meets_sooner : (es : List Event) (e : Event) (ticks i : ℕ) → e.time ≤ 1001000000000 → nat_lt e.time ticks ≡ true → IsLeast es ticks i →
     IsLeast (es ++ e ∷ []) e.time (length es)
@@ -188,18 +187,17 @@ one_stays t all start i n m e events ticks first ticks' first' current more h is
     }
 
 -- the first one is gone, and others have closed up in front of the next one
-pub after_first : (t : ℕ) (F : List Event) (C current : List Transaction) (i : ℕ) (e : Event) (ticks first next : ℕ) (events : List Event)
+pub after_first : (t : ℕ) (F : List Event) (C current : List Transaction) (i : ℕ) (e : Event) (ticks first n : ℕ) (events : List Event)
     (ticks' first' : ℕ) → IsFirst (Some t) i F → e ≡ get_or F i e → IsLeast (take i F) ticks first →
     current ≡ lined_up (get_or F i e).transaction C →
-    ((all : List Event) → (start : List Transaction) → (xs : List Transaction) → ClosingUp t all start (i + 1) (i + 1 - 1) F ticks first xs →
-    ClosingUp t all start next (next - 1) events ticks' first' xs) →
-    ClosingUp t F C next (next - 1) events ticks' first' current
-after_first t F C current i e ticks first next events ticks' first' known is least up closing =
+    ((all : List Event) → (start : List Transaction) → (xs : List Transaction) → ClosingUp t all start (i + 1) i F ticks first xs →
+    ClosingUp t all start (n + 1) n events ticks' first' xs) →
+    ClosingUp t F C (n + 1) n events ticks' first' current
+after_first t F C current i e ticks first n events ticks' first' known is least up closing =
     let there = first_is t i F e known is in
     let one = one_goes t F C i i e F ticks first C there.0 is there.1 (starts t F C i ticks first known.0 least) in
     let now : current ≡ lined_up e.transaction C = up ∙ ap (λ x. lined_up x.transaction C) (sym is) in
-    let back : i + 1 - 1 ≡ i = omega arith in
-    closing F C current (rw (now, back) one)
+    closing F C current (rw now one)
 
 -- what is written to a slice of all of a Vec
 pub written_back : (new old : List Event) (m : ℕ) → length new ≡ m → take m (new ++ drop (length new) old) ≡ new
@@ -213,6 +211,10 @@ time_made None ticks fits value = go (nat_le ticks 1001000000000) refl where
   go false is = rw is refl
   go true is = let low : ticks ≤ 1001000000000 = grind (arith, nat_tests) in let no : false ≡ true = fits.1 low in absurd cc
 time_made (Some t) ticks fits value = ap (λ n. Some n) value ∙ sym (time_within ticks (fits.0 (search rules)))
+
+-- a segment knows the least time again
+pub renewed : (o : Option ℕ) (es : List Event) (ticks first : ℕ) → o ≡ time_of ticks → IsLeast es ticks first → (o ≡ least_time es) × IsFirst o first es
+renewed o es ticks first is k = (is ∙ sym k.least, rw is k.first)
 
 -- how many are kept
 pub kept_long : (t : ℕ) (all : List Event) (start : List Transaction) (i n : ℕ) (events : List Event) (ticks first : ℕ) (current : List Transaction) →

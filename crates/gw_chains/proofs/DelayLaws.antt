@@ -1,5 +1,5 @@
 -- The delay chains in the words of the map that keeps them, and how many wait.
-use Rattle.std.proofs.Common.{◌≡◌, ℕ, zero, suc, ◌+◌, ◌≤◌, ◌<◌, ◌^◌, ◌-◌, Bool, true, false, cond, List, [], ◌∷◌, length, take, Option, Some, None, slice_get, unwrap_or, option_copied, Bor, refl, sym, ap, subst, ◌∙◌, arith}
+use Rattle.std.proofs.Common.{◌≡◌, ℕ, zero, suc, ◌+◌, ◌≤◌, ◌<◌, ◌^◌, ◌-◌, Bool, true, false, cond, List, [], ◌∷◌, length, take, Option, Some, None, IfSome, IfNone, slice_get, unwrap_or, option_copied, Bor, refl, sym, ap, subst, ◌∙◌, arith}
 use Rattle.std.proofs.lemmas.List.{length-append}
 use Rattle.std.proofs.Math.Seq.{take-length}
 use Rattle.std.proofs.lemmas.Bool.{cond_both}
@@ -13,14 +13,14 @@ use Rattle.indexmap.specs.IndexMap.{insert_entry, set_value_at}
 use Rattle.gw_nums.specs.Range.{is_below}
 use Rattle.gw_names.specs.declared.key.Key.{Key}
 use Rattle.gw_names.specs.Keys.{key_eq}
-use Rattle.gw_entities.specs.Tables.{value_of, with_value}
+use Rattle.gw_entities.specs.Tables.{value_of, with_value, IsPlace}
 use Rattle.gw_entities.proofs.ComingLaws.{key_same}
 use Rattle.gw_entities.proofs.Lookups.{written_at}
 use Rattle.gw_entities.proofs.TableLaws.{key_eq_equiv, set_value_is, insert_entry_is, copied_is}
 use Rattle.gw_meaning.specs.declared.transaction.Transaction.{Transaction}
 use Rattle.gw_meaning.specs.Machine.{delay_at, waiting}
 use Rattle.gw_meaning.specs.Changes.{lined_up}
-use Rattle.gw_chains.specs.Chains.{Chain, delays_of, items_of, first_of, HasPlace}
+use Rattle.gw_chains.specs.Chains.{Chain, delays_of, items_of, first_of, HasPlace, IsQueue}
 
 abbrev Chains : Type 0
 Chains = List (Key × Chain Transaction)
@@ -33,30 +33,49 @@ pub at_key : (cs : Chains) (i : ℕ) (kept key : Key) (chain : Chain Transaction
     key_eq key kept ≡ true → (own : Chain Transaction) × (slice_get cs i ≡ Some (key, own))
 at_key cs i kept key chain at same = (chain, at ∙ ap (λ (k : Key). Some (k, chain)) (sym (key_same key kept same)))
 
--- what lies at the index of a facility is its chain
-pub chain_at_index : (cs : Chains) (i : ℕ) (key kept : Key) (own chain : Chain Transaction) → IsDistinct key_eq (keys_of cs) →
-    slice_get cs i ≡ Some (key, own) → Some (kept, chain) ≡ slice_get cs i → Some chain ≡ value_of cs key
-chain_at_index cs i key kept own chain apart at is =
+-- where it lies
+pub placed : (cs : Chains) (key : Key) (o : Option ℕ) → IsDistinct key_eq (keys_of cs) →
+    IfSome o (λ i. (chain : Chain Transaction) × (slice_get cs i ≡ Some (key, chain))) → IfNone o (value_of cs key ≡ None) → IsPlace cs key o
+placed cs key None apart there none = none
+placed cs key (Some i) apart there none = (there.0, there.1, lookup_from_place key_eq_equiv cs i key there.0 apart there.1)
+
+pub place_there : (cs : Chains) (key : Key) (o : Option ℕ) (i : ℕ) → o ≡ Some i → IsPlace cs key o → IsPlace cs key (Some i)
+place_there cs key o i is placed = subst (IsPlace cs key) is placed
+
+pub place_of_queue : (cs : Chains) (key : Key) (o : Option ℕ) (i : ℕ) → o ≡ Some i → IsQueue cs key o → IsPlace cs key (Some i)
+place_of_queue cs key o i is queue = subst (IsQueue cs key) is queue
+
+-- what lies there is its chain
+pub chain_there : (cs : Chains) (i : ℕ) (key kept : Key) (chain : Chain Transaction) → IsPlace cs key (Some i) → Some (kept, chain) ≡ slice_get cs i →
+    Some chain ≡ value_of cs key
+chain_there cs i key kept chain there is =
+    let own : Chain Transaction = there.0 in
+    let at : slice_get cs i ≡ Some (key, own) = there.1 in
     let same : (kept, chain) ≡ (key, own) = cc in
-    ap (λ (c : Key × Chain Transaction). Some c.1) same ∙ sym (lookup_from_place key_eq_equiv cs i key own apart at)
+    ap (λ (c : Key × Chain Transaction). Some c.1) same ∙ sym there.2
 
-pub found_there : (cs : Chains) (i : ℕ) (key : Key) (own was : Chain Transaction) → IsDistinct key_eq (keys_of cs) →
-    slice_get cs i ≡ Some (key, own) → Some was ≡ slice_get (values_of cs) i → Some was ≡ value_of cs key
-found_there cs i key own was apart at is =
-    is ∙ slice_get-map (λ (c : Key × Chain Transaction). c.1) cs i ∙ ap (option_map (λ (c : Key × Chain Transaction). c.1)) at
-    ∙ sym (lookup_from_place key_eq_equiv cs i key own apart at)
+pub found_there : (cs : Chains) (i : ℕ) (key : Key) (was : Chain Transaction) → IsPlace cs key (Some i) →
+    Some was ≡ slice_get (values_of cs) i → Some was ≡ value_of cs key
+found_there cs i key was there is =
+    is ∙ slice_get-map (λ (c : Key × Chain Transaction). c.1) cs i ∙ ap (option_map (λ (c : Key × Chain Transaction). c.1)) there.1
+    ∙ sym there.2
 
-pub never : (cs : Chains) (i : ℕ) (key : Key) (own : Chain Transaction) → slice_get cs i ≡ Some (key, own) →
-    None ≡ slice_get (values_of cs) i → ⊥
-never cs i key own at is =
+pub never : (cs : Chains) (i : ℕ) (key : Key) → IsPlace cs key (Some i) → None ≡ slice_get (values_of cs) i → ⊥
+never cs i key there is =
+    let own : Chain Transaction = there.0 in
     let own_is : slice_get (values_of cs) i ≡ Some own =
-    slice_get-map (λ (c : Key × Chain Transaction). c.1) cs i ∙ ap (option_map (λ (c : Key × Chain Transaction). c.1)) at in
+    slice_get-map (λ (c : Key × Chain Transaction). c.1) cs i ∙ ap (option_map (λ (c : Key × Chain Transaction). c.1)) there.1 in
     cc
 
--- and what is written there
-pub set_there : (cs : Chains) (i : ℕ) (key : Key) (own chain : Chain Transaction) → IsDistinct key_eq (keys_of cs) →
-    slice_get cs i ≡ Some (key, own) → set_value_at cs i chain ≡ set_value (key_eq key) cs chain
-set_there cs i key own chain apart at = written_at key_eq key_eq_equiv cs i key own chain apart at
+pub never_read : (cs : Chains) (i : ℕ) (key : Key) → IsPlace cs key (Some i) → None ≡ slice_get cs i → ⊥
+never_read cs i key there is =
+    let at = there.1 in
+    cc
+
+-- and what is written there, which lies there from then on
+pub set_there : (cs : Chains) (i : ℕ) (key : Key) (chain : Chain Transaction) → IsDistinct key_eq (keys_of cs) →
+    IsPlace cs key (Some i) → set_value_at cs i chain ≡ set_value (key_eq key) cs chain
+set_there cs i key chain apart there = written_at key_eq key_eq_equiv cs i key there.0 chain apart there.1
 
 -- the delay chain of a facility
 delay_items : (cs : Chains) (key : Key) → delay_at (delays_of cs) key ≡ items_of (value_of cs key)
@@ -69,6 +88,10 @@ delay_items (c ∷ cs) key = go (key_eq key c.0) (delay_items cs key) where
 
 pub delay_is : (cs : Chains) (key : Key) (o : Option (Chain Transaction)) → o ≡ value_of cs key → delay_at (delays_of cs) key ≡ items_of o
 delay_is cs key o is = delay_items cs key ∙ ap items_of (sym is)
+
+pub queue_of_place : (cs : Chains) (key : Key) (o : Option ℕ) → IsPlace cs key o → IsQueue cs key o
+queue_of_place cs key None none = delay_is cs key None (sym none)
+queue_of_place cs key (Some i) there = there
 
 -- a chain that is set
 with_delay : (cs : Chains) (key : Key) (chain : Chain Transaction) → delays_of (with_value cs key chain) ≡ with_value (delays_of cs) key chain.items
@@ -211,6 +234,19 @@ value_written (c ∷ cs) key was chain h = go (key_eq key c.0) refl h (value_wri
       value_of (cond b ((c.0, chain) ∷ cs) (c ∷ set_value (key_eq key) cs chain)) key ≡ Some chain
   go true here h rest = rw here refl
   go false here h rest = rw here (rest h)
+
+set_at : (cs : Chains) (i : ℕ) (key : Key) (own chain : Chain Transaction) → slice_get cs i ≡ Some (key, own) →
+    slice_get (set_value_at cs i chain) i ≡ Some (key, chain)
+set_at [] i key own chain at = absurd cc
+set_at (c ∷ cs) zero key own chain at = let same : c ≡ (key, own) = cc in ap (λ (d : Key × Chain Transaction). Some (d.0, chain)) same
+set_at (c ∷ cs) (suc i) key own chain at = set_at cs i key own chain at
+
+pub still_there : (cs : Chains) (i : ℕ) (key : Key) (o : Option ℕ) (chain : Chain Transaction) → o ≡ Some i → IsDistinct key_eq (keys_of cs) →
+    IsPlace cs key (Some i) → IsPlace (set_value_at cs i chain) key o
+still_there cs i key o chain is apart there =
+    let value : value_of (set_value_at cs i chain) key ≡ Some chain =
+    ap (λ (fs : Chains). value_of fs key) (set_there cs i key chain apart there) ∙ value_written cs key there.0 chain (sym there.2) in
+    subst (IsPlace (set_value_at cs i chain) key) (sym is) (chain, set_at cs i key there.0 chain there.1, value)
 
 pub has_place : (cs fs : Chains) (key : Key) (was chain : Chain Transaction) (n spare : ℕ) → Some was ≡ value_of cs key →
     fs ≡ set_value (key_eq key) cs chain → chain.items ≡ was.items → 1 ≤ chain.room → n ≡ length (waiting (delays_of cs)) → n < 2 ^ 64 - 1 →

@@ -1,9 +1,10 @@
 -- The chains of transactions, and who is let in from one to another. (Our own.)
-use Rattle.std.specs.Prelude.{ℕ, ◌-◌, ◌<◌, ◌^◌, Bool, false, List, [], ◌∷◌, ◌≤◌, Option, Some, None, is_some, option_map, unwrap_or, slice_get, length}
+use Rattle.std.specs.Prelude.{◌≡◌, ℕ, ◌-◌, ◌<◌, ◌^◌, Bool, false, List, [], ◌∷◌, ◌≤◌, Option, Some, None, is_some}
+use Rattle.std.specs.Prelude.{option_map, unwrap_or, slice_get, length}
 use Rattle.gw_names.specs.declared.key.Key.{Key}
-use Rattle.gw_entities.specs.Tables.{value_of, with_value}
+use Rattle.gw_entities.specs.Tables.{value_of, with_value, IsPlace}
 use Rattle.gw_meaning.specs.declared.transaction.Transaction.{Transaction}
-use Rattle.gw_meaning.specs.Machine.{Machine, waiting}
+use Rattle.gw_meaning.specs.Machine.{Machine, delay_at, waiting}
 use Rattle.gw_meaning.specs.Changes.{let_in}
 
 -- a chain
@@ -33,6 +34,11 @@ HasRoomOn (Some chain) spare = 0 < chain.room
 abbrev pub HasPlace : Delays → Key → Type 0
 HasPlace d key =
     HasRoomOn (value_of d.chains key) d.spare × (length (waiting (delays_of d.chains)) < 2 ^ 64 - 1)
+
+-- where those lie who wait for a facility or a storage, if any do
+abbrev pub IsQueue : List (Key × Chain Transaction) → Key → Option ℕ → Type 0
+IsQueue chains key None = delay_at (delays_of chains) key ≡ []
+IsQueue chains key (Some index) = IsPlace chains key (Some index)
 
 -- who waits on a chain, where there is one
 abbrev pub items_of : Option (Chain Transaction) → List Transaction

@@ -3,3 +3,4 @@ pub use Rattle.gw_meaning.specs.Changes
 pub use Rattle.gw_meaning.specs.Step
 pub mod Chains
 pub mod Segments
+pub mod ClosingUp

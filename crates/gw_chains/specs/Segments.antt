@@ -1,8 +1,8 @@
 -- The future chain in segments. (Our own: it says how the chain is kept, and nothing of what it holds.)
-use Rattle.std.specs.Prelude.{◌≡◌, ℕ, List, [], ◌∷◌, ◌++◌, Option, Some, None, Bool, true, false, not, ◌==◌, ◌≤◌, IsSomeAnd, slice_get, length, take, drop, filter, nat_le, nat_lt, if◌then◌else◌}
-use Rattle.gw_meaning.specs.declared.transaction.Transaction.{Transaction}
+use Rattle.std.specs.Prelude.{◌≡◌, ℕ, List, [], ◌∷◌, ◌++◌, Option, Some, None, Bool, true, false, not, ◌==◌, IsSomeAnd}
+use Rattle.std.specs.Prelude.{slice_get, length, take, nat_le, nat_lt, if◌then◌else◌}
 use Rattle.gw_meaning.specs.declared.transaction.Event.{Event}
-use Rattle.gw_meaning.specs.Changes.{is_due, due, all_lined_up}
+use Rattle.gw_meaning.specs.Changes.{is_due, due}
 use Rattle.gw_meaning.specs.Step.{least_time, sooner}
 
 -- a closed segment, which takes no more
@@ -53,15 +53,3 @@ IsFirstDue time (Some index) events = IsFirst (Some time) index events
 pub record IsLeast (events : List Event) (ticks index : ℕ) : Type 0 where
   pub least : least_time events ≡ time_of ticks
   pub first : IsFirst (time_of ticks) index events
-
--- A clock step went over the transactions of a segment, all of them, in front of an index: so many are kept and closed
--- up, and the others are on the current chain, behind those of the start.
-pub record ClosingUp
-    (time : ℕ) (all : List Event) (start : List Transaction) (index kept : ℕ)
-    (events : List Event) (ticks first : ℕ) (current : List Transaction) : Type 0 where
-  pub long : length events ≡ length all
-  pub within : kept ≤ index
-  pub rest : drop index events ≡ drop index all
-  pub kept_is : take kept events ≡ filter (λ e. not (is_due time e)) (take index all)
-  pub least : IsLeast (filter (λ e. not (is_due time e)) (take index all)) ticks first
-  pub current_is : current ≡ all_lined_up (due time (take index all)) start

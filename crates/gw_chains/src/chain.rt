@@ -1,4 +1,5 @@
-ghost use Rattle.std.specs.Prelude.{◌≡◌, ◌+◌, ◌++◌, ◌≤◌, ◌<◌, [], length, insert, option_to_list, ◌==◌, IfNone, IfOk, OnOk, IsTrue, ◌∷◌, ◌^◌};
+ghost use Rattle.std.specs.Prelude.{◌≡◌, ◌+◌, ◌++◌, ◌≤◌, ◌<◌, [], length, insert, option_to_list, ◌==◌, IfNone, IfOk};
+ghost use Rattle.std.specs.Prelude.{OnOk, IsTrue, ◌∷◌, ◌^◌};
 ghost use Rattle.std.specs.Slice.{IsItemAt};
 ghost use Rattle.gw_meaning.specs.Machine.{Machine};
 ghost use Rattle.gw_meaning.specs.Changes.{lined_up};

@@ -1,13 +1,12 @@
-ghost use Rattle.std.specs.Prelude.{◌≡◌, ◌<◌, [], length, min, option_copied, Some, None, drop, suc, slice_get, IsTrue, IsFalse, IfSome, IfNone, IfOk, OnOk};
-ghost use Rattle.std.specs.List.{IsDistinct};
-ghost use Rattle.std.specs.Map.{keys_of};
+ghost use Rattle.std.specs.Prelude.{◌≡◌, ◌<◌, [], length, min, option_copied, Some, None, drop, suc, slice_get, IsTrue};
+ghost use Rattle.std.specs.Prelude.{IsFalse, IfSome, IfNone, IfOk, OnOk};
 ghost use Rattle.indexmap.specs.IndexMap.{spare};
-ghost use Rattle.gw_names.specs.Keys.{key_eq};
-ghost use Rattle.gw_entities.specs.Tables.{value_of, with_value};
+ghost use Rattle.gw_entities.specs.Tables.{value_of, with_value, IsPlace};
 ghost use Rattle.gw_meaning.specs.Changes.{lined_up, some_let_in};
 ghost use Rattle.gw_meaning.specs.declared.transaction.Transaction.{Transaction};
 ghost use Rattle.gw_meaning.specs.Machine.{Machine, delay_at, waiting};
-ghost use Rattle.gw_chains.specs.Chains.{Chain, delays_of, items_of, HasRoomOn, HasPlace, first_of, without_first, with_share, HasRoomToLetAllIn};
+ghost use Rattle.gw_chains.specs.Chains.{Chain, delays_of, items_of, first_of, without_first, with_share};
+ghost use Rattle.gw_chains.specs.Chains.{IsQueue, HasRoomOn, HasPlace, HasRoomToLetAllIn};
 
 use crate::chain::PriorityChain;
 use crate::counts::Counts;
@@ -76,14 +75,48 @@ impl DelayChains {
         self.count
     }
 
-    /// The chain of a facility or a storage, where somebody waited for it; none where nobody waits at all now.
-    pub fn chain(&self, key: &Key) -> Option<&PriorityChain>
-        ensures { items_of (option_copied result) ≡ delay_at (delays_of self.now.chains) key.now }
+    /// Where the chain of a facility or a storage lies, if it has one: for [`DelayChains::reserve_at`] and
+    /// [`DelayChains::line_up_at`].
+    #[inline(always)]
+    pub fn place(&self, key: &Key) -> Option<usize>
+        ensures { IsPlace self.now.chains key.now result }
+    {
+        place(&self.chains, key)
+    }
+
+    /// Where those lie who wait for a facility or a storage, if any do: for the other calls that take a place. Where
+    /// nobody waits at all now, no chain is looked for.
+    #[inline(always)]
+    pub fn queue(&self, key: &Key) -> Option<usize>
+        ensures { IsQueue self.now.chains key.now result }
     {
         if self.count == 0 {
             return None;
         }
-        find(&self.chains, key)
+        place(&self.chains, key)
+    }
+
+    /// The chain of a facility or a storage, where somebody waited for it; none where nobody waits at all now.
+    pub fn chain(&self, key: &Key) -> Option<&PriorityChain>
+        ensures { items_of (option_copied result) ≡ delay_at (delays_of self.now.chains) key.now }
+    {
+        let place = self.queue(key);
+        self.chain_at(key, place)
+    }
+
+    /// The same, where it is known where those lie who wait for the facility or the storage.
+    #[inline(always)]
+    pub fn chain_at(&self, key: &Key, place: Option<usize>) -> Option<&PriorityChain>
+        requires { IsQueue self.now.chains key.now place }
+        ensures { items_of (option_copied result) ≡ delay_at (delays_of self.now.chains) key.now }
+    {
+        let Some(index) = place else {
+            return None;
+        };
+        match self.chains.get_index(index) {
+            Some((_, chain)) => Some(chain),
+            None => unreachable!(),
+        }
     }
 
     /// The first that waits for a facility.
@@ -91,10 +124,17 @@ impl DelayChains {
     pub fn first(&self, key: &Key) -> Option<&Transaction>
         ensures { option_copied result ≡ first_of (delay_at (delays_of self.now.chains) key.now) }
     {
-        if self.count == 0 {
-            return None;
-        }
-        match find(&self.chains, key) {
+        let place = self.queue(key);
+        self.first_at(key, place)
+    }
+
+    /// The same, where it is known where those lie who wait for the facility.
+    #[inline(always)]
+    pub fn first_at(&self, key: &Key, place: Option<usize>) -> Option<&Transaction>
+        requires { IsQueue self.now.chains key.now place }
+        ensures { option_copied result ≡ first_of (delay_at (delays_of self.now.chains) key.now) }
+    {
+        match self.chain_at(key, place) {
             Some(chain) => chain.get(0),
             None => None,
         }
@@ -105,11 +145,23 @@ impl DelayChains {
         ensures ok { OnOk result (HasPlace self.new key.now) }
         ensures delays { delays_of self.new.chains ≡ delays_of self.old.chains }
     {
+        let place = self.place(key);
+        self.reserve_at(key, place)
+    }
+
+    /// The same, where it is known where the chain of the facility or the storage lies. It stays there.
+    #[inline(always)]
+    pub fn reserve_at(&mut self, key: &Key, place: Option<usize>) -> Result<(), AllocError>
+        requires { IsPlace self.old.chains key.now place }
+        ensures ok { OnOk result (HasPlace self.new key.now) }
+        ensures delays { delays_of self.new.chains ≡ delays_of self.old.chains }
+        ensures place { IsPlace self.new.chains key.now place }
+    {
         let is_full = self.count >= usize::MAX;
         if is_full {
             return Err(AllocError);
         }
-        let Some(index) = place(&self.chains, key) else {
+        let Some(index) = place else {
             self.chains.reserve(1)?;
             return self.fresh.reserve(1);
         };
@@ -125,7 +177,19 @@ impl DelayChains {
         ensures { delays_of self.new.chains ≡
             with_value (delays_of self.old.chains) key (lined_up x (delay_at (delays_of self.old.chains) key)) }
     {
-        put(&mut self.chains, &mut self.fresh, key, x);
+        let place = self.place(&key);
+        self.line_up_at(key, place, x);
+    }
+
+    /// The same, where it is known where the chain of the facility or the storage lies.
+    #[inline(always)]
+    pub fn line_up_at(&mut self, key: Key, place: Option<usize>, x: Transaction)
+        requires room { HasPlace self.old key }
+        requires place { IsPlace self.old.chains key place }
+        ensures { delays_of self.new.chains ≡
+            with_value (delays_of self.old.chains) key (lined_up x (delay_at (delays_of self.old.chains) key)) }
+    {
+        put(&mut self.chains, &mut self.fresh, key, place, x);
         self.count += 1;
     }
 
@@ -136,11 +200,24 @@ impl DelayChains {
         ensures delays { delays_of self.new.chains ≡
             without_first (delays_of self.old.chains) key.now (delay_at (delays_of self.old.chains) key.now) }
     {
-        if self.count == 0 {
+        let place = self.queue(key);
+        self.take_first_at(key, place)
+    }
+
+    /// The same, where it is known where those lie who wait for the facility.
+    #[inline(always)]
+    pub fn take_first_at(&mut self, key: &Key, place: Option<usize>) -> Option<Transaction>
+        requires { IsQueue self.old.chains key.now place }
+        ensures first { result ≡ first_of (delay_at (delays_of self.old.chains) key.now) }
+        ensures delays { delays_of self.new.chains ≡
+            without_first (delays_of self.old.chains) key.now (delay_at (delays_of self.old.chains) key.now) }
+    {
+        let Some(index) = place else {
             return None;
-        }
-        let index = place(&self.chains, key)?;
-        let chain = self.chains.get_index_mut(index)?;
+        };
+        let Some(chain) = self.chains.get_index_mut(index) else {
+            unreachable!()
+        };
         let x = chain.take_first()?;
         self.count -= 1;
         Some(x)
@@ -164,10 +241,31 @@ impl DelayChains {
               counts = counts.old.entries;
             }) }
     {
-        if self.count == 0 {
-            return;
-        }
-        let Some(index) = place(&self.chains, key) else {
+        let place = self.queue(key);
+        self.let_in_some_at(key, place, shares, current, counts);
+    }
+
+    /// The same, where it is known where those lie who wait for the storage.
+    pub fn let_in_some_at(
+        &mut self,
+        key: &Key,
+        place: Option<usize>,
+        shares: &[Option<u64>],
+        current: &mut PriorityChain,
+        counts: &mut Counts,
+    )
+        requires place { IsQueue self.old.chains key.now place }
+        requires room { HasRoomToLetAllIn (with_share shares.now (delay_at (delays_of self.old.chains) key.now))
+            current.old.room counts.old.limit }
+        ensures { (s : Machine) →
+            record s { delays = delays_of self.new.chains; current = current.new.items; counts = counts.new.entries } ≡
+            some_let_in key.now shares.now [] (delay_at (delays_of self.old.chains) key.now) (record s {
+              delays = delays_of self.old.chains;
+              current = current.old.items;
+              counts = counts.old.entries;
+            }) }
+    {
+        let Some(index) = place else {
             return;
         };
         let Some(chain) = self.chains.get_index_mut(index) else {
@@ -203,19 +301,22 @@ impl DelayChains {
 }
 
 // Puts a transaction on the chain of a facility or a storage, and on the fresh one where it has none.
+#[inline(always)]
 fn put(
     chains: &mut IndexMap<Key, PriorityChain>,
     fresh: &mut PriorityChain,
     key: Key,
+    place: Option<usize>,
     x: Transaction,
 )
+    requires place { IsPlace chains.old.entries key place }
     requires room { HasRoomOn (value_of chains.old.entries key) (min (spare chains.old) fresh.old.room) }
     requires fresh { fresh.old.items ≡ [] }
     ensures delays { delays_of chains.new.entries ≡
         with_value (delays_of chains.old.entries) key (lined_up x (delay_at (delays_of chains.old.entries) key)) }
     ensures fresh { fresh.new.items ≡ [] }
 {
-    match place(chains, &key) {
+    match place {
         Some(index) => match chains.get_index_mut(index) {
             Some(chain) => chain.line_up(x),
             None => unreachable!(),
@@ -260,11 +361,9 @@ fn find<'a>(chains: &'a IndexMap<Key, PriorityChain>, key: &Key) -> Option<&'a P
 
 // Where the chain of a facility or a storage lies, if it has one: the first few are looked through.
 #[inline(always)]
+#[tactic(auto, using(crate::proofs::DelayLaws::placed))]
 fn place(chains: &IndexMap<Key, PriorityChain>, key: &Key) -> Option<usize>
-    ensures there { IfSome result (λ i. (chain : Chain Transaction) ×
-        (slice_get chains.now.entries i ≡ Some (key.now, chain))) }
-    ensures none { IfNone result (value_of chains.now.entries key.now ≡ None) }
-    ensures apart { IsDistinct key_eq (keys_of chains.now.entries) }
+    ensures { IsPlace chains.now.entries key.now result }
 {
     for index in 0..chains.len() {
         if index >= FEW_CHAINS {

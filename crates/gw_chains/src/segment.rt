@@ -1,9 +1,12 @@
-ghost use Rattle.std.specs.Prelude.{◌≡◌, ◌+◌, ◌-◌, ◌++◌, ◌∷◌, ◌≤◌, ◌<◌, List, [], length, take, drop, filter, not, Some, IfNone, IfOk, OnOk, ◌^◌, ◌==◌};
+ghost use Rattle.std.specs.Prelude.{◌≡◌, ◌+◌, ◌-◌, ◌++◌, ◌∷◌, ◌≤◌, ◌<◌, ◌^◌, ◌==◌, List, [], length, drop, filter, not};
+ghost use Rattle.std.specs.Prelude.{true};
+ghost use Rattle.std.specs.Prelude.{Some, IsSomeAnd, IfNone, IfOk, OnOk, slice_get};
 ghost use Rattle.gw_meaning.specs.declared.transaction.Transaction.{Transaction};
 ghost use Rattle.gw_meaning.specs.declared.transaction.Event.{Event};
 ghost use Rattle.gw_meaning.specs.Changes.{all_lined_up, due, is_due};
 ghost use Rattle.gw_meaning.specs.Step.{least_time, sooner};
-ghost use Rattle.gw_chains.specs.Segments.{soonest, is_later, IsFirst, IsFirstDue, IsLeast, ClosingUp};
+ghost use Rattle.gw_chains.specs.ClosingUp.{ClosingUp};
+ghost use Rattle.gw_chains.specs.Segments.{soonest, is_later, time_of, IsFirst, IsFirstDue, IsLeast};
 
 use crate::chain::{PriorityChain, same};
 use gw_meaning::Event;
@@ -114,6 +117,7 @@ impl Segment {
 
     // Moves the transactions of a time to the current chain, in the order in which they came.
     #[inline(always)]
+    #[tactic(auto, using(crate::proofs::ClosingUp::renewed))]
     pub(crate) fn take_due(&mut self, current: &mut PriorityChain, time: Time)
         requires { length self.old.items ≤ current.old.room }
         ensures current { current.new.items ≡ all_lined_up (due time self.old.items) current.old.items }
@@ -123,10 +127,9 @@ impl Segment {
         let Some(index) = self.first_due(time) else {
             return;
         };
-        let kept = take_from(&mut self.events, index, current, time);
-        self.events.truncate(kept.len);
-        self.least = Time::new(kept.least.ticks);
-        self.first = kept.least.first;
+        let least = take_out(&mut self.events, index, current, time);
+        self.least = least.time();
+        self.first = least.first;
     }
 
     // Where the first one is that is due at a time.
@@ -200,6 +203,14 @@ impl Least {
         }
     }
 
+    // As a time, where there are any.
+    #[inline(always)]
+    fn time(self) -> Option<Time>
+        ensures { result ≡ time_of self.ticks }
+    {
+        Time::new(self.ticks)
+    }
+
     // One more comes behind so many, with this time.
     #[inline(always)]
     fn meet(&mut self, time: Time, index: usize)
@@ -222,7 +233,23 @@ struct Kept {
     least: Least,
 }
 
-// Moves the transactions of a time to the current chain, of which this is the first. The others close up, in their order.
+// Moves the transactions of a time, of which the one at an index is the first, to the current chain. The others stay,
+// in their order: gives the least time of those.
+#[inline(always)]
+fn take_out(events: &mut Vec<Event>, index: usize, current: &mut PriorityChain, time: Time) -> Least
+    requires first { IsFirst (Some time) index events.old.items }
+    requires room { length events.old.items ≤ current.old.room }
+    ensures current { current.new.items ≡ all_lined_up (due time events.old.items) current.old.items }
+    ensures stay { events.new.items ≡ filter (λ e. not (is_due time e)) events.old.items }
+    ensures least { IsLeast events.new.items result.ticks result.first }
+    ensures room { current.old.room ≤ current.new.room + length events.old.items }
+{
+    let kept = take_from(events, index, current, time);
+    events.truncate(kept.len);
+    kept.least
+}
+
+// The same, where those who stay close up: so many are kept, and what is behind them is left over.
 #[inline(always)]
 fn take_from(events: &mut [Event], index: usize, current: &mut PriorityChain, time: Time) -> Kept
     requires first { IsFirst (Some time) index events.old }
@@ -233,15 +260,12 @@ fn take_from(events: &mut [Event], index: usize, current: &mut PriorityChain, ti
 {
     current.line_up_equal(&events[index].transaction);
     let mut least = least_of(&events[..index]);
-    let next = close_up(events, index + 1, &mut least, time);
-    let kept = Kept {
-        len: next - 1,
-        least,
-    };
-    if next == events.len() {
+    let len = close_up(events, index, &mut least, time);
+    let kept = Kept { len, least };
+    if len + 1 == events.len() {
         return kept;
     }
-    take_more(events, next, kept, current, time)
+    take_more(events, len + 1, kept, current, time)
 }
 
 // The least time of events.
@@ -256,27 +280,31 @@ fn least_of(events: &[Event]) -> Least
     least
 }
 
-// From an index on, those in front of the next one that is due, if any, move up by one. Where that one is, else the end.
+// The one at an index is gone: those behind it move up by one, in front of the next one that is due, if any. So many
+// are kept.
 #[inline(always)]
-fn close_up(events: &mut [Event], from: usize, least: &mut Least, time: Time) -> usize
-    requires within { (0 < from) × (from ≤ length events.old) }
-    ensures within { (from ≤ result) × (result ≤ length events.old) }
+fn close_up(events: &mut [Event], index: usize, least: &mut Least, time: Time) -> usize
+    requires within { index < length events.old }
+    ensures within { (index ≤ result) × (result < length events.old) }
+    ensures next { result + 1 < length events.old →
+        IsSomeAnd (slice_get events.new (result + 1)) (λ e. is_due time e ≡ true) }
     ensures closing { (all : List Event) → (start : List Transaction) → (current : List Transaction) →
-        ClosingUp time all start from (from - 1) events.old least.old.ticks least.old.first current →
-        ClosingUp time all start result (result - 1) events.new least.new.ticks least.new.first current }
+        ClosingUp time all start (index + 1) index events.old least.old.ticks least.old.first current →
+        ClosingUp time all start (result + 1) result events.new least.new.ticks least.new.first current }
 {
-    for i in from..events.len() {
-        let event = &events[i];
+    let last = events.len() - 1;
+    for place in index..last {
+        let event = &events[place + 1];
         if event.time == time {
-            return i;
+            return place;
         }
-        least.meet(event.time, i - 1);
-        events[i - 1] = same_event(event);
+        least.meet(event.time, place);
+        events[place] = same_event(event);
     }
-    events.len()
+    last
 }
 
-// The same from an index on, where some have been taken and so many are kept.
+// From an index on, where some are gone and so many are kept, those who are due go, and the others close up.
 #[inline(always)]
 fn take_more(
     events: &mut [Event],

@@ -1,7 +1,7 @@
 use Rattle.std.proofs.Common.{◌≡◌, ◌+◌, ◌≤◌, List, length}
 use Rattle.gw_meaning.specs.declared.transaction.Transaction.{Transaction}
 use Rattle.gw_meaning.specs.declared.transaction.Event.{Event}
-use Rattle.gw_chains.specs.Segments.{ClosingUp}
+use Rattle.gw_chains.specs.ClosingUp.{ClosingUp}
 use Rattle.gw_chains.proofs.segment.take_more.Given as goal
 
 abbrev pub invariant-loop-i : goal.invariant-loop-i

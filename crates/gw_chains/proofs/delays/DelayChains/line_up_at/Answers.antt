@@ -1,6 +1,6 @@
 use Rattle.gw_chains.specs.Chains.{delays_of}
 use Rattle.gw_chains.proofs.DelayLaws.{one_more_waits}
-use Rattle.gw_chains.proofs.delays.DelayChains.line_up.Goals as goal
+use Rattle.gw_chains.proofs.delays.DelayChains.line_up_at.Goals as goal
 
 pub invariant_of-self : goal.invariant_of-self
 invariant_of-self c = (
