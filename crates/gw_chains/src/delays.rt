@@ -75,8 +75,8 @@ impl DelayChains {
         self.count
     }
 
-    /// Where the chain of a facility or a storage lies, if it has one: for [`DelayChains::reserve_at`] and
-    /// [`DelayChains::line_up_at`].
+    /// Where the chain of a facility or a storage lies, if it has one: for [`DelayChains::reserve_at`],
+    /// [`DelayChains::line_up_there`] and [`DelayChains::line_up_first`].
     #[inline(always)]
     pub fn place(&self, key: &Key) -> Option<usize>
         ensures { IsPlace self.now.chains key.now result }
@@ -97,6 +97,7 @@ impl DelayChains {
     }
 
     /// The chain of a facility or a storage, where somebody waited for it; none where nobody waits at all now.
+    #[inline(always)]
     pub fn chain(&self, key: &Key) -> Option<&PriorityChain>
         ensures { items_of (option_copied result) ≡ delay_at (delays_of self.now.chains) key.now }
     {
@@ -177,19 +178,37 @@ impl DelayChains {
         ensures { delays_of self.new.chains ≡
             with_value (delays_of self.old.chains) key (lined_up x (delay_at (delays_of self.old.chains) key)) }
     {
-        let place = self.place(&key);
-        self.line_up_at(key, place, x);
+        match self.place(&key) {
+            Some(index) => self.line_up_there(&key, index, x),
+            None => self.line_up_first(key, x),
+        }
     }
 
-    /// The same, where it is known where the chain of the facility or the storage lies.
+    /// The same, where somebody has waited for the facility or the storage before, and it is known where its chain lies:
+    /// the key is not kept.
     #[inline(always)]
-    pub fn line_up_at(&mut self, key: Key, place: Option<usize>, x: Transaction)
+    pub fn line_up_there(&mut self, key: &Key, index: usize, x: Transaction)
+        requires room { HasPlace self.old key.now }
+        requires place { IsPlace self.old.chains key.now (Some index) }
+        ensures { delays_of self.new.chains ≡
+            with_value (delays_of self.old.chains) key.now (lined_up x (delay_at (delays_of self.old.chains) key.now)) }
+    {
+        match self.chains.get_index_mut(index) {
+            Some(chain) => chain.line_up(x),
+            None => unreachable!(),
+        }
+        self.count += 1;
+    }
+
+    /// The same, where nobody has waited for the facility or the storage.
+    #[inline(never)]
+    pub fn line_up_first(&mut self, key: Key, x: Transaction)
         requires room { HasPlace self.old key }
-        requires place { IsPlace self.old.chains key place }
+        requires none { IsPlace self.old.chains key None }
         ensures { delays_of self.new.chains ≡
             with_value (delays_of self.old.chains) key (lined_up x (delay_at (delays_of self.old.chains) key)) }
     {
-        put(&mut self.chains, &mut self.fresh, key, place, x);
+        put_first(&mut self.chains, &mut self.fresh, key, x);
         self.count += 1;
     }
 
@@ -300,32 +319,7 @@ impl DelayChains {
     }
 }
 
-// Puts a transaction on the chain of a facility or a storage, and on the fresh one where it has none.
-#[inline(always)]
-fn put(
-    chains: &mut IndexMap<Key, PriorityChain>,
-    fresh: &mut PriorityChain,
-    key: Key,
-    place: Option<usize>,
-    x: Transaction,
-)
-    requires place { IsPlace chains.old.entries key place }
-    requires room { HasRoomOn (value_of chains.old.entries key) (min (spare chains.old) fresh.old.room) }
-    requires fresh { fresh.old.items ≡ [] }
-    ensures delays { delays_of chains.new.entries ≡
-        with_value (delays_of chains.old.entries) key (lined_up x (delay_at (delays_of chains.old.entries) key)) }
-    ensures fresh { fresh.new.items ≡ [] }
-{
-    match place {
-        Some(index) => match chains.get_index_mut(index) {
-            Some(chain) => chain.line_up(x),
-            None => unreachable!(),
-        },
-        None => put_first(chains, fresh, key, x),
-    }
-}
-
-// The same, where nobody has waited for the facility or the storage.
+// Puts a transaction on a chain of its own, where nobody has waited for the facility or the storage.
 #[inline(never)]
 fn put_first(
     chains: &mut IndexMap<Key, PriorityChain>,

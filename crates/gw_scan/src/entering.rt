@@ -25,10 +25,20 @@ impl State {
         ensures ok { OnOk result (self.new ≡ moved self.old (moves.Refuse id key.now units)) }
         ensures err { OnErr result (self.new ≡ self.old) }
     {
-        self.delays.reserve(key)?;
-        let chain = key.clone()?;
-        if let Some(x) = self.active.take() {
-            self.delays.line_up(chain, bind(x, id, units));
+        let place = self.delays.place(key);
+        self.delays.reserve_at(key, place)?;
+        match place {
+            Some(index) => {
+                if let Some(x) = self.active.take() {
+                    self.delays.line_up_there(key, index, bind(x, id, units));
+                }
+            }
+            None => {
+                let first = key.clone()?;
+                if let Some(x) = self.active.take() {
+                    self.delays.line_up_first(first, bind(x, id, units));
+                }
+            }
         }
         Ok(())
     }

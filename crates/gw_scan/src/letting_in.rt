@@ -4,21 +4,24 @@ ghost use Rattle.std.specs.Option.{option_map};
 ghost use Rattle.gw_meaning.specs.declared.transaction.Transaction.{Transaction};
 ghost use Rattle.gw_meaning.specs.Machine.{Machine, delay_at};
 ghost use Rattle.gw_meaning.specs.Changes.{some_let_in};
-ghost use Rattle.gw_chains.specs.Chains.{delays_of, first_of, with_share, IsWithin, AreWithin, HasRoomToLetIn, HasRoomToLetAllIn};
+ghost use Rattle.gw_chains.specs.Chains.{delays_of, first_of, IsQueue, with_share, IsWithin, AreWithin, HasRoomToLetIn, HasRoomToLetAllIn};
 
 use gw_chains::{Counts, DelayChains, PriorityChain, has_share, let_in};
 use gw_meaning::Transaction;
 use gw_names::Key;
 use std::alloc::AllocError;
 
-// Makes room for the first that waits for a facility to be let in. Gives its number, where there is one.
+// Makes room for the first that waits for a facility to be let in, where it is known where those lie who wait. Gives its
+// number, where there is one.
 #[inline(always)]
 pub fn reserve_first(
     delays: &DelayChains,
     current: &mut PriorityChain,
     counts: &mut Counts,
     key: &Key,
+    queue: Option<usize>,
 ) -> Result<Option<u64>, AllocError>
+    requires { IsQueue delays.now.chains key.now queue }
     ensures number { IfOk result (λ number. number ≡
         option_map (λ (x : Transaction). x.number) (first_of (delay_at (delays_of delays.now.chains) key.now))) }
     ensures ok { OnOk result (HasRoomToLetIn (first_of (delay_at (delays_of delays.now.chains) key.now))
@@ -29,7 +32,7 @@ pub fn reserve_first(
     ensures limit { counts.old.limit ≤ counts.new.limit }
 {
     current.reserve(2)?;
-    let Some(x) = delays.first(key) else {
+    let Some(x) = delays.first_at(key, queue) else {
         return Ok(None);
     };
     reserve_block(x, counts)?;
@@ -43,8 +46,10 @@ pub fn reserve_some(
     current: &mut PriorityChain,
     counts: &mut Counts,
     key: &Key,
+    queue: Option<usize>,
     shares: &[Option<u64>],
 ) -> Result<(), AllocError>
+    requires { IsQueue delays.now.chains key.now queue }
     ensures ok { OnOk result (HasRoomToLetAllIn (with_share shares.now (delay_at (delays_of delays.now.chains) key.now))
         (current.new.room - 1) counts.new.limit) }
     ensures one { OnOk result (0 < current.new.room) }
@@ -55,7 +60,7 @@ pub fn reserve_some(
     if shares.is_empty() {
         return current.reserve(1);
     }
-    reserve_shares(delays, current, counts, key, shares)
+    reserve_shares(delays, current, counts, key, queue, shares)
 }
 
 // The same, where there are shares.
@@ -65,8 +70,10 @@ fn reserve_shares(
     current: &mut PriorityChain,
     counts: &mut Counts,
     key: &Key,
+    queue: Option<usize>,
     shares: &[Option<u64>],
 ) -> Result<(), AllocError>
+    requires { IsQueue delays.now.chains key.now queue }
     ensures ok { OnOk result (HasRoomToLetAllIn (with_share shares.now (delay_at (delays_of delays.now.chains) key.now))
         (current.new.room - 1) counts.new.limit) }
     ensures one { OnOk result (0 < current.new.room) }
@@ -75,7 +82,7 @@ fn reserve_shares(
     ensures limit { counts.old.limit ≤ counts.new.limit }
 {
     current.reserve(1)?;
-    let Some(chain) = delays.chain(key) else {
+    let Some(chain) = delays.chain_at(key, queue) else {
         return Ok(());
     };
     let count = reserve_blocks(chain, shares, counts)?;
@@ -125,8 +132,10 @@ pub fn let_first_in(
     current: &mut PriorityChain,
     counts: &mut Counts,
     key: &Key,
+    queue: Option<usize>,
 )
-    requires { HasRoomToLetIn (first_of (delay_at (delays_of delays.old.chains) key.now))
+    requires queue { IsQueue delays.old.chains key.now queue }
+    requires room { HasRoomToLetIn (first_of (delay_at (delays_of delays.old.chains) key.now))
         current.old.room counts.old.limit }
     ensures { (s : Machine) →
         record s { delays = delays_of delays.new.chains; current = current.new.items; counts = counts.new.entries } ≡
@@ -136,7 +145,7 @@ pub fn let_first_in(
           counts = counts.old.entries;
         }) }
 {
-    if let Some(x) = delays.take_first(key) {
+    if let Some(x) = delays.take_first_at(key, queue) {
         let_in(current, counts, x);
     }
 }
@@ -148,9 +157,11 @@ pub fn let_some_in(
     current: &mut PriorityChain,
     counts: &mut Counts,
     key: &Key,
+    queue: Option<usize>,
     shares: &[Option<u64>],
 )
-    requires { HasRoomToLetAllIn (with_share shares.now (delay_at (delays_of delays.old.chains) key.now))
+    requires queue { IsQueue delays.old.chains key.now queue }
+    requires room { HasRoomToLetAllIn (with_share shares.now (delay_at (delays_of delays.old.chains) key.now))
         current.old.room counts.old.limit }
     ensures { (s : Machine) →
         record s { delays = delays_of delays.new.chains; current = current.new.items; counts = counts.new.entries } ≡
@@ -161,6 +172,6 @@ pub fn let_some_in(
         }) }
 {
     if !shares.is_empty() {
-        delays.let_in_some(key, shares, current, counts);
+        delays.let_in_some_at(key, queue, shares, current, counts);
     }
 }

@@ -126,12 +126,25 @@ impl State {
         }
         self.counts.reserve(id)?;
         self.entities.reserve_facility(key, place)?;
-        let next = reserve_first(&self.delays, &mut self.current, &mut self.counts, key)?;
+        let queue = self.delays.queue(key);
+        let next = reserve_first(
+            &self.delays,
+            &mut self.current,
+            &mut self.counts,
+            key,
+            queue,
+        )?;
         enter_active(&mut self.active, &mut self.counts, id);
         let mut facility = self.entities.facility_there(key, place);
         give_back(&mut facility, next, self.clocks.clock());
         self.entities.set_facility(key, place, facility);
-        let_first_in(&mut self.delays, &mut self.current, &mut self.counts, key);
+        let_first_in(
+            &mut self.delays,
+            &mut self.current,
+            &mut self.counts,
+            key,
+            queue,
+        );
         Ok(())
     }
 }
