@@ -371,11 +371,16 @@ impl Version {
     }
 
     /// The clock at a time, where that lies within the horizon.
+    #[inline(always)]
     pub fn within(&self, time: Time) -> Option<Clock>
         ensures { result ≡ (if nat_le time self.now.horizon then Some time else None) }
     {
         if time <= self.horizon {
-            Clock::at(time)
+            match Clock::at(time) {
+                Some(clock) => Some(clock),
+                // No horizon lies beyond the last clock time, so that is not tested again.
+                None => unreachable!(),
+            }
         } else {
             None
         }
