@@ -203,6 +203,7 @@ impl Version {
     }
 
     /// The id of the block with this label.
+    #[inline(always)]
     pub fn label(&self, name: &Name) -> Option<StatementId>
         ensures { result ≡ label_at self.now name.now }
     {
@@ -233,6 +234,7 @@ impl Version {
 
     /// The expression of the VARIABLE of this name, if there is one.
     #[tactic(auto, using(crate::proofs::Once::variable_once))]
+    #[inline(always)]
     pub fn variable(&self, name: &Name) -> Option<&Expr>
         ensures { option_copied result ≡ variable_at self.now name.now }
     {
@@ -244,6 +246,7 @@ impl Version {
 
     /// The FUNCTION of this name, if there is one.
     #[tactic(auto, using(crate::proofs::Once::function_once))]
+    #[inline(always)]
     pub fn function(&self, name: &Name) -> Option<&Function>
         ensures { option_copied result ≡ function_at self.now name.now }
     {
@@ -368,11 +371,16 @@ impl Version {
     }
 
     /// The clock at a time, where that lies within the horizon.
+    #[inline(always)]
     pub fn within(&self, time: Time) -> Option<Clock>
         ensures { result ≡ (if nat_le time self.now.horizon then Some time else None) }
     {
         if time <= self.horizon {
-            Clock::at(time)
+            match Clock::at(time) {
+                Some(clock) => Some(clock),
+                // No horizon lies beyond the last clock time, so that is not tested again.
+                None => unreachable!(),
+            }
         } else {
             None
         }
