@@ -6,8 +6,8 @@ ghost use Rattle.gw_meaning.specs.Step.{for_none, for_one};
 ghost use Rattle.gw_scan.specs.Deciding.{Decides, Comes};
 
 use crate::case::{Case, ask_capacity, ask_label, ask_name};
-use crate::halt::Halt;
 use crate::draws::{draw, millionths};
+use crate::halt::Halt;
 use crate::notes::Notes;
 use crate::state::State;
 use gw_expr::Subject;

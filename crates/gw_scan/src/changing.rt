@@ -8,8 +8,8 @@ ghost use Rattle.gw_meaning.specs.declared.transaction.Transaction.{Transaction}
 ghost use Rattle.gw_scan.specs.Deciding.{changing};
 ghost use Rattle.gw_scan.specs.Stepping.{Makes};
 
-use crate::halt::Halt;
 use crate::entering::enter_active;
+use crate::halt::Halt;
 use crate::notes::Notes;
 use crate::state::State;
 use gw_entities::Parameters;

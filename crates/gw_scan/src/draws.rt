@@ -6,8 +6,8 @@ ghost use Rattle.gw_meaning.specs.Evaluation.{draw, in_range, millionths, modifi
 ghost use Rattle.gw_scan.specs.Deciding.{Decides, Comes};
 
 use crate::case::Case;
-use crate::halt::Halt;
 use crate::expression::is_of_function;
+use crate::halt::Halt;
 use crate::notes::Notes;
 use crate::state::State;
 use crate::value::DEEPEST;

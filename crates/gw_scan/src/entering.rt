@@ -21,7 +21,12 @@ use std::alloc::AllocError;
 impl State {
     // It waits on the delay chain of a facility or a storage, and asks so many units.
     #[inline(never)]
-    pub(crate) fn refuse(&mut self, id: StatementId, key: &Key, units: u32) -> Result<(), AllocError>
+    pub(crate) fn refuse(
+        &mut self,
+        id: StatementId,
+        key: &Key,
+        units: u32,
+    ) -> Result<(), AllocError>
         ensures ok { OnOk result (self.new ≡ moved self.old (moves.Refuse id key.now units)) }
         ensures err { OnErr result (self.new ≡ self.old) }
     {

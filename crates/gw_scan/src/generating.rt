@@ -12,9 +12,9 @@ ghost use Rattle.gw_scan.specs.Stepping.{Acts, Makes};
 
 use crate::attributes::for_none;
 use crate::case::Case;
-use crate::halt::Halt;
 use crate::changing::change_active;
 use crate::entering::enter_active;
+use crate::halt::Halt;
 use crate::making::make;
 use crate::notes::Notes;
 use crate::state::State;

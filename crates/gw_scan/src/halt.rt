@@ -51,20 +51,35 @@ impl Model for Halt {
 
 impl Halt {
     pub const MEMORY: Halt = Halt { number: 0 };
+
     pub const NEGATIVE_TIME: Halt = Halt { number: 1 };
+
     pub const NOT_OWNER: Halt = Halt { number: 2 };
+
     pub const LEAVE_TOO_MANY: Halt = Halt { number: 3 };
+
     pub const DEPART_TOO_MANY: Halt = Halt { number: 4 };
+
     pub const NO_PARAMETER: Halt = Halt { number: 5 };
+
     pub const ZERO_DIVISOR: Halt = Halt { number: 6 };
+
     pub const RANGE: Halt = Halt { number: 7 };
+
     pub const NO_NEXT_BLOCK: Halt = Halt { number: 8 };
+
     pub const TOO_MANY_TRANSACTIONS: Halt = Halt { number: 9 };
+
     pub const VARIABLE_DEPTH: Halt = Halt { number: 10 };
+
     pub const BAD_COUNT: Halt = Halt { number: 11 };
+
     pub const TOO_MANY_UNITS: Halt = Halt { number: 12 };
+
     pub const COMMANDS_DONE: Halt = Halt { number: 13 };
+
     pub const HORIZON: Halt = Halt { number: 14 };
+
     pub const DRY: Halt = Halt { number: 15 };
 
     /// Why no step was made.

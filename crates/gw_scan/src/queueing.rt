@@ -9,9 +9,9 @@ ghost use Rattle.gw_scan.specs.Entity.{key_of};
 ghost use Rattle.gw_scan.specs.Stepping.{Acts, Goes};
 
 use crate::case::Case;
-use crate::halt::Halt;
 use crate::entering::enter_active;
 use crate::entity::Entity;
+use crate::halt::Halt;
 use crate::notes::Notes;
 use crate::state::State;
 use gw_entities::Queue;

@@ -9,10 +9,10 @@ ghost use Rattle.gw_scan.specs.Entity.{key_of};
 ghost use Rattle.gw_scan.specs.Stepping.{Acts, Goes};
 
 use crate::case::Case;
-use crate::halt::Halt;
 use crate::entering::enter_active;
 use crate::entities::give_back;
 use crate::entity::Entity;
+use crate::halt::Halt;
 use crate::letting_in::{let_first_in, reserve_first};
 use crate::notes::Notes;
 use crate::state::State;

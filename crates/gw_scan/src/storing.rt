@@ -12,9 +12,9 @@ ghost use Rattle.gw_meaning.specs.Step.{for_one, enter_or_wait, enter_storage, e
 ghost use Rattle.gw_scan.specs.Stepping.{Acts, Goes};
 
 use crate::case::{Case, ask_fits};
-use crate::halt::Halt;
 use crate::entering::enter_active;
 use crate::entities::enter_all;
+use crate::halt::Halt;
 use crate::letting_in::{let_some_in, reserve_some};
 use crate::notes::Notes;
 use crate::queueing::is_too_many;

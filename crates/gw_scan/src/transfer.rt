@@ -7,8 +7,8 @@ ghost use Rattle.gw_scan.specs.Stepping.{Acts};
 ghost use Rattle.gw_scan.specs.Deciding.{Decides, Comes, changing};
 
 use crate::case::{Case, ask_label};
-use crate::halt::Halt;
 use crate::draws::{draw, millionths};
+use crate::halt::Halt;
 use crate::notes::Notes;
 use crate::state::State;
 use gw_expr::{Expr, Node};
