@@ -1,5 +1,5 @@
 -- Laws of the lists behind the chains.
-use Rattle.std.proofs.Common.{◌≡◌, ℕ, ◌+◌, ◌<◌, arith, drop_of_length-le, ◌-◌, false, List, [], ◌∷◌, Option, None, Some, option_to_list, ◌++◌, length, get_or, take, drop, insert, refl, sym, ap, subst, ◌∙◌, append_assoc}
+use Rattle.std.proofs.Common.{◌≡◌, ℕ, ◌+◌, ◌<◌, ◌≤◌, arith, drop_of_length-le, ◌-◌, false, List, [], ◌∷◌, Option, None, Some, option_to_list, ◌++◌, length, get_or, take, drop, insert, refl, sym, ap, subst, ◌∙◌, append_assoc}
 use Rattle.std.proofs.lemmas.List.{drop_more, take_more, take-append-drop}
 use Rattle.std.proofs.lemmas.List.Edits.{insert_end}
 use Rattle.gw_nums.specs.Range.{is_below}
@@ -29,6 +29,13 @@ lined_up_at x xs i y order h is above rest =
     let split : take (i + 1) xs ++ x ∷ drop (i + 1) xs ≡ take i xs ++ y ∷ x ∷ drop (i + 1) xs =
     ap (λ zs. zs ++ x ∷ drop (i + 1) xs) front ∙ append_assoc (take i xs) (y ∷ []) (x ∷ drop (i + 1) xs) in
     ap (lined_up x) whole ∙ (lined_up_behind x (take i xs) y (drop (i + 1) xs) (subst IsOrdered whole (ordered xs order)) above rest ∙ sym split)
+
+-- the same, where the search for it came down to n
+pub lined_up_behind_it : (x : Transaction) (xs : List Transaction) (n : ℕ) (y : Transaction) → AreInOrder xs → 0 < n → n ≤ length xs →
+    y ≡ get_or xs (n - 1) y → is_below y.priority x.priority ≡ false → lined_up x (drop n xs) ≡ x ∷ drop n xs → lined_up x xs ≡ insert xs (n - 1 + 1) x
+lined_up_behind_it x xs n y order some h is above rest =
+    let one : n - 1 + 1 ≡ n = omega (arith, some) in
+    lined_up_at x xs (n - 1) y order (omega (arith, some, h)) is above (rw one rest)
 
 -- behind the last one of a chain in order, where that is not of lower priority
 pub lined_up_last : (x : Transaction) (xs : List Transaction) (n : ℕ) (y : Transaction) → AreInOrder xs → n ≡ length xs → 0 < n → y ≡ get_or xs (n - 1) y →

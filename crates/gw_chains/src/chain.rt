@@ -135,7 +135,7 @@ impl PriorityChain {
     }
 
     // Where a transaction goes. Most go far back, so the search begins at the back.
-    #[tactic(auto, using(crate::proofs::ChainLaws::item_drop))]
+    #[tactic(auto, using(crate::proofs::ChainLaws::item_drop, crate::proofs::ChainLaws::lined_up_behind_it))]
     fn place_behind(&self, x: &Transaction) -> usize
         ensures within { result ≤ length self.now.items }
         ensures index { lined_up x.now self.now.items ≡ insert self.now.items result x.now }

@@ -131,6 +131,7 @@ impl DelayChains {
 
     /// The same, where it is known where those lie who wait for the facility.
     #[inline(always)]
+    #[tactic(auto, using(crate::proofs::DelayLaws::first_is))]
     pub fn first_at(&self, key: &Key, place: Option<usize>) -> Option<&Transaction>
         requires { IsQueue self.now.chains key.now place }
         ensures { option_copied result ≡ first_of (delay_at (delays_of self.now.chains) key.now) }
