@@ -185,8 +185,8 @@ impl DelayChains {
         }
     }
 
-    /// The same, where somebody has waited for the facility or the storage before, and it is known where its chain lies:
-    /// the key is not kept.
+    /// The same, where somebody has waited for the facility or the storage before, and it is known where its chain
+    /// lies: the key is not kept.
     #[inline(always)]
     pub fn line_up_there(&mut self, key: &Key, index: usize, x: Transaction)
         requires room { HasPlace self.old key.now }

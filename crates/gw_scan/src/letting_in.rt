@@ -11,8 +11,8 @@ use gw_meaning::Transaction;
 use gw_names::Key;
 use std::alloc::AllocError;
 
-// Makes room for the first that waits for a facility to be let in, where it is known where those lie who wait. Gives its
-// number, where there is one.
+// Makes room for the first that waits for a facility to be let in, where it is known where those lie who wait. Gives
+// its number, where there is one.
 #[inline(always)]
 pub fn reserve_first(
     delays: &DelayChains,
