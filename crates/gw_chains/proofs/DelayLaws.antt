@@ -20,7 +20,7 @@ use Rattle.gw_entities.proofs.TableLaws.{key_eq_equiv, set_value_is, insert_entr
 use Rattle.gw_meaning.specs.declared.transaction.Transaction.{Transaction}
 use Rattle.gw_meaning.specs.Machine.{delay_at, waiting}
 use Rattle.gw_meaning.specs.Changes.{lined_up}
-use Rattle.gw_chains.specs.Chains.{Chain, delays_of, items_of, first_of, HasPlace, IsQueue}
+use Rattle.gw_chains.specs.Chains.{Chain, delays_of, items_of, first_of, HasPlace, IsWaitingPlace}
 
 abbrev Chains : Type 0
 Chains = List (Key × Chain Transaction)
@@ -42,8 +42,8 @@ placed cs key (Some i) apart there none = (there.0, there.1, lookup_from_place k
 pub place_there : (cs : Chains) (key : Key) (o : Option ℕ) (i : ℕ) → o ≡ Some i → IsPlace cs key o → IsPlace cs key (Some i)
 place_there cs key o i is placed = subst (IsPlace cs key) is placed
 
-pub place_of_queue : (cs : Chains) (key : Key) (o : Option ℕ) (i : ℕ) → o ≡ Some i → IsQueue cs key o → IsPlace cs key (Some i)
-place_of_queue cs key o i is queue = subst (IsQueue cs key) is queue
+pub place_of_queue : (cs : Chains) (key : Key) (o : Option ℕ) (i : ℕ) → o ≡ Some i → IsWaitingPlace cs key o → IsPlace cs key (Some i)
+place_of_queue cs key o i is queue = subst (IsWaitingPlace cs key) is queue
 
 -- what lies there is its chain
 pub chain_there : (cs : Chains) (i : ℕ) (key kept : Key) (chain : Chain Transaction) → IsPlace cs key (Some i) → Some (kept, chain) ≡ slice_get cs i →
@@ -89,7 +89,7 @@ delay_items (c ∷ cs) key = go (key_eq key c.0) (delay_items cs key) where
 pub delay_is : (cs : Chains) (key : Key) (o : Option (Chain Transaction)) → o ≡ value_of cs key → delay_at (delays_of cs) key ≡ items_of o
 delay_is cs key o is = delay_items cs key ∙ ap items_of (sym is)
 
-pub queue_of_place : (cs : Chains) (key : Key) (o : Option ℕ) → IsPlace cs key o → IsQueue cs key o
+pub queue_of_place : (cs : Chains) (key : Key) (o : Option ℕ) → IsPlace cs key o → IsWaitingPlace cs key o
 queue_of_place cs key None none = delay_is cs key None (sym none)
 queue_of_place cs key (Some i) there = there
 

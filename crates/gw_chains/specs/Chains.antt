@@ -36,9 +36,9 @@ HasPlace d key =
     HasRoomOn (value_of d.chains key) d.spare × (length (waiting (delays_of d.chains)) < 2 ^ 64 - 1)
 
 -- where those lie who wait for a facility or a storage, if any do
-abbrev pub IsQueue : List (Key × Chain Transaction) → Key → Option ℕ → Type 0
-IsQueue chains key None = delay_at (delays_of chains) key ≡ []
-IsQueue chains key (Some index) = IsPlace chains key (Some index)
+abbrev pub IsWaitingPlace : List (Key × Chain Transaction) → Key → Option ℕ → Type 0
+IsWaitingPlace chains key None = delay_at (delays_of chains) key ≡ []
+IsWaitingPlace chains key (Some index) = IsPlace chains key (Some index)
 
 -- who waits on a chain, where there is one
 abbrev pub items_of : Option (Chain Transaction) → List Transaction

@@ -6,7 +6,7 @@ ghost use Rattle.gw_meaning.specs.Changes.{lined_up, some_let_in};
 ghost use Rattle.gw_meaning.specs.declared.transaction.Transaction.{Transaction};
 ghost use Rattle.gw_meaning.specs.Machine.{Machine, delay_at, waiting};
 ghost use Rattle.gw_chains.specs.Chains.{Chain, delays_of, items_of, first_of, without_first, with_share};
-ghost use Rattle.gw_chains.specs.Chains.{IsQueue, HasRoomOn, HasPlace, HasRoomToLetAllIn};
+ghost use Rattle.gw_chains.specs.Chains.{IsWaitingPlace, HasPlace, HasRoomToLetAllIn};
 
 use crate::chain::PriorityChain;
 use crate::counts::Counts;
@@ -62,7 +62,7 @@ impl DelayChains {
     pub fn len(&self, key: &Key) -> usize
         ensures { result ≡ length (delay_at (delays_of self.now.chains) key.now) }
     {
-        match find(&self.chains, key) {
+        match self.chain(key) {
             Some(chain) => chain.len(),
             None => 0,
         }
@@ -84,11 +84,11 @@ impl DelayChains {
         place(&self.chains, key)
     }
 
-    /// Where those lie who wait for a facility or a storage, if any do: for the other calls that take a place. Where
-    /// nobody waits at all now, no chain is looked for.
+    /// Where the chain of a facility or a storage lies, for the other calls that take a place: none where nobody waits on
+    /// any chain now, and then none is looked for.
     #[inline(always)]
-    pub fn queue(&self, key: &Key) -> Option<usize>
-        ensures { IsQueue self.now.chains key.now result }
+    pub fn waiting_place(&self, key: &Key) -> Option<usize>
+        ensures { IsWaitingPlace self.now.chains key.now result }
     {
         if self.count == 0 {
             return None;
@@ -101,14 +101,14 @@ impl DelayChains {
     pub fn chain(&self, key: &Key) -> Option<&PriorityChain>
         ensures { items_of (option_copied result) ≡ delay_at (delays_of self.now.chains) key.now }
     {
-        let place = self.queue(key);
+        let place = self.waiting_place(key);
         self.chain_at(key, place)
     }
 
     /// The same, where it is known where those lie who wait for the facility or the storage.
     #[inline(always)]
     pub fn chain_at(&self, key: &Key, place: Option<usize>) -> Option<&PriorityChain>
-        requires { IsQueue self.now.chains key.now place }
+        requires { IsWaitingPlace self.now.chains key.now place }
         ensures { items_of (option_copied result) ≡ delay_at (delays_of self.now.chains) key.now }
     {
         let Some(index) = place else {
@@ -125,7 +125,7 @@ impl DelayChains {
     pub fn first(&self, key: &Key) -> Option<&Transaction>
         ensures { option_copied result ≡ first_of (delay_at (delays_of self.now.chains) key.now) }
     {
-        let place = self.queue(key);
+        let place = self.waiting_place(key);
         self.first_at(key, place)
     }
 
@@ -133,7 +133,7 @@ impl DelayChains {
     #[inline(always)]
     #[tactic(auto, using(crate::proofs::DelayLaws::first_is))]
     pub fn first_at(&self, key: &Key, place: Option<usize>) -> Option<&Transaction>
-        requires { IsQueue self.now.chains key.now place }
+        requires { IsWaitingPlace self.now.chains key.now place }
         ensures { option_copied result ≡ first_of (delay_at (delays_of self.now.chains) key.now) }
     {
         match self.chain_at(key, place) {
@@ -220,14 +220,14 @@ impl DelayChains {
         ensures delays { delays_of self.new.chains ≡
             without_first (delays_of self.old.chains) key.now (delay_at (delays_of self.old.chains) key.now) }
     {
-        let place = self.queue(key);
+        let place = self.waiting_place(key);
         self.take_first_at(key, place)
     }
 
     /// The same, where it is known where those lie who wait for the facility.
     #[inline(always)]
     pub fn take_first_at(&mut self, key: &Key, place: Option<usize>) -> Option<Transaction>
-        requires { IsQueue self.old.chains key.now place }
+        requires { IsWaitingPlace self.old.chains key.now place }
         ensures first { result ≡ first_of (delay_at (delays_of self.old.chains) key.now) }
         ensures delays { delays_of self.new.chains ≡
             without_first (delays_of self.old.chains) key.now (delay_at (delays_of self.old.chains) key.now) }
@@ -261,7 +261,7 @@ impl DelayChains {
               counts = counts.old.entries;
             }) }
     {
-        let place = self.queue(key);
+        let place = self.waiting_place(key);
         self.let_in_some_at(key, place, shares, current, counts);
     }
 
@@ -274,7 +274,7 @@ impl DelayChains {
         current: &mut PriorityChain,
         counts: &mut Counts,
     )
-        requires place { IsQueue self.old.chains key.now place }
+        requires place { IsWaitingPlace self.old.chains key.now place }
         requires room { HasRoomToLetAllIn (with_share shares.now (delay_at (delays_of self.old.chains) key.now))
             current.old.room counts.old.limit }
         ensures { (s : Machine) →
@@ -342,16 +342,6 @@ fn put_first(
         Ok(_) => (),
         Err(_) => unreachable!(),
     }
-}
-
-// The chain of a facility or a storage, if it has one.
-#[inline(always)]
-fn find<'a>(chains: &'a IndexMap<Key, PriorityChain>, key: &Key) -> Option<&'a PriorityChain>
-    ensures { option_copied result ≡ value_of chains.now.entries key.now }
-{
-    let index = place(chains, key)?;
-    let (_, chain) = chains.get_index(index)?;
-    Some(chain)
 }
 
 // Where the chain of a facility or a storage lies, if it has one: the first few are looked through.

@@ -6,7 +6,7 @@ pub use Rattle.gw_meaning.specs.Changes
 pub use Rattle.gw_meaning.specs.Step
 pub use Rattle.gw_meaning.specs.Point
 pub mod Halts
-pub mod Entity
+pub mod EntityRef
 pub mod Parts
 pub mod Noted
 pub mod WaitingValues

@@ -19,7 +19,8 @@ use gw_names::Key;
 use std::alloc::AllocError;
 
 impl State {
-    // It waits on the delay chain of a facility or a storage, and asks so many units.
+    // The active transaction is refused at a block, and waits on the delay chain of a key for so many units. The chain
+    // takes a key of its own only where it is the first.
     #[inline(never)]
     pub(crate) fn refuse(
         &mut self,

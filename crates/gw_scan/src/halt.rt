@@ -6,14 +6,14 @@ use gw_meaning::End;
 use std::alloc::{AllocError, AllocFailed};
 use std::marker::Model;
 
-/// Why no step was made: the run ends here, or a growth was refused, on the way to the move or to make it.
+/// The run ends here, or a growth was refused, on the way to the move or to make it.
 #[derive(Clone, Copy, Debug, PartialEq, Eq)]
 pub enum Why {
     Memory,
     End(End),
 }
 
-// For each number of a halt why no step was made.
+// For each number of a halt what it stands for.
 const WHYS: [Why; 16] = [
     Why::Memory,
     Why::End(End::Error(Stop::NegativeTime)),
@@ -33,8 +33,8 @@ const WHYS: [Why; 16] = [
     Why::End(End::Dry),
 ];
 
-/// Why no step was made, as one number: so a result that may be a halt is handed back in registers. A stop has its own
-/// number.
+/// A [`Why`] as one number, so that a result that may be a halt is handed back in registers. A stop has the number that a
+/// report prints behind an X.
 #[derive(Debug, Drop)]
 pub struct Halt {
     number: u32,
@@ -88,6 +88,7 @@ impl Halt {
     {
         match WHYS.get(self.number as usize) {
             Some(why) => *why,
+            // No constant has such a number.
             None => Why::Memory,
         }
     }

@@ -4,24 +4,24 @@ ghost use Rattle.std.specs.Option.{option_map};
 ghost use Rattle.gw_meaning.specs.declared.transaction.Transaction.{Transaction};
 ghost use Rattle.gw_meaning.specs.Machine.{Machine, delay_at};
 ghost use Rattle.gw_meaning.specs.Changes.{some_let_in};
-ghost use Rattle.gw_chains.specs.Chains.{delays_of, first_of, IsQueue, with_share, IsWithin, AreWithin, HasRoomToLetIn, HasRoomToLetAllIn};
+ghost use Rattle.gw_chains.specs.Chains.{delays_of, first_of, IsWaitingPlace, with_share, IsWithin, AreWithin, HasRoomToLetIn, HasRoomToLetAllIn};
 
 use gw_chains::{Counts, DelayChains, PriorityChain, has_share, let_in};
 use gw_meaning::Transaction;
 use gw_names::Key;
 use std::alloc::AllocError;
 
-// Makes room for the first that waits for a facility to be let in, where it is known where those lie who wait. Gives
-// its number, where there is one.
+// Makes room to let in the first of the delay chain at a place, and gives its number where somebody waits. One place
+// more stays free on the current chain, for the active transaction.
 #[inline(always)]
 pub fn reserve_first(
     delays: &DelayChains,
     current: &mut PriorityChain,
     counts: &mut Counts,
     key: &Key,
-    queue: Option<usize>,
+    place: Option<usize>,
 ) -> Result<Option<u64>, AllocError>
-    requires { IsQueue delays.now.chains key.now queue }
+    requires { IsWaitingPlace delays.now.chains key.now place }
     ensures number { IfOk result (λ number. number ≡
         option_map (λ (x : Transaction). x.number) (first_of (delay_at (delays_of delays.now.chains) key.now))) }
     ensures ok { OnOk result (HasRoomToLetIn (first_of (delay_at (delays_of delays.now.chains) key.now))
@@ -32,24 +32,24 @@ pub fn reserve_first(
     ensures limit { counts.old.limit ≤ counts.new.limit }
 {
     current.reserve(2)?;
-    let Some(x) = delays.first_at(key, queue) else {
+    let Some(x) = delays.first_at(key, place) else {
         return Ok(None);
     };
     reserve_block(x, counts)?;
     Ok(Some(x.number))
 }
 
-// Makes room for those who wait for a storage and have a share to be let in.
+// Makes room to let in those of the delay chain at a place who have a share.
 #[inline(always)]
 pub fn reserve_some(
     delays: &DelayChains,
     current: &mut PriorityChain,
     counts: &mut Counts,
     key: &Key,
-    queue: Option<usize>,
+    place: Option<usize>,
     shares: &[Option<u64>],
 ) -> Result<(), AllocError>
-    requires { IsQueue delays.now.chains key.now queue }
+    requires { IsWaitingPlace delays.now.chains key.now place }
     ensures ok { OnOk result (HasRoomToLetAllIn (with_share shares.now (delay_at (delays_of delays.now.chains) key.now))
         (current.new.room - 1) counts.new.limit) }
     ensures one { OnOk result (0 < current.new.room) }
@@ -60,7 +60,7 @@ pub fn reserve_some(
     if shares.is_empty() {
         return current.reserve(1);
     }
-    reserve_shares(delays, current, counts, key, queue, shares)
+    reserve_shares(delays, current, counts, key, place, shares)
 }
 
 // The same, where there are shares.
@@ -70,10 +70,10 @@ fn reserve_shares(
     current: &mut PriorityChain,
     counts: &mut Counts,
     key: &Key,
-    queue: Option<usize>,
+    place: Option<usize>,
     shares: &[Option<u64>],
 ) -> Result<(), AllocError>
-    requires { IsQueue delays.now.chains key.now queue }
+    requires { IsWaitingPlace delays.now.chains key.now place }
     ensures ok { OnOk result (HasRoomToLetAllIn (with_share shares.now (delay_at (delays_of delays.now.chains) key.now))
         (current.new.room - 1) counts.new.limit) }
     ensures one { OnOk result (0 < current.new.room) }
@@ -82,7 +82,7 @@ fn reserve_shares(
     ensures limit { counts.old.limit ≤ counts.new.limit }
 {
     current.reserve(1)?;
-    let Some(chain) = delays.chain_at(key, queue) else {
+    let Some(chain) = delays.chain_at(key, place) else {
         return Ok(());
     };
     let count = reserve_blocks(chain, shares, counts)?;
@@ -125,16 +125,16 @@ fn reserve_block(x: &Transaction, counts: &mut Counts) -> Result<(), AllocError>
     }
 }
 
-// The first that waits for a facility, where there is one, is let in.
+// The first of the delay chain at a place is let in, where somebody waits.
 #[inline(always)]
 pub fn let_first_in(
     delays: &mut DelayChains,
     current: &mut PriorityChain,
     counts: &mut Counts,
     key: &Key,
-    queue: Option<usize>,
+    place: Option<usize>,
 )
-    requires queue { IsQueue delays.old.chains key.now queue }
+    requires place { IsWaitingPlace delays.old.chains key.now place }
     requires room { HasRoomToLetIn (first_of (delay_at (delays_of delays.old.chains) key.now))
         current.old.room counts.old.limit }
     ensures { (s : Machine) →
@@ -145,22 +145,22 @@ pub fn let_first_in(
           counts = counts.old.entries;
         }) }
 {
-    if let Some(x) = delays.take_first_at(key, queue) {
+    if let Some(x) = delays.take_first_at(key, place) {
         let_in(current, counts, x);
     }
 }
 
-// Of those who wait for a storage each with a share is let in.
+// Of the delay chain at a place each with a share is let in.
 #[inline(always)]
 pub fn let_some_in(
     delays: &mut DelayChains,
     current: &mut PriorityChain,
     counts: &mut Counts,
     key: &Key,
-    queue: Option<usize>,
+    place: Option<usize>,
     shares: &[Option<u64>],
 )
-    requires queue { IsQueue delays.old.chains key.now queue }
+    requires place { IsWaitingPlace delays.old.chains key.now place }
     requires room { HasRoomToLetAllIn (with_share shares.now (delay_at (delays_of delays.old.chains) key.now))
         current.old.room counts.old.limit }
     ensures { (s : Machine) →
@@ -172,6 +172,6 @@ pub fn let_some_in(
         }) }
 {
     if !shares.is_empty() {
-        delays.let_in_some_at(key, queue, shares, current, counts);
+        delays.let_in_some_at(key, place, shares, current, counts);
     }
 }

@@ -15,7 +15,7 @@ mod copy;
 mod draws;
 mod entering;
 mod entities;
-mod entity;
+mod entity_ref;
 mod expression;
 mod fates;
 mod generating;

@@ -77,7 +77,7 @@ impl State {
             (changing id result) notes.old notes.new }
     {
         let parameter = self.entity(case, x, notes, block.operand(A))?;
-        let key = parameter.key()?;
+        let key = parameter.to_key()?;
         self.assign_at(case, x, notes, block, key)
     }
 
@@ -114,7 +114,7 @@ impl State {
             (changing id result) notes.old notes.new }
     {
         let parameter = self.entity(case, x, notes, block.operand(A))?;
-        let key = parameter.key()?;
+        let key = parameter.to_key()?;
         self.loop_at(case, x, notes, key, block.operand(B))
     }
 

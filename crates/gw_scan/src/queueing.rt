@@ -5,12 +5,12 @@ ghost use Rattle.gw_meaning.specs.declared.transaction.Transaction.{Transaction}
 ghost use Rattle.gw_meaning.specs.Entities.{line_at};
 ghost use Rattle.gw_meaning.specs.Statements.{A, B, operand};
 ghost use Rattle.gw_meaning.specs.Step.{for_one, is_too_many, queue_units, queue_prog, depart_units, depart_prog};
-ghost use Rattle.gw_scan.specs.Entity.{key_of};
+ghost use Rattle.gw_scan.specs.EntityRef.{key_of};
 ghost use Rattle.gw_scan.specs.Stepping.{Acts, Goes};
 
 use crate::case::Case;
 use crate::entering::enter_active;
-use crate::entity::Entity;
+use crate::entity_ref::EntityRef;
 use crate::halt::Halt;
 use crate::notes::Notes;
 use crate::state::State;
@@ -35,21 +35,21 @@ impl State {
     {
         let entity = self.own_entity(case, notes, block)?;
         let units = self.own_units(case, notes, block)?;
-        let come = self.come_known(id, entity, units);
+        let come = self.come_to_entity(id, entity, units);
         self.with_draws(come, notes)
     }
 
-    // So many units come to a queue that is known.
+    // So many units come to the entity that was named: a name lends its key, and a number makes one here.
     #[inline(always)]
-    fn come_known(&mut self, id: StatementId, entity: Entity, units: u32) -> Result<(), Halt>
+    fn come_to_entity(&mut self, id: StatementId, entity: EntityRef, units: u32) -> Result<(), Halt>
         requires { IsSome self.old.active }
         ensures { (x : Transaction) → self.old.active ≡ Some x →
             Goes (queue_units id (key_of entity.entry) (line_at self.old.entities (key_of entity.entry)) units)
             result self.old self.new }
     {
         match entity {
-            Entity::Named(key) => self.come(id, key, units),
-            Entity::Numbered(number) => self.come(id, &Key::Num(number), units),
+            EntityRef::Named(key) => self.come(id, key, units),
+            EntityRef::Numbered(number) => self.come(id, &Key::Num(number), units),
         }
     }
 
@@ -95,21 +95,21 @@ impl State {
     {
         let entity = self.own_entity(case, notes, block)?;
         let units = self.own_units(case, notes, block)?;
-        let gone = self.go_known(id, entity, units);
+        let gone = self.go_from_entity(id, entity, units);
         self.with_draws(gone, notes)
     }
 
-    // So many units leave a queue that is known.
+    // So many units leave the entity that was named.
     #[inline(always)]
-    fn go_known(&mut self, id: StatementId, entity: Entity, units: u32) -> Result<(), Halt>
+    fn go_from_entity(&mut self, id: StatementId, entity: EntityRef, units: u32) -> Result<(), Halt>
         requires { IsSome self.old.active }
         ensures { (x : Transaction) → self.old.active ≡ Some x →
             Goes (depart_units id (key_of entity.entry) (line_at self.old.entities (key_of entity.entry))
             (came self.old.entities.comings (key_of entity.entry) x.number) units) result self.old self.new }
     {
         match entity {
-            Entity::Named(key) => self.go(id, key, units),
-            Entity::Numbered(number) => self.go(id, &Key::Num(number), units),
+            EntityRef::Named(key) => self.go(id, key, units),
+            EntityRef::Numbered(number) => self.go(id, &Key::Num(number), units),
         }
     }
 

@@ -5,13 +5,13 @@ ghost use Rattle.gw_meaning.specs.Machine.{delay_at};
 ghost use Rattle.gw_meaning.specs.Entities.{facility_at};
 ghost use Rattle.gw_meaning.specs.Statements.{A, operand};
 ghost use Rattle.gw_meaning.specs.Step.{for_one, seize_or_wait, seize_prog, first_number, is_owner, release_to, release_prog};
-ghost use Rattle.gw_scan.specs.Entity.{key_of};
+ghost use Rattle.gw_scan.specs.EntityRef.{key_of};
 ghost use Rattle.gw_scan.specs.Stepping.{Acts, Goes};
 
 use crate::case::Case;
 use crate::entering::enter_active;
 use crate::entities::give_back;
-use crate::entity::Entity;
+use crate::entity_ref::EntityRef;
 use crate::halt::Halt;
 use crate::letting_in::{let_first_in, reserve_first};
 use crate::notes::Notes;
@@ -35,21 +35,22 @@ impl State {
             result self.old self.new notes.old notes.new }
     {
         let entity = self.own_entity(case, notes, block)?;
-        let seized = self.seize_known(id, entity);
+        let seized = self.seize_entity(id, entity);
         self.with_draws(seized, notes)
     }
 
-    // The same, of a facility that is known.
+    // The same, of the entity that was named: a name lends its key, and a number makes one here. So `seize` is inlined
+    // twice, and no key is cloned.
     #[inline(always)]
-    fn seize_known(&mut self, id: StatementId, entity: Entity) -> Result<(), Halt>
+    fn seize_entity(&mut self, id: StatementId, entity: EntityRef) -> Result<(), Halt>
         requires { IsSome self.old.active }
         ensures { (x : Transaction) → self.old.active ≡ Some x →
             Goes (seize_or_wait id (key_of entity.entry)
             (is_some (facility_at self.old.entities (key_of entity.entry)).owner)) result self.old self.new }
     {
         match entity {
-            Entity::Named(key) => self.seize(id, key),
-            Entity::Numbered(number) => self.seize(id, &Key::Num(number)),
+            EntityRef::Named(key) => self.seize(id, key),
+            EntityRef::Numbered(number) => self.seize(id, &Key::Num(number)),
         }
     }
 
@@ -90,13 +91,13 @@ impl State {
             result self.old self.new notes.old notes.new }
     {
         let entity = self.own_entity(case, notes, block)?;
-        let given = self.give_back_known(id, entity);
+        let given = self.give_back_entity(id, entity);
         self.with_draws(given, notes)
     }
 
-    // The same, of a facility that is known.
+    // The same, of the entity that was named.
     #[inline(always)]
-    fn give_back_known(&mut self, id: StatementId, entity: Entity) -> Result<(), Halt>
+    fn give_back_entity(&mut self, id: StatementId, entity: EntityRef) -> Result<(), Halt>
         requires { IsSome self.old.active }
         ensures { (x : Transaction) → self.old.active ≡ Some x →
             Goes (release_to id (key_of entity.entry)
@@ -104,8 +105,8 @@ impl State {
             (first_number (delay_at self.old.delays (key_of entity.entry)))) result self.old self.new }
     {
         match entity {
-            Entity::Named(key) => self.give_back(id, key),
-            Entity::Numbered(number) => self.give_back(id, &Key::Num(number)),
+            EntityRef::Named(key) => self.give_back(id, key),
+            EntityRef::Numbered(number) => self.give_back(id, &Key::Num(number)),
         }
     }
 
@@ -126,13 +127,13 @@ impl State {
         }
         self.counts.reserve(id)?;
         self.entities.reserve_facility(key, place)?;
-        let queue = self.delays.queue(key);
+        let waiting = self.delays.waiting_place(key);
         let next = reserve_first(
             &self.delays,
             &mut self.current,
             &mut self.counts,
             key,
-            queue,
+            waiting,
         )?;
         enter_active(&mut self.active, &mut self.counts, id);
         let mut facility = self.entities.facility_there(key, place);
@@ -143,7 +144,7 @@ impl State {
             &mut self.current,
             &mut self.counts,
             key,
-            queue,
+            waiting,
         );
         Ok(())
     }

@@ -27,13 +27,10 @@ impl State {
         ensures { Decides case.entry.version.now case.entry.seed
             (shares_prog name.now content [] (delay_at self.now.delays key.now)) result notes.old notes.new }
     {
-        let Some(chain) = self.delays.chain(key) else {
-            return Ok(Row::from_vec(Vec::new(case.alloc)));
-        };
-        if chain.is_empty() {
-            return Ok(Row::from_vec(Vec::new(case.alloc)));
+        match self.delays.chain(key) {
+            Some(chain) if !chain.is_empty() => shares_of(case, notes, name, chain, content),
+            _ => Ok(Row::from_vec(Vec::new(case.alloc))),
         }
-        shares_of(case, notes, name, chain, content)
     }
 }
 

@@ -242,13 +242,13 @@ impl State {
         }
         self.counts.reserve(id)?;
         self.entities.reserve_storage(key, place)?;
-        let queue = self.delays.queue(key);
+        let waiting = self.delays.waiting_place(key);
         reserve_some(
             &self.delays,
             &mut self.current,
             &mut self.counts,
             key,
-            queue,
+            waiting,
             shares,
         )?;
         enter_active(&mut self.active, &mut self.counts, id);
@@ -261,7 +261,7 @@ impl State {
             &mut self.current,
             &mut self.counts,
             key,
-            queue,
+            waiting,
             shares,
         );
         Ok(())

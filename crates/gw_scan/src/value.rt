@@ -5,10 +5,10 @@ ghost use Rattle.gw_meaning.specs.Evaluation.{value_prog, value_or_zero, value_t
 ghost use Rattle.gw_meaning.specs.Statements.{A, B, operand};
 ghost use Rattle.gw_meaning.specs.Step.{for_one};
 ghost use Rattle.gw_scan.specs.Deciding.{Decides};
-ghost use Rattle.gw_scan.specs.Entity.{keyed};
+ghost use Rattle.gw_scan.specs.EntityRef.{keyed};
 
 use crate::case::{Case, ask_name};
-use crate::entity::{Entity, named, numbered};
+use crate::entity_ref::{EntityRef, named, numbered};
 use crate::halt::Halt;
 use crate::notes::Notes;
 use crate::state::State;
@@ -85,7 +85,7 @@ impl State {
         x: &Transaction,
         notes: &mut Notes,
         operand: Option<&'a Expr>,
-    ) -> Result<Entity<'a>, Halt>
+    ) -> Result<EntityRef<'a>, Halt>
         ensures { Decides case.entry.version.now case.entry.seed
             (entity_prog self.now (for_one self.now x.now) (option_copied operand.entry))
             (keyed result) notes.old notes.new }
@@ -110,7 +110,7 @@ impl State {
         asker: &Asker,
         notes: &mut Notes,
         operand: &Expr,
-    ) -> Result<Entity<'a>, Halt>
+    ) -> Result<EntityRef<'a>, Halt>
         ensures { Decides case.entry.version.now case.entry.seed
             (value_prog self.now asker.now operand.now ~> numbered) (keyed result) notes.old notes.new }
     {
@@ -148,7 +148,7 @@ impl State {
         case: Case,
         notes: &mut Notes,
         block: &'a Block,
-    ) -> Result<Entity<'a>, Halt>
+    ) -> Result<EntityRef<'a>, Halt>
         requires { IsSome self.now.active }
         ensures { (x : Transaction) → self.now.active ≡ Some x → Decides case.entry.version.now case.entry.seed
             (entity_prog self.now (for_one self.now x) (operand block.now A)) (keyed result) notes.old notes.new }

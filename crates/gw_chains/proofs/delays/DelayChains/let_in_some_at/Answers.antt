@@ -1,7 +1,7 @@
 use Rattle.std.proofs.Common.{[], length, subst, sym, ap, ◌∙◌, arith}
 use Rattle.gw_entities.specs.Tables.{with_value}
 use Rattle.gw_meaning.specs.Machine.{Machine}
-use Rattle.gw_chains.specs.Chains.{IsQueue, delays_of, without_share}
+use Rattle.gw_chains.specs.Chains.{IsWaitingPlace, delays_of, without_share}
 use Rattle.gw_chains.proofs.DelayLaws.{delay_is, value_is, written_is, place_of_queue, found_there, set_there, never}
 use Rattle.gw_chains.proofs.LetIn.{some_let_in_is, nobody_let_in, without_fewer, fewer_wait}
 use Rattle.gw_chains.proofs.delays.DelayChains.let_in_some_at.Goals as goal
@@ -33,7 +33,7 @@ overflow_sub-self c =
 
 pub returns-in_default : goal.returns-in_default
 returns-in_default c = λ s.
-    let none = subst (IsQueue c.args.self.now.chains c.args.key.now) c.in_default.is c.requires.place in
+    let none = subst (IsWaitingPlace c.args.self.now.chains c.args.key.now) c.in_default.is c.requires.place in
     rw none (sym (nobody_let_in c.args.key.now c.args.shares.now [] _))
 
 pub unreachable-requires : goal.unreachable-requires

@@ -7,7 +7,7 @@ use Rattle.gw_meaning.specs.Entities.{line_at}
 use Rattle.gw_meaning.specs.Evaluation.{Eval, entity_prog, units_prog, ◌~>◌}
 use Rattle.gw_meaning.specs.Statements.{A, B, operand}
 use Rattle.gw_meaning.specs.Step.{for_one, depart_units}
-use Rattle.gw_scan.specs.Entity.{key_of}
+use Rattle.gw_scan.specs.EntityRef.{key_of}
 use Rattle.gw_scan.proofs.Acting.{acts_then, acts_exit}
 use Rattle.gw_scan.proofs.state.State.act_depart.Goals as goal
 
@@ -51,4 +51,4 @@ returns c x is =
     let n = c.in_ok-units.units in
     acts_then t seed (entity_prog s q (operand b A)) rest key _ s _ _ _ _ (c.in_ok-entity.ensures x is)
     (acts_then t seed (units_prog s q (operand b B)) last n _ s _ _ _ _ (c.in_ok-units.ensures x is)
-    (c.with_draws.ensures t seed (last n) s (c.go_known-gone.ensures x is)))
+    (c.with_draws.ensures t seed (last n) s (c.go_from_entity-gone.ensures x is)))

@@ -7,7 +7,7 @@ use Rattle.gw_meaning.specs.Machine.{delay_at}
 use Rattle.gw_meaning.specs.Evaluation.{Eval, entity_prog}
 use Rattle.gw_meaning.specs.Statements.{A, operand}
 use Rattle.gw_meaning.specs.Step.{for_one, first_number, is_owner, release_to}
-use Rattle.gw_scan.specs.Entity.{key_of}
+use Rattle.gw_scan.specs.EntityRef.{key_of}
 use Rattle.gw_scan.proofs.Acting.{acts_then, acts_exit}
 use Rattle.gw_scan.proofs.state.State.act_release.Goals as goal
 
@@ -29,4 +29,4 @@ returns c x is =
     (is_owner (facility_at s.entities key).owner x.number) (first_number (delay_at s.delays key)) in
     let key = key_of c.in_ok-entity.entity in
     acts_then t seed (entity_prog s (for_one s x) (operand c.args.block.now A)) rest key _ s _ _ _ _ (c.in_ok-entity.ensures x is)
-    (c.with_draws.ensures t seed (rest key) s (c.give_back_known-given.ensures x is))
+    (c.with_draws.ensures t seed (rest key) s (c.give_back_entity-given.ensures x is))

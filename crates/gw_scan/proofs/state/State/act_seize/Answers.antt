@@ -6,7 +6,7 @@ use Rattle.gw_meaning.specs.Entities.{facility_at}
 use Rattle.gw_meaning.specs.Evaluation.{Eval, entity_prog}
 use Rattle.gw_meaning.specs.Statements.{A, operand}
 use Rattle.gw_meaning.specs.Step.{for_one, seize_or_wait}
-use Rattle.gw_scan.specs.Entity.{key_of}
+use Rattle.gw_scan.specs.EntityRef.{key_of}
 use Rattle.gw_scan.proofs.Acting.{acts_then, acts_exit}
 use Rattle.gw_scan.proofs.state.State.act_seize.Goals as goal
 
@@ -26,4 +26,4 @@ returns c x is =
     let rest : Key → Eval Move = λ key. seize_or_wait c.args.id key (is_some (facility_at s.entities key).owner) in
     let key = key_of c.in_ok-entity.entity in
     acts_then t seed (entity_prog s (for_one s x) (operand c.args.block.now A)) rest key _ s _ _ _ _ (c.in_ok-entity.ensures x is)
-    (c.with_draws.ensures t seed (rest key) s (c.seize_known-seized.ensures x is))
+    (c.with_draws.ensures t seed (rest key) s (c.seize_entity-seized.ensures x is))

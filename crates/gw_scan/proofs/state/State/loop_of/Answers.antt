@@ -7,7 +7,7 @@ use Rattle.gw_meaning.specs.Statements.{A, B, operand}
 use Rattle.gw_meaning.specs.Evaluation.{Eval, entity_prog, ◌~>◌}
 use Rattle.gw_meaning.specs.Step.{for_one, loop_prog, left_of, loop_with}
 use Rattle.gw_scan.specs.Deciding.{changing}
-use Rattle.gw_scan.specs.Entity.{keyed}
+use Rattle.gw_scan.specs.EntityRef.{keyed}
 use Rattle.gw_scan.proofs.Binding.{decides_exit, decides_whole, decides_memory}
 use Rattle.gw_scan.proofs.StepLaws.{decides_keeps}
 use Rattle.gw_scan.proofs.state.State.loop_of.Goals as goal

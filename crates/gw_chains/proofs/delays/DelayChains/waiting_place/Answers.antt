@@ -1,7 +1,7 @@
 use Rattle.std.proofs.Common.{sym}
 use Rattle.gw_chains.specs.Chains.{delays_of}
 use Rattle.gw_chains.proofs.DelayLaws.{none_waits, queue_of_place}
-use Rattle.gw_chains.proofs.delays.DelayChains.queue.Goals as goal
+use Rattle.gw_chains.proofs.delays.DelayChains.waiting_place.Goals as goal
 
 pub returns : goal.returns
 returns c = rw (← c.self.view_is) (queue_of_place c.self.inside.chains.entries c.args.key.now c.place.result c.place.ensures)
