@@ -87,6 +87,12 @@ module _ (t ticks from : ℕ) (ns : List ℕ) (same : ticks ≡ t) (within : fro
       let low : t ≤ get_or ns k 0 = none k le (omega (arith, length-drop from ns, few)) in
       omega (arith, same, number_at k le, low, other)
 
+  pub found_there : (place : ℕ) → IsFirstAt ticks (take (length ns - from) (drop from ns)) place → get_or ns (from + place) 0 ≡ t
+  found_there place first =
+      let found = subst (λ rest. IsFirstAt ticks rest place) behind first in
+      let there : get_or (drop from ns) place 0 ≡ ticks = found.there in
+      sym (get_or-drop from ns place 0) ∙ (there ∙ same)
+
   pub later_nowhere : All (λ other. other ≢ ticks) (take (length ns - from) (drop from ns)) → AreAllLater t from (length ns) ns
   later_nowhere others = λ k le lt.
       let all : All (λ other. other ≢ ticks) (drop from ns) = All-same (λ (other : ℕ). other ≢ ticks) _ _ (sym behind) others in
@@ -193,7 +199,7 @@ leasts_in_use (n ∷ ns) (s ∷ ss) e =
       go false used here same rest = let low : nat_le n 1001000000000 ≡ false = same ∙ used in rw (used, low) rest
 
 -- a segment is there
-pub there : (ss : List Closed) (k : ℕ) (d : Closed) → k < length ss → get_or ss k d ≡ get_or ss k (get_or ss k d)
+there : (ss : List Closed) (k : ℕ) (d : Closed) → k < length ss → get_or ss k d ≡ get_or ss k (get_or ss k d)
 there ss k d h =
     let one = drop_more ss k d h in
     let other = drop_more ss k (get_or ss k d) h in
@@ -264,7 +270,7 @@ module _ (t : ℕ) (S segments : List Closed) (ns : List ℕ) (e : AreLeasts ns 
       (taking_past C current i (j - i) (omega arith) (λ n from lt. later n from (omega arith)) k)
 
 -- fewer are on the segments behind
-pub fewer : (ss : List Closed) (d : ℕ) → length (all_items (drop d ss)) ≤ length (all_items ss)
+fewer : (ss : List Closed) (d : ℕ) → length (all_items (drop d ss)) ≤ length (all_items ss)
 fewer ss zero = omega arith
 fewer [] (suc d) = omega arith
 fewer (s ∷ ss) (suc d) = omega (arith, fewer ss d, length-append s.items (all_items ss))

@@ -1,5 +1,5 @@
 ghost use Rattle.std.specs.Prelude.{◌≡◌, ◌+◌, ◌++◌, ◌∷◌, ◌≤◌, ◌<◌, [], length, take, drop, filter, not, IfOk, OnOk};
-ghost use Rattle.std.specs.Prelude.{List, Some, OnErr, All, true, ◌^◌, ◌↔◌};
+ghost use Rattle.std.specs.Prelude.{List, Some, OnErr, All, true, false, get_or, ◌^◌, ◌↔◌};
 ghost use Rattle.gw_meaning.specs.Changes.{all_lined_up, due, is_due};
 ghost use Rattle.gw_meaning.specs.Step.{least_time};
 ghost use Rattle.gw_chains.specs.Segments.{Closed, all_items, is_in_use, IsReady, time_of};
@@ -254,6 +254,8 @@ fn next_due(leasts: &[u64], from: usize, time: Time, is_least: bool) -> usize
     ensures from { from ≤ result }
     ensures within { result ≤ length leasts.now }
     ensures later { AreAllLater time from result leasts.now }
+    ensures least { is_least ≡ true → result < length leasts.now → get_or leasts.now result 0 ≡ time }
+    ensures each { is_least ≡ false → result ≡ from }
 {
     if !is_least {
         return from;
