@@ -4,3 +4,4 @@ pub mod LetIn
 pub mod ChainLaws
 pub mod SegmentLaws
 pub mod ClosingUp
+pub mod Leasts

@@ -149,11 +149,6 @@ taken_one t S C i s u segments current h is kept k =
           (ap (λ xs. all_lined_up xs current) (sym (ap (due t) split ∙ due_append t s.items (all_items (drop (i + 1) S)))) ∙ k.current_is);
     }
 
--- the least time from a segment on
-pub least_next : (ss : List Closed) (k : ℕ) (s : Closed) → k < length ss → s ≡ get_or ss k s →
-    least_time (all_items (drop k ss)) ≡ soonest (least_time s.items) (least_time (all_items (drop (k + 1) ss)))
-least_next ss k s h is = ap (λ rs. least_time (all_items rs)) (item_drop ss k s h is) ∙ least_append s.items (all_items (drop (k + 1) ss))
-
 -- one more is copied
 pub copied_segment : (ss copies : List Closed) (k : ℕ) (s u : Closed) → k < length ss → s ≡ get_or ss k s → u.items ≡ s.items →
     all_items copies ≡ all_items (take k ss) → all_items (copies ++ u ∷ []) ≡ all_items (take (k + 1) ss)

@@ -1,6 +1,6 @@
 -- The future chain in segments. (Our own: it says how the chain is kept, and nothing of what it holds.)
 use Rattle.std.specs.Prelude.{◌≡◌, ℕ, List, [], ◌∷◌, ◌++◌, Option, Some, None, Bool, true, false, not, ◌==◌, IsSomeAnd}
-use Rattle.std.specs.Prelude.{slice_get, length, take, nat_le, nat_lt, if◌then◌else◌}
+use Rattle.std.specs.Prelude.{slice_get, length, take, map, get_or, nat_le, nat_lt, ◌≤◌, ◌<◌, if◌then◌else◌}
 use Rattle.gw_meaning.specs.declared.transaction.Event.{Event}
 use Rattle.gw_meaning.specs.Changes.{is_due, due}
 use Rattle.gw_meaning.specs.Step.{least_time, sooner}
@@ -53,3 +53,19 @@ IsFirstDue time (Some index) events = IsFirst (Some time) index events
 pub record IsLeast (events : List Event) (ticks index : ℕ) : Type 0 where
   pub least : least_time events ≡ time_of ticks
   pub first : IsFirst (time_of ticks) index events
+
+-- the least time of each segment, where anything is on it
+abbrev pub least_times : List Closed → List (Option ℕ)
+least_times segments = map (λ (s : Closed). least_time s.items) segments
+
+-- these numbers are the least times of the segments, in ticks: one that is later than any time stands for none
+abbrev pub AreLeasts : List ℕ → List Closed → Type 0
+AreLeasts leasts segments = map time_of leasts ≡ least_times segments
+
+-- of these numbers, those from an index on and in front of another are later than a time
+abbrev pub AreAllLater : ℕ → ℕ → ℕ → List ℕ → Type 0
+AreAllLater time from to leasts = (k : ℕ) → from ≤ k → k < to → time < get_or leasts k 0
+
+-- none of them from an index on is before it
+abbrev pub IsNoneBefore : ℕ → ℕ → List ℕ → Type 0
+IsNoneBefore time from leasts = (k : ℕ) → from ≤ k → k < length leasts → time ≤ get_or leasts k 0

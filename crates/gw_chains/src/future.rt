@@ -1,14 +1,16 @@
 ghost use Rattle.std.specs.Prelude.{◌≡◌, ◌+◌, ◌++◌, ◌∷◌, ◌≤◌, ◌<◌, [], length, take, drop, filter, not, IfOk, OnOk};
-ghost use Rattle.std.specs.Prelude.{OnErr, All, ◌^◌};
+ghost use Rattle.std.specs.Prelude.{List, Some, OnErr, All, true, false, get_or, ◌^◌, ◌↔◌};
 ghost use Rattle.gw_meaning.specs.Changes.{all_lined_up, due, is_due};
 ghost use Rattle.gw_meaning.specs.Step.{least_time};
-ghost use Rattle.gw_chains.specs.Segments.{all_items, is_in_use, IsReady};
+ghost use Rattle.gw_chains.specs.Segments.{Closed, all_items, is_in_use, IsReady, time_of};
+ghost use Rattle.gw_chains.specs.Segments.{least_times, AreLeasts, AreAllLater, IsNoneBefore};
 
 use crate::chain::PriorityChain;
 use crate::closed::ClosedSegment;
 use crate::segment::{Segment, is_later, soonest};
+use gw_lanes::{first_at, least};
 use gw_meaning::Event;
-use gw_nums::Time;
+use gw_nums::{LAST_TIME, Time};
 use std::alloc::{AllocError, Global};
 use std::marker::Model;
 use std::mem;
@@ -23,10 +25,16 @@ const MOST: usize = 255;
 /// How many transactions the chain takes, 2^63 - 1.
 const LIMIT: usize = 9_223_372_036_854_775_807;
 
+/// A number that is no time, and later than any.
+const BEYOND: u64 = u64::MAX;
+
 /// The future chain of a run, in the order of coming onto it: the closed segments, which take no more, and the last.
 #[derive(Drop)]
 pub struct FutureChain {
     closed: Vec<ClosedSegment>,
+    // The least time of each closed segment, in ticks, and [`BEYOND`] where it is empty. These numbers lie side by
+    // side, so a clock step finds the segments with somebody due without going to any other.
+    leasts: Vec<u64>,
     // The least time on the closed segments: a clock step before it passes over them.
     least: Option<Time>,
     last: Segment,
@@ -38,7 +46,7 @@ impl Model for FutureChain {
     ghost use Rattle.gw_meaning.specs.declared.transaction.Event.{Event};
     ghost use Rattle.gw_chains.specs.Chains.{Chain};
     ghost use Rattle.gw_meaning.specs.Step.{least_time};
-    ghost use Rattle.gw_chains.specs.Segments.{all_items};
+    ghost use Rattle.gw_chains.specs.Segments.{all_items, AreLeasts};
 
     ghost Value = { Chain Event };
 
@@ -48,7 +56,7 @@ impl Model for FutureChain {
     } };
 
     ghost invariant = { λ c. (c.len ≡ length (all_items c.closed.items ++ c.last.items)) × (c.len < 2 ^ 63)
-        × (c.least ≡ least_time (all_items c.closed.items)) };
+        × (c.least ≡ least_time (all_items c.closed.items)) × AreLeasts c.leasts.items c.closed.items };
 }
 
 impl FutureChain {
@@ -58,6 +66,7 @@ impl FutureChain {
     {
         FutureChain {
             closed: Vec::new(alloc),
+            leasts: Vec::new(alloc),
             least: None,
             last: Segment::new(alloc),
             len: 0,
@@ -112,6 +121,7 @@ impl FutureChain {
         ensures { self.new.items ≡ self.old.items }
     {
         self.closed.reserve(1)?;
+        self.leasts.reserve(1)?;
         let alloc = *self.closed.allocator();
         let mut fresh = Segment::new(alloc);
         fresh.reserve(count)?;
@@ -119,6 +129,7 @@ impl FutureChain {
         match Arc::new(alloc, full) {
             Ok(full) => {
                 self.least = soonest(self.least, full.least_time());
+                self.leasts.push_reserved(ticks_of(full.least_time()));
                 self.closed.push_reserved(ClosedSegment::new(alloc, full));
                 Ok(())
             }
@@ -155,7 +166,13 @@ impl FutureChain {
         ensures err { OnErr result ((current.new.items ≡ current.old.items) × (self.new.items ≡ self.old.items)) }
     {
         let before = current.len();
-        take_closed(&mut self.closed, &mut self.least, current, time)?;
+        take_closed(
+            &mut self.closed,
+            &mut self.leasts,
+            &mut self.least,
+            current,
+            time,
+        )?;
         self.last.take_due(current, time);
         self.len -= current.len() - before;
         Ok(())
@@ -173,9 +190,11 @@ impl FutureChain {
         ensures { IfOk result (λ c. c.items ≡ self.now.items) }
     {
         let closed = copy(&self.closed)?;
+        let leasts = self.leasts.clone()?;
         let last = self.last.copy()?;
         Ok(FutureChain {
             closed,
+            leasts,
             least: self.least,
             last,
             len: self.len,
@@ -183,16 +202,18 @@ impl FutureChain {
     }
 }
 
-// Moves the transactions of a time from closed segments, of which this is the least time, to the current chain. Those
-// that hold something stay.
+// Moves the transactions of a time from closed segments, of which these are the least times, to the current chain.
+// Those that hold something stay.
 #[inline(always)]
 fn take_closed(
     segments: &mut Vec<ClosedSegment>,
+    leasts: &mut Vec<u64>,
     least: &mut Option<Time>,
     current: &mut PriorityChain,
     time: Time,
 ) -> Result<(), AllocError>
     requires room { length (all_items segments.old.items) ≤ current.old.room }
+    requires leasts { AreLeasts leasts.old.items segments.old.items }
     requires least { least.old ≡ least_time (all_items segments.old.items) }
     ensures current { OnOk result
         (current.new.items ≡ all_lined_up (due time (all_items segments.old.items)) current.old.items) }
@@ -201,75 +222,154 @@ fn take_closed(
     ensures err { OnErr result ((current.new.items ≡ current.old.items) ×
         (all_items segments.new.items ≡ all_items segments.old.items)) }
     ensures room { current.old.room ≤ current.new.room + length (all_items segments.old.items) }
+    ensures leasts { AreLeasts leasts.new.items segments.new.items }
     ensures least { least.new ≡ least_time (all_items segments.new.items) }
 {
     if is_later(*least, time) {
         return Ok(());
     }
-    get_ready(segments, time)?;
-    take_and_drop(segments, current, time);
-    *least = least_time(segments);
+    let is_least = is_time(*least, time);
+    get_ready(segments, leasts, time, is_least)?;
+    take_and_drop(segments, leasts, current, time, is_least);
+    *least = least_time(leasts);
     Ok(())
 }
 
+// Whether a time is the least one.
+fn is_time(least: Option<Time>, time: Time) -> bool
+    ensures { (result ≡ true) ↔ (least ≡ Some time) }
+{
+    match least {
+        Some(least) => least == time,
+        None => false,
+    }
+}
+
+// The place of the next segment, from one on, on which somebody may be due at a time; how many there are, if on none.
+// Where the time is the least one, it is the next that has it. A step to a later time than the least, which no run
+// makes, goes to every segment.
+fn next_due(leasts: &[u64], from: usize, time: Time, is_least: bool) -> usize
+    requires within { from ≤ length leasts.now }
+    requires least { is_least ≡ true → IsNoneBefore time from leasts.now }
+    ensures from { from ≤ result }
+    ensures within { result ≤ length leasts.now }
+    ensures later { AreAllLater time from result leasts.now }
+    ensures least { is_least ≡ true → result < length leasts.now → get_or leasts.now result 0 ≡ time }
+    ensures each { is_least ≡ false → result ≡ from }
+{
+    if !is_least {
+        return from;
+    }
+    match first_at(&leasts[from..], time.ticks()) {
+        Some(place) => from + place,
+        None => leasts.len(),
+    }
+}
+
 // Gets the segments ready for a clock step to a time.
-fn get_ready(segments: &mut Vec<ClosedSegment>, time: Time) -> Result<(), AllocError>
+fn get_ready(
+    segments: &mut Vec<ClosedSegment>,
+    leasts: &[u64],
+    time: Time,
+    is_least: bool,
+) -> Result<(), AllocError>
+    requires leasts { AreLeasts leasts.now segments.old.items }
+    requires least { is_least ≡ true → IsNoneBefore time 0 leasts.now }
     ensures items { all_items segments.new.items ≡ all_items segments.old.items }
+    ensures times { least_times segments.new.items ≡ least_times segments.old.items }
     ensures ok { OnOk result (All (IsReady time) segments.new.items) }
 {
-    for index in 0..segments.len() {
+    let mut index = next_due(leasts, 0, time, is_least);
+    while index < leasts.len() {
         segments[index].get_ready(time)?;
+        index = next_due(leasts, index + 1, time, is_least);
     }
     Ok(())
 }
 
 // Moves the transactions of a time from segments that are ready, where some are due.
 #[inline(never)]
-fn take_and_drop(segments: &mut Vec<ClosedSegment>, current: &mut PriorityChain, time: Time)
+fn take_and_drop(
+    segments: &mut Vec<ClosedSegment>,
+    leasts: &mut Vec<u64>,
+    current: &mut PriorityChain,
+    time: Time,
+    is_least: bool,
+)
     requires room { length (all_items segments.old.items) ≤ current.old.room }
     requires ready { All (IsReady time) segments.old.items }
+    requires leasts { AreLeasts leasts.old.items segments.old.items }
+    requires least { is_least ≡ true → IsNoneBefore time 0 leasts.old.items }
     ensures current { current.new.items ≡ all_lined_up (due time (all_items segments.old.items)) current.old.items }
     ensures future { all_items segments.new.items ≡ filter (λ e. not (is_due time e)) (all_items segments.old.items) }
     ensures room { current.old.room ≤ current.new.room + length (all_items segments.old.items) }
+    ensures leasts { AreLeasts leasts.new.items segments.new.items }
 {
-    take_due(segments, current, time);
-    drop_empty(segments);
+    take_due(segments, leasts, current, time, is_least);
+    if first_at(leasts, BEYOND).is_some() {
+        drop_empty(segments, leasts);
+    }
 }
 
 // Moves the transactions of a time from each segment to the current chain, from the first segment on.
-fn take_due(segments: &mut Vec<ClosedSegment>, current: &mut PriorityChain, time: Time)
+fn take_due(
+    segments: &mut Vec<ClosedSegment>,
+    leasts: &mut Vec<u64>,
+    current: &mut PriorityChain,
+    time: Time,
+    is_least: bool,
+)
     requires room { length (all_items segments.old.items) ≤ current.old.room }
     requires ready { All (IsReady time) segments.old.items }
+    requires leasts { AreLeasts leasts.old.items segments.old.items }
+    requires least { is_least ≡ true → IsNoneBefore time 0 leasts.old.items }
     ensures current { current.new.items ≡ all_lined_up (due time (all_items segments.old.items)) current.old.items }
     ensures future { all_items segments.new.items ≡ filter (λ e. not (is_due time e)) (all_items segments.old.items) }
     ensures room { current.old.room ≤ current.new.room + length (all_items segments.old.items) }
+    ensures leasts { AreLeasts leasts.new.items segments.new.items }
 {
-    for i in 0..segments.len() {
+    let mut i = next_due(leasts, 0, time, is_least);
+    while i < leasts.len() {
         segments[i].take_due(current, time);
+        leasts[i] = ticks_of(segments[i].segment().least_time());
+        i = next_due(leasts, i + 1, time, is_least);
+    }
+}
+
+// A least time in ticks.
+fn ticks_of(least: Option<Time>) -> u64
+    ensures { time_of result ≡ least }
+{
+    match least {
+        Some(time) => time.ticks(),
+        None => BEYOND,
     }
 }
 
 // The segments that hold something stay, in their order.
-fn drop_empty(segments: &mut Vec<ClosedSegment>)
-    ensures { segments.new.items ≡ filter is_in_use segments.old.items }
+fn drop_empty(segments: &mut Vec<ClosedSegment>, leasts: &mut Vec<u64>)
+    requires { AreLeasts leasts.old.items segments.old.items }
+    ensures segments { segments.new.items ≡ filter is_in_use segments.old.items }
+    ensures leasts { AreLeasts leasts.new.items segments.new.items }
 {
     segments.retain(|closed| !closed.segment().is_empty());
+    leasts.retain(|ticks| *ticks <= LAST_TIME);
 }
 
-// The least time on segments.
-fn least_time(segments: &[ClosedSegment]) -> Option<Time>
-    ensures { result ≡ least_time (all_items segments.now) }
+// The least time on segments, of which these are the least times.
+fn least_time(leasts: &[u64]) -> Option<Time>
+    ensures { (segments : List Closed) → AreLeasts leasts.now segments → result ≡ least_time (all_items segments) }
 {
-    let mut least = None;
-    for i in (0..segments.len()).rev() {
-        least = soonest(segments[i].segment().least_time(), least);
+    match least(leasts) {
+        Some(ticks) => Time::new(ticks),
+        None => None,
     }
-    least
 }
 
 // Copies may share the segments from now on.
 fn share(segments: &mut Vec<ClosedSegment>) -> Result<(), AllocError>
-    ensures { all_items segments.new.items ≡ all_items segments.old.items }
+    ensures items { all_items segments.new.items ≡ all_items segments.old.items }
+    ensures times { least_times segments.new.items ≡ least_times segments.old.items }
 {
     for place in 0..segments.len() {
         segments[place].share()?;
@@ -279,7 +379,8 @@ fn share(segments: &mut Vec<ClosedSegment>) -> Result<(), AllocError>
 
 // Equal segments.
 fn copy(segments: &Vec<ClosedSegment>) -> Result<Vec<ClosedSegment>, AllocError>
-    ensures { IfOk result (λ ss. all_items ss.items ≡ all_items segments.now.items) }
+    ensures items { IfOk result (λ ss. all_items ss.items ≡ all_items segments.now.items) }
+    ensures times { IfOk result (λ ss. least_times ss.items ≡ least_times segments.now.items) }
 {
     let len = segments.len();
     let mut copies = Vec::with_capacity(*segments.allocator(), len)?;

@@ -19,7 +19,7 @@ overflow_sub-self-2 c =
 pub invariant_of-self : goal.invariant_of-self
 invariant_of-self c =
     let same = ap (λ es. length (es ++ c.self.inside.last.items)) c.in_err-take_closed.ensures.err.1 in
-    (c.self.invariant.0 ∙ sym same, c.self.invariant.1, c.take_closed.ensures.least)
+    (c.self.invariant.0 ∙ sym same, c.self.invariant.1, c.take_closed.ensures.least, c.take_closed.ensures.leasts)
 
 pub invariant_of-self-2 : goal.invariant_of-self-2
 invariant_of-self-2 c =
@@ -33,6 +33,7 @@ invariant_of-self-2 c =
       omega (arith, kept, counts, more, c.len-before.ensures.len, c.len.ensures.len, c.self.invariant.0),
       omega (arith, c.self.invariant.1),
       c.take_closed.ensures.least,
+      c.take_closed.ensures.leasts,
     )
 
 pub returns-clause-ok : goal.returns-clause-ok
