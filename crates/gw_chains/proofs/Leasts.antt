@@ -96,7 +96,8 @@ module _ (t ticks from : ℕ) (ns : List ℕ) (same : ticks ≡ t) (within : fro
   pub later_nowhere : All (λ other. other ≢ ticks) (take (length ns - from) (drop from ns)) → AreAllLater t from (length ns) ns
   later_nowhere others = λ k le lt.
       let all : All (λ other. other ≢ ticks) (drop from ns) = All-same (λ (other : ℕ). other ≢ ticks) _ _ (sym behind) others in
-      let other : get_or (drop from ns) (k - from) 0 ≢ ticks = All-get_or (λ (other : ℕ). other ≢ ticks) (drop from ns) (k - from) 0 (omega (arith, length-drop from ns)) all in
+      let other : get_or (drop from ns) (k - from) 0 ≢ ticks =
+      All-get_or (λ (other : ℕ). other ≢ ticks) (drop from ns) (k - from) 0 (omega (arith, length-drop from ns)) all in
       let low : t ≤ get_or ns k 0 = none k le lt in
       omega (arith, same, number_at k le, low, other)
 

@@ -84,8 +84,8 @@ impl DelayChains {
         place(&self.chains, key)
     }
 
-    /// Where the chain of a facility or a storage lies, for the other calls that take a place: none where nobody waits on
-    /// any chain now, and then none is looked for.
+    /// Where the chain of a facility or a storage lies, for the other calls that take a place: none where nobody waits
+    /// on any chain now, and then none is looked for.
     #[inline(always)]
     pub fn waiting_place(&self, key: &Key) -> Option<usize>
         ensures { IsWaitingPlace self.now.chains key.now result }

@@ -33,8 +33,8 @@ const WHYS: [Why; 16] = [
     Why::End(End::Dry),
 ];
 
-/// A [`Why`] as one number, so that a result that may be a halt is handed back in registers. A stop has the number that a
-/// report prints behind an X.
+/// A [`Why`] as one number, so that a result that may be a halt is handed back in registers. A stop has the number that
+/// a report prints behind an X.
 #[derive(Debug, Drop)]
 pub struct Halt {
     number: u32,

@@ -54,7 +54,8 @@ loop-i-preserved c =
     let within : j ≤ length (set ns i n) = subst (λ (ns : List ℕ). j ≤ length ns) value c.next_due-i-in-loop-i.ensures.within in
     let later : AreAllLater t (i + 1) j (set ns i n) = subst (λ (ns : List ℕ). AreAllLater t (i + 1) j ns) value c.next_due-i-in-loop-i.ensures.later in
     let renewed : time_of n ≡ least_time u.items =
-    c.ticks_of.ensures ∙ (c.least_time.ensures ∙ ap least_time (c.segment.ensures ∙ ap (λ (s : Closed). s.items) (c.index.ensures ∙ get_or-set_same segments i u _ here))) in
+    c.ticks_of.ensures ∙ (c.least_time.ensures ∙ ap least_time
+    (c.segment.ensures ∙ ap (λ (s : Closed). s.items) (c.index.ensures ∙ get_or-set_same segments i u _ here))) in
     let leasts : AreLeasts (set ns i n) (set segments i u) = leasts_set ns segments i n u c.loop-i.invariant.leasts renewed in
     let one : Taking t S C (i + 1) (set segments i u) c.take_due.new.current.items =
     rw c.take_due.ensures.current
