@@ -69,10 +69,7 @@ impl<V: Copy> ByKey<V> {
         let Some(index) = self.place(key) else {
             return (None, fresh);
         };
-        match self.map.get_index(index) {
-            Some((_, value)) => (Some(index), *value),
-            None => unreachable!(),
-        }
+        (Some(index), self.map[index])
     }
 
     /// The value of an entity of which it is known where it lies: `fresh` where it has none.
@@ -84,10 +81,7 @@ impl<V: Copy> ByKey<V> {
         let Some(index) = place else {
             return fresh;
         };
-        match self.map.get_index(index) {
-            Some((_, value)) => *value,
-            None => unreachable!(),
-        }
+        self.map[index]
     }
 
     /// Makes room for an entity of which it is known where it lies, as [`ByKey::reserve`] does.
@@ -137,9 +131,7 @@ impl<V: Copy> ByKey<V> {
     // Where an entity lies, if it has a value: the first few are looked through.
     #[inline(always)]
     fn place(&self, key: &Key) -> Option<usize>
-        ensures there { IfSome result (λ i. (value : V) × (slice_get self.now.entries i ≡ Some (key.now, value))) }
-        ensures value { IsSome result → IsSome (value_of self.now.entries key.now) }
-        ensures none { IfNone result (value_of self.now.entries key.now ≡ None) }
+        ensures { IsPlace self.now.entries key.now result }
     {
         for index in 0..self.map.len() {
             if index >= FEW_ENTITIES {
@@ -155,8 +147,7 @@ impl<V: Copy> ByKey<V> {
     // Whether an entity lies at an index.
     #[inline(always)]
     fn is_at(&self, index: usize, key: &Key) -> bool
-        ensures there { IsTrue result → (value : V) × (slice_get self.now.entries index ≡ Some (key.now, value)) }
-        ensures value { IsTrue result → IsSome (value_of self.now.entries key.now) }
+        ensures there { IsTrue result → IsPlace self.now.entries key.now (Some index) }
         ensures other { IsFalse result →
             value_of (drop index self.now.entries) key.now ≡ value_of (drop (suc index) self.now.entries) key.now }
     {
@@ -170,9 +161,7 @@ impl<V: Copy> ByKey<V> {
     #[cold]
     #[inline(never)]
     fn place_by_hash(&self, key: &Key) -> Option<usize>
-        ensures there { IfSome result (λ i. (value : V) × (slice_get self.now.entries i ≡ Some (key.now, value))) }
-        ensures value { IsSome result → IsSome (value_of self.now.entries key.now) }
-        ensures none { IfNone result (value_of self.now.entries key.now ≡ None) }
+        ensures { IsPlace self.now.entries key.now result }
     {
         match self.map.get_full(key) {
             Some((index, _, _)) => Some(index),
@@ -258,10 +247,8 @@ impl<V: Copy> ByKey<V> {
         ensures { (key : Key) (was : V) → slice_get self.old.entries index ≡ Some (key, was) →
             self.new.entries ≡ with_value self.old.entries key value }
     {
-        match self.map.get_index_mut(index) {
-            Some(kept) => *kept = value,
-            None => unreachable!(),
-        }
+        let (_, kept) = self.map.pair_mut(index);
+        *kept = value;
     }
 
     /// The entity at an index, in order of first touch, and its value.

@@ -7,7 +7,8 @@ use Rattle.gw_entities.proofs.by_key.ByKey.is_at.Goals as goal
 pub returns-in-Some-clause-there : goal.returns-in-Some-clause-there
 returns-in-Some-clause-there g c = λ is.
     let same = key_same c.args.key.now c.in-Some.kept.now (sym c.eq.ensures ∙ is) in
-    rw (← c.self.view_is) (c.in-Some.field-0-1.now, rw (← same) at (sym c.in-Some.ensures.entry))
+    rw (← c.self.view_is)
+    (c.in-Some.field-0-1.now, rw (← same) at (sym c.in-Some.ensures.entry), rw (← same) at (c.in-Some.ensures.value))
 
 pub returns-in-Some-clause-other : goal.returns-in-Some-clause-other
 returns-in-Some-clause-other g c = λ is.
