@@ -41,9 +41,7 @@ impl State {
             Acts case.entry.version.now case.entry.seed (attempt_prog self.old x x.destination)
             result self.old self.new notes.old notes.new }
     {
-        let Some(x) = &self.active else {
-            unreachable!()
-        };
+        let x = self.active.get();
         let id = ask_next(case.version, notes, x)?;
         self.act_block(case, notes, id)
     }

@@ -49,31 +49,12 @@ impl State {
             moved self.old (moves.Enter id (changes.Transaction change.now) fates.Active)) }
         ensures err { OnErr result (self.new ≡ self.old) }
     {
-        let Some(x) = &self.active else {
-            unreachable!()
-        };
+        let x = self.active.get();
         self.counts.reserve(id)?;
         set(&mut self.parameters, change, x.number)?;
         enter_active(&mut self.active, &mut self.counts, id);
-        change_active(&mut self.active, change, self.clocks.clock());
+        self.active.change(change, self.clocks.clock());
         Ok(())
-    }
-}
-
-// What a change makes of the active transaction itself.
-#[inline(always)]
-pub fn change_active(active: &mut Option<Transaction>, change: &TransactionChange, clock: Clock)
-    requires { IsSome active.old }
-    ensures { (x : Transaction) → active.old ≡ Some x → active.new ≡ Some (own_marked change.now clock x) }
-{
-    let Some(x) = active else { unreachable!() };
-    match change {
-        TransactionChange::Mark => x.mark = clock.time(),
-        TransactionChange::Priority { to } => x.priority = *to,
-        TransactionChange::Transfer { to } | TransactionChange::Loop { to, .. } => {
-            x.destination = Destination::to(*to)
-        }
-        TransactionChange::Assign { .. } => (),
     }
 }
 

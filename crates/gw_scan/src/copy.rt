@@ -2,7 +2,6 @@
 ghost use Rattle.std.specs.Prelude.{◌≡◌, IfOk};
 
 use crate::state::State;
-use gw_meaning::Transaction;
 use std::alloc::AllocError;
 
 impl State {
@@ -18,7 +17,6 @@ impl State {
     pub fn copy(&self) -> Result<State, AllocError>
         ensures { IfOk result (λ s. s ≡ self.now) }
     {
-        let active = copy_active(&self.active)?;
         let current = self.current.copy()?;
         let future = self.future.copy()?;
         let delays = self.delays.copy()?;
@@ -30,7 +28,7 @@ impl State {
             progress: self.progress,
             streams: self.streams,
             next: self.next,
-            active,
+            active: self.active.copy(),
             current,
             future,
             delays,
@@ -39,10 +37,4 @@ impl State {
             parameters,
         })
     }
-}
-
-fn copy_active(active: &Option<Transaction>) -> Result<Option<Transaction>, AllocError>
-    ensures { IfOk result (λ a. a ≡ active.now) }
-{
-    active.clone()
 }

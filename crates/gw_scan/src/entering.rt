@@ -10,10 +10,11 @@ ghost use Rattle.gw_meaning.specs.declared.transaction.Transaction.{Transaction}
 ghost use Rattle.gw_meaning.specs.Changes.{crossed, placed, bound, moved};
 ghost use Rattle.gw_scan.specs.Stepping.{Acts, Goes};
 
+use crate::active::Active;
 use crate::halt::Halt;
 use crate::notes::Notes;
 use crate::state::State;
-use gw_chains::{Counts, place};
+use gw_chains::Counts;
 use gw_meaning::{Destination, Fate, StatementId, Transaction};
 use gw_names::Key;
 use std::alloc::AllocError;
@@ -35,15 +36,13 @@ impl State {
         self.delays.reserve_at(key, place)?;
         match place {
             Some(index) => {
-                if let Some(x) = self.active.take() {
-                    self.delays.line_up_there(key, index, bind(x, id, units));
-                }
+                let x = self.active.take();
+                self.delays.line_up_there(key, index, bind(x, id, units));
             }
             None => {
                 let first = key.clone()?;
-                if let Some(x) = self.active.take() {
-                    self.delays.line_up_first(first, bind(x, id, units));
-                }
+                let x = self.active.take();
+                self.delays.line_up_first(first, bind(x, id, units));
             }
         }
         Ok(())
@@ -72,7 +71,7 @@ impl State {
 // It enters a block and stays active: the counts of the block that it leaves and of the one that it enters are crossed.
 // Gives its number.
 #[inline(always)]
-pub fn enter_active(active: &mut Option<Transaction>, counts: &mut Counts, id: StatementId) -> u64
+pub fn enter_active(active: &mut Active, counts: &mut Counts, id: StatementId) -> u64
     requires there { IsSome active.old }
     requires room { id < counts.old.limit }
     ensures active { (x : Transaction) → active.old ≡ Some x →
@@ -81,10 +80,11 @@ pub fn enter_active(active: &mut Option<Transaction>, counts: &mut Counts, id: S
     ensures stays { IsSome active.new }
     ensures limit { counts.new.limit ≡ counts.old.limit }
 {
-    let Some(x) = active else { unreachable!() };
+    let x = active.get();
+    let number = x.number;
     counts.cross(x.current, id, &Fate::Active);
-    place(x, id);
-    x.number
+    active.place(id);
+    number
 }
 
 // The transaction on its way to a block, where it asks so many units.

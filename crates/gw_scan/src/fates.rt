@@ -11,12 +11,13 @@ ghost use Rattle.gw_meaning.specs.declared.transaction.Transaction.{Transaction}
 ghost use Rattle.gw_scan.specs.Deciding.{Decides, entered};
 ghost use Rattle.gw_scan.specs.Stepping.{Acts, Makes};
 
+use crate::active::Active;
 use crate::case::Case;
 use crate::halt::Halt;
 use crate::notes::Notes;
 use crate::progress::Progress;
 use crate::state::State;
-use gw_chains::{FutureChain, PriorityChain, place};
+use gw_chains::{FutureChain, PriorityChain};
 use gw_entities::Parameters;
 use gw_meaning::operands::{A, B};
 use gw_meaning::{Block, Event, Fate, StatementId, Transaction};
@@ -37,9 +38,7 @@ impl State {
             (advance_prog self.old (for_one self.old x) id (operand block.now A) (operand block.now B))
             result self.old self.new notes.old notes.new }
     {
-        let Some(x) = &self.active else {
-            unreachable!()
-        };
+        let x = self.active.get();
         let fate = self.advance_of(case, x, notes, block);
         self.enter_for(id, fate, notes)
     }
@@ -58,9 +57,7 @@ impl State {
             (terminate_prog self.old (for_one self.old x) id (operand block.now A))
             result self.old self.new notes.old notes.new }
     {
-        let Some(x) = &self.active else {
-            unreachable!()
-        };
+        let x = self.active.get();
         let fate = self.terminate_of(case, x, notes, block);
         self.enter_for(id, fate, notes)
     }
@@ -155,9 +152,9 @@ impl State {
         self.future.reserve(1)?;
         self.current.reserve(1)?;
         self.counts.reserve(id)?;
-        if let Some(x) = &mut self.active {
-            self.counts.cross(x.current, id, &fate);
-            place(x, id);
+        if self.active.is_some() {
+            self.counts.cross(self.active.get().current, id, &fate);
+            self.active.place(id);
             settle(
                 &mut self.active,
                 &mut self.current,
@@ -174,7 +171,7 @@ impl State {
 // What becomes of the active transaction.
 #[inline(always)]
 fn settle(
-    active: &mut Option<Transaction>,
+    active: &mut Active,
     current: &mut PriorityChain,
     future: &mut FutureChain,
     progress: &mut Progress,
@@ -203,22 +200,16 @@ fn settle(
     match fate {
         Fate::Active => (),
         Fate::Current => {
-            if let Some(x) = active.take() {
-                current.line_up(x);
-            }
+            current.line_up(active.take());
         }
         Fate::Delayed { until } => {
-            if let Some(transaction) = active.take() {
-                future.put(Event {
-                    time: until,
-                    transaction,
-                });
-            }
+            future.put(Event {
+                time: until,
+                transaction: active.take(),
+            });
         }
         Fate::Destroyed { count } => {
-            if let Some(x) = active.take() {
-                parameters.forget(x.number);
-            }
+            parameters.forget(active.take().number);
             progress.count_down(count);
         }
     }

@@ -12,7 +12,6 @@ ghost use Rattle.gw_scan.specs.Stepping.{Acts, Makes};
 
 use crate::attributes::for_none;
 use crate::case::Case;
-use crate::changing::change_active;
 use crate::entering::enter_active;
 use crate::halt::Halt;
 use crate::making::make;
@@ -39,9 +38,7 @@ impl State {
             (operand block.now E))
             result self.old self.new notes.old notes.new }
     {
-        let Some(x) = &self.active else {
-            unreachable!()
-        };
+        let x = self.active.get();
         let next = self.generate_of(case, notes, x, id, block);
         self.enter_with(id, next, notes)
     }
@@ -106,11 +103,7 @@ impl State {
         self.counts.reserve(id)?;
         self.counts.reserve(arrival.id)?;
         enter_active(&mut self.active, &mut self.counts, id);
-        change_active(
-            &mut self.active,
-            &TransactionChange::Mark,
-            self.clocks.clock(),
-        );
+        self.active.change(&TransactionChange::Mark, self.clocks.clock());
         make(&mut self.next, &mut self.future, &mut self.counts, arrival);
         Ok(())
     }
@@ -125,11 +118,7 @@ impl State {
     {
         self.counts.reserve(id)?;
         enter_active(&mut self.active, &mut self.counts, id);
-        change_active(
-            &mut self.active,
-            &TransactionChange::Mark,
-            self.clocks.clock(),
-        );
+        self.active.change(&TransactionChange::Mark, self.clocks.clock());
         Ok(())
     }
 }

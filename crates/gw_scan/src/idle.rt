@@ -52,7 +52,7 @@ impl State {
         ensures { self.new ≡ moved self.old moves.Pick }
     {
         if let Some(x) = self.current.take_first() {
-            self.active = Some(x);
+            self.active.put(x);
         }
     }
 

@@ -5,6 +5,7 @@
 #![tactic(auto)]
 
 mod act;
+mod active;
 mod arrival;
 mod attributes;
 mod case;

@@ -34,9 +34,7 @@ impl State {
             (assign_prog self.old (for_one self.old x) id block.now.sign (operand block.now A) (operand block.now B))
             result self.old self.new notes.old notes.new }
     {
-        let Some(x) = &self.active else {
-            unreachable!()
-        };
+        let x = self.active.get();
         let change = self.assign_of(case, x, notes, block);
         self.enter_changing(id, change, notes)
     }
@@ -55,9 +53,7 @@ impl State {
             (loop_prog self.old (for_one self.old x) id (operand block.now A) (operand block.now B))
             result self.old self.new notes.old notes.new }
     {
-        let Some(x) = &self.active else {
-            unreachable!()
-        };
+        let x = self.active.get();
         let change = self.loop_of(case, x, notes, block);
         self.enter_changing(id, change, notes)
     }

@@ -39,9 +39,7 @@ impl State {
             (priority_prog self.old (for_one self.old x) id (operand block.now A))
             result self.old self.new notes.old notes.new }
     {
-        let Some(x) = &self.active else {
-            unreachable!()
-        };
+        let x = self.active.get();
         let change = self.priority_of(case, x, notes, block);
         self.enter_changing(id, change, notes)
     }

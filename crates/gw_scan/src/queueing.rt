@@ -121,9 +121,7 @@ impl State {
             Goes (depart_units id key.now (line_at self.old.entities key.now)
             (came self.old.entities.comings key.now x.number) units) result self.old self.new }
     {
-        let Some(x) = &self.active else {
-            unreachable!()
-        };
+        let x = self.active.get();
         let units = u64::from(units);
         let at_once = self.entities.comings.has(key, x.number);
         let (place, queue) = self.entities.queues.look(key, Queue::new());

@@ -118,9 +118,7 @@ impl State {
             Goes (release_to id key.now (is_owner (facility_at self.old.entities key.now).owner x.number)
             (first_number (delay_at self.old.delays key.now))) result self.old self.new }
     {
-        let Some(x) = &self.active else {
-            unreachable!()
-        };
+        let x = self.active.get();
         let (place, held) = self.entities.look_for_facility(key);
         if !is_owner(held.owner(), x.number) {
             return Err(Halt::NOT_OWNER);

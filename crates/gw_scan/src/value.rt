@@ -153,9 +153,7 @@ impl State {
         ensures { (x : Transaction) → self.now.active ≡ Some x → Decides case.entry.version.now case.entry.seed
             (entity_prog self.now (for_one self.now x) (operand block.now A)) (keyed result) notes.old notes.new }
     {
-        let Some(x) = &self.active else {
-            unreachable!()
-        };
+        let x = self.active.get();
         self.entity(case, x, notes, block.operand(A))
     }
 
@@ -171,9 +169,7 @@ impl State {
         ensures { (x : Transaction) → self.now.active ≡ Some x → Decides case.entry.version.now case.entry.seed
             (units_prog self.now (for_one self.now x) (operand block.now B)) result notes.old notes.new }
     {
-        let Some(x) = &self.active else {
-            unreachable!()
-        };
+        let x = self.active.get();
         self.units(case, x, notes, block.operand(B))
     }
 }

@@ -1,0 +1,138 @@
+ghost use Rattle.std.specs.Prelude.{◌≡◌, Some, None, IsSome, is_some, option_copied};
+ghost use Rattle.gw_meaning.specs.declared.transaction.Transaction.{Transaction};
+ghost use Rattle.gw_meaning.specs.Changes.{placed, own_marked};
+
+use gw_chains::place;
+use gw_meaning::{Destination, StatementId, Transaction, TransactionChange};
+use gw_nums::{Clock, Time, Val};
+use std::marker::Model;
+
+// The active transaction, if there is one. It lies in the same place whether or not it is there: a block that knows
+// that it is there need not ask again.
+#[derive(Drop)]
+pub struct Active {
+    is_there: bool,
+    x: Transaction,
+}
+
+impl Model for Active {
+    ghost use Rattle.std.specs.Prelude.{Option, Some, None, if◌then◌else◌};
+    ghost use Rattle.gw_meaning.specs.declared.transaction.Transaction.{Transaction};
+
+    ghost Value = { Option Transaction };
+
+    ghost view = { λ a. if a.is_there then Some a.x else None };
+}
+
+impl Active {
+    // None is active.
+    pub(crate) fn none() -> Active
+        ensures { result ≡ None }
+    {
+        Active {
+            is_there: false,
+            x: Transaction {
+                number: 0,
+                mark: Time::ZERO,
+                priority: Val::ZERO,
+                current: StatementId::NONE,
+                destination: Destination::none(),
+                asked: 0,
+            },
+        }
+    }
+
+    // Whether there is one.
+    #[inline(always)]
+    pub(crate) fn is_some(&self) -> bool
+        ensures { result ≡ is_some self.now }
+    {
+        self.is_there
+    }
+
+    // It, if there is one.
+    pub(crate) fn as_ref(&self) -> Option<&Transaction>
+        ensures { option_copied result ≡ self.now }
+    {
+        if self.is_there { Some(&self.x) } else { None }
+    }
+
+    // It, where it is known that there is one.
+    #[inline(always)]
+    pub(crate) fn get(&self) -> &Transaction
+        requires { IsSome self.now }
+        ensures { self.now ≡ Some result.now }
+    {
+        &self.x
+    }
+
+    // A transaction becomes active.
+    #[inline(always)]
+    pub(crate) fn put(&mut self, x: Transaction)
+        ensures { self.new ≡ Some x }
+    {
+        self.x = x;
+        self.is_there = true;
+    }
+
+    // It goes from here.
+    #[inline(always)]
+    pub(crate) fn take(&mut self) -> Transaction
+        requires { IsSome self.old }
+        ensures taken { self.old ≡ Some result }
+        ensures none { self.new ≡ None }
+    {
+        self.is_there = false;
+        same(&self.x)
+    }
+
+    // It stands in the block that it enters.
+    #[inline(always)]
+    pub(crate) fn place(&mut self, id: StatementId)
+        requires { IsSome self.old }
+        ensures { (x : Transaction) → self.old ≡ Some x → self.new ≡ Some (placed x id) }
+    {
+        place(&mut self.x, id);
+    }
+
+    // What a change makes of it.
+    #[inline(always)]
+    pub(crate) fn change(&mut self, change: &TransactionChange, clock: Clock)
+        requires { IsSome self.old }
+        ensures { (x : Transaction) → self.old ≡ Some x → self.new ≡ Some (own_marked change.now clock x) }
+    {
+        match change {
+            TransactionChange::Mark => self.x.mark = clock.time(),
+            TransactionChange::Priority { to } => self.x.priority = *to,
+            TransactionChange::Transfer { to } | TransactionChange::Loop { to, .. } => {
+                self.x.destination = Destination::to(*to)
+            }
+            TransactionChange::Assign { .. } => (),
+        }
+    }
+
+    // An equal one.
+    pub(crate) fn copy(&self) -> Active
+        ensures { result ≡ self.now }
+    {
+        Active {
+            is_there: self.is_there,
+            x: same(&self.x),
+        }
+    }
+}
+
+// An equal transaction.
+#[inline(always)]
+fn same(x: &Transaction) -> Transaction
+    ensures { result ≡ x.now }
+{
+    Transaction {
+        number: x.number,
+        priority: x.priority,
+        mark: x.mark,
+        current: x.current,
+        destination: x.destination,
+        asked: x.asked,
+    }
+}
