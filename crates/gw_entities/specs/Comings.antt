@@ -1,6 +1,6 @@
 -- Which transactions came to which queue, in order of coming. (Manual: that a departure at the clock of the entry is a
 -- zero entry. Our own: the order.)
-use Rattle.std.specs.Prelude.{◌≡◌, ℕ, Bool, false, ◌&&◌, ◌||◌, nat_eq, List, [], ◌∷◌, ◌++◌, if◌then◌else◌}
+use Rattle.std.specs.Prelude.{◌≡◌, ℕ, Bool, false, ◌&&◌, ◌||◌, nat_eq, List, [], ◌∷◌, ◌++◌, Option, if◌then◌else◌}
 use Rattle.gw_names.specs.declared.key.Key.{Key}
 use Rattle.gw_names.specs.Keys.{key_eq}
 
@@ -9,6 +9,12 @@ pub record Arrivals : Type 0 where
   pub comings : List (Key × ℕ)
   -- for how many more there is room
   pub room : ℕ
+
+-- the same, with the key that the next coming takes, if there is one
+pub record ReadyArrivals : Type 0 where
+  pub comings : List (Key × ℕ)
+  pub room : ℕ
+  pub ready : Option Key
 
 -- whether a transaction came to a queue
 abbrev pub came : List (Key × ℕ) → Key → ℕ → Bool

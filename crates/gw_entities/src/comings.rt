@@ -1,4 +1,4 @@
-ghost use Rattle.std.specs.Prelude.{◌≡◌, ◌<◌, ◌≤◌, ◌==◌, [], length, IfOk, OnOk};
+ghost use Rattle.std.specs.Prelude.{◌≡◌, ◌<◌, ◌≤◌, ◌==◌, [], Some, length, IfOk, OnOk};
 ghost use Rattle.gw_entities.specs.Comings.{came, with_coming, AreOnce};
 
 use crate::many_comings::ManyComings;
@@ -16,18 +16,22 @@ pub struct Comings {
     few: Vec<(Key, u64)>,
     // None while there are fewer than a few.
     many: ManyComings,
+    // A key that the next coming takes. One that was forgotten leaves its own, so that who comes to the same queue in
+    // the next tick needs none.
+    ready: Option<Key>,
 }
 
 impl Model for Comings {
     ghost use Rattle.std.specs.Prelude.{◌≡◌, ◌-◌, ◌<◌, ◌++◌, [], length, vec_capacity, if◌then◌else◌, nat_lt};
-    ghost use Rattle.gw_entities.specs.Comings.{Arrivals, AreOnce};
+    ghost use Rattle.gw_entities.specs.Comings.{ReadyArrivals, AreOnce};
 
-    ghost Value = { Arrivals };
+    ghost Value = { ReadyArrivals };
 
     // The 12 here and below is FEW_COMINGS.
     ghost view = { λ c. record {
       comings = c.few.items ++ c.many.comings;
       room = if nat_lt (length c.few.items) 12 then vec_capacity c.few - length c.few.items else c.many.room;
+      ready = c.ready;
     } };
 
     ghost invariant = { λ c. AreOnce (c.few.items ++ c.many.comings) ×
@@ -42,6 +46,7 @@ impl Comings {
         Comings {
             few: Vec::new(alloc),
             many: ManyComings::new(alloc),
+            ready: None,
         }
     }
 
@@ -72,17 +77,35 @@ impl Comings {
         is_among(&self.few, key, number) || self.many.has(key, number)
     }
 
-    /// Makes room for one more coming. It changes none, and room that was there stays.
+    /// Makes room for one more coming to a queue. It changes none, and room that was there stays.
     #[inline(always)]
-    pub fn reserve(&mut self) -> Result<(), AllocError>
+    pub fn reserve(&mut self, key: &Key) -> Result<(), AllocError>
         ensures ok { OnOk result (0 < self.new.room) }
+        ensures ready { OnOk result (self.new.ready ≡ Some key.now) }
         ensures comings { self.new.comings ≡ self.old.comings }
         ensures room { self.old.room ≤ self.new.room }
     {
+        self.get_ready(key)?;
         if self.few.len() < FEW_COMINGS && self.few.len() < self.few.capacity() {
             return Ok(());
         }
         self.grow()
+    }
+
+    // Gets a key ready, for the next coming.
+    #[inline(always)]
+    fn get_ready(&mut self, key: &Key) -> Result<(), AllocError>
+        ensures ok { OnOk result (self.new.ready ≡ Some key.now) }
+        ensures comings { self.new.comings ≡ self.old.comings }
+        ensures room { self.new.room ≡ self.old.room }
+    {
+        if let Some(ready) = &self.ready
+            && *key == *ready
+        {
+            return Ok(());
+        }
+        self.ready = Some(key.clone()?);
+        Ok(())
     }
 
     // Makes room for one more coming, where the list may have none.
@@ -90,6 +113,7 @@ impl Comings {
     #[inline(never)]
     fn grow(&mut self) -> Result<(), AllocError>
         ensures ok { OnOk result (0 < self.new.room) }
+        ensures ready { self.new.ready ≡ self.old.ready }
         ensures comings { self.new.comings ≡ self.old.comings }
         ensures room { self.old.room ≤ self.new.room }
     {
@@ -101,17 +125,21 @@ impl Comings {
 
     /// A transaction comes to a queue: behind the others, unless it came there already.
     #[inline(always)]
-    pub fn add(&mut self, key: Key, number: u64)
-        requires { 0 < self.old.room }
-        ensures { self.new.comings ≡ with_coming self.old.comings key number }
+    pub fn add(&mut self, key: &Key, number: u64)
+        requires room { 0 < self.old.room }
+        requires ready { self.old.ready ≡ Some key.now }
+        ensures { self.new.comings ≡ with_coming self.old.comings key.now number }
     {
-        if self.has(&key, number) {
+        if self.has(key, number) {
             return;
         }
+        let Some(own) = self.ready.take() else {
+            unreachable!()
+        };
         if self.few.len() < FEW_COMINGS {
-            self.few.push_reserved((key, number));
+            self.few.push_reserved((own, number));
         } else {
-            self.many.add(key, number);
+            self.many.add(own, number);
         }
     }
 
@@ -122,7 +150,9 @@ impl Comings {
     {
         // One is taken out without a loop: few ticks have more.
         if self.few.len() == 1 {
-            self.few.pop();
+            if let Some((key, _)) = self.few.pop() {
+                self.ready = Some(key);
+            }
         } else {
             self.clear_all();
         }
@@ -146,6 +176,7 @@ impl Comings {
         Ok(Comings {
             few: self.few.clone()?,
             many: self.many.copy()?,
+            ready: None,
         })
     }
 }

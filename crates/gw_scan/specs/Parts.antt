@@ -2,7 +2,7 @@
 use Rattle.std.specs.Prelude.{ℕ, Bool}
 use Rattle.gw_entities.specs.Records.{Ownership, Line, Store}
 use Rattle.gw_entities.specs.Tables.{Touched}
-use Rattle.gw_entities.specs.Comings.{Arrivals}
+use Rattle.gw_entities.specs.Comings.{ReadyArrivals}
 use Rattle.gw_meaning.specs.Entities.{Entities}
 
 -- the clocks
@@ -27,7 +27,7 @@ pub record Stock : Type 0 where
   pub facilities : Touched Ownership
   pub queues : Touched Line
   pub storages : Touched Store
-  pub comings : Arrivals
+  pub comings : ReadyArrivals
 
 abbrev pub entities_of : Stock → Entities
 entities_of e =

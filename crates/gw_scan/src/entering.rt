@@ -29,6 +29,7 @@ impl State {
         key: &Key,
         units: u32,
     ) -> Result<(), AllocError>
+        requires { IsSome self.old.active }
         ensures ok { OnOk result (self.new ≡ moved self.old (moves.Refuse id key.now units)) }
         ensures err { OnErr result (self.new ≡ self.old) }
     {

@@ -178,6 +178,7 @@ fn settle(
     parameters: &mut Parameters,
     fate: Fate,
 )
+    requires active { IsSome active.old }
     requires current { 0 < current.old.room }
     requires future { 0 < future.old.room }
     ensures fated { (x : Transaction) (s : Machine) → active.old ≡ Some x →

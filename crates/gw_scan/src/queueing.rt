@@ -69,13 +69,12 @@ impl State {
         }
         self.counts.reserve(id)?;
         self.entities.queues.reserve_at(key, place)?;
-        self.entities.comings.reserve()?;
-        let coming = key.clone()?;
+        self.entities.comings.reserve(key)?;
         let number = enter_active(&mut self.active, &mut self.counts, id);
         let mut queue = self.entities.queues.value_at(key, place, Queue::new());
         queue.enter(units, self.clocks.clock());
         self.entities.queues.set_at(key, place, queue);
-        self.entities.comings.add(coming, number);
+        self.entities.comings.add(key, number);
         Ok(())
     }
 

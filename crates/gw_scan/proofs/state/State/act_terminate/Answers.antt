@@ -9,7 +9,7 @@ pub returns : goal.returns
 returns c x is =
     let s = c.args.self.now in
     let b = c.args.block.now in
-    let same : c.in-Some.x ≡ x = search rules in
-    rw (← same) (acts_made c.args.case.version.now c.args.case.seed (terminate_prog s (for_one s c.in-Some.x) c.args.id (operand b A))
+    let same : c.get-x.result.now ≡ x = search rules in
+    rw (← same) (acts_made c.args.case.version.now c.args.case.seed (terminate_prog s (for_one s c.get-x.result.now) c.args.id (operand b A))
     (entered c.args.id c.terminate_of-fate.result) c.enter_for.result s c.enter_for.new.self c.args.notes.now c.terminate_of-fate.new.notes
     (c.terminate_of-fate.ensures c.args.id) c.enter_for.ensures)

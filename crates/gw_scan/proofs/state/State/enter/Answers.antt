@@ -3,13 +3,13 @@ use Rattle.gw_meaning.specs.Machine.{Machine}
 use Rattle.gw_meaning.specs.Changes.{fated, placed, crossed}
 use Rattle.gw_scan.proofs.state.State.enter.Goals as goal
 
-pub returns-in-Some-clause-ok : goal.returns-in-Some-clause-ok
-returns-in-Some-clause-ok c =
+pub returns-then-is_some-clause-ok : goal.returns-then-is_some-clause-ok
+returns-then-is_some-clause-ok c =
     let s = c.args.self.now in
-    let x = c.in-Some.x in
+    let x = c.get.result.now in
     let base : Machine = record s { counts = crossed c.args.fate s.counts x.current c.args.id } in
     let active : s.active ≡ Some x = search rules in
-    let inside : Some c.place.new.x ≡ Some (placed x c.args.id) = search rules in
+    let inside : c.place.new.self ≡ Some (placed x c.args.id) = c.place.ensures x (search rules) in
     let behind = c.settle.ensures.fated (placed x c.args.id) base inside in
     let before : record base {
       current = c.reserve-2.new.self.items;
