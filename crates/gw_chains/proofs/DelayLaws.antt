@@ -46,31 +46,19 @@ pub place_of_queue : (cs : Chains) (key : Key) (o : Option ℕ) (i : ℕ) → o 
 place_of_queue cs key o i is queue = subst (IsWaitingPlace cs key) is queue
 
 -- what lies there is its chain
-pub chain_there : (cs : Chains) (i : ℕ) (key kept : Key) (chain : Chain Transaction) → IsPlace cs key (Some i) → Some (kept, chain) ≡ slice_get cs i →
+pub found_there : (cs : Chains) (i : ℕ) (key kept : Key) (chain : Chain Transaction) → IsPlace cs key (Some i) → slice_get cs i ≡ Some (kept, chain) →
     Some chain ≡ value_of cs key
-chain_there cs i key kept chain there is =
+found_there cs i key kept chain there is =
     let own : Chain Transaction = there.0 in
     let at : slice_get cs i ≡ Some (key, own) = there.1 in
     let same : (kept, chain) ≡ (key, own) = cc in
     ap (λ (c : Key × Chain Transaction). Some c.1) same ∙ sym there.2
 
-pub found_there : (cs : Chains) (i : ℕ) (key : Key) (was : Chain Transaction) → IsPlace cs key (Some i) →
-    Some was ≡ slice_get (values_of cs) i → Some was ≡ value_of cs key
-found_there cs i key was there is =
-    is ∙ slice_get-map (λ (c : Key × Chain Transaction). c.1) cs i ∙ ap (option_map (λ (c : Key × Chain Transaction). c.1)) there.1
+pub read_there : (cs : Chains) (i : ℕ) (key : Key) (chain : Chain Transaction) → IsPlace cs key (Some i) → slice_get (values_of cs) i ≡ Some chain →
+    Some chain ≡ value_of cs key
+read_there cs i key chain there is =
+    sym is ∙ slice_get-map (λ (c : Key × Chain Transaction). c.1) cs i ∙ ap (option_map (λ (c : Key × Chain Transaction). c.1)) there.1
     ∙ sym there.2
-
-pub never : (cs : Chains) (i : ℕ) (key : Key) → IsPlace cs key (Some i) → None ≡ slice_get (values_of cs) i → ⊥
-never cs i key there is =
-    let own : Chain Transaction = there.0 in
-    let own_is : slice_get (values_of cs) i ≡ Some own =
-    slice_get-map (λ (c : Key × Chain Transaction). c.1) cs i ∙ ap (option_map (λ (c : Key × Chain Transaction). c.1)) there.1 in
-    cc
-
-pub never_read : (cs : Chains) (i : ℕ) (key : Key) → IsPlace cs key (Some i) → None ≡ slice_get cs i → ⊥
-never_read cs i key there is =
-    let at = there.1 in
-    cc
 
 -- and what is written there, which lies there from then on
 pub set_there : (cs : Chains) (i : ℕ) (key : Key) (chain : Chain Transaction) → IsDistinct key_eq (keys_of cs) →

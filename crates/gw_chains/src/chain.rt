@@ -69,7 +69,7 @@ impl PriorityChain {
 
     /// Makes room for so many more, and for twice as many where it has to grow: each clock step makes room for all of
     /// the future chain, which may have grown by one, and an empty chain would grow by no more than that.
-    #[inline]
+    #[inline(always)]
     pub fn reserve(&mut self, count: usize) -> Result<(), AllocError>
         ensures ok { OnOk result (count ≤ self.new.room) }
         ensures items { self.new.items ≡ self.old.items }
@@ -149,6 +149,7 @@ impl PriorityChain {
     }
 
     /// Takes the first one off.
+    #[inline(always)]
     pub fn take_first(&mut self) -> Option<Transaction>
         ensures items { self.old.items ≡ option_to_list result ++ self.new.items }
         ensures none { IfNone result (self.old.items ≡ []) }

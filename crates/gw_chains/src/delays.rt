@@ -114,10 +114,7 @@ impl DelayChains {
         let Some(index) = place else {
             return None;
         };
-        match self.chains.get_index(index) {
-            Some((_, chain)) => Some(chain),
-            None => unreachable!(),
-        }
+        Some(&self.chains[index])
     }
 
     /// The first that waits for a facility.
@@ -167,10 +164,8 @@ impl DelayChains {
             self.chains.reserve(1)?;
             return self.fresh.reserve(1);
         };
-        match self.chains.get_index_mut(index) {
-            Some(chain) => chain.reserve(1),
-            None => unreachable!(),
-        }
+        let (_, chain) = self.chains.pair_mut(index);
+        chain.reserve(1)
     }
 
     /// A transaction waits for a facility or a storage: behind its equals, in front of the first of lower priority.
@@ -194,10 +189,8 @@ impl DelayChains {
         ensures { delays_of self.new.chains ≡
             with_value (delays_of self.old.chains) key.now (lined_up x (delay_at (delays_of self.old.chains) key.now)) }
     {
-        match self.chains.get_index_mut(index) {
-            Some(chain) => chain.line_up(x),
-            None => unreachable!(),
-        }
+        let (_, chain) = self.chains.pair_mut(index);
+        chain.line_up(x);
         self.count += 1;
     }
 
@@ -235,9 +228,7 @@ impl DelayChains {
         let Some(index) = place else {
             return None;
         };
-        let Some(chain) = self.chains.get_index_mut(index) else {
-            unreachable!()
-        };
+        let (_, chain) = self.chains.pair_mut(index);
         let x = chain.take_first()?;
         self.count -= 1;
         Some(x)
@@ -288,9 +279,7 @@ impl DelayChains {
         let Some(index) = place else {
             return;
         };
-        let Some(chain) = self.chains.get_index_mut(index) else {
-            unreachable!()
-        };
+        let (_, chain) = self.chains.pair_mut(index);
         let before = chain.len();
         chain.let_in_some(shares, current, counts);
         let gone = before - chain.len();

@@ -1,22 +1,15 @@
 use Rattle.std.proofs.Common.{sym, ap, ◌∙◌, refl}
 use Rattle.gw_chains.specs.Chains.{delays_of, first_of}
-use Rattle.gw_chains.proofs.DelayLaws.{delay_is, some_wait, written_is, rewritten_is, one_less_waits, place_of_queue, found_there, set_there, never}
+use Rattle.gw_chains.proofs.DelayLaws.{delay_is, some_wait, written_is, rewritten_is, one_less_waits, place_of_queue, found_there, set_there}
 use Rattle.gw_chains.proofs.delays.DelayChains.take_first_at.Goals as goal
-
-pub unreachable-requires : goal.unreachable-requires
-unreachable-requires c =
-    let cs = c.self.inside.chains.entries in
-    let key = c.args.key.now in
-    let there = place_of_queue cs key c.args.place c.in-Some.index c.in-Some.is (rw (← c.self.view_is) at c.requires) in
-    never cs c.in-Some.index key there c.in_default-get_index_mut.ensures.value
 
 pub invariant_of-self : goal.invariant_of-self
 invariant_of-self c =
     let cs = c.self.inside.chains.entries in
     let key = c.args.key.now in
     let there = place_of_queue cs key c.args.place c.in-Some.index c.in-Some.is (rw (← c.self.view_is) at c.requires) in
-    let found = found_there cs c.in-Some.index key c.in-Some-get_index_mut.chain.now there c.in-Some-get_index_mut.ensures.value in
-    let set = set_there cs c.in-Some.index key c.take_first.new.self c.in-Some-get_index_mut.ensures.unique there in (
+    let found = found_there cs c.in-Some.index key c.pair_mut-chain.result.0.now c.pair_mut-chain.result.1.now there c.pair_mut-chain.ensures.value in
+    let set = set_there cs c.in-Some.index key c.take_first.new.self c.pair_mut-chain.ensures.unique there in (
       c.self.invariant.0,
       rw (rewritten_is cs _ key _ c.take_first.new.self found
           set (sym c.in_err-x.ensures.items)) c.self.invariant.1,
@@ -27,7 +20,7 @@ returns-in_err-x-clause-first c =
     let cs = c.self.inside.chains.entries in
     let key = c.args.key.now in
     let there = place_of_queue cs key c.args.place c.in-Some.index c.in-Some.is (rw (← c.self.view_is) at c.requires) in
-    let found = found_there cs c.in-Some.index key c.in-Some-get_index_mut.chain.now there c.in-Some-get_index_mut.ensures.value in
+    let found = found_there cs c.in-Some.index key c.pair_mut-chain.result.0.now c.pair_mut-chain.result.1.now there c.pair_mut-chain.ensures.value in
     rw (← c.self.view_is, c.from_residual.ensures)
     (ap first_of (sym (delay_is cs key _ found ∙ c.in_err-x.ensures.none)))
 
@@ -36,8 +29,8 @@ returns-in_err-x-clause-delays c =
     let cs = c.self.inside.chains.entries in
     let key = c.args.key.now in
     let there = place_of_queue cs key c.args.place c.in-Some.index c.in-Some.is (rw (← c.self.view_is) at c.requires) in
-    let found = found_there cs c.in-Some.index key c.in-Some-get_index_mut.chain.now there c.in-Some-get_index_mut.ensures.value in
-    let set = set_there cs c.in-Some.index key c.take_first.new.self c.in-Some-get_index_mut.ensures.unique there in
+    let found = found_there cs c.in-Some.index key c.pair_mut-chain.result.0.now c.pair_mut-chain.result.1.now there c.pair_mut-chain.ensures.value in
+    let set = set_there cs c.in-Some.index key c.take_first.new.self c.pair_mut-chain.ensures.unique there in
     rw (← c.self.view_is, delay_is cs key _ found ∙ c.in_err-x.ensures.none)
     (rewritten_is cs _ key _ c.take_first.new.self found
     set (sym c.in_err-x.ensures.items))
@@ -47,8 +40,8 @@ invariant_of-self-2 c =
     let cs = c.self.inside.chains.entries in
     let key = c.args.key.now in
     let there = place_of_queue cs key c.args.place c.in-Some.index c.in-Some.is (rw (← c.self.view_is) at c.requires) in
-    let found = found_there cs c.in-Some.index key c.in-Some-get_index_mut.chain.now there c.in-Some-get_index_mut.ensures.value in
-    let set = set_there cs c.in-Some.index key c.take_first.new.self c.in-Some-get_index_mut.ensures.unique there in
+    let found = found_there cs c.in-Some.index key c.pair_mut-chain.result.0.now c.pair_mut-chain.result.1.now there c.pair_mut-chain.ensures.value in
+    let set = set_there cs c.in-Some.index key c.take_first.new.self c.pair_mut-chain.ensures.unique there in
     let taken = delay_is cs key _ found ∙ c.in_ok-x.ensures.items in
     let written = written_is cs _ key _ c.take_first.new.self found
     set in (
@@ -62,7 +55,7 @@ returns-clause-first c =
     let cs = c.self.inside.chains.entries in
     let key = c.args.key.now in
     let there = place_of_queue cs key c.args.place c.in-Some.index c.in-Some.is (rw (← c.self.view_is) at c.requires) in
-    let found = found_there cs c.in-Some.index key c.in-Some-get_index_mut.chain.now there c.in-Some-get_index_mut.ensures.value in
+    let found = found_there cs c.in-Some.index key c.pair_mut-chain.result.0.now c.pair_mut-chain.result.1.now there c.pair_mut-chain.ensures.value in
     rw (← c.self.view_is, delay_is cs key _ found ∙ c.in_ok-x.ensures.items) refl
 
 pub returns-clause-delays : goal.returns-clause-delays
@@ -70,8 +63,8 @@ returns-clause-delays c =
     let cs = c.self.inside.chains.entries in
     let key = c.args.key.now in
     let there = place_of_queue cs key c.args.place c.in-Some.index c.in-Some.is (rw (← c.self.view_is) at c.requires) in
-    let found = found_there cs c.in-Some.index key c.in-Some-get_index_mut.chain.now there c.in-Some-get_index_mut.ensures.value in
-    let set = set_there cs c.in-Some.index key c.take_first.new.self c.in-Some-get_index_mut.ensures.unique there in
+    let found = found_there cs c.in-Some.index key c.pair_mut-chain.result.0.now c.pair_mut-chain.result.1.now there c.pair_mut-chain.ensures.value in
+    let set = set_there cs c.in-Some.index key c.take_first.new.self c.pair_mut-chain.ensures.unique there in
     rw (← c.self.view_is, delay_is cs key _ found ∙ c.in_ok-x.ensures.items)
     (written_is cs _ key _ c.take_first.new.self found
     set)
@@ -81,6 +74,6 @@ overflow_sub-self c =
     let cs = c.self.inside.chains.entries in
     let key = c.args.key.now in
     let there = place_of_queue cs key c.args.place c.in-Some.index c.in-Some.is (rw (← c.self.view_is) at c.requires) in
-    let found = found_there cs c.in-Some.index key c.in-Some-get_index_mut.chain.now there c.in-Some-get_index_mut.ensures.value in
+    let found = found_there cs c.in-Some.index key c.pair_mut-chain.result.0.now c.pair_mut-chain.result.1.now there c.pair_mut-chain.ensures.value in
     let taken = delay_is cs key _ found ∙ c.in_ok-x.ensures.items in
     some_wait (delays_of cs) key c.in_ok-x.x c.take_first.new.self.items c.self.inside.count c.self.invariant.1 taken
