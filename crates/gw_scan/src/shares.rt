@@ -53,13 +53,14 @@ fn shares_of(
     ensures { Decides case.entry.version.now case.entry.seed
         (shares_prog name.now content [] chain.now.items) result notes.old notes.new }
 {
+    let capacity = case.version.capacity(name);
     let mut shares = Vec::new(case.alloc);
     for i in 0..chain.len() {
         let Some(x) = chain.get(i) else {
             unreachable!()
         };
         let asked = u64::from(x.asked);
-        let fits = ask_fits(case.version, notes, name, beside(asked, content))?;
+        let fits = ask_fits(notes, name, beside(asked, content), capacity)?;
         shares.push(share_of(asked, fits))?;
         content = in_use(content, asked, fits);
     }
