@@ -19,12 +19,12 @@ use crate::halt::Halt;
 use crate::letting_in::{let_some_in, reserve_some};
 use crate::notes::Notes;
 use crate::queueing::is_too_many;
-use crate::shares::{all_shares, beside};
+use crate::shares::{all_shares, beside, shares_of};
 use crate::state::State;
 use gw_entities::Storage;
 use gw_expr::Node;
 use gw_meaning::operands::A;
-use gw_meaning::{Block, Row, StatementId};
+use gw_meaning::{Block, StatementId};
 use gw_names::{Key, StorageName};
 
 impl State {
@@ -217,8 +217,13 @@ impl State {
         if content < units {
             return Err(Halt::LEAVE_TOO_MANY);
         }
-        let shares = self.shares(case, notes, name.name(), key, content - units)?;
-        let left = self.leave_for(id, key, place, storage, units, &shares);
+        let Some(chain) = self.waiting_for(key) else {
+            let left = self.leave_for(id, key, place, storage, units, &[]);
+            return self.with_draws(left, notes);
+        };
+        let shares = shares_of(case, notes, name.name(), chain, content - units)?;
+        let left = self.leave_for(id, key, place, storage, units, shares.as_slice());
+        notes.give_back(shares);
         self.with_draws(left, notes)
     }
 
@@ -231,7 +236,7 @@ impl State {
         place: Option<usize>,
         storage: Storage,
         units: u64,
-        shares: &Row<Option<u64>>,
+        shares: &[Option<u64>],
     ) -> Result<(), Halt>
         requires active { IsSome self.old.active }
         requires place { IsPlace self.old.entities.storages key.now place }
@@ -239,7 +244,6 @@ impl State {
         ensures { (x : Transaction) → self.old.active ≡ Some x →
             Goes (leave_for id key.now storage units shares.now) result self.old self.new }
     {
-        let shares = shares.as_slice();
         if is_too_many(storage.entries().saturating_add(all_shares(shares))) {
             return Err(Halt::TOO_MANY_UNITS);
         }
