@@ -94,20 +94,20 @@ pub fn ask_name(
     Ok(version.number_of(name))
 }
 
-// Do so many units fit into the storage of this name?
+// Do so many units fit into the storage of this name, which has this capacity?
 #[inline(always)]
 pub fn ask_fits(
-    version: &Version,
     notes: &mut Notes,
     name: &Name,
     units: u64,
+    capacity: u64,
 ) -> Result<bool, AllocError>
-    ensures answer { IfOk result (λ fits. fits ≡ nat_le units (capacity_at version.now name.now)) }
+    ensures answer { IfOk result (λ fits. fits ≡ nat_le units capacity) }
     ensures ok { OnOk result (Asks notes.old (items.Fits name.now units) notes.new) }
     ensures err { OnErr result (notes.new ≡ notes.old) }
 {
     notes.note_asked(Asked::Fits(name, units))?;
-    Ok(version.fits(name, units))
+    Ok(units <= capacity)
 }
 
 // How many units does the storage of this name have?

@@ -1,15 +1,16 @@
-ghost use Rattle.std.specs.Prelude.{◌≡◌, ◌+◌, ◌<◌, ◌^◌, ◌-◌, OnOk, OnErr};
+ghost use Rattle.std.specs.Prelude.{◌≡◌, ◌+◌, ◌<◌, ◌^◌, ◌-◌, [], OnOk, OnErr};
 ghost use Rattle.gw_uses.specs.Asked.{asked_item};
 ghost use Rattle.gw_uses.specs.Steps.{AreBelow};
 ghost use Rattle.gw_uses.specs.Uses.{nothing_used};
 ghost use Rattle.gw_scan.specs.Noted.{Asks, Forgets};
 
 use crate::state::State;
-use gw_meaning::Item;
+use gw_meaning::{Item, Row};
 use gw_streams::Streams;
 use gw_uses::{Asked, FirstUses};
 use std::alloc::{AllocError, Global};
 use std::marker::Model;
+use std::mem;
 
 /// The last step that may read: what comes behind it stands for none.
 const LAST: u64 = u64::MAX - 1;
@@ -22,6 +23,8 @@ pub struct Notes {
     // The block that asks, or 0: an item that is not kept by number is looked for first where its block found it.
     reader: u64,
     pub(crate) streams: Streams,
+    // The memory of the last list of shares of a LEAVE, for the next one.
+    spare: Vec<Option<u64>>,
 }
 
 impl Model for Notes {
@@ -46,6 +49,7 @@ impl Notes {
             step: 0,
             reader: 0,
             streams: state.streams,
+            spare: Vec::new(alloc),
         }
     }
 
@@ -79,6 +83,25 @@ impl Notes {
         self.firsts.forget(step);
         self.step = step.min(LAST);
         self.streams = state.streams;
+    }
+
+    // An empty list, in the memory of the one that was given back last.
+    #[inline(always)]
+    pub(crate) fn take_spare(&mut self, alloc: Global) -> Vec<Option<u64>>
+        ensures empty { result.items ≡ [] }
+        ensures same { self.new ≡ self.old }
+    {
+        let mut spare = mem::replace(&mut self.spare, Vec::new(alloc));
+        spare.clear();
+        spare
+    }
+
+    // Keeps the memory of a list for the next one.
+    #[inline(always)]
+    pub(crate) fn give_back(&mut self, shares: Row<Option<u64>>)
+        ensures { self.new ≡ self.old }
+    {
+        self.spare = shares.into_vec();
     }
 
     // Forgets the step that reads, and its draws behind this state.

@@ -1,8 +1,9 @@
 // The shares of a LEAVE: who of a delay chain is let in, and with how many units.
-ghost use Rattle.std.specs.Prelude.{◌≡◌, []};
+ghost use Rattle.std.specs.Prelude.{◌≡◌, [], option_copied};
 ghost use Rattle.gw_entities.specs.Records.{capped};
 ghost use Rattle.gw_meaning.specs.Machine.{delay_at};
 ghost use Rattle.gw_meaning.specs.Step.{beside, share_of, in_use, shares_prog, all_shares};
+ghost use Rattle.gw_chains.specs.Chains.{items_of};
 ghost use Rattle.gw_scan.specs.Deciding.{Decides};
 
 use crate::case::{Case, ask_fits};
@@ -14,22 +15,14 @@ use gw_meaning::Row;
 use gw_names::{Key, Name};
 
 impl State {
-    // For each that waits for a storage, with so many units in use, the units with which it is let in.
+    // The delay chain of a storage, where somebody waits on it.
     #[inline(always)]
-    pub(crate) fn shares(
-        &self,
-        case: Case,
-        notes: &mut Notes,
-        name: &Name,
-        key: &Key,
-        content: u64,
-    ) -> Result<Row<Option<u64>>, Halt>
-        ensures { Decides case.entry.version.now case.entry.seed
-            (shares_prog name.now content [] (delay_at self.now.delays key.now)) result notes.old notes.new }
+    pub(crate) fn waiting_for(&self, key: &Key) -> Option<&PriorityChain>
+        ensures { items_of (option_copied result) ≡ delay_at self.now.delays key.now }
     {
         match self.delays.chain(key) {
-            Some(chain) if !chain.is_empty() => shares_of(case, notes, name, chain, content),
-            _ => Ok(Row::from_vec(Vec::new(case.alloc))),
+            Some(chain) if !chain.is_empty() => Some(chain),
+            _ => None,
         }
     }
 }
@@ -43,7 +36,7 @@ pub fn beside(units: u64, content: u64) -> u64
 
 // Each of a delay chain, from the front, is let in where its units fit beside those that are in use by then.
 #[inline(never)]
-fn shares_of(
+pub fn shares_of(
     case: Case,
     notes: &mut Notes,
     name: &Name,
@@ -53,13 +46,14 @@ fn shares_of(
     ensures { Decides case.entry.version.now case.entry.seed
         (shares_prog name.now content [] chain.now.items) result notes.old notes.new }
 {
-    let mut shares = Vec::new(case.alloc);
+    let capacity = case.version.capacity(name);
+    let mut shares = notes.take_spare(case.alloc);
     for i in 0..chain.len() {
         let Some(x) = chain.get(i) else {
             unreachable!()
         };
         let asked = u64::from(x.asked);
-        let fits = ask_fits(case.version, notes, name, beside(asked, content))?;
+        let fits = ask_fits(notes, name, beside(asked, content), capacity)?;
         shares.push(share_of(asked, fits))?;
         content = in_use(content, asked, fits);
     }

@@ -1,5 +1,5 @@
 // ENTER and LEAVE, made where they are decided: the storage is looked up once.
-ghost use Rattle.std.specs.Prelude.{◌≡◌, IsSome, Some};
+ghost use Rattle.std.specs.Prelude.{◌≡◌, IsSome, Some, true};
 ghost use Rattle.gw_expr.specs.Term.{Defined};
 ghost use Rattle.gw_names.specs.declared.key.Key.TheVariants as keys;
 ghost use Rattle.gw_entities.specs.Tables.{IsPlace};
@@ -7,6 +7,7 @@ ghost use Rattle.gw_meaning.specs.declared.item.Item.TheVariants as items;
 ghost use Rattle.gw_meaning.specs.declared.transaction.Transaction.{Transaction};
 ghost use Rattle.gw_meaning.specs.Entities.{store_at};
 ghost use Rattle.gw_meaning.specs.Evaluation.{asks};
+ghost use Rattle.gw_meaning.specs.Listing.{capacity_at};
 ghost use Rattle.gw_meaning.specs.Statements.{A, B, operand};
 ghost use Rattle.gw_meaning.specs.Step.{for_one, enter_or_wait, enter_storage, enter_prog, leave_for, leave_units, leave_prog};
 ghost use Rattle.gw_scan.specs.Stepping.{Acts, Goes};
@@ -18,12 +19,12 @@ use crate::halt::Halt;
 use crate::letting_in::{let_some_in, reserve_some};
 use crate::notes::Notes;
 use crate::queueing::is_too_many;
-use crate::shares::{all_shares, beside};
+use crate::shares::{all_shares, beside, shares_of};
 use crate::state::State;
 use gw_entities::Storage;
 use gw_expr::Node;
 use gw_meaning::operands::A;
-use gw_meaning::{Block, Row, StatementId};
+use gw_meaning::{Block, StatementId};
 use gw_names::{Key, StorageName};
 
 impl State {
@@ -85,11 +86,15 @@ impl State {
             (enter_storage id name.now (store_at self.old.entities (keys.Defined name.now)) units))
             result self.old self.new notes.old notes.new }
     {
-        let large = ask_fits(case.version, notes, name.name(), u64::from(units))?;
-        self.act_enter_storage(case, notes, id, name, units, large)
+        let capacity = case.version.capacity(name.name());
+        let large = ask_fits(notes, name.name(), u64::from(units), capacity)?;
+        if !large {
+            return Err(Halt::TOO_MANY_UNITS);
+        }
+        self.act_enter_storage(case, notes, id, name, units, capacity)
     }
 
-    // So many units of a storage that has as many, or is too small for them.
+    // So many units of a storage that has as many at least.
     #[inline(always)]
     fn act_enter_storage(
         &mut self,
@@ -98,20 +103,18 @@ impl State {
         id: StatementId,
         name: &StorageName,
         units: u32,
-        large: bool,
+        capacity: u64,
     ) -> Result<(), Halt>
-        requires { IsSome self.old.active }
+        requires active { IsSome self.old.active }
+        requires capacity { capacity ≡ capacity_at case.version.now name.now }
         ensures { (x : Transaction) → self.old.active ≡ Some x → Acts case.entry.version.now case.entry.seed
-            (enter_storage id name.now (store_at self.old.entities (keys.Defined name.now)) units large)
+            (enter_storage id name.now (store_at self.old.entities (keys.Defined name.now)) units true)
             result self.old self.new notes.old notes.new }
     {
-        if !large {
-            return Err(Halt::TOO_MANY_UNITS);
-        }
         let key = name.key();
         let (place, storage) = self.entities.look_for_storage(key);
         let wanted = beside(u64::from(units), storage.level().content());
-        let fits = ask_fits(case.version, notes, name.name(), wanted)?;
+        let fits = ask_fits(notes, name.name(), wanted, capacity)?;
         let entered = self.enter_or_wait(id, key, place, storage, units, fits);
         self.with_draws(entered, notes)
     }
@@ -214,8 +217,13 @@ impl State {
         if content < units {
             return Err(Halt::LEAVE_TOO_MANY);
         }
-        let shares = self.shares(case, notes, name.name(), key, content - units)?;
-        let left = self.leave_for(id, key, place, storage, units, &shares);
+        let Some(chain) = self.waiting_for(key) else {
+            let left = self.leave_for(id, key, place, storage, units, &[]);
+            return self.with_draws(left, notes);
+        };
+        let shares = shares_of(case, notes, name.name(), chain, content - units)?;
+        let left = self.leave_for(id, key, place, storage, units, shares.as_slice());
+        notes.give_back(shares);
         self.with_draws(left, notes)
     }
 
@@ -228,7 +236,7 @@ impl State {
         place: Option<usize>,
         storage: Storage,
         units: u64,
-        shares: &Row<Option<u64>>,
+        shares: &[Option<u64>],
     ) -> Result<(), Halt>
         requires active { IsSome self.old.active }
         requires place { IsPlace self.old.entities.storages key.now place }
@@ -236,7 +244,6 @@ impl State {
         ensures { (x : Transaction) → self.old.active ≡ Some x →
             Goes (leave_for id key.now storage units shares.now) result self.old self.new }
     {
-        let shares = shares.as_slice();
         if is_too_many(storage.entries().saturating_add(all_shares(shares))) {
             return Err(Halt::TOO_MANY_UNITS);
         }

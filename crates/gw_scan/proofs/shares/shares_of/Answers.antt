@@ -26,7 +26,7 @@ loop-i-preserved c = λ r all rest.
     let whole : shares_prog name content shares (drop i F) ≡ asks (items.Fits name (beside x.asked content)) rest_of =
     ap (shares_prog name content shares) (item_drop F i x h c.in-Some.ensures.1) in
     let noted = rw (c.beside.ensures, c.from-asked.ensures) at c.in_ok-fits.ensures.ok in
-    let answer = rw (c.beside.ensures, c.from-asked.ensures) at c.in_ok-fits.ensures.answer in
+    let answer = rw (c.beside.ensures, c.from-asked.ensures, c.capacity-capacity.ensures) at c.in_ok-fits.ensures.answer in
     let next = rw (c.in_use-content.ensures, c.in_ok-push.ensures.items, c.share_of.ensures, c.from-asked.ensures, answer) at rest in
     c.loop-i.invariant r all (subst (λ (p : Eval (List (Option ℕ))). Decides t seed p r c.loop-i.notes all) (sym whole)
     (decides_asked t seed (items.Fits name (beside x.asked content)) rest_of r c.loop-i.notes c.ask_fits.new.notes all noted next))

@@ -1,4 +1,4 @@
-use Rattle.std.proofs.Common.{◌≡◌, Bool, true, subst, rules}
+use Rattle.std.proofs.Common.{◌≡◌, Bool, subst, rules}
 use Rattle.gw_names.specs.declared.key.Key.{Key}
 use Rattle.gw_names.specs.declared.key.Key.TheVariants as keys
 use Rattle.gw_meaning.specs.declared.item.Item.TheVariants as items
@@ -18,13 +18,12 @@ returns c x is =
     let name = c.args.name.now in
     let key = keys.Defined name in
     let store = store_at s.entities key in
-    let large : c.args.large ≡ true = search rules in
     let lent : c.key-key.result.now ≡ key = c.key-key.ensures in
     let held : c.look_for_storage-place.result.1 ≡ store = search (rules, lent) in
     let wanted : c.beside-wanted.result ≡ beside c.args.units store.level.content = search (rules, held) in
     let named : c.name.result.now ≡ name = c.name.ensures in
     let ok = rw (wanted, named) at c.in_ok-fits.ensures.ok in
-    let answer = rw (wanted, named) at c.in_ok-fits.ensures.answer in
+    let answer = rw (wanted, c.requires.capacity) at c.in_ok-fits.ensures.answer in
     let went = c.enter_or_wait-entered.ensures x is in
     let G : Store → Type 0 = λ st. Goes (enter_or_wait id c.key-key.result.now st c.args.units c.in_ok-fits.fits)
     c.enter_or_wait-entered.result s c.enter_or_wait-entered.new.self in
@@ -34,6 +33,6 @@ returns c x is =
     let notes = c.ask_fits.new.notes in
     let F : Bool → Type 0 = λ fits. Acts t seed (enter_or_wait id key store c.args.units fits) c.with_draws.result s
     c.with_draws.new.self notes notes in
-    rw large (acts_asked t seed (items.Fits name (beside c.args.units store.level.content)) (enter_or_wait id key store c.args.units)
+    acts_asked t seed (items.Fits name (beside c.args.units store.level.content)) (enter_or_wait id key store c.args.units)
     _ s _ c.args.notes.now notes notes ok
-    (subst F answer (c.with_draws.ensures t seed (enter_or_wait id key store c.args.units c.in_ok-fits.fits) s goes)))
+    (subst F answer (c.with_draws.ensures t seed (enter_or_wait id key store c.args.units c.in_ok-fits.fits) s goes))

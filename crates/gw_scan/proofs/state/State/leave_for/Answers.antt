@@ -13,7 +13,7 @@ pub returns : goal.returns
 returns c x is =
     let s = c.args.self.now in
     let key = c.args.key.now in
-    let deed = deeds.Leave c.args.units c.as_slice-shares.result.now in
+    let deed = deeds.Leave c.args.units c.args.shares.now in
     let m = moves.Enter c.args.id (changes.Entity (key, deed)) fates.Active in
     let entities = done key deed s.clock x.number s.entities in
     let rest : Machine = record s { active = Some (placed x c.args.id); entities = entities } in
