@@ -3,9 +3,9 @@ ghost use Rattle.std.specs.Prelude.{Some, IfOk, OnOk};
 ghost use Rattle.gw_meaning.specs.declared.transaction.Transaction.{Transaction};
 ghost use Rattle.gw_meaning.specs.declared.transaction.Event.{Event};
 ghost use Rattle.gw_meaning.specs.Changes.{all_lined_up, due, is_due};
-ghost use Rattle.gw_meaning.specs.Step.{least_time, sooner};
+ghost use Rattle.gw_meaning.specs.Step.{least_time};
 ghost use Rattle.gw_chains.specs.ClosingUp.{ClosingUp};
-ghost use Rattle.gw_chains.specs.Segments.{soonest, is_later, time_of, IsLeast, IsEarliest};
+ghost use Rattle.gw_chains.specs.Segments.{time_of, IsLeast, IsEarliest};
 
 use crate::chain::{PriorityChain, same};
 use gw_meaning::Event;
@@ -139,16 +139,6 @@ impl Segment {
             events,
             earliest: self.earliest,
         })
-    }
-}
-
-// Whether a time, where there is one, is later than another.
-pub(crate) fn is_later(least: Option<Time>, time: Time) -> bool
-    ensures { result ≡ is_later least time }
-{
-    match least {
-        Some(least) => time < least,
-        None => true,
     }
 }
 
@@ -397,24 +387,5 @@ fn same_event(event: &Event) -> Event
     Event {
         time: event.time,
         transaction: same(&event.transaction),
-    }
-}
-
-// The sooner of two times, where there are any.
-pub(crate) fn soonest(time: Option<Time>, other: Option<Time>) -> Option<Time>
-    ensures { result ≡ soonest time other }
-{
-    match time {
-        Some(time) => Some(sooner(time, other)),
-        None => other,
-    }
-}
-
-fn sooner(time: Time, other: Option<Time>) -> Time
-    ensures { Some result ≡ sooner time other }
-{
-    match other {
-        Some(other) if other < time => other,
-        _ => time,
     }
 }
