@@ -16,7 +16,7 @@ use Rattle.gw_chains.proofs.ChainLaws.{item_drop}
 use Rattle.gw_chains.proofs.SegmentLaws.{least_put, next_taken, due_append, all_lined_append, none_due, none_leaves}
 
 -- one more behind others
-taken_front : (es : List Event) (e : Event) → take (length es) (es ++ e ∷ []) ≡ es
+pub taken_front : (es : List Event) (e : Event) → take (length es) (es ++ e ∷ []) ≡ es
 taken_front es e = take-append-le (length es) es (e ∷ []) (omega arith) ∙ take_all (length es) es (omega arith)
 
 one_longer : (es : List Event) (e : Event) → length (es ++ e ∷ []) ≡ length es + 1
@@ -79,13 +79,13 @@ module _ (es : List Event) (e : Event) where
   first_old o i k = first_ahead o i es e k
 
 -- the same in ticks
-later_ticks : (ticks t : ℕ) → t ≤ 1001000000000 → is_later (time_of ticks) t ≡ nat_lt t ticks
+pub later_ticks : (ticks t : ℕ) → t ≤ 1001000000000 → is_later (time_of ticks) t ≡ nat_lt t ticks
 later_ticks ticks t h = go (nat_le ticks 1001000000000) refl where
   go : (b : Bool) → nat_le ticks 1001000000000 ≡ b → is_later (time_of ticks) t ≡ nat_lt t ticks
   go true is = rw is refl
   go false is = rw is (grind (arith, nat_tests))
 
-time_within : (t : ℕ) → t ≤ 1001000000000 → time_of t ≡ Some t
+pub time_within : (t : ℕ) → t ≤ 1001000000000 → time_of t ≡ Some t
 time_within t h = let is : nat_le t 1001000000000 ≡ true = grind (arith, nat_tests) in rw is refl
 
 pub meets_sooner : (es : List Event) (e : Event) (ticks i : ℕ) → e.time ≤ 1001000000000 → nat_lt e.time ticks ≡ true → IsLeast es ticks i →
@@ -135,7 +135,7 @@ module _ (all events : List Event) (i : ℕ) (e : Event) (h : i < length all) (l
       let p : Event → Bool = λ e. not (is_due t e) in
       ap (filter p) (next_taken all i e h next_is) ∙ (filter-append p (take i all) (e ∷ []) ∙ rw later refl)
 
--- the first one that is due is there
+-- none in front of an index is due
 pub starts : (t : ℕ) (all : List Event) (start : List Transaction) (i ticks first : ℕ) → due t (take i all) ≡ [] → IsLeast (take i all) ticks first →
     ClosingUp t all start i i all ticks first start
 starts t all start i ticks first none least =
@@ -186,19 +186,6 @@ one_stays t all start i n m e events ticks first ticks' first' current more h is
       current_is = k.current_is ∙ ap (λ xs. all_lined_up xs start) (sym gone);
     }
 
--- the first one is gone, and others have closed up in front of the next one
-pub after_first : (t : ℕ) (F : List Event) (C current : List Transaction) (i : ℕ) (e : Event) (ticks first n : ℕ) (events : List Event)
-    (ticks' first' : ℕ) → IsFirst (Some t) i F → e ≡ get_or F i e → IsLeast (take i F) ticks first →
-    current ≡ lined_up (get_or F i e).transaction C →
-    ((all : List Event) → (start : List Transaction) → (xs : List Transaction) → ClosingUp t all start (i + 1) i F ticks first xs →
-    ClosingUp t all start (n + 1) n events ticks' first' xs) →
-    ClosingUp t F C (n + 1) n events ticks' first' current
-after_first t F C current i e ticks first n events ticks' first' known is least up closing =
-    let there = first_is t i F e known is in
-    let one = one_goes t F C i i e F ticks first C there.0 is there.1 (starts t F C i ticks first known.0 least) in
-    let now : current ≡ lined_up e.transaction C = up ∙ ap (λ x. lined_up x.transaction C) (sym is) in
-    closing F C current (rw now one)
-
 -- what is written to a slice of all of a Vec
 pub written_back : (new old : List Event) (m : ℕ) → length new ≡ m → take m (new ++ drop (length new) old) ≡ new
 written_back new old m long = take-append-le m new (drop (length new) old) (omega (arith, long)) ∙ take_all m new (omega (arith, long))
@@ -211,10 +198,6 @@ time_made None ticks fits value = go (nat_le ticks 1001000000000) refl where
   go false is = rw is refl
   go true is = let low : ticks ≤ 1001000000000 = grind (arith, nat_tests) in let no : false ≡ true = fits.1 low in absurd cc
 time_made (Some t) ticks fits value = ap (λ n. Some n) value ∙ sym (time_within ticks (fits.0 (search rules)))
-
--- a segment knows the least time again
-pub renewed : (o : Option ℕ) (es : List Event) (ticks first : ℕ) → o ≡ time_of ticks → IsLeast es ticks first → (o ≡ least_time es) × IsFirst o first es
-renewed o es ticks first is k = (is ∙ sym k.least, rw is k.first)
 
 -- how many are kept
 pub kept_long : (t : ℕ) (all : List Event) (start : List Transaction) (i n : ℕ) (events : List Event) (ticks first : ℕ) (current : List Transaction) →

@@ -5,3 +5,4 @@ pub mod ChainLaws
 pub mod SegmentLaws
 pub mod ClosingUp
 pub mod Leasts
+pub mod Earliest

@@ -43,10 +43,6 @@ due_append t (x ∷ xs) ys = go (is_due t x) refl (due_append t xs ys) where
   go true h rest = rw h (ap (λ zs. x.transaction ∷ zs) rest)
   go false h rest = rw h rest
 
-pub due_more : (t : ℕ) (es : List Event) (i : ℕ) (e : Event) → i < length es → e ≡ get_or es i e → is_due t e ≡ false → due t (take i es) ≡ [] →
-    due t (take (i + 1) es) ≡ []
-due_more t es i e h is later none = ap (due t) (next_taken es i e h is) ∙ (due_append t (take i es) (e ∷ []) ∙ rw (none, later) refl)
-
 pub all_lined_append : (xs ys chain : List Transaction) → all_lined_up (xs ++ ys) chain ≡ all_lined_up ys (all_lined_up xs chain)
 all_lined_append [] ys chain = refl
 all_lined_append (x ∷ xs) ys chain = all_lined_append xs ys (lined_up x chain)

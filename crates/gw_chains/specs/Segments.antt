@@ -45,14 +45,15 @@ IsFirst None index events = Unit {0}
 IsFirst (Some time) index events = (due time (take index events) ≡ []) ×
     IsSomeAnd (slice_get events index) (λ e. is_due time e ≡ true)
 
-abbrev pub IsFirstDue : ℕ → Option ℕ → List Event → Type 0
-IsFirstDue time None events = Unit {0}
-IsFirstDue time (Some index) events = IsFirst (Some time) index events
-
 -- the least time of transactions, in ticks, and where the first one with it is
 pub record IsLeast (events : List Event) (ticks index : ℕ) : Type 0 where
   pub least : least_time events ≡ time_of ticks
   pub first : IsFirst (time_of ticks) index events
+
+-- the same, and the least time of those in front of that one, which is known where its first one is in front of it too
+pub record IsEarliest (events : List Event) (ticks index front_ticks front_index : ℕ) : Type 0 where
+  pub least : IsLeast events ticks index
+  pub front : front_index < index → IsLeast (take index events) front_ticks front_index
 
 -- the least time of each segment, where anything is on it
 abbrev pub least_times : List Closed → List (Option ℕ)

@@ -4,7 +4,8 @@ ghost use Rattle.gw_meaning.specs.Step.{least_time};
 ghost use Rattle.gw_chains.specs.Segments.{IsReady, is_later};
 
 use crate::chain::PriorityChain;
-use crate::segment::{Segment, is_later};
+use crate::segment::Segment;
+use crate::times::is_later;
 use gw_nums::Time;
 use std::alloc::{AllocError, Global};
 use std::marker::Model;

@@ -7,7 +7,8 @@ ghost use Rattle.gw_chains.specs.Segments.{least_times, AreLeasts, AreAllLater, 
 
 use crate::chain::PriorityChain;
 use crate::closed::ClosedSegment;
-use crate::segment::{Segment, is_later, soonest};
+use crate::segment::Segment;
+use crate::times::{is_later, soonest};
 use gw_lanes::{first_at, least};
 use gw_meaning::Event;
 use gw_nums::{LAST_TIME, Time};

@@ -10,6 +10,7 @@ mod delays;
 mod entering;
 mod future;
 mod segment;
+mod times;
 
 pub use chain::{PriorityChain, has_share};
 pub use counts::Counts;

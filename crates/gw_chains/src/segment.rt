@@ -1,12 +1,11 @@
-ghost use Rattle.std.specs.Prelude.{◌≡◌, ◌+◌, ◌-◌, ◌++◌, ◌∷◌, ◌≤◌, ◌<◌, ◌^◌, ◌==◌, List, [], length, drop, filter, not};
-ghost use Rattle.std.specs.Prelude.{true};
-ghost use Rattle.std.specs.Prelude.{Some, IsSomeAnd, IfNone, IfOk, OnOk, slice_get};
+ghost use Rattle.std.specs.Prelude.{◌≡◌, ◌+◌, ◌-◌, ◌++◌, ◌∷◌, ◌≤◌, ◌<◌, ◌^◌, ◌==◌, List, [], length, take, drop, filter, not};
+ghost use Rattle.std.specs.Prelude.{Some, IfOk, OnOk};
 ghost use Rattle.gw_meaning.specs.declared.transaction.Transaction.{Transaction};
 ghost use Rattle.gw_meaning.specs.declared.transaction.Event.{Event};
 ghost use Rattle.gw_meaning.specs.Changes.{all_lined_up, due, is_due};
-ghost use Rattle.gw_meaning.specs.Step.{least_time, sooner};
+ghost use Rattle.gw_meaning.specs.Step.{least_time};
 ghost use Rattle.gw_chains.specs.ClosingUp.{ClosingUp};
-ghost use Rattle.gw_chains.specs.Segments.{soonest, is_later, time_of, IsFirst, IsFirstDue, IsLeast};
+ghost use Rattle.gw_chains.specs.Segments.{time_of, IsLeast, IsEarliest};
 
 use crate::chain::{PriorityChain, same};
 use gw_meaning::Event;
@@ -15,21 +14,20 @@ use std::alloc::{AllocError, Global};
 use std::marker::Model;
 
 // A part of the future chain, in the order of coming onto it. It knows its least time, so that a clock step passes
-// over it where none on it is due, and where the first one with that time is, so that nobody is looked for.
+// over it where none on it is due, and where the first one with that time is, so that nobody is looked for. It often
+// knows the least time in front of that one too, so that a clock step goes over those behind it alone.
 #[derive(Drop)]
 pub struct Segment {
     events: Vec<Event>,
-    least: Option<Time>,
-    first: usize,
+    earliest: Earliest,
 }
 
 impl Model for Segment {
     ghost use Rattle.std.specs.Prelude.{◌≡◌, ◌-◌};
     ghost use Rattle.std.specs.Prelude.{vec_len, vec_capacity};
     ghost use Rattle.gw_meaning.specs.declared.transaction.Event.{Event};
-    ghost use Rattle.gw_meaning.specs.Step.{least_time};
     ghost use Rattle.gw_chains.specs.Chains.{Chain};
-    ghost use Rattle.gw_chains.specs.Segments.{IsFirst};
+    ghost use Rattle.gw_chains.specs.Segments.{IsEarliest};
 
     ghost Value = { Chain Event };
 
@@ -38,7 +36,8 @@ impl Model for Segment {
       room = vec_capacity s.events - vec_len s.events;
     } };
 
-    ghost invariant = { λ s. (s.least ≡ least_time s.events.items) × IsFirst s.least s.first s.events.items };
+    ghost invariant = { λ s. IsEarliest s.events.items
+        s.earliest.least.ticks s.earliest.least.first s.earliest.front.ticks s.earliest.front.first };
 }
 
 impl Segment {
@@ -48,8 +47,7 @@ impl Segment {
     {
         Segment {
             events: Vec::new(alloc),
-            least: None,
-            first: 0,
+            earliest: Earliest::none(),
         }
     }
 
@@ -85,7 +83,7 @@ impl Segment {
     pub(crate) fn least_time(&self) -> Option<Time>
         ensures { result ≡ least_time self.now.items }
     {
-        self.least
+        self.earliest.least.time()
     }
 
     // Makes room for so many more.
@@ -108,40 +106,27 @@ impl Segment {
         ensures items { self.new.items ≡ self.old.items ++ event ∷ [] }
         ensures room { self.old.room ≤ self.new.room + 1 }
     {
-        if is_later(self.least, event.time) {
-            self.least = Some(event.time);
-            self.first = self.events.len();
-        }
+        self.earliest.meet(event.time, self.events.len());
         self.events.push_reserved(event);
     }
 
     // Moves the transactions of a time to the current chain, in the order in which they came.
     #[inline(always)]
-    #[tactic(auto, using(crate::proofs::ClosingUp::renewed))]
     pub(crate) fn take_due(&mut self, current: &mut PriorityChain, time: Time)
         requires { length self.old.items ≤ current.old.room }
         ensures current { current.new.items ≡ all_lined_up (due time self.old.items) current.old.items }
         ensures future { self.new.items ≡ filter (λ e. not (is_due time e)) self.old.items }
         ensures room { current.old.room ≤ current.new.room + length self.old.items }
     {
-        let Some(index) = self.first_due(time) else {
+        let ticks = time.ticks();
+        if ticks < self.earliest.least.ticks {
             return;
-        };
-        let least = take_out(&mut self.events, index, current, time);
-        self.least = least.time();
-        self.first = least.first;
-    }
-
-    // Where the first one is that is due at a time.
-    #[inline(always)]
-    fn first_due(&self, time: Time) -> Option<usize>
-        ensures none { IfNone result (due time self.now.items ≡ []) }
-        ensures first { IsFirstDue time result self.now.items }
-    {
-        match self.least {
-            Some(least) if least == time => Some(self.first),
-            Some(least) if least < time => first_due(&self.events, time),
-            _ => None,
+        }
+        if ticks == self.earliest.least.ticks {
+            take_first(&mut self.events, &mut self.earliest, current);
+        }
+        if ticks >= self.earliest.least.ticks {
+            take_others(&mut self.events, &mut self.earliest, current, time);
         }
     }
 
@@ -152,35 +137,9 @@ impl Segment {
         let events = self.events.clone()?;
         Ok(Segment {
             events,
-            least: self.least,
-            first: self.first,
+            earliest: self.earliest,
         })
     }
-}
-
-// Whether a time, where there is one, is later than another.
-pub(crate) fn is_later(least: Option<Time>, time: Time) -> bool
-    ensures { result ≡ is_later least time }
-{
-    match least {
-        Some(least) => time < least,
-        None => true,
-    }
-}
-
-// The first one that is due at a time. A clock step to a later time than the least looks for it.
-#[cold]
-#[inline(never)]
-fn first_due(events: &[Event], time: Time) -> Option<usize>
-    ensures none { IfNone result (due time events.now ≡ []) }
-    ensures first { IsFirstDue time result events.now }
-{
-    for i in 0..events.len() {
-        if events[i].time == time {
-            return Some(i);
-        }
-    }
-    None
 }
 
 // The least time of transactions in order, and where the first one with it is.
@@ -226,6 +185,69 @@ impl Least {
     }
 }
 
+// The least time of transactions in order, and the least time of those in front of the first one with it.
+#[derive(Clone, Copy)]
+struct Earliest {
+    least: Least,
+    // Known where its first one is in front of the other's.
+    front: Least,
+}
+
+impl Earliest {
+    // Of none.
+    #[inline(always)]
+    fn none() -> Earliest
+        ensures { IsEarliest [] result.least.ticks result.least.first result.front.ticks result.front.first }
+    {
+        Earliest::of(Least::none())
+    }
+
+    // Where it is not known of those in front of the first.
+    #[inline(always)]
+    fn of(least: Least) -> Earliest
+        ensures least { result.least ≡ least }
+        ensures earliest { (events : List Event) → IsLeast events least.ticks least.first →
+            IsEarliest events result.least.ticks result.least.first result.front.ticks result.front.first }
+    {
+        Earliest {
+            least,
+            front: least,
+        }
+    }
+
+    // The least time of those in front of the first.
+    #[inline(always)]
+    fn front(&self, events: &[Event]) -> Least
+        requires within { self.now.least.first ≤ length events.now }
+        requires earliest { IsEarliest events.now
+            self.now.least.ticks self.now.least.first self.now.front.ticks self.now.front.first }
+        ensures { IsLeast (take self.now.least.first events.now) result.ticks result.first }
+    {
+        if self.front.first < self.least.first {
+            return self.front;
+        }
+        least_of(&events[..self.least.first])
+    }
+
+    // One more comes behind so many, with this time.
+    #[inline(always)]
+    fn meet(&mut self, time: Time, index: usize)
+        ensures { (events : List Event) → (event : Event) → length events ≡ index → event.time ≡ time →
+            IsEarliest events self.old.least.ticks self.old.least.first self.old.front.ticks self.old.front.first →
+            IsEarliest (events ++ event ∷ [])
+            self.new.least.ticks self.new.least.first self.new.front.ticks self.new.front.first }
+    {
+        let ticks = time.ticks();
+        if ticks < self.least.ticks {
+            self.front = self.least;
+            self.least = Least {
+                ticks,
+                first: index,
+            };
+        }
+    }
+}
+
 // How many stay, and the least time of those.
 #[derive(Clone, Copy)]
 struct Kept {
@@ -233,39 +255,85 @@ struct Kept {
     least: Least,
 }
 
-// Moves the transactions of a time, of which the one at an index is the first, to the current chain. The others stay,
-// in their order: gives the least time of those.
+// Moves the first transaction of the least time to the current chain. The others stay, in their order.
 #[inline(always)]
-fn take_out(events: &mut Vec<Event>, index: usize, current: &mut PriorityChain, time: Time) -> Least
-    requires first { IsFirst (Some time) index events.old.items }
+fn take_first(events: &mut Vec<Event>, earliest: &mut Earliest, current: &mut PriorityChain)
+    requires some { earliest.old.least.ticks ≤ 1001000000000 }
+    requires earliest { IsEarliest events.old.items
+        earliest.old.least.ticks earliest.old.least.first earliest.old.front.ticks earliest.old.front.first }
+    requires room { 0 < current.old.room }
+    ensures current { all_lined_up (due earliest.old.least.ticks events.new.items) current.new.items ≡
+        all_lined_up (due earliest.old.least.ticks events.old.items) current.old.items }
+    ensures stay { filter (λ e. not (is_due earliest.old.least.ticks e)) events.new.items ≡
+        filter (λ e. not (is_due earliest.old.least.ticks e)) events.old.items }
+    ensures earliest { IsEarliest events.new.items
+        earliest.new.least.ticks earliest.new.least.first earliest.new.front.ticks earliest.new.front.first }
+    ensures len { length events.old.items ≡ length events.new.items + 1 }
+    ensures room { current.old.room ≤ current.new.room + 1 }
+{
+    let index = earliest.least.first;
+    current.line_up_equal(&events[index].transaction);
+    let front = earliest.front(events);
+    let last = events.len() - 1;
+    *earliest = close_up(events, index, front);
+    events.truncate(last);
+}
+
+// The one at an index is gone, and those behind it move up by one: gives the least time of all these.
+#[inline(always)]
+fn close_up(events: &mut [Event], index: usize, front: Least) -> Earliest
+    requires within { index < length events.old }
+    requires front { IsLeast (take index events.old) front.ticks front.first }
+    ensures long { length events.new ≡ length events.old }
+    ensures closed { take (length events.old - 1) events.new ≡ take index events.old ++ drop (index + 1) events.old }
+    ensures earliest { IsEarliest (take (length events.old - 1) events.new)
+        result.least.ticks result.least.first result.front.ticks result.front.first }
+{
+    let mut earliest = Earliest::of(front);
+    for place in index..events.len() - 1 {
+        let event = &events[place + 1];
+        earliest.meet(event.time, place);
+        events[place] = same_event(event);
+    }
+    earliest
+}
+
+// Moves the transactions of a time to the current chain, where it is the least time or a later one. The others stay,
+// in their order. Two seldom leave at once, and no run steps to a later time.
+#[cold]
+#[inline(never)]
+fn take_others(
+    events: &mut Vec<Event>,
+    earliest: &mut Earliest,
+    current: &mut PriorityChain,
+    time: Time,
+)
+    requires earliest { IsEarliest events.old.items
+        earliest.old.least.ticks earliest.old.least.first earliest.old.front.ticks earliest.old.front.first }
     requires room { length events.old.items ≤ current.old.room }
     ensures current { current.new.items ≡ all_lined_up (due time events.old.items) current.old.items }
     ensures stay { events.new.items ≡ filter (λ e. not (is_due time e)) events.old.items }
-    ensures least { IsLeast events.new.items result.ticks result.first }
+    ensures earliest { IsEarliest events.new.items
+        earliest.new.least.ticks earliest.new.least.first earliest.new.front.ticks earliest.new.front.first }
     ensures room { current.old.room ≤ current.new.room + length events.old.items }
 {
-    let kept = take_from(events, index, current, time);
+    let (from, front) = if time.ticks() == earliest.least.ticks {
+        (earliest.least.first, earliest.front(events))
+    } else {
+        (0, Least::none())
+    };
+    let kept = take_more(
+        events,
+        from,
+        Kept {
+            len: from,
+            least: front,
+        },
+        current,
+        time,
+    );
     events.truncate(kept.len);
-    kept.least
-}
-
-// The same, where those who stay close up: so many are kept, and what is behind them is left over.
-#[inline(always)]
-fn take_from(events: &mut [Event], index: usize, current: &mut PriorityChain, time: Time) -> Kept
-    requires first { IsFirst (Some time) index events.old }
-    requires room { length events.old ≤ current.old.room }
-    ensures closed { ClosingUp time events.old current.old.items (length events.old) result.len
-        events.new result.least.ticks result.least.first current.new.items }
-    ensures room { current.old.room ≤ current.new.room + length events.old }
-{
-    current.line_up_equal(&events[index].transaction);
-    let mut least = least_of(&events[..index]);
-    let len = close_up(events, index, &mut least, time);
-    let kept = Kept { len, least };
-    if len + 1 == events.len() {
-        return kept;
-    }
-    take_more(events, len + 1, kept, current, time)
+    *earliest = Earliest::of(kept.least);
 }
 
 // The least time of events.
@@ -278,30 +346,6 @@ fn least_of(events: &[Event]) -> Least
         least.meet(events[i].time, i);
     }
     least
-}
-
-// The one at an index is gone: those behind it move up by one, in front of the next one that is due, if any. So many
-// are kept.
-#[inline(always)]
-fn close_up(events: &mut [Event], index: usize, least: &mut Least, time: Time) -> usize
-    requires within { index < length events.old }
-    ensures within { (index ≤ result) × (result < length events.old) }
-    ensures next { result + 1 < length events.old →
-        IsSomeAnd (slice_get events.new (result + 1)) (λ e. is_due time e ≡ true) }
-    ensures closing { (all : List Event) → (start : List Transaction) → (current : List Transaction) →
-        ClosingUp time all start (index + 1) index events.old least.old.ticks least.old.first current →
-        ClosingUp time all start (result + 1) result events.new least.new.ticks least.new.first current }
-{
-    let last = events.len() - 1;
-    for place in index..last {
-        let event = &events[place + 1];
-        if event.time == time {
-            return place;
-        }
-        least.meet(event.time, place);
-        events[place] = same_event(event);
-    }
-    last
 }
 
 // From an index on, where some are gone and so many are kept, those who are due go, and the others close up.
@@ -343,24 +387,5 @@ fn same_event(event: &Event) -> Event
     Event {
         time: event.time,
         transaction: same(&event.transaction),
-    }
-}
-
-// The sooner of two times, where there are any.
-pub(crate) fn soonest(time: Option<Time>, other: Option<Time>) -> Option<Time>
-    ensures { result ≡ soonest time other }
-{
-    match time {
-        Some(time) => Some(sooner(time, other)),
-        None => other,
-    }
-}
-
-fn sooner(time: Time, other: Option<Time>) -> Time
-    ensures { Some result ≡ sooner time other }
-{
-    match other {
-        Some(other) if other < time => other,
-        _ => time,
     }
 }
