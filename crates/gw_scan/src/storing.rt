@@ -1,5 +1,5 @@
 // ENTER and LEAVE, made where they are decided: the storage is looked up once.
-ghost use Rattle.std.specs.Prelude.{◌≡◌, IsSome, Some, None, true};
+ghost use Rattle.std.specs.Prelude.{◌≡◌, [], IsSome, Some, None, true};
 ghost use Rattle.gw_expr.specs.Term.{Defined};
 ghost use Rattle.gw_names.specs.declared.key.Key.TheVariants as keys;
 ghost use Rattle.gw_entities.specs.Tables.{IsPlace};
@@ -256,13 +256,41 @@ impl State {
             return Err(Halt::LEAVE_TOO_MANY);
         }
         let Some(chain) = self.waiting_for(key) else {
-            let left = self.leave_for(id, key, place, storage, units, &[]);
+            let left = self.leave_alone(id, key, place, storage, units);
             return self.with_draws(left, notes);
         };
         let shares = shares_of(case, notes, name.name(), chain, content - units)?;
         let left = self.leave_for(id, key, place, storage, units, shares.as_slice());
         notes.give_back(shares);
         self.with_draws(left, notes)
+    }
+
+    // Units are given back, and nobody comes in.
+    #[inline(always)]
+    fn leave_alone(
+        &mut self,
+        id: StatementId,
+        key: &Key,
+        place: Option<usize>,
+        storage: Storage,
+        units: u64,
+    ) -> Result<(), Halt>
+        requires active { IsSome self.old.active }
+        requires place { IsPlace self.old.entities.storages key.now place }
+        requires storage { storage ≡ store_at self.old.entities key.now }
+        ensures { (x : Transaction) → self.old.active ≡ Some x →
+            Goes (leave_for id key.now storage units []) result self.old self.new }
+    {
+        if is_too_many(storage.entries()) {
+            return Err(Halt::TOO_MANY_UNITS);
+        }
+        self.counts.reserve(id)?;
+        self.entities.reserve_storage(key, place)?;
+        enter_active(&mut self.active, &mut self.counts, id);
+        let mut storage = self.entities.storage_there(key, place);
+        storage.leave(units, self.clocks.clock());
+        self.entities.set_storage(key, place, storage);
+        Ok(())
     }
 
     // Units are given back, and those who have a share come in.
