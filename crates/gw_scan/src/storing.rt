@@ -1,12 +1,16 @@
 // ENTER and LEAVE, made where they are decided: the storage is looked up once.
-ghost use Rattle.std.specs.Prelude.{◌≡◌, IsSome, Some, true};
+ghost use Rattle.std.specs.Prelude.{◌≡◌, [], IsSome, Some, None, true};
 ghost use Rattle.gw_expr.specs.Term.{Defined};
 ghost use Rattle.gw_names.specs.declared.key.Key.TheVariants as keys;
 ghost use Rattle.gw_entities.specs.Tables.{IsPlace};
+ghost use Rattle.gw_meaning.specs.declared.entity_change.Deed.TheVariants as deeds;
 ghost use Rattle.gw_meaning.specs.declared.item.Item.TheVariants as items;
+ghost use Rattle.gw_meaning.specs.declared.moves.Change.TheVariants as changes;
+ghost use Rattle.gw_meaning.specs.declared.moves.Fate.TheVariants as fates;
+ghost use Rattle.gw_meaning.specs.declared.moves.Move.TheVariants as moves;
 ghost use Rattle.gw_meaning.specs.declared.transaction.Transaction.{Transaction};
 ghost use Rattle.gw_meaning.specs.Entities.{store_at};
-ghost use Rattle.gw_meaning.specs.Evaluation.{asks};
+ghost use Rattle.gw_meaning.specs.Evaluation.{asks, gives};
 ghost use Rattle.gw_meaning.specs.Listing.{capacity_at};
 ghost use Rattle.gw_meaning.specs.Statements.{A, B, operand};
 ghost use Rattle.gw_meaning.specs.Step.{for_one, enter_or_wait, enter_storage, enter_prog, leave_for, leave_units, leave_prog};
@@ -144,6 +148,40 @@ impl State {
         if is_too_many(storage.entries().saturating_add(units)) {
             return Err(Halt::TOO_MANY_UNITS);
         }
+        match place {
+            Some(_) => self.enter_at(id, key, place, units),
+            None => self.enter_new(id, key, units),
+        }
+    }
+
+    // Units of a storage that nobody has entered yet come into use.
+    #[cold]
+    #[inline(never)]
+    fn enter_new(&mut self, id: StatementId, key: &Key, units: u64) -> Result<(), Halt>
+        requires active { IsSome self.old.active }
+        requires place { IsPlace self.old.entities.storages key.now None }
+        ensures { (x : Transaction) → self.old.active ≡ Some x →
+            Goes (gives (moves.Enter id (changes.Entity (key.now, deeds.Enter units)) fates.Active))
+            result self.old self.new }
+    {
+        self.enter_at(id, key, None, units)
+    }
+
+    // Units of the storage at a place come into use.
+    #[inline(always)]
+    fn enter_at(
+        &mut self,
+        id: StatementId,
+        key: &Key,
+        place: Option<usize>,
+        units: u64,
+    ) -> Result<(), Halt>
+        requires active { IsSome self.old.active }
+        requires place { IsPlace self.old.entities.storages key.now place }
+        ensures { (x : Transaction) → self.old.active ≡ Some x →
+            Goes (gives (moves.Enter id (changes.Entity (key.now, deeds.Enter units)) fates.Active))
+            result self.old self.new }
+    {
         self.counts.reserve(id)?;
         self.entities.reserve_storage(key, place)?;
         enter_active(&mut self.active, &mut self.counts, id);
@@ -218,13 +256,41 @@ impl State {
             return Err(Halt::LEAVE_TOO_MANY);
         }
         let Some(chain) = self.waiting_for(key) else {
-            let left = self.leave_for(id, key, place, storage, units, &[]);
+            let left = self.leave_alone(id, key, place, storage, units);
             return self.with_draws(left, notes);
         };
         let shares = shares_of(case, notes, name.name(), chain, content - units)?;
         let left = self.leave_for(id, key, place, storage, units, shares.as_slice());
         notes.give_back(shares);
         self.with_draws(left, notes)
+    }
+
+    // Units are given back, and nobody comes in.
+    #[inline(always)]
+    fn leave_alone(
+        &mut self,
+        id: StatementId,
+        key: &Key,
+        place: Option<usize>,
+        storage: Storage,
+        units: u64,
+    ) -> Result<(), Halt>
+        requires active { IsSome self.old.active }
+        requires place { IsPlace self.old.entities.storages key.now place }
+        requires storage { storage ≡ store_at self.old.entities key.now }
+        ensures { (x : Transaction) → self.old.active ≡ Some x →
+            Goes (leave_for id key.now storage units []) result self.old self.new }
+    {
+        if is_too_many(storage.entries()) {
+            return Err(Halt::TOO_MANY_UNITS);
+        }
+        self.counts.reserve(id)?;
+        self.entities.reserve_storage(key, place)?;
+        enter_active(&mut self.active, &mut self.counts, id);
+        let mut storage = self.entities.storage_there(key, place);
+        storage.leave(units, self.clocks.clock());
+        self.entities.set_storage(key, place, storage);
+        Ok(())
     }
 
     // Units are given back, and those who have a share come in.

@@ -39,10 +39,10 @@ returns-in_default c x is =
     ap (λ (line : List Transaction). shares_prog name (store.level.content - units) [] line ~> rest) (sym none) in
     let whole : leave_units s id name store c.args.units ≡ rest [] =
     ap (leave_units s id name store) (sym c.from-units.ensures) ∙ enters ∙ alone in
-    let went = c.leave_for-left.ensures x is in
-    let G : Store → Type 0 = λ st. Goes (leave_for id c.key-key.result.now st units []) c.leave_for-left.result s
-    c.leave_for-left.new.self in
-    let H : Key → Type 0 = λ k. Goes (leave_for id k store units []) c.leave_for-left.result s c.leave_for-left.new.self in
+    let went = c.leave_alone-left.ensures x is in
+    let G : Store → Type 0 = λ st. Goes (leave_for id c.key-key.result.now st units []) c.leave_alone-left.result s
+    c.leave_alone-left.new.self in
+    let H : Key → Type 0 = λ k. Goes (leave_for id k store units []) c.leave_alone-left.result s c.leave_alone-left.new.self in
     let goes = subst H lent (subst G held went) in
     rw whole (c.with_draws.ensures t seed (rest []) s goes)
 
@@ -105,11 +105,11 @@ returns c x is =
     let kept : c.give_back.new.self ≡ c.shares_of.new.notes = c.give_back.ensures in
     let noted = subst (λ (n : Noted). Decides t seed shares (Ok given) c.args.notes.now n) (sym kept) said in
     let sliced : c.as_slice.result.now ≡ given = c.as_slice.ensures in
-    let went = c.leave_for-left-2.ensures x is in
+    let went = c.leave_for-left.ensures x is in
     let E : List (Option ℕ) → Type 0 = λ list. Goes (leave_for id c.key-key.result.now c.look_for_storage-place.result.1 units list)
-    c.leave_for-left-2.result s c.leave_for-left-2.new.self in
-    let G : Store → Type 0 = λ st. Goes (leave_for id c.key-key.result.now st units given) c.leave_for-left-2.result s
-    c.leave_for-left-2.new.self in
-    let H : Key → Type 0 = λ k. Goes (leave_for id k store units given) c.leave_for-left-2.result s c.leave_for-left-2.new.self in
+    c.leave_for-left.result s c.leave_for-left.new.self in
+    let G : Store → Type 0 = λ st. Goes (leave_for id c.key-key.result.now st units given) c.leave_for-left.result s
+    c.leave_for-left.new.self in
+    let H : Key → Type 0 = λ k. Goes (leave_for id k store units given) c.leave_for-left.result s c.leave_for-left.new.self in
     let goes = subst H lent (subst G held (subst E sliced went)) in
     rw whole (acts_then t seed shares rest given _ s _ _ _ _ noted (c.with_draws-2.ensures t seed (rest given) s goes))
