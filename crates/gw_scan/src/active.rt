@@ -86,6 +86,14 @@ impl Active {
         same(&self.x)
     }
 
+    // None is active any more.
+    #[inline(always)]
+    pub(crate) fn clear(&mut self)
+        ensures { self.new ≡ None }
+    {
+        self.is_there = false;
+    }
+
     // It stands in the block that it enters.
     #[inline(always)]
     pub(crate) fn place(&mut self, id: StatementId)

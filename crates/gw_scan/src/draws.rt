@@ -1,9 +1,11 @@
 // Draws from the random streams, and the times that are sampled by them.
-ghost use Rattle.std.specs.Prelude.{◌≡◌, ◌≤◌, ◌<◌, ◌^◌, if◌then◌else◌, Some, None, option_copied};
+ghost use Rattle.std.specs.Prelude.{◌≡◌, ◌≤◌, ◌<◌, ◌^◌, if◌then◌else◌, Some, None, OnOk, OnErr, option_copied};
 ghost use Rattle.gw_nums.specs.Millionths.{times};
 ghost use Rattle.gw_nums.specs.Range.{is_value, magnitude};
+ghost use Rattle.gw_meaning.specs.declared.item.Item.TheVariants as items;
 ghost use Rattle.gw_meaning.specs.Evaluation.{draw, in_range, millionths, modifier_of, sample, sample_within, spread, time_by, time_prog};
 ghost use Rattle.gw_scan.specs.Deciding.{Decides, Comes};
+ghost use Rattle.gw_scan.specs.Noted.{Asks};
 
 use crate::case::Case;
 use crate::expression::is_of_function;
@@ -14,6 +16,7 @@ use crate::value::DEEPEST;
 use gw_expr::{Atom, Expr, Node, Subject};
 use gw_meaning::{Asker, Item};
 use gw_nums::{Millionths, Val, times};
+use std::alloc::AllocError;
 
 // A draw from stream j, which reads the seed where it is the first one since the stream was set.
 #[inline(always)]
@@ -21,9 +24,19 @@ pub fn draw(case: Case, notes: &mut Notes, j: usize) -> Result<u32, Halt>
     ensures { Decides case.entry.version.now case.entry.seed (draw j) result notes.old notes.new }
 {
     if notes.streams.wants_seed(j) {
-        notes.note(&Item::Seed)?;
+        ask_seed(notes)?;
     }
     Ok(notes.streams.draw(j, case.seed))
+}
+
+// What is the seed? A stream asks at its first draw alone.
+#[cold]
+#[inline(never)]
+fn ask_seed(notes: &mut Notes) -> Result<(), AllocError>
+    ensures ok { OnOk result (Asks notes.old items.Seed notes.new) }
+    ensures err { OnErr result (notes.new ≡ notes.old) }
+{
+    notes.note(&Item::Seed)
 }
 
 // A number that was drawn, as a part of a million.

@@ -1,8 +1,8 @@
 // ADVANCE, TERMINATE and BUFFER: it is decided what becomes of the active transaction, and then it enters.
-ghost use Rattle.std.specs.Prelude.{◌≡◌, ◌<◌, ◌≤◌, ℕ, Some, IsSome, OnOk, OnErr};
+ghost use Rattle.std.specs.Prelude.{◌≡◌, ◌<◌, ◌≤◌, ℕ, Some, None, IsSome, OnOk, OnErr};
 ghost use Rattle.gw_meaning.specs.Listing.{Listing};
 ghost use Rattle.gw_meaning.specs.Machine.{Machine};
-ghost use Rattle.gw_meaning.specs.Changes.{moved, fated};
+ghost use Rattle.gw_meaning.specs.Changes.{moved, fated, lined_up};
 ghost use Rattle.gw_meaning.specs.Statements.{A, B, operand};
 ghost use Rattle.gw_meaning.specs.Step.{for_one, delay_of, advance_prog, terminate_prog, buffer_prog};
 ghost use Rattle.gw_meaning.specs.declared.moves.Change.TheVariants as changes;
@@ -201,7 +201,7 @@ fn settle(
     match fate {
         Fate::Active => (),
         Fate::Current => {
-            current.line_up(active.take());
+            go_behind(active, current);
         }
         Fate::Delayed { until } => {
             future.put(Event {
@@ -210,8 +210,21 @@ fn settle(
             });
         }
         Fate::Destroyed { count } => {
-            parameters.forget(active.take().number);
+            parameters.forget(active.get().number);
+            active.clear();
             progress.count_down(count);
         }
     }
+}
+
+// The active transaction lines up on the current chain.
+#[cold]
+#[inline(never)]
+fn go_behind(active: &mut Active, current: &mut PriorityChain)
+    requires active { IsSome active.old }
+    requires room { 0 < current.old.room }
+    ensures { (x : Transaction) → active.old ≡ Some x →
+        (active.new ≡ None) × (current.new.items ≡ lined_up x current.old.items) }
+{
+    current.line_up(active.take());
 }

@@ -103,7 +103,8 @@ impl State {
         self.counts.reserve(id)?;
         self.counts.reserve(arrival.id)?;
         enter_active(&mut self.active, &mut self.counts, id);
-        self.active.change(&TransactionChange::Mark, self.clocks.clock());
+        self.active
+            .change(&TransactionChange::Mark, self.clocks.clock());
         make(&mut self.next, &mut self.future, &mut self.counts, arrival);
         Ok(())
     }
@@ -118,7 +119,8 @@ impl State {
     {
         self.counts.reserve(id)?;
         enter_active(&mut self.active, &mut self.counts, id);
-        self.active.change(&TransactionChange::Mark, self.clocks.clock());
+        self.active
+            .change(&TransactionChange::Mark, self.clocks.clock());
         Ok(())
     }
 }
