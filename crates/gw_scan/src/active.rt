@@ -7,8 +7,8 @@ use gw_meaning::{Destination, StatementId, Transaction, TransactionChange};
 use gw_nums::{Clock, Time, Val};
 use std::marker::Model;
 
-// The active transaction, if there is one. It lies in the same place whether or not it is there: a block that knows
-// that it is there need not ask again.
+// The active transaction, if there is one. Its place is the same whether or not there is one, so a block that knows that
+// there is one need not test it.
 #[derive(Drop)]
 pub struct Active {
     is_there: bool,
@@ -75,7 +75,7 @@ impl Active {
         self.is_there = true;
     }
 
-    // It goes from here.
+    // It is taken from here: none is active then.
     #[inline(always)]
     pub(crate) fn take(&mut self) -> Transaction
         requires { IsSome self.old }

@@ -1,10 +1,9 @@
 // A block that changes its transaction alone is entered, where its change was decided.
-ghost use Rattle.std.specs.Prelude.{◌≡◌, Some, IsSome, OnOk, OnErr};
-ghost use Rattle.gw_meaning.specs.Changes.{moved, own_held, own_marked};
+ghost use Rattle.std.specs.Prelude.{◌≡◌, IsSome, OnOk, OnErr};
+ghost use Rattle.gw_meaning.specs.Changes.{moved, own_held};
 ghost use Rattle.gw_meaning.specs.declared.moves.Change.TheVariants as changes;
 ghost use Rattle.gw_meaning.specs.declared.moves.Fate.TheVariants as fates;
 ghost use Rattle.gw_meaning.specs.declared.moves.Move.TheVariants as moves;
-ghost use Rattle.gw_meaning.specs.declared.transaction.Transaction.{Transaction};
 ghost use Rattle.gw_scan.specs.Deciding.{changing};
 ghost use Rattle.gw_scan.specs.Stepping.{Makes};
 
@@ -13,8 +12,7 @@ use crate::halt::Halt;
 use crate::notes::Notes;
 use crate::state::State;
 use gw_entities::Parameters;
-use gw_meaning::{Destination, Fate, StatementId, Transaction, TransactionChange};
-use gw_nums::Clock;
+use gw_meaning::{Fate, StatementId, TransactionChange};
 use std::alloc::AllocError;
 
 impl State {

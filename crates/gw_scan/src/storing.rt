@@ -98,7 +98,7 @@ impl State {
         self.act_enter_storage(case, notes, id, name, units, capacity)
     }
 
-    // So many units of a storage that has as many at least.
+    // So many units of a storage that has at least as many.
     #[inline(always)]
     fn act_enter_storage(
         &mut self,
