@@ -87,14 +87,10 @@ impl PriorityChain {
         ensures items { self.new.items ≡ lined_up x self.old.items }
         ensures room { self.old.room ≤ self.new.room + 1 }
     {
-        if self.goes_last(&x) {
-            self.transactions.push_back_reserved(x);
-        } else {
-            self.insert(x);
-        }
+        self.line_up_equal(&x);
     }
 
-    // Puts a transaction equal to another on it. Where that goes to the end, as most do, it is copied right there.
+    // The same for one that is borrowed. Where it goes to the end, as most do, it is copied right there.
     #[inline(always)]
     pub(crate) fn line_up_equal(&mut self, x: &Transaction)
         requires { 0 < self.old.room }
@@ -102,9 +98,9 @@ impl PriorityChain {
         ensures room { self.old.room ≤ self.new.room + 1 }
     {
         if self.goes_last(x) {
-            self.transactions.push_back_reserved(same(x));
+            self.transactions.push_back_reserved(*x);
         } else {
-            self.insert(same(x));
+            self.insert(*x);
         }
     }
 
@@ -190,21 +186,6 @@ impl PriorityChain {
     {
         let transactions = self.transactions.clone()?;
         Ok(PriorityChain { transactions })
-    }
-}
-
-// A transaction equal to another.
-#[inline(always)]
-pub(crate) fn same(x: &Transaction) -> Transaction
-    ensures { result ≡ x.now }
-{
-    Transaction {
-        number: x.number,
-        priority: x.priority,
-        mark: x.mark,
-        current: x.current,
-        destination: x.destination,
-        asked: x.asked,
     }
 }
 

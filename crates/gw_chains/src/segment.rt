@@ -7,7 +7,7 @@ ghost use Rattle.gw_meaning.specs.Step.{least_time};
 ghost use Rattle.gw_chains.specs.ClosingUp.{ClosingUp};
 ghost use Rattle.gw_chains.specs.Segments.{time_of, IsLeast, IsEarliest};
 
-use crate::chain::{PriorityChain, same};
+use crate::chain::PriorityChain;
 use gw_meaning::Event;
 use gw_nums::Time;
 use std::alloc::{AllocError, Global};
@@ -239,12 +239,22 @@ impl Earliest {
     {
         let ticks = time.ticks();
         if ticks < self.least.ticks {
-            self.front = self.least;
-            self.least = Least {
-                ticks,
-                first: index,
-            };
+            self.go_below(ticks, index);
         }
+    }
+
+    // The one at an index is the first of a lesser time.
+    #[cold]
+    #[inline(never)]
+    fn go_below(&mut self, ticks: u64, index: usize)
+        ensures least { self.new.least ≡ record { ticks = ticks; first = index } }
+        ensures front { self.new.front ≡ self.old.least }
+    {
+        self.front = self.least;
+        self.least = Least {
+            ticks,
+            first: index,
+        };
     }
 }
 
@@ -291,9 +301,9 @@ fn close_up(events: &mut [Event], index: usize, front: Least) -> Earliest
 {
     let mut earliest = Earliest::of(front);
     for place in index..events.len() - 1 {
-        let event = &events[place + 1];
+        let event = events[place + 1];
         earliest.meet(event.time, place);
-        events[place] = same_event(event);
+        events[place] = event;
     }
     earliest
 }
@@ -367,25 +377,14 @@ fn take_more(
 {
     let mut kept = kept;
     for i in from..events.len() {
-        let event = &events[i];
+        let event = events[i];
         if event.time == time {
             current.line_up_equal(&event.transaction);
         } else {
             kept.least.meet(event.time, kept.len);
-            events[kept.len] = same_event(event);
+            events[kept.len] = event;
             kept.len += 1;
         }
     }
     kept
-}
-
-// An event equal to another.
-#[inline(always)]
-fn same_event(event: &Event) -> Event
-    ensures { result ≡ event.now }
-{
-    Event {
-        time: event.time,
-        transaction: same(&event.transaction),
-    }
 }

@@ -4,7 +4,7 @@ use gw_nums::{Time, Val};
 use std::mem::size_of;
 
 /// A transaction. Blocks are named by their statement ids.
-#[derive(Clone, Debug, Drop)]
+#[derive(Clone, Copy, Debug)]
 pub struct Transaction {
     /// From 1, in the order of making.
     pub number: u64,
@@ -20,7 +20,7 @@ pub struct Transaction {
 }
 
 /// A transaction on the future chain, with the time at which it moves on.
-#[derive(Clone, Debug, Drop)]
+#[derive(Clone, Copy, Debug)]
 pub struct Event {
     pub time: Time,
     pub transaction: Transaction,

@@ -83,7 +83,7 @@ impl Active {
         ensures none { self.new ≡ None }
     {
         self.is_there = false;
-        same(&self.x)
+        self.x
     }
 
     // None is active any more.
@@ -125,22 +125,7 @@ impl Active {
     {
         Active {
             is_there: self.is_there,
-            x: same(&self.x),
+            x: self.x,
         }
-    }
-}
-
-// An equal transaction.
-#[inline(always)]
-fn same(x: &Transaction) -> Transaction
-    ensures { result ≡ x.now }
-{
-    Transaction {
-        number: x.number,
-        priority: x.priority,
-        mark: x.mark,
-        current: x.current,
-        destination: x.destination,
-        asked: x.asked,
     }
 }

@@ -8,17 +8,16 @@ pub loop-place-preserved : goal.loop-place-preserved
 loop-place-preserved c =
     let n = c.loop-place.place in
     let events = c.loop-place.events in
-    let e = c.same_event.result in
+    let e = c.index-events-place.result in
     let long = c.loop-place.invariant.long in
     let test = c.loop-place-test.true in
-    let same : e ≡ c.index-events-place.result = c.same_event.ensures ∙ sym c.index-events-place.is in
     let within : n + 1 < length events = omega (arith, test, long) in
     let new = c.meet.new.self in
     let count : length (take n events) ≡ n = length-take n events ∙ omega (arith, within) in
-    let met = c.meet.ensures (take n events) e count (ap (λ x. x.time) c.same_event.ensures) c.loop-place.invariant.earliest in
+    let met = c.meet.ensures (take n events) e count refl c.loop-place.invariant.earliest in
     let grown = take_more_set events n e (omega (arith, within)) in
     record {
       long = length-set events n e ∙ long;
-      closed = moves_up events n (n + 1) e _ refl within (rw same c.index-events-place.is) c.loop-place.invariant.closed;
+      closed = moves_up events n (n + 1) e _ refl within c.index-events-place.is c.loop-place.invariant.closed;
       earliest = subst (λ es. IsEarliest es new.least.ticks new.least.first new.front.ticks new.front.first) (sym grown) met;
     }

@@ -21,10 +21,9 @@ loop-i-preserved c =
     let test = c.loop-i-test.true in
     elim c.if-eq.branch [
       | then-eq w ↦
-          let now : is_due t x ≡ true = ap (is_due t) c.index-events-i.is ∙ (sym c.eq.ensures ∙ w.if-eq.true) in
+          let now : is_due t x ≡ true = sym c.eq.ensures ∙ w.if-eq.true in
           let taken = w.line_up_equal.ensures.room in
-          let up : w.line_up_equal.new.self.items ≡ lined_up x.transaction current =
-          w.line_up_equal.ensures.items ∙ ap (λ y. lined_up y.transaction current) (sym c.index-events-i.is) in
+          let up = w.line_up_equal.ensures.items in
           record {
             long = rw w.events-is long;
             room = rw w.current-is (omega (arith, room, taken));
@@ -37,11 +36,9 @@ loop-i-preserved c =
                 (one_goes t all start i n x events ticks first current within c.index-events-i.is now old);
           }
       | else-eq w ↦
-          let e = w.same_event.result in
-          let same : e ≡ x = w.same_event.ensures ∙ sym c.index-events-i.is in
-          let later : is_due t x ≡ false = ap (is_due t) c.index-events-i.is ∙ (sym c.eq.ensures ∙ w.if-eq.false) in
+          let later : is_due t x ≡ false = sym c.eq.ensures ∙ w.if-eq.false in
           record {
-            long = rw w.events-is (length-set events n e ∙ long);
+            long = rw w.events-is (length-set events n x ∙ long);
             room = rw w.current-is (omega (arith, room));
             within = rw w.kept-is (omega (arith, low));
             closing = λ all start k.
@@ -51,8 +48,8 @@ loop-i-preserved c =
                 let kept = filter (λ e. not (is_due t e)) (take i all) in
                 let count = kept_long t all start i n events ticks first current (omega (arith, within)) old in
                 rw (w.events-is, w.current-is, w.kept-is)
-                (one_stays t all start i n (n + 1) e events ticks first w.meet.new.self.ticks w.meet.new.self.first
-                current refl within (rw same c.index-events-i.is) (rw same later)
-                (w.meet.ensures kept e count (ap (λ x. x.time) w.same_event.ensures) old.least) old);
+                (one_stays t all start i n (n + 1) x events ticks first w.meet.new.self.ticks w.meet.new.self.first
+                current refl within c.index-events-i.is later
+                (w.meet.ensures kept x count refl old.least) old);
           }
     ]

@@ -1,4 +1,4 @@
-use Rattle.std.proofs.Common.{◌∷◌, [], ◌++◌, ap, ◌∙◌, refl, sym, subst}
+use Rattle.std.proofs.Common.{◌∙◌, refl, sym, subst}
 use Rattle.gw_meaning.specs.Machine.{AreInOrder}
 use Rattle.gw_chains.proofs.ChainLaws.{lined_up_in_order}
 use Rattle.gw_chains.proofs.chain.PriorityChain.line_up_equal.Goals as goal
@@ -6,6 +6,5 @@ use Rattle.gw_chains.proofs.chain.PriorityChain.line_up_equal.Goals as goal
 pub invariant_of-self : goal.invariant_of-self
 invariant_of-self c =
     let last = rw (← c.self.view_is) at c.if-goes_last.ensures in
-    let pushed = c.push_back_reserved.ensures.items ∙ ap (λ x. c.self.inside.transactions.items ++ x ∷ []) c.same.ensures in
-    subst AreInOrder (last refl ∙ sym pushed)
+    subst AreInOrder (last refl ∙ sym c.push_back_reserved.ensures.items)
     (lined_up_in_order c.args.x.now c.self.inside.transactions.items c.self.invariant)

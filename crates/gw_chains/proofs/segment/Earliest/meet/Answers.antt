@@ -1,4 +1,4 @@
-use Rattle.std.proofs.Common.{◌≡◌, ◌≤◌, true, false, sym, ◌∙◌, arith}
+use Rattle.std.proofs.Common.{◌≡◌, ◌≤◌, true, false, sym, ap, ◌∙◌, arith}
 use Rattle.std.specs.Prelude.{nat_lt}
 use Rattle.std.proofs.lemmas.Bool.Decides.{nat_tests}
 use Rattle.gw_chains.proofs.Earliest.{earliest_new, earliest_old}
@@ -12,7 +12,10 @@ returns-then-ticks-self c = λ events event long is k.
     let low : event.time ≤ 1001000000000 = rw same c.ticks-ticks.ensures.bound in
     let test : nat_lt ticks now.least.ticks ≡ true = grind (arith, nat_tests) in
     let less : nat_lt event.time now.least.ticks ≡ true = rw same test in
-    rw (← same, ← long) (earliest_new events event now.least.ticks now.least.first now.front.ticks now.front.first low less k)
+    let least = c.go_below.ensures.least in
+    let front = c.go_below.ensures.front in
+    rw (ap (λ l. l.ticks) least, ap (λ l. l.first) least, ap (λ l. l.ticks) front, ap (λ l. l.first) front, ← same, ← long)
+    (earliest_new events event now.least.ticks now.least.first now.front.ticks now.front.first low less k)
 
 pub returns-else-ticks-self : goal.returns-else-ticks-self
 returns-else-ticks-self c = λ events event long is k.
