@@ -243,9 +243,31 @@ impl Earliest {
         }
     }
 
-    // The one at an index is the first of a lesser time.
+    // The same. That the time is less is left out of the way, so that a loop carries one least time along, and not two.
+    #[inline(always)]
+    fn meet_on_the_way(&mut self, time: Time, index: usize)
+        ensures { (events : List Event) → (event : Event) → length events ≡ index → event.time ≡ time →
+            IsEarliest events self.old.least.ticks self.old.least.first self.old.front.ticks self.old.front.first →
+            IsEarliest (events ++ event ∷ [])
+            self.new.least.ticks self.new.least.first self.new.front.ticks self.new.front.first }
+    {
+        let ticks = time.ticks();
+        if ticks < self.least.ticks {
+            self.go_below_apart(ticks, index);
+        }
+    }
+
     #[cold]
     #[inline(never)]
+    fn go_below_apart(&mut self, ticks: u64, index: usize)
+        ensures least { self.new.least ≡ record { ticks = ticks; first = index } }
+        ensures front { self.new.front ≡ self.old.least }
+    {
+        self.go_below(ticks, index);
+    }
+
+    // The one at an index is the first of a lesser time.
+    #[inline(always)]
     fn go_below(&mut self, ticks: u64, index: usize)
         ensures least { self.new.least ≡ record { ticks = ticks; first = index } }
         ensures front { self.new.front ≡ self.old.least }
@@ -302,7 +324,7 @@ fn close_up(events: &mut [Event], index: usize, front: Least) -> Earliest
     let mut earliest = Earliest::of(front);
     for place in index..events.len() - 1 {
         let event = events[place + 1];
-        earliest.meet(event.time, place);
+        earliest.meet_on_the_way(event.time, place);
         events[place] = event;
     }
     earliest

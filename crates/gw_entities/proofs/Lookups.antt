@@ -40,13 +40,6 @@ module _ {K V : Type 0} where
       ap (λ (b : Bool). cond b (Some e.1) (lookup test es)) (ap (λ (p : K × V). test p.0) (pair_same e kept value at) ∙ other)
   passed test (e ∷ es) (suc i) kept value at other = passed test es i kept value at other
 
-  pub passed_end :
-      (test : K → Bool) (es : List (K × V)) (i : ℕ) → slice_get es i ≡ None → lookup test (drop i es) ≡ lookup test (drop (suc i) es)
-  passed_end test [] zero at = refl
-  passed_end test [] (suc i) at = refl
-  passed_end test (e ∷ es) zero at = absurd cc
-  passed_end test (e ∷ es) (suc i) at = passed_end test es i at
-
   -- a key that is found passes
   pub key_passes : (test : K → Bool) (es : List (K × V)) (k : K) → Some k ≡ lookup_key test es → test k ≡ true
   key_passes test [] k e = absurd cc

@@ -1,11 +1,10 @@
--- The entries of `ByKey` in the words of the map below it.
-use Rattle.std.proofs.Common.{◌≡◌, ℕ, Bool, true, false, cond, zero, suc, ◌+◌, List, [], ◌∷◌, take, Option, Some, refl, sym, ap, ◌∙◌, arith}
+-- Entries by key in the words of the kit's maps.
+use Rattle.std.proofs.Common.{◌≡◌, ℕ, Bool, true, false, cond, zero, suc, ◌+◌, List, [], ◌∷◌, take, Some, refl, sym, ap, ◌∙◌, arith}
 use Rattle.std.specs.List.{IsDistinct, AllByRecursion, slice_get}
 use Rattle.std.specs.Cmp.{IsEquivalence}
 use Rattle.std.proofs.lemmas.Cmp.{on_equiv, nat_list_eq_equiv}
 use Rattle.std.proofs.lemmas.Map.Keys.{IsDistinct-head, IsDistinct-tail}
 use Rattle.std.specs.Map.{keys_of, set_value}
-use Rattle.indexmap.specs.IndexMap.{set_value_at}
 use Rattle.indexmap.specs.IndexMap.{insert_entry}
 use Rattle.gw_names.specs.declared.key.Key.{Key}
 use Rattle.gw_names.specs.Keys.{key_eq, told_by}
@@ -13,9 +12,6 @@ use Rattle.gw_entities.specs.Tables.{value_of, with_value}
 
 one_later : (i : ℕ) → suc i ≡ i + 1
 one_later i = omega arith
-
-Some_same : {a b : Key} → Some a ≡ Some b → a ≡ b
-Some_same e = cc
 
 pub key_eq_equiv : IsEquivalence key_eq
 key_eq_equiv = on_equiv told_by nat_list_eq_equiv
@@ -42,19 +38,6 @@ module _ {V : Type 0} where
   insert_entry_is (e ∷ es) key value =
       ap (λ (l : List (Key × V)). cond (key_eq key e.0) ((e.0, value) ∷ es) (e ∷ l)) (insert_entry_is es key value)
 
-  -- under a key that is equal
-  pub put_is :
-      (es fs : List (Key × V)) (key other : Key) (value : V) → other ≡ key → fs ≡ insert_entry key_eq es other value →
-      fs ≡ with_value es key value
-  put_is es fs key other value same e =
-      e ∙ (ap (λ (k : Key). insert_entry key_eq es k value) same ∙ insert_entry_is es key value)
-
-  -- where the key that there is room for is inserted
-  pub inserted_is :
-      (es fs : List (Key × V)) (key other : Key) (value : V) (ready : Option Key) → Some other ≡ ready →
-      ready ≡ Some key → fs ≡ insert_entry key_eq es other value → fs ≡ with_value es key value
-  inserted_is es fs key other value ready taken room e = put_is es fs key other value (Some_same (taken ∙ room)) e
-
   pair_same : (e : Key × V) (key : Key) (value : V) → Some e ≡ Some (key, value) → e ≡ (key, value)
   pair_same e key value h = cc
 
@@ -78,21 +61,6 @@ module _ {V : Type 0} where
       let rest = one_more es i key value (IsDistinct-tail key_eq e.0 (keys_of es) d) at in
       ap (λ b. cond b ((e.0, value) ∷ take i es) (e ∷ insert_entry key_eq (take i es) key value)) other
       ∙ ap (λ (l : List (Key × V)). e ∷ l) rest
-
-  -- a value that is written at the index of its key
-  pub set_at_is :
-      (es : List (Key × V)) (i : ℕ) (key : Key) (value was : V) → IsDistinct key_eq (keys_of es) →
-      slice_get es i ≡ Some (key, was) → set_value_at es i value ≡ with_value es key value
-  set_at_is [] i key value was d at = absurd cc
-  set_at_is (e ∷ es) zero key value was d at =
-      let same : key_eq key e.0 ≡ true =
-      ap (λ (p : Key × V). key_eq key p.0) (pair_same e key was at) ∙ key_eq_equiv.refl key in
-      sym (ap (λ b. cond b ((e.0, value) ∷ es) (e ∷ with_value es key value)) same)
-  set_at_is (e ∷ es) (suc i) key value was d at =
-      let other : key_eq key e.0 ≡ false =
-      key_eq_equiv.symm key e.0 ∙ differs e.0 es i key was (IsDistinct-head key_eq e.0 (keys_of es) d) at in
-      ap (λ (l : List (Key × V)). e ∷ l) (set_at_is es i key value was (IsDistinct-tail key_eq e.0 (keys_of es) d) at)
-      ∙ sym (ap (λ b. cond b ((e.0, value) ∷ es) (e ∷ with_value es key value)) other)
 
   -- the entries up to an index, and the one there inserted behind them
   pub copied_is :

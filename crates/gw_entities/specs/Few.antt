@@ -1,6 +1,9 @@
 -- Entries that are looked through one by one. No public clause cites this module. (Our own.)
-use Rattle.std.specs.Prelude.{◌≡◌, ℕ, Bool, true, List, None, Some, take, slice_get}
+use Rattle.std.specs.Prelude.{◌≡◌, ◌<◌, ◌≤◌, ℕ, Bool, true, List, Option, None, Some, take, slice_get, nat_lt, if◌then◌else◌}
 use Rattle.std.specs.Map.{lookup}
+use Rattle.indexmap.specs.IndexSet.{insert_key}
+use Rattle.gw_names.specs.declared.key.Key.{Key}
+use Rattle.gw_names.specs.Keys.{key_eq}
 
 -- at an index stands the first entry whose key passes
 pub record StandsFirst {K V : Type 0} (test : K → Bool) (es : List (K × V)) (i : ℕ) : Type 0 where
@@ -8,3 +11,13 @@ pub record StandsFirst {K V : Type 0} (test : K → Bool) (es : List (K × V)) (
   pub there : slice_get es i ≡ Some entry
   pub passes : test entry.0 ≡ true
   pub before : lookup test (take i es) ≡ None
+
+-- behind so many entries there is room for one more, whose key there are two copies of, if any: also among the keys of
+-- those behind the first few, where it would be one of them
+abbrev pub IsReady : ℕ → ℕ → ℕ → Option (Key × Key) → Type 0
+IsReady len capacity spare None = Unit {0}
+IsReady len capacity spare (Some p) = (p.1 ≡ p.0) × (len < capacity) × (8 ≤ len → 0 < spare)
+
+-- these keys of entities behind the first few, with that of a further entity behind so many, where it is one of them
+abbrev pub keys_behind : ℕ → List Key → Key → List Key
+keys_behind len keys key = if nat_lt len 8 then keys else insert_key key_eq keys key

@@ -1,9 +1,11 @@
-ghost use Rattle.std.specs.Prelude.{◌≡◌, [], length, drop, suc, None, slice_get, IsTrue, IsFalse, IfOk, OnOk, OnErr, ◌<◌, IfSome, IfNone, IsSome, Some, unwrap_or};
+ghost use Rattle.std.specs.Prelude.{◌≡◌, ◌<◌, ◌≤◌, [], length, take, None, slice_get, IfOk, OnOk, OnErr, unwrap_or};
 ghost use Rattle.std.specs.Option.{option_map};
+ghost use Rattle.indexmap.specs.IndexSet.{spare};
+ghost use Rattle.gw_entities.specs.Few.{keys_behind};
 ghost use Rattle.gw_entities.specs.Tables.{value_of, with_value, HasRoom, IsPlace, AreApart};
 
 use gw_names::Key;
-use indexmap::IndexMap;
+use indexmap::IndexSet;
 use std::alloc::{AllocError, Global};
 use std::marker::Model;
 
@@ -14,21 +16,32 @@ const FEW_ENTITIES: usize = 8;
 /// A value for each entity, in order of first touch.
 #[derive(Drop)]
 pub struct ByKey<V: Copy> {
-    map: IndexMap<Key, V>,
-    // A copy of the key that room was made for, if it has no value yet.
-    ready: Option<Key>,
+    entries: Vec<(Key, V)>,
+    // The keys of those behind the first few, looked for by their hash.
+    behind: IndexSet<Key>,
+    // Two copies of the key that room was made for, if it has no value yet.
+    ready: Option<(Key, Key)>,
 }
 
 impl<V: Copy> Model for ByKey<V> {
-    ghost use Rattle.std.specs.Prelude.{◌<◌, IsSome};
-    ghost use Rattle.indexmap.specs.IndexMap.{spare};
-    ghost use Rattle.gw_entities.specs.Tables.{Touched};
+    ghost use Rattle.std.specs.Prelude.{◌≡◌, length, drop, vec_capacity};
+    ghost use Rattle.indexmap.specs.IndexSet.{spare};
+    ghost use Rattle.std.specs.Option.{option_map};
+    ghost use Rattle.std.specs.Map.{keys_of};
+    ghost use Rattle.gw_names.specs.declared.key.Key.{Key};
+    ghost use Rattle.gw_entities.specs.Tables.{Touched, AreApart};
+    ghost use Rattle.gw_entities.specs.Few.{IsReady};
 
     ghost Value = { Touched V };
 
-    ghost view = { λ t. record { entries = t.map.entries; ready = t.ready } };
+    ghost view = { λ t. record {
+      entries = t.entries.items;
+      ready = option_map (λ (p : Key × Key). p.0) t.ready;
+    } };
 
-    ghost invariant = { λ t. IsSome t.ready → 0 < spare t.map };
+    // The 8 is FEW_ENTITIES.
+    ghost invariant = { λ t. AreApart t.entries.items × (t.behind.keys ≡ keys_of (drop 8 t.entries.items))
+        × IsReady (length t.entries.items) (vec_capacity t.entries) (spare t.behind) t.ready };
 }
 
 impl<V: Copy> ByKey<V> {
@@ -37,7 +50,8 @@ impl<V: Copy> ByKey<V> {
         ensures { result.entries ≡ [] }
     {
         ByKey {
-            map: IndexMap::new(alloc),
+            entries: Vec::new(alloc),
+            behind: IndexSet::new(alloc),
             ready: None,
         }
     }
@@ -47,7 +61,7 @@ impl<V: Copy> ByKey<V> {
         ensures len { result ≡ length self.now.entries }
         ensures distinct { AreApart self.now.entries }
     {
-        self.map.len()
+        self.entries.len()
     }
 
     /// The value of an entity.
@@ -56,8 +70,7 @@ impl<V: Copy> ByKey<V> {
         ensures { result ≡ value_of self.now.entries key.now }
     {
         let index = self.place(key)?;
-        let (_, value) = self.map.get_index(index)?;
-        Some(*value)
+        Some(self.entries[index].1)
     }
 
     /// Where an entity lies, and its value: `fresh` where it has none.
@@ -69,7 +82,7 @@ impl<V: Copy> ByKey<V> {
         let Some(index) = self.place(key) else {
             return (None, fresh);
         };
-        (Some(index), self.map[index])
+        (Some(index), self.entries[index].1)
     }
 
     /// The value of an entity of which it is known where it lies: `fresh` where it has none.
@@ -81,10 +94,12 @@ impl<V: Copy> ByKey<V> {
         let Some(index) = place else {
             return fresh;
         };
-        self.map[index]
+        self.entries[index].1
     }
 
-    /// Makes room for an entity of which it is known where it lies, as [`ByKey::reserve`] does.
+    /// Makes room for an entity of which it is known where it lies: it needs no memory where the entity has a value, and
+    /// never fails there. It changes no value. Room for another entity that has none is gone, unless it fails: then all
+    /// is as it was.
     #[inline(always)]
     pub fn reserve_at(&mut self, key: &Key, place: Option<usize>) -> Result<(), AllocError>
         requires { IsPlace self.old.entries key.now place }
@@ -107,25 +122,14 @@ impl<V: Copy> ByKey<V> {
         ensures unchanged { OnErr result (self.new ≡ self.old) }
         ensures entries { self.new.entries ≡ self.old.entries }
     {
-        let copy = key.clone()?;
-        self.map.reserve(1)?;
-        self.ready = Some(copy);
-        Ok(())
-    }
-
-    /// Makes room for an entity: it needs no memory where the entity has a value, and never fails there. It changes no
-    /// value. Room for another entity that has none is gone, unless it fails: then all is as it was.
-    #[inline(always)]
-    pub fn reserve(&mut self, key: &Key) -> Result<(), AllocError>
-        ensures ok { OnOk result (HasRoom self.new key.now) }
-        ensures err { OnErr result (value_of self.old.entries key.now ≡ None) }
-        ensures unchanged { OnErr result (self.new ≡ self.old) }
-        ensures entries { self.new.entries ≡ self.old.entries }
-    {
-        if self.place(key).is_some() {
-            return Ok(());
+        let own = key.clone()?;
+        let other = key.clone()?;
+        self.entries.reserve(1)?;
+        if self.entries.len() >= FEW_ENTITIES {
+            self.behind.reserve(1)?;
         }
-        self.reserve_behind(key)
+        self.ready = Some((own, other));
+        Ok(())
     }
 
     // Where an entity lies, if it has a value: the first few are looked through.
@@ -133,53 +137,31 @@ impl<V: Copy> ByKey<V> {
     fn place(&self, key: &Key) -> Option<usize>
         ensures { IsPlace self.now.entries key.now result }
     {
-        for index in 0..self.map.len() {
+        for index in 0..self.entries.len() {
             if index >= FEW_ENTITIES {
-                return self.place_by_hash(key);
+                return self.place_behind(key);
             }
-            if self.is_at(index, key) {
+            if *key == self.entries[index].0 {
                 return Some(index);
             }
         }
         None
     }
 
-    // Whether an entity lies at an index.
-    #[inline(always)]
-    fn is_at(&self, index: usize, key: &Key) -> bool
-        ensures there { IsTrue result → IsPlace self.now.entries key.now (Some index) }
-        ensures other { IsFalse result →
-            value_of (drop index self.now.entries) key.now ≡ value_of (drop (suc index) self.now.entries) key.now }
-    {
-        match self.map.get_index(index) {
-            Some((kept, _)) => *key == *kept,
-            None => false,
-        }
-    }
-
-    // The same, by the hash of its key.
+    // The same, by the hash of its key, where it is none of the first few.
     #[cold]
     #[inline(never)]
-    fn place_by_hash(&self, key: &Key) -> Option<usize>
+    fn place_behind(&self, key: &Key) -> Option<usize>
+        requires { value_of (take 8 self.now.entries) key.now ≡ None }
         ensures { IsPlace self.now.entries key.now result }
     {
-        match self.map.get_full(key) {
-            Some((index, _, _)) => Some(index),
+        match self.behind.get_full(key) {
+            Some((index, _)) => Some(FEW_ENTITIES + index),
             None => None,
         }
     }
 
-    /// Sets the value of an entity: in place where it has one, else behind the others.
-    #[inline(always)]
-    pub fn set(&mut self, key: &Key, value: V)
-        requires { HasRoom self.old key.now }
-        ensures { self.new.entries ≡ with_value self.old.entries key.now value }
-    {
-        let (place, _) = self.look(key, value);
-        self.set_at(key, place, value);
-    }
-
-    /// Sets the value of an entity of which it is known where it lies, as [`ByKey::set`] does.
+    /// Sets the value of an entity of which it is known where it lies: in place where it has one, else behind the others.
     #[inline(always)]
     pub fn set_at(&mut self, key: &Key, place: Option<usize>, value: V)
         requires room { HasRoom self.old key.now }
@@ -187,7 +169,7 @@ impl<V: Copy> ByKey<V> {
         ensures { self.new.entries ≡ with_value self.old.entries key.now value }
     {
         match place {
-            Some(index) => self.write(index, value),
+            Some(index) => self.entries[index].1 = value,
             // A value of its own goes behind the others, so that the one above is changed where it lies.
             None => {
                 let behind = value;
@@ -204,13 +186,11 @@ impl<V: Copy> ByKey<V> {
         requires none { value_of self.old.entries key.now ≡ None }
         ensures { self.new.entries ≡ with_value self.old.entries key.now value }
     {
-        match self.ready.take() {
-            Some(key) => match self.map.insert(key, value) {
-                Ok(_) => (),
-                Err(_) => unreachable!(),
-            },
-            None => unreachable!(),
-        }
+        let Some((own, other)) = self.ready.take() else {
+            unreachable!()
+        };
+        add_behind(&mut self.behind, self.entries.len(), other);
+        self.entries.push_reserved((own, value));
     }
 
     // Makes room and sets the value of an entity, or changes no value where memory is refused.
@@ -219,43 +199,17 @@ impl<V: Copy> ByKey<V> {
         ensures ok { OnOk result (self.new.entries ≡ with_value self.old.entries key.now value) }
         ensures err { OnErr result (self.new.entries ≡ self.old.entries) }
     {
-        match self.place(key) {
-            Some(index) => {
-                self.write(index, value);
-                Ok(())
-            }
-            None => self.put_behind(key, value),
-        }
-    }
-
-    // The same for an entity that has no value: behind the others.
-    #[inline(never)]
-    fn put_behind(&mut self, key: &Key, value: V) -> Result<(), AllocError>
-        requires { value_of self.old.entries key.now ≡ None }
-        ensures ok { OnOk result (self.new.entries ≡ with_value self.old.entries key.now value) }
-        ensures err { OnErr result (self.new.entries ≡ self.old.entries) }
-    {
-        let copy = key.clone()?;
-        self.ready = None;
-        self.map.insert(copy, value)?;
+        let place = self.place(key);
+        self.reserve_at(key, place)?;
+        self.set_at(key, place, value);
         Ok(())
-    }
-
-    // Sets the value at an index, which is an entity's.
-    fn write(&mut self, index: usize, value: V)
-        requires { index < length self.old.entries }
-        ensures { (key : Key) (was : V) → slice_get self.old.entries index ≡ Some (key, was) →
-            self.new.entries ≡ with_value self.old.entries key value }
-    {
-        let (_, kept) = self.map.pair_mut(index);
-        *kept = value;
     }
 
     /// The entity at an index, in order of first touch, and its value.
     pub fn at(&self, index: usize) -> Option<(&Key, V)>
         ensures { option_map (λ p. (p.0.now, p.1)) result ≡ slice_get self.now.entries index }
     {
-        let (key, value) = self.map.get_index(index)?;
+        let (key, value) = self.entries.get(index)?;
         Some((key, *value))
     }
 
@@ -263,17 +217,41 @@ impl<V: Copy> ByKey<V> {
     pub fn copy(&self) -> Result<ByKey<V>, AllocError>
         ensures { IfOk result (λ t. t.entries ≡ self.now.entries) }
     {
-        let alloc = *self.map.allocator();
-        let len = self.map.len();
-        let mut map = IndexMap::with_capacity(alloc, len)?;
-        for i in 0..len {
-            match self.map.get_index(i) {
-                Some((key, value)) => {
-                    map.insert(key.clone()?, *value)?;
-                }
-                None => unreachable!(),
-            }
-        }
-        Ok(ByKey { map, ready: None })
+        let alloc = *self.entries.allocator();
+        let behind = if self.entries.len() <= FEW_ENTITIES {
+            IndexSet::new(alloc)
+        } else {
+            self.behind.clone()?
+        };
+        Ok(ByKey {
+            entries: copy_entries(alloc, &self.entries)?,
+            behind,
+            ready: None,
+        })
     }
+}
+
+// The key of an entity that comes behind so many others is looked for by its hash, where it is none of the first few.
+fn add_behind(behind: &mut IndexSet<Key>, len: usize, key: Key)
+    requires { 8 ≤ len → 0 < spare behind.old }
+    ensures { behind.new.keys ≡ keys_behind len behind.old.keys key }
+{
+    if len < FEW_ENTITIES {
+        return;
+    }
+    match behind.insert(key) {
+        Ok(_) => (),
+        Err(_) => unreachable!(),
+    }
+}
+
+// Equal entries.
+fn copy_entries<V: Copy>(alloc: Global, entries: &[(Key, V)]) -> Result<Vec<(Key, V)>, AllocError>
+    ensures { IfOk result (λ es. es.items ≡ entries.now) }
+{
+    let mut copies = Vec::with_capacity(alloc, entries.len())?;
+    for (key, value) in entries {
+        copies.push((key.clone()?, *value))?;
+    }
+    Ok(copies)
 }

@@ -1,5 +1,5 @@
-use Rattle.std.proofs.Common.{◌≡◌, ◌+◌, ◌<◌, length, take, filter, not, true, false, arith, length-set, refl, sym, ap, ◌∙◌}
-use Rattle.gw_meaning.specs.Changes.{is_due, lined_up}
+use Rattle.std.proofs.Common.{◌≡◌, ◌+◌, ◌<◌, length, take, filter, not, true, false, arith, length-set, refl, sym, ◌∙◌}
+use Rattle.gw_meaning.specs.Changes.{is_due}
 use Rattle.gw_chains.proofs.ClosingUp.{one_goes, one_stays, kept_long}
 use Rattle.gw_chains.proofs.segment.take_more.Goals as goal
 use Rattle.gw_chains.proofs.segment.take_more.Goals.{then-eq, else-eq}

@@ -1,7 +1,10 @@
-use Rattle.std.proofs.Common.{◌≡◌, drop}
+use Rattle.std.proofs.Common.{◌≡◌, ◌≤◌, None, take}
 use Rattle.gw_entities.specs.Tables.{value_of}
 use Rattle.gw_entities.proofs.by_key.ByKey.place.Given as goal
 
--- the entity has the value that it has among the rest
+-- the entity is none of those that were looked at, and these are few
 abbrev pub invariant-loop-index : goal.invariant-loop-index
-invariant-loop-index g l = value_of (drop l.index l.self.entries) l.key ≡ value_of l.self.entries l.key
+invariant-loop-index g l = record {
+  few : l.index ≤ 8;
+  none : value_of (take l.index l.self.entries) l.key ≡ None;
+}
