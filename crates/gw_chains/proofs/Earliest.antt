@@ -8,7 +8,8 @@ use Rattle.std.proofs.lemmas.Option.{slice_get_within}
 use Rattle.gw_meaning.specs.declared.transaction.Event.{Event}
 use Rattle.gw_meaning.specs.Changes.{due, is_due}
 use Rattle.gw_meaning.specs.Step.{least_time}
-use Rattle.gw_chains.specs.Segments.{is_later, IsFirst, IsLeast, IsEarliest}
+use Rattle.gw_chains.specs.declared.segment.Earliest.{Earliest}
+use Rattle.gw_chains.specs.Segments.{is_later, IsFirst, IsLeast, IsEarliest, Meets}
 use Rattle.gw_chains.proofs.ChainLaws.{item_drop}
 use Rattle.gw_chains.proofs.SegmentLaws.{due_append}
 use Rattle.gw_chains.proofs.ClosingUp.{taken_front, meets_sooner, meets_later, later_ticks, time_within, first_is}
@@ -49,6 +50,23 @@ earliest_old es e ticks i front j low more k =
       least = meets_later es e ticks i low more k.least;
       front = λ less. subst (λ xs. IsLeast xs front j) (sym (take-append-le i es (e ∷ []) (omega (arith, within)))) (k.front less);
     }
+
+-- one whose time is less than the least one, and one whose time is not
+pub meets_new :
+    (time index : ℕ) (old new : Earliest) → time ≤ 1001000000000 → time < old.least.ticks →
+    new.least ≡ record { ticks = time; first = index } → new.front ≡ old.least → Meets time index old new
+meets_new time index old new low less least front events event long is k =
+    let same : event.time ≤ 1001000000000 = rw is low in
+    let test : nat_lt event.time old.least.ticks ≡ true = rw is (grind (arith, nat_tests)) in
+    rw (ap (λ l. l.ticks) least, ap (λ l. l.first) least, ap (λ l. l.ticks) front, ap (λ l. l.first) front, ← is, ← long)
+    (earliest_new events event old.least.ticks old.least.first old.front.ticks old.front.first same test k)
+
+pub meets_old :
+    (time index : ℕ) (old : Earliest) → time ≤ 1001000000000 → old.least.ticks ≤ time → Meets time index old old
+meets_old time index old low more events event long is k =
+    let same : event.time ≤ 1001000000000 = rw is low in
+    let test : nat_lt event.time old.least.ticks ≡ false = rw is (grind (arith, nat_tests)) in
+    earliest_old events event old.least.ticks old.least.first old.front.ticks old.front.first same test k
 
 -- one that stays moves up
 pub moves_up : (events : List Event) (n m : ℕ) (e : Event) (rest : List Event) → m ≡ n + 1 → m < length events → e ≡ get_or events m e →

@@ -4,6 +4,7 @@ use Rattle.std.specs.Prelude.{slice_get, length, take, map, get_or, nat_le, nat_
 use Rattle.gw_meaning.specs.declared.transaction.Event.{Event}
 use Rattle.gw_meaning.specs.Changes.{is_due, due}
 use Rattle.gw_meaning.specs.Step.{least_time, sooner}
+use Rattle.gw_chains.specs.declared.segment.Earliest.{Earliest}
 
 -- a closed segment, which takes no more
 pub record Closed : Type 0 where
@@ -54,6 +55,13 @@ pub record IsLeast (events : List Event) (ticks index : ℕ) : Type 0 where
 pub record IsEarliest (events : List Event) (ticks index front_ticks front_index : ℕ) : Type 0 where
   pub least : IsLeast events ticks index
   pub front : front_index < index → IsLeast (take index events) front_ticks front_index
+
+-- the earliest of any transactions in order are the new ones, where the old ones were those before one more of a time
+-- came behind so many
+abbrev pub Meets : ℕ → ℕ → Earliest → Earliest → Type 0
+Meets time index old new = (events : List Event) (event : Event) → length events ≡ index → event.time ≡ time →
+    IsEarliest events old.least.ticks old.least.first old.front.ticks old.front.first →
+    IsEarliest (events ++ event ∷ []) new.least.ticks new.least.first new.front.ticks new.front.first
 
 -- the least time of each segment, where anything is on it
 abbrev pub least_times : List Closed → List (Option ℕ)

@@ -5,7 +5,7 @@ ghost use Rattle.gw_meaning.specs.declared.transaction.Event.{Event};
 ghost use Rattle.gw_meaning.specs.Changes.{all_lined_up, due, is_due};
 ghost use Rattle.gw_meaning.specs.Step.{least_time};
 ghost use Rattle.gw_chains.specs.ClosingUp.{ClosingUp};
-ghost use Rattle.gw_chains.specs.Segments.{time_of, IsLeast, IsEarliest};
+ghost use Rattle.gw_chains.specs.Segments.{time_of, IsLeast, IsEarliest, Meets};
 
 use crate::chain::PriorityChain;
 use gw_meaning::Event;
@@ -232,10 +232,7 @@ impl Earliest {
     // One more comes behind so many, with this time.
     #[inline(always)]
     fn meet(&mut self, time: Time, index: usize)
-        ensures { (events : List Event) → (event : Event) → length events ≡ index → event.time ≡ time →
-            IsEarliest events self.old.least.ticks self.old.least.first self.old.front.ticks self.old.front.first →
-            IsEarliest (events ++ event ∷ [])
-            self.new.least.ticks self.new.least.first self.new.front.ticks self.new.front.first }
+        ensures { Meets time index self.old self.new }
     {
         let ticks = time.ticks();
         if ticks < self.least.ticks {
@@ -246,10 +243,7 @@ impl Earliest {
     // The same. That the time is less is left out of the way, so that a loop carries one least time along, and not two.
     #[inline(always)]
     fn meet_on_the_way(&mut self, time: Time, index: usize)
-        ensures { (events : List Event) → (event : Event) → length events ≡ index → event.time ≡ time →
-            IsEarliest events self.old.least.ticks self.old.least.first self.old.front.ticks self.old.front.first →
-            IsEarliest (events ++ event ∷ [])
-            self.new.least.ticks self.new.least.first self.new.front.ticks self.new.front.first }
+        ensures { Meets time index self.old self.new }
     {
         let ticks = time.ticks();
         if ticks < self.least.ticks {

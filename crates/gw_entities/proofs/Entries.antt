@@ -1,5 +1,6 @@
 -- The entries of `ByKey`, and the keys of those behind the first few.
-use Rattle.std.proofs.Common.{◌≡◌, ℕ, Bool, true, false, cond, zero, suc, ◌+◌, ◌<◌, ◌≤◌, List, [], ◌∷◌, ◌++◌, length, drop, set, None, Some, nat_lt, refl, sym, ap, ◌∙◌, ◌||◌, subst, arith}
+use Rattle.std.proofs.Common.{◌≡◌, ℕ, Bool, true, false, cond, zero, suc, ◌+◌, ◌<◌, ◌≤◌, List, [], ◌∷◌, ◌++◌, length, drop, set, get_or, None, Some, nat_lt, refl, sym, ap, ◌∙◌, ◌||◌, subst, arith}
+use Rattle.std.proofs.lemmas.Option.{get_or_from_slice_get}
 use Rattle.std.specs.List.{IsDistinct, AllByRecursion, slice_get, list_any}
 use Rattle.std.proofs.lemmas.Bool.Decides.{nat_tests}
 use Rattle.std.proofs.lemmas.Map.Keys.{IsDistinct-head, IsDistinct-tail}
@@ -8,7 +9,7 @@ use Rattle.indexmap.specs.IndexSet.{insert_key}
 use Rattle.gw_names.specs.declared.key.Key.{Key}
 use Rattle.gw_names.specs.Keys.{key_eq}
 use Rattle.gw_entities.specs.Few.{keys_behind}
-use Rattle.gw_entities.specs.Tables.{value_of, with_value, AreApart}
+use Rattle.gw_entities.specs.Tables.{value_of, with_value, AreApart, IsPlace}
 use Rattle.gw_entities.proofs.TableLaws.{key_eq_equiv}
 
 pub Some_same : {A : Type 0} {a b : A} → Some a ≡ Some b → a ≡ b
@@ -44,7 +45,7 @@ module _ {V : Type 0} where
       ∙ value_there xs i e (IsDistinct-tail key_eq x.0 (keys_of xs) apart) at
 
   -- a value that is written at the index of its key
-  pub set_is :
+  set_is :
       (es : List (Key × V)) (i : ℕ) (e : Key × V) (value : V) → AreApart es → slice_get es i ≡ Some e →
       set es i (e.0, value) ≡ with_value es e.0 value
   set_is [] i e value apart at = absurd cc
@@ -56,10 +57,20 @@ module _ {V : Type 0} where
       ap (λ (l : List (Key × V)). x ∷ l) (set_is xs i e value (IsDistinct-tail key_eq x.0 (keys_of xs) apart) at)
       ∙ sym (ap (λ b. cond b ((x.0, value) ∷ xs) (x ∷ with_value xs e.0 value)) (later x xs i e apart at))
 
-  pub keys_set : (es : List (Key × V)) (i : ℕ) (e : Key × V) (value : V) → slice_get es i ≡ Some e → keys_of (set es i (e.0, value)) ≡ keys_of es
+  keys_set : (es : List (Key × V)) (i : ℕ) (e : Key × V) (value : V) → slice_get es i ≡ Some e → keys_of (set es i (e.0, value)) ≡ keys_of es
   keys_set [] i e value at = absurd cc
   keys_set (x ∷ xs) zero e value at = ap (λ (p : Key × V). p.0 ∷ keys_of xs) (sym (Some_same at))
   keys_set (x ∷ xs) (suc i) e value at = ap (λ ks. x.0 ∷ ks) (keys_set xs i e value at)
+
+  -- a value that is written where a key lies is that of the key, and the keys stay
+  pub written :
+      (es : List (Key × V)) (i : ℕ) (key : Key) (e : Key × V) (value : V) → AreApart es → IsPlace es key (Some i) → e ≡ get_or es i e →
+      (set es i (e.0, value) ≡ with_value es key value) × (keys_of (set es i (e.0, value)) ≡ keys_of es)
+  written es i key e value apart place read =
+      let is : e ≡ (key, place.0) = read ∙ get_or_from_slice_get es i (key, place.0) e place.1 in (
+        ap (λ (p : Key × V). set es i (p.0, value)) is ∙ set_is es i (key, place.0) value apart place.1,
+        ap (λ (p : Key × V). keys_of (set es i (p.0, value))) is ∙ keys_set es i (key, place.0) value place.1,
+      )
 
   pub keys_drop : (n : ℕ) (es : List (Key × V)) → keys_of (drop n es) ≡ drop n (keys_of es)
   keys_drop zero es = refl

@@ -97,9 +97,9 @@ impl<V: Copy> ByKey<V> {
         self.entries[index].1
     }
 
-    /// Makes room for an entity of which it is known where it lies: it needs no memory where the entity has a value, and
-    /// never fails there. It changes no value. Room for another entity that has none is gone, unless it fails: then all
-    /// is as it was.
+    /// Makes room for an entity of which it is known where it lies: it needs no memory where the entity has a value,
+    /// and never fails there. It changes no value. Room for another entity that has none is gone, unless it fails: then
+    /// all is as it was.
     #[inline(always)]
     pub fn reserve_at(&mut self, key: &Key, place: Option<usize>) -> Result<(), AllocError>
         requires { IsPlace self.old.entries key.now place }
@@ -161,7 +161,8 @@ impl<V: Copy> ByKey<V> {
         }
     }
 
-    /// Sets the value of an entity of which it is known where it lies: in place where it has one, else behind the others.
+    /// Sets the value of an entity of which it is known where it lies: in place where it has one, else behind the
+    /// others.
     #[inline(always)]
     pub fn set_at(&mut self, key: &Key, place: Option<usize>, value: V)
         requires room { HasRoom self.old key.now }

@@ -1,28 +1,16 @@
-use Rattle.std.proofs.Common.{◌≡◌, ◌≤◌, true, false, sym, ap, ◌∙◌, arith}
-use Rattle.std.specs.Prelude.{nat_lt}
+use Rattle.std.proofs.Common.{◌≡◌, ◌≤◌, ◌<◌, arith}
 use Rattle.std.proofs.lemmas.Bool.Decides.{nat_tests}
-use Rattle.gw_chains.proofs.Earliest.{earliest_new, earliest_old}
+use Rattle.gw_chains.proofs.Earliest.{meets_new, meets_old}
 use Rattle.gw_chains.proofs.segment.Earliest.meet.Goals as goal
 
 pub returns-then-ticks-self : goal.returns-then-ticks-self
-returns-then-ticks-self c = λ events event long is k.
-    let now = c.args.self.now in
-    let ticks = c.ticks-ticks.result in
-    let same : event.time ≡ ticks = is ∙ sym c.ticks-ticks.ensures.value in
-    let low : event.time ≤ 1001000000000 = rw same c.ticks-ticks.ensures.bound in
-    let test : nat_lt ticks now.least.ticks ≡ true = grind (arith, nat_tests) in
-    let less : nat_lt event.time now.least.ticks ≡ true = rw same test in
-    let least = c.go_below.ensures.least in
-    let front = c.go_below.ensures.front in
-    rw (ap (λ l. l.ticks) least, ap (λ l. l.first) least, ap (λ l. l.ticks) front, ap (λ l. l.first) front, ← same, ← long)
-    (earliest_new events event now.least.ticks now.least.first now.front.ticks now.front.first low less k)
+returns-then-ticks-self c =
+    let less : c.ticks-ticks.result < c.args.self.now.least.ticks = grind (arith, nat_tests) in
+    rw (← c.ticks-ticks.ensures.value)
+    (meets_new c.ticks-ticks.result c.args.index c.args.self.now c.go_below.new.self c.ticks-ticks.ensures.bound less
+    c.go_below.ensures.least c.go_below.ensures.front)
 
 pub returns-else-ticks-self : goal.returns-else-ticks-self
-returns-else-ticks-self c = λ events event long is k.
-    let now = c.args.self.now in
-    let ticks = c.ticks-ticks.result in
-    let same : event.time ≡ ticks = is ∙ sym c.ticks-ticks.ensures.value in
-    let low : event.time ≤ 1001000000000 = rw same c.ticks-ticks.ensures.bound in
-    let test : nat_lt ticks now.least.ticks ≡ false = grind (arith, nat_tests) in
-    let more : nat_lt event.time now.least.ticks ≡ false = rw same test in
-    earliest_old events event now.least.ticks now.least.first now.front.ticks now.front.first low more k
+returns-else-ticks-self c =
+    let more : c.args.self.now.least.ticks ≤ c.ticks-ticks.result = grind (arith, nat_tests) in
+    rw (← c.ticks-ticks.ensures.value) (meets_old c.ticks-ticks.result c.args.index c.args.self.now c.ticks-ticks.ensures.bound more)
