@@ -56,8 +56,8 @@ pub record IsEarliest (events : List Event) (ticks index front_ticks front_index
   pub least : IsLeast events ticks index
   pub front : front_index < index → IsLeast (take index events) front_ticks front_index
 
--- the earliest of any transactions in order are the new ones, where the old ones were those before one more of a time
--- came behind so many
+-- one more of this time comes behind transactions, as many as the index says: where the old earliest were those of
+-- these, the new ones are those of all
 abbrev pub Meets : ℕ → ℕ → Earliest → Earliest → Type 0
 Meets time index old new = (events : List Event) (event : Event) → length events ≡ index → event.time ≡ time →
     IsEarliest events old.least.ticks old.least.first old.front.ticks old.front.first →

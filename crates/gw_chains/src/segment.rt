@@ -240,27 +240,28 @@ impl Earliest {
         }
     }
 
-    // The same. That the time is less is left out of the way, so that a loop carries one least time along, and not two.
+    // The same, for a loop: that the time is less is rare there, and told apart, so that the loop carries one least time
+    // along and not two.
     #[inline(always)]
-    fn meet_on_the_way(&mut self, time: Time, index: usize)
+    fn meet_in_loop(&mut self, time: Time, index: usize)
         ensures { Meets time index self.old self.new }
     {
         let ticks = time.ticks();
         if ticks < self.least.ticks {
-            self.go_below_apart(ticks, index);
+            self.go_below_cold(ticks, index);
         }
     }
 
     #[cold]
     #[inline(never)]
-    fn go_below_apart(&mut self, ticks: u64, index: usize)
+    fn go_below_cold(&mut self, ticks: u64, index: usize)
         ensures least { self.new.least ≡ record { ticks = ticks; first = index } }
         ensures front { self.new.front ≡ self.old.least }
     {
         self.go_below(ticks, index);
     }
 
-    // The one at an index is the first of a lesser time.
+    // The one at an index has the least time from now on, and those in front of it had the least one so far.
     #[inline(always)]
     fn go_below(&mut self, ticks: u64, index: usize)
         ensures least { self.new.least ≡ record { ticks = ticks; first = index } }
@@ -318,7 +319,7 @@ fn close_up(events: &mut [Event], index: usize, front: Least) -> Earliest
     let mut earliest = Earliest::of(front);
     for place in index..events.len() - 1 {
         let event = events[place + 1];
-        earliest.meet_on_the_way(event.time, place);
+        earliest.meet_in_loop(event.time, place);
         events[place] = event;
     }
     earliest

@@ -15,9 +15,6 @@ use Rattle.gw_entities.proofs.TableLaws.{key_eq_equiv}
 pub Some_same : {A : Type 0} {a b : A} → Some a ≡ Some b → a ≡ b
 Some_same e = cc
 
-clash : {A : Type 0} (b : Bool) → b ≡ false → b ≡ true → A
-clash b e f = absurd cc
-
 module _ {V : Type 0} where
   -- a key that differs from all is none of them
   differs :

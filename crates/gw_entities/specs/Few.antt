@@ -1,4 +1,5 @@
--- Entries that are looked through one by one. No public clause cites this module. (Our own.)
+-- The first few entries, which are looked through one by one, and the keys of those behind them. No public clause cites
+-- this module. (Our own.)
 use Rattle.std.specs.Prelude.{◌≡◌, ◌<◌, ◌≤◌, ℕ, Bool, true, List, Option, None, Some, take, slice_get, nat_lt, if◌then◌else◌}
 use Rattle.std.specs.Map.{lookup}
 use Rattle.indexmap.specs.IndexSet.{insert_key}
@@ -12,12 +13,12 @@ pub record StandsFirst {K V : Type 0} (test : K → Bool) (es : List (K × V)) (
   pub passes : test entry.0 ≡ true
   pub before : lookup test (take i es) ≡ None
 
--- behind so many entries there is room for one more, whose key there are two copies of, if any: also among the keys of
--- those behind the first few, where it would be one of them
+-- where a key is ready, there are two equal copies of it, the list of so many entries has room for one more, and so has
+-- the set of the keys behind the first few, where the entry would be one of them (8 is FEW_ENTITIES, here and below)
 abbrev pub IsReady : ℕ → ℕ → ℕ → Option (Key × Key) → Type 0
 IsReady len capacity spare None = Unit {0}
 IsReady len capacity spare (Some p) = (p.1 ≡ p.0) × (len < capacity) × (8 ≤ len → 0 < spare)
 
--- these keys of entities behind the first few, with that of a further entity behind so many, where it is one of them
+-- the keys of the entities behind the first few, once one with this key is added behind so many entities
 abbrev pub keys_behind : ℕ → List Key → Key → List Key
 keys_behind len keys key = if nat_lt len 8 then keys else insert_key key_eq keys key

@@ -19,7 +19,8 @@ pub struct ByKey<V: Copy> {
     entries: Vec<(Key, V)>,
     // The keys of those behind the first few, looked for by their hash.
     behind: IndexSet<Key>,
-    // Two copies of the key that room was made for, if it has no value yet.
+    // Two copies of the key that room was made for, if it has no value yet: one for the entry, and one for the set, which
+    // the first few do not need.
     ready: Option<(Key, Key)>,
 }
 
@@ -39,7 +40,7 @@ impl<V: Copy> Model for ByKey<V> {
       ready = option_map (λ (p : Key × Key). p.0) t.ready;
     } };
 
-    // The 8 is FEW_ENTITIES.
+    // The 8 here and below is FEW_ENTITIES.
     ghost invariant = { λ t. AreApart t.entries.items × (t.behind.keys ≡ keys_of (drop 8 t.entries.items))
         × IsReady (length t.entries.items) (vec_capacity t.entries) (spare t.behind) t.ready };
 }
@@ -98,8 +99,8 @@ impl<V: Copy> ByKey<V> {
     }
 
     /// Makes room for an entity of which it is known where it lies: it needs no memory where the entity has a value,
-    /// and never fails there. It changes no value. Room for another entity that has none is gone, unless it fails: then
-    /// all is as it was.
+    /// and never fails there. It changes no value. Room for another entity that has none may be gone, unless it fails:
+    /// then all is as it was.
     #[inline(always)]
     pub fn reserve_at(&mut self, key: &Key, place: Option<usize>) -> Result<(), AllocError>
         requires { IsPlace self.old.entries key.now place }
@@ -122,13 +123,13 @@ impl<V: Copy> ByKey<V> {
         ensures unchanged { OnErr result (self.new ≡ self.old) }
         ensures entries { self.new.entries ≡ self.old.entries }
     {
-        let own = key.clone()?;
-        let other = key.clone()?;
+        let listed = key.clone()?;
+        let hashed = key.clone()?;
         self.entries.reserve(1)?;
         if self.entries.len() >= FEW_ENTITIES {
             self.behind.reserve(1)?;
         }
-        self.ready = Some((own, other));
+        self.ready = Some((listed, hashed));
         Ok(())
     }
 
@@ -187,11 +188,11 @@ impl<V: Copy> ByKey<V> {
         requires none { value_of self.old.entries key.now ≡ None }
         ensures { self.new.entries ≡ with_value self.old.entries key.now value }
     {
-        let Some((own, other)) = self.ready.take() else {
+        let Some((listed, hashed)) = self.ready.take() else {
             unreachable!()
         };
-        add_behind(&mut self.behind, self.entries.len(), other);
-        self.entries.push_reserved((own, value));
+        add_behind(&mut self.behind, self.entries.len(), hashed);
+        self.entries.push_reserved((listed, value));
     }
 
     // Makes room and sets the value of an entity, or changes no value where memory is refused.
@@ -219,6 +220,7 @@ impl<V: Copy> ByKey<V> {
         ensures { IfOk result (λ t. t.entries ≡ self.now.entries) }
     {
         let alloc = *self.entries.allocator();
+        // To clone a set that holds nothing costs more than to make one.
         let behind = if self.entries.len() <= FEW_ENTITIES {
             IndexSet::new(alloc)
         } else {
@@ -232,7 +234,7 @@ impl<V: Copy> ByKey<V> {
     }
 }
 
-// The key of an entity that comes behind so many others is looked for by its hash, where it is none of the first few.
+// Adds the key of an entity that comes behind so many others to the set, unless it is one of the first few.
 fn add_behind(behind: &mut IndexSet<Key>, len: usize, key: Key)
     requires { 8 ≤ len → 0 < spare behind.old }
     ensures { behind.new.keys ≡ keys_behind len behind.old.keys key }
@@ -246,7 +248,7 @@ fn add_behind(behind: &mut IndexSet<Key>, len: usize, key: Key)
     }
 }
 
-// Equal entries.
+// A copy of the entries.
 fn copy_entries<V: Copy>(alloc: Global, entries: &[(Key, V)]) -> Result<Vec<(Key, V)>, AllocError>
     ensures { IfOk result (λ es. es.items ≡ entries.now) }
 {

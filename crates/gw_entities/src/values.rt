@@ -10,12 +10,12 @@ use gw_nums::Val;
 use std::alloc::{AllocError, Global};
 use std::marker::Model;
 
-// So many parameters of a transaction are looked through one by one, and those behind them by their hash. Most
+// So many parameters of a transaction are looked through one by one, and those behind them as entities are. Most
 // transactions have no more.
 const FEW_PARAMETERS: usize = 8;
 
 // The values of a transaction by parameter, in order of first assignment: the first few in a list, and those behind
-// them by their hash.
+// them by key.
 #[derive(Drop)]
 pub struct Values {
     few: Vec<(Key, Val)>,
@@ -56,7 +56,7 @@ impl Values {
         };
         match place_of_number(&self.few, *number) {
             Some(index) => Some(self.few[index].1),
-            None => by_hash(&self.many, key),
+            None => among_many(&self.many, key),
         }
     }
 
@@ -116,10 +116,10 @@ fn put_behind(
     many.put(key, value)
 }
 
-// The value of a parameter, looked for by its hash.
+// The value of a parameter that is none of the first few.
 #[cold]
 #[inline(never)]
-fn by_hash(many: &ByKey<Val>, key: &Key) -> Option<Val>
+fn among_many(many: &ByKey<Val>, key: &Key) -> Option<Val>
     ensures { result ≡ value_of many.now.entries key.now }
 {
     many.get(key)

@@ -12,9 +12,9 @@ loop-place-preserved c =
     let long = c.loop-place.invariant.long in
     let test = c.loop-place-test.true in
     let within : n + 1 < length events = omega (arith, test, long) in
-    let new = c.meet_on_the_way.new.self in
+    let new = c.meet_in_loop.new.self in
     let count : length (take n events) ≡ n = length-take n events ∙ omega (arith, within) in
-    let met = c.meet_on_the_way.ensures (take n events) e count refl c.loop-place.invariant.earliest in
+    let met = c.meet_in_loop.ensures (take n events) e count refl c.loop-place.invariant.earliest in
     let grown = take_more_set events n e (omega (arith, within)) in
     record {
       long = length-set events n e ∙ long;

@@ -15,7 +15,7 @@ returns g c =
     let key = c.args.key.now in
     let room = rw (← c.self.view_is) at c.requires.room in
     let none = rw (← c.self.view_is) at c.requires.none in
-    let own : c.in-Some.own ≡ key = Some_same (ap (λ o. option_map (λ (p : Key × Key). p.0) o) c.in-Some.ensures.value ∙ room none) in
+    let own : c.in-Some.listed ≡ key = Some_same (ap (λ o. option_map (λ (p : Key × Key). p.0) o) c.in-Some.ensures.value ∙ room none) in
     rw (← c.self.view_is)
     (c.push_reserved.ensures.items ∙ (ap (λ k. es ++ (k, c.args.value) ∷ []) own ∙ sym (pushed_is es key c.args.value none)))
 
@@ -26,13 +26,13 @@ invariant_of-self g c =
     let key = c.args.key.now in
     let room = rw (← c.self.view_is) at c.requires.room in
     let none = rw (← c.self.view_is) at c.requires.none in
-    let own : c.in-Some.own ≡ key = Some_same (ap (λ o. option_map (λ (p : Key × Key). p.0) o) c.in-Some.ensures.value ∙ room none) in
+    let own : c.in-Some.listed ≡ key = Some_same (ap (λ o. option_map (λ (p : Key × Key). p.0) o) c.in-Some.ensures.value ∙ room none) in
     let copies = subst (λ o. IsReady (length es) (vec_capacity c.self.inside.entries) (spare c.self.inside.behind) o) (sym c.in-Some.ensures.value) ready in
-    let other : c.in-Some.other ≡ key = copies.0 ∙ own in
+    let other : c.in-Some.hashed ≡ key = copies.0 ∙ own in
     let items : c.push_reserved.new.self.items ≡ es ++ (key, c.args.value) ∷ [] =
     c.push_reserved.ensures.items ∙ ap (λ k. es ++ (k, c.args.value) ∷ []) own in
     let long : c.len.result ≡ length es = search rules in
-    let keys = c.add_behind.ensures ∙ (ap (λ n. keys_behind n c.self.inside.behind.keys c.in-Some.other) long
+    let keys = c.add_behind.ensures ∙ (ap (λ n. keys_behind n c.self.inside.behind.keys c.in-Some.hashed) long
     ∙ ap (λ k. keys_behind (length es) c.self.inside.behind.keys k) other) in (
       subst AreApart (sym items) (apart_pushed es key c.args.value apart none),
       keys ∙ (keys_pushed es c.self.inside.behind.keys key c.args.value behind none ∙ ap (λ l. keys_of (drop 8 l)) (sym items)),

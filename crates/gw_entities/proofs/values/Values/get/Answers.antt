@@ -12,4 +12,4 @@ returns-in-Some c =
 pub returns-in-None : goal.returns-in-None
 returns-in-None c =
     let none = rw (c.deref.ensures.value, sym c.in-Num.is) at c.in-None.ensures.none in
-    rw (← c.self.view_is) (c.by_hash.ensures ∙ sym (none_among (key_eq c.args.key.now) c.self.inside.few.items c.self.inside.many.entries none))
+    rw (← c.self.view_is) (c.among_many.ensures ∙ sym (none_among (key_eq c.args.key.now) c.self.inside.few.items c.self.inside.many.entries none))
