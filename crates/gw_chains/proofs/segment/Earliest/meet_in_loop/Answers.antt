@@ -1,4 +1,4 @@
-use Rattle.std.proofs.Common.{◌≡◌, ◌≤◌, ◌<◌, arith}
+use Rattle.std.proofs.Common.{◌≤◌, ◌<◌, arith}
 use Rattle.std.proofs.lemmas.Bool.Decides.{nat_tests}
 use Rattle.gw_chains.proofs.Earliest.{meets_new, meets_old}
 use Rattle.gw_chains.proofs.segment.Earliest.meet_in_loop.Goals as goal
