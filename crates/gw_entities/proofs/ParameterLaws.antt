@@ -47,17 +47,16 @@ values_found : (es : Held) (i n : ℕ) (t : Values) → IsDistinct nat_eq (keys_
     Some t ≡ lookup (nat_eq n) es
 values_found es i n t apart at = sym (lookup_from_place nat_eq_equiv es i n t apart at)
 
--- the values at the index of a transaction
-pub values_at_index : (es : Held) (i n k : ℕ) (t u : Values) → IsDistinct nat_eq (keys_of es) → slice_get es i ≡ Some (n, t) →
-    Some (k, u) ≡ slice_get es i → Some u ≡ lookup (nat_eq n) es
-values_at_index es i n k t u apart at is =
-    let same : u ≡ t = ap (λ (e : ℕ × Values). e.1) (pair_same (k, u) n t (is ∙ at)) in
-    ap Some same ∙ values_found es i n t apart at
+same_read : (es : Held) (i n k : ℕ) (t u : Values) → slice_get es i ≡ Some (n, t) → slice_get es i ≡ Some (k, u) → u ≡ t
+same_read es i n k t u at is = ap (λ (e : ℕ × Values). e.1) (pair_same (k, u) n t (sym is ∙ at))
 
-same_there : (es : Held) (i n : ℕ) (t u : Values) → slice_get es i ≡ Some (n, t) → Some u ≡ slice_get (values_of es) i → u ≡ t
-same_there es i n t u at is =
+-- the values at the index of a transaction
+pub values_at_index : (es : Held) (i n : ℕ) (t u : Values) → IsDistinct nat_eq (keys_of es) → slice_get es i ≡ Some (n, t) →
+    slice_get (values_of es) i ≡ Some u → Some u ≡ lookup (nat_eq n) es
+values_at_index es i n t u apart at is =
     let own : slice_get (values_of es) i ≡ Some t = slice_get-map (λ (e : ℕ × Values). e.1) es i ∙ ap (option_map (λ (e : ℕ × Values). e.1)) at in
-    cc
+    let same : u ≡ t = cc in
+    ap Some same ∙ values_found es i n t apart at
 
 -- the values of a transaction that are set
 written : (es : Held) (n : ℕ) (was now : Values) → Some was ≡ lookup (nat_eq n) es → set_value (nat_eq n) es now ≡ with_values es n now
@@ -84,13 +83,13 @@ same_values (e ∷ es) n was h = go (nat_eq n e.0) h (same_values es n was) wher
   go false h rest = ap (λ (hs : Held). e ∷ hs) (rest h)
 
 -- a parameter that is set, of a transaction that has some and of one that has none; and values that are written back
-pub assigned_in_place : (es : Held) (i n : ℕ) (key : Key) (value : ℤ) (t was now : Values) → IsDistinct nat_eq (keys_of es) →
-    slice_get es i ≡ Some (n, t) → Some was ≡ slice_get (values_of es) i → now ≡ with_value was key value →
+pub assigned_in_place : (es : Held) (i n k : ℕ) (key : Key) (value : ℤ) (t was now : Values) → IsDistinct nat_eq (keys_of es) →
+    slice_get es i ≡ Some (n, t) → slice_get es i ≡ Some (k, was) → now ≡ with_value was key value →
     set_value_at es i now ≡ assigned es n key value
-assigned_in_place es i n key value t was now apart at is set_is =
+assigned_in_place es i n k key value t was now apart at is set_is =
     let found = values_found es i n t apart at in
     written_at nat_eq nat_eq_equiv es i n t now apart at ∙ (written es n t now found ∙
-    ap (with_values es n) (set_is ∙ (ap (λ (u : Values). with_value u key value) (same_there es i n t was at is) ∙
+    ap (with_values es n) (set_is ∙ (ap (λ (u : Values). with_value u key value) (same_read es i n k t was at is) ∙
     ap (λ vs. with_value vs key value) (sym (values_are es n (Some t) found)))))
 
 pub assigned_behind : (es fs : Held) (n : ℕ) (key : Key) (value : ℤ) (now : Values) → None ≡ lookup (nat_eq n) es →
@@ -99,12 +98,12 @@ assigned_behind es fs n key value now none set_is is =
     is ∙ (inserted es n now ∙
     ap (with_values es n) (set_is ∙ ap (λ vs. with_value vs key value) (sym (values_are es n None none))))
 
-pub rewritten : (es : Held) (i n : ℕ) (t was now : Values) → IsDistinct nat_eq (keys_of es) → slice_get es i ≡ Some (n, t) →
-    Some was ≡ slice_get (values_of es) i → now ≡ was → set_value_at es i now ≡ es
-rewritten es i n t was now apart at is same =
+pub rewritten : (es : Held) (i n k : ℕ) (t was now : Values) → IsDistinct nat_eq (keys_of es) → slice_get es i ≡ Some (n, t) →
+    slice_get es i ≡ Some (k, was) → now ≡ was → set_value_at es i now ≡ es
+rewritten es i n k t was now apart at is same =
     let found = values_found es i n t apart at in
     written_at nat_eq nat_eq_equiv es i n t now apart at ∙ (written es n t now found ∙
-    (ap (with_values es n) (same ∙ same_there es i n t was at is) ∙ same_values es n t found))
+    (ap (with_values es n) (same ∙ same_read es i n k t was at is) ∙ same_values es n t found))
 
 -- the parameters of a transaction that are forgotten
 place_same : (n : ℕ) (es : Held) → position_or_len (nat_eq n) (keys_of es) ≡ position_or_len (λ (h : ℕ × Values). nat_eq n h.0) es

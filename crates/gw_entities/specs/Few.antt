@@ -1,10 +1,11 @@
 -- The first few entries, which are looked through one by one, and the keys of those behind them. No public clause cites
 -- this module. (Our own.)
-use Rattle.std.specs.Prelude.{◌≡◌, ◌<◌, ◌≤◌, ℕ, Bool, true, List, Option, None, Some, take, slice_get, nat_lt, if◌then◌else◌}
+use Rattle.std.specs.Prelude.{◌≡◌, ◌<◌, ◌≤◌, ℕ, Bool, true, List, [], ◌∷◌, Option, None, Some, take, slice_get, nat_lt, if◌then◌else◌}
 use Rattle.std.specs.Map.{lookup}
 use Rattle.indexmap.specs.IndexSet.{insert_key}
 use Rattle.gw_names.specs.declared.key.Key.{Key}
 use Rattle.gw_names.specs.Keys.{key_eq}
+use Rattle.gw_entities.specs.Tables.{Touched}
 
 -- at an index stands the first entry whose key passes
 pub record StandsFirst {K V : Type 0} (test : K → Bool) (es : List (K × V)) (i : ℕ) : Type 0 where
@@ -18,6 +19,11 @@ pub record StandsFirst {K V : Type 0} (test : K → Bool) (es : List (K × V)) (
 abbrev pub IsReady : ℕ → ℕ → ℕ → Option (Key × Key) → Type 0
 IsReady len capacity spare None = Unit {0}
 IsReady len capacity spare (Some p) = (p.1 ≡ p.0) × (len < capacity) × (8 ≤ len → 0 < spare)
+
+-- the entries of a table, if there is one
+abbrev pub entries_in : {V : Type 0} → List (Touched V) → List (Key × V)
+entries_in [] = []
+entries_in (t ∷ ts) = t.entries
 
 -- the keys of the entities behind the first few, once one with this key is added behind so many entities
 abbrev pub keys_behind : ℕ → List Key → Key → List Key

@@ -5,6 +5,7 @@
 //! came to which queue; all that they grow by is reserved first. [`Parameters`] keeps the parameters of transactions.
 #![tactic(auto)]
 
+mod behind;
 mod by_key;
 mod comings;
 mod facility;

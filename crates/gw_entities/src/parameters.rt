@@ -47,8 +47,7 @@ impl Parameters {
         ensures { result ≡ parameter_at self.now number key.now }
     {
         let index = place(&self.held, number)?;
-        let (_, values) = self.held.get_index(index)?;
-        values.get(key)
+        self.held[index].get(key)
     }
 
     /// Sets a parameter of a transaction, or changes nothing where memory is refused.
@@ -59,10 +58,8 @@ impl Parameters {
         let Some(index) = place(&self.held, number) else {
             return assign_first(&mut self.held, number, key, value);
         };
-        match self.held.get_index_mut(index) {
-            Some(values) => values.put(key, value),
-            None => unreachable!(),
-        }
+        let (_, values) = self.held.pair_mut(index);
+        values.put(key, value)
     }
 
     /// Forgets the parameters of a transaction.

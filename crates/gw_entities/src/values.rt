@@ -4,7 +4,7 @@ ghost use Rattle.gw_names.specs.Keys.{key_eq};
 ghost use Rattle.gw_entities.specs.Few.{StandsFirst};
 ghost use Rattle.gw_entities.specs.Tables.{value_of, with_value};
 
-use crate::by_key::ByKey;
+use crate::behind::Behind;
 use gw_names::Key;
 use gw_nums::Val;
 use std::alloc::{AllocError, Global};
@@ -15,12 +15,12 @@ use std::marker::Model;
 const FEW_PARAMETERS: usize = 8;
 
 // The values of a transaction by parameter, in order of first assignment: the first few in a list, and those behind
-// them by key.
+// them apart.
 #[derive(Drop)]
 pub struct Values {
     few: Vec<(Key, Val)>,
     // None while there are fewer than a few.
-    many: ByKey<Val>,
+    many: Behind,
 }
 
 impl Model for Values {
@@ -29,10 +29,10 @@ impl Model for Values {
 
     ghost Value = { List (Key × ℤ) };
 
-    ghost view = { λ v. v.few.items ++ v.many.entries };
+    ghost view = { λ v. v.few.items ++ v.many };
 
     // The 8 is FEW_PARAMETERS.
-    ghost invariant = { λ v. length v.few.items < 8 → v.many.entries ≡ [] };
+    ghost invariant = { λ v. length v.few.items < 8 → v.many ≡ [] };
 }
 
 impl Values {
@@ -42,7 +42,7 @@ impl Values {
     {
         Values {
             few: Vec::new(alloc),
-            many: ByKey::new(alloc),
+            many: Behind::new(alloc),
         }
     }
 
@@ -56,7 +56,7 @@ impl Values {
         };
         match place_of_number(&self.few, *number) {
             Some(index) => Some(self.few[index].1),
-            None => among_many(&self.many, key),
+            None => self.many.numbered(*number),
         }
     }
 
@@ -98,31 +98,22 @@ impl Values {
 #[inline(never)]
 fn put_behind(
     few: &mut Vec<(Key, Val)>,
-    many: &mut ByKey<Val>,
+    many: &mut Behind,
     key: &Key,
     value: Val,
 ) -> Result<(), AllocError>
     requires none { value_of few.old.items key.now ≡ None }
-    requires behind { length few.old.items < 8 → many.old.entries ≡ [] }
+    requires behind { length few.old.items < 8 → many.old ≡ [] }
     ensures ok { OnOk result
-        (few.new.items ++ many.new.entries ≡ with_value (few.old.items ++ many.old.entries) key.now value) }
-    ensures err { OnErr result (few.new.items ++ many.new.entries ≡ few.old.items ++ many.old.entries) }
-    ensures behind { length few.new.items < 8 → many.new.entries ≡ [] }
+        (few.new.items ++ many.new ≡ with_value (few.old.items ++ many.old) key.now value) }
+    ensures err { OnErr result (few.new.items ++ many.new ≡ few.old.items ++ many.old) }
+    ensures behind { length few.new.items < 8 → many.new ≡ [] }
 {
     if few.len() < FEW_PARAMETERS {
         few.push((key.clone()?, value))?;
         return Ok(());
     }
     many.put(key, value)
-}
-
-// The value of a parameter that is none of the first few.
-#[cold]
-#[inline(never)]
-fn among_many(many: &ByKey<Val>, key: &Key) -> Option<Val>
-    ensures { result ≡ value_of many.now.entries key.now }
-{
-    many.get(key)
 }
 
 // Where a parameter lies in a list, if it does.

@@ -121,6 +121,7 @@ pub fn ask_capacity(version: &Version, notes: &mut Notes, name: &Name) -> Result
 }
 
 // What is the expression of the VARIABLE of this name, if there is one?
+#[inline(always)]
 pub fn ask_variable<'a>(
     version: &'a Version,
     notes: &mut Notes,
@@ -135,6 +136,7 @@ pub fn ask_variable<'a>(
 }
 
 // What are the argument, the type and the points of the FUNCTION of this name, if there is one?
+#[inline(always)]
 pub fn ask_function<'a>(
     version: &'a Version,
     notes: &mut Notes,

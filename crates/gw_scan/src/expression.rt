@@ -1,24 +1,44 @@
 // The values of expressions, part by part, and those of VARIABLEs and FUNCTIONs within them.
-ghost use Rattle.std.specs.Prelude.{◌≡◌, [], Some, None, option_copied};
-ghost use Rattle.gw_meaning.specs.Evaluation.{arithmetic, negated_last, applied_last, is_of_variable, of_variable, is_of_function, of_function, whole_of_function, is_random, random_of, argument_by, argument_prog, point_found, function_given, atom_prog, token_prog, tokens_prog, last_value, term_prog, definitions_prog, number_given, ◌~>◌};
+ghost use Rattle.std.specs.Prelude.{◌≡◌, ◌<◌, [], Some, None, length, option_copied};
+ghost use Rattle.gw_meaning.specs.declared.item.Item.TheVariants as items;
+ghost use Rattle.gw_meaning.specs.Evaluation.{asks, value_prog, arithmetic, negated_last, applied_last, is_of_variable, of_variable, is_of_function, of_function, whole_of_function, is_random, random_of, argument_by, argument_prog, point_found, function_given, atom_prog, token_prog, tokens_prog, last_value, term_prog, definitions_prog, number_given, ◌~>◌};
 ghost use Rattle.gw_scan.specs.Deciding.{Decides, Comes, in_place};
 
 use crate::attributes::random_part;
 use crate::case::{Case, ask_function, ask_name, ask_variable};
+use crate::few_values::FewValues;
 use crate::halt::Halt;
+use crate::many_values::ManyValues;
 use crate::notes::Notes;
 use crate::state::State;
-use crate::waiting_values::WaitingValues;
+use crate::value::DEEPEST;
 use gw_expr::{Atom, Expr, Node, Operator, Subject, Token};
 use gw_meaning::{Asker, Function};
-use gw_names::Class;
+use gw_names::{Class, Name};
 use gw_nums::{ArithmeticFault, Millionths, Val};
 
 impl State {
+    // The value of an operand that is no constant.
+    #[inline(never)]
+    #[tactic(auto, unfolding(gw_meaning::specs::Evaluation::value_prog))]
+    pub(crate) fn evaluated(
+        &self,
+        case: Case,
+        asker: &Asker,
+        notes: &mut Notes,
+        operand: &Expr,
+    ) -> Result<Val, Halt>
+        ensures { Decides case.entry.version.now case.entry.seed (value_prog self.now asker.now operand.now)
+            result notes.old notes.new }
+    {
+        self.term(case, asker, notes, DEEPEST, operand)
+    }
+
     // The value of an operand, in which so many VARIABLEs and FUNCTIONs may stand in each other.
+    #[inline(always)]
     #[cycle(nested)]
     #[tactic(auto, unfolding(gw_meaning::specs::Evaluation::term_prog))]
-    pub(crate) fn term(
+    fn term(
         &self,
         case: Case,
         asker: &Asker,
@@ -55,10 +75,7 @@ impl State {
     {
         match atom {
             Atom::Constant(value) => Ok(*value),
-            Atom::Number(name) => {
-                let value = ask_name(case.version, notes, name)?;
-                number_given(value)
-            }
+            Atom::Number(name) => number(case, notes, name),
             Atom::Attribute(Class::P, of) => self.of_parameter(case, asker, notes, of),
             Atom::Attribute(class, of) => {
                 if is_of_variable(*class) {
@@ -73,7 +90,7 @@ impl State {
     }
 
     // The value of a VARIABLE.
-    #[inline(always)]
+    #[inline(never)]
     #[cycle(nested)]
     #[tactic(auto, unfolding(gw_meaning::specs::Evaluation::definitions_prog))]
     fn of_variable(
@@ -120,6 +137,7 @@ impl State {
     }
 
     // What a FUNCTION comes to.
+    #[inline(always)]
     #[cycle(nested)]
     #[tactic(auto, unfolding(gw_meaning::specs::Evaluation::definitions_prog))]
     pub(crate) fn of_function(
@@ -147,6 +165,7 @@ impl State {
     }
 
     // What a FUNCTION comes to at its argument.
+    #[inline(always)]
     #[cycle(nested)]
     fn function(
         &self,
@@ -165,6 +184,7 @@ impl State {
     }
 
     // The argument of a FUNCTION.
+    #[inline(always)]
     #[cycle(nested)]
     #[tactic(auto, unfolding(gw_meaning::specs::Evaluation::argument_prog))]
     fn argument(
@@ -186,6 +206,7 @@ impl State {
     }
 
     // An argument that is a value.
+    #[inline(always)]
     #[cycle(nested)]
     fn whole_argument(
         &self,
@@ -203,7 +224,7 @@ impl State {
     }
 
     // The value of an expression.
-    #[inline(always)]
+    #[inline(never)]
     #[cycle(nested)]
     fn computed(
         &self,
@@ -217,14 +238,18 @@ impl State {
             (tokens_prog self.now asker.now (definitions_prog depth self.now asker.now) tokens.now [] ~> last_value)
             result notes.old notes.new }
     {
-        let mut values = WaitingValues::new(case.alloc);
-        for token in tokens {
-            self.token(case, asker, notes, depth, token, &mut values)?;
+        let mut values = FewValues::new();
+        for index in 0..tokens.len() {
+            if values.is_full() {
+                let mut many = self.rest(case, asker, notes, depth, &tokens[index..], values)?;
+                return last_value(&mut many);
+            }
+            self.token(case, asker, notes, depth, &tokens[index], &mut values)?;
         }
-        last_value(&mut values)
+        values.last()
     }
 
-    // What one part of an expression makes of the values that wait.
+    // What one part of an expression makes of the few values that wait.
     #[inline(always)]
     #[cycle(nested)]
     fn token(
@@ -234,8 +259,9 @@ impl State {
         notes: &mut Notes,
         depth: u32,
         token: &Token,
-        values: &mut WaitingValues,
+        values: &mut FewValues,
     ) -> Result<(), Halt>
+        requires { length values.old < 8 }
         ensures { Decides case.entry.version.now case.entry.seed
             (token_prog self.now asker.now (definitions_prog depth self.now asker.now) token.now values.old)
             (in_place result values.new) notes.old notes.new }
@@ -243,7 +269,57 @@ impl State {
         match token {
             Token::Value(atom) => {
                 let value = self.atom(case, asker, notes, depth, atom)?;
-                values.push(value)?;
+                values.push(value);
+                Ok(())
+            }
+            Token::Negated => values.negate_last(),
+            Token::Applied(operator) => values.apply_last(*operator),
+        }
+    }
+
+    // The values that wait behind the rest of an expression, from where they are no longer few.
+    #[cold]
+    #[inline(never)]
+    #[cycle(nested)]
+    fn rest(
+        &self,
+        case: Case,
+        asker: &Asker,
+        notes: &mut Notes,
+        depth: u32,
+        tokens: &[Token],
+        few: FewValues,
+    ) -> Result<ManyValues, Halt>
+        ensures { Decides case.entry.version.now case.entry.seed
+            (tokens_prog self.now asker.now (definitions_prog depth self.now asker.now) tokens.now few)
+            result notes.old notes.new }
+    {
+        let mut values = ManyValues::of_few(case.alloc, few)?;
+        for token in tokens {
+            self.token_of_rest(case, asker, notes, depth, token, &mut values)?;
+        }
+        Ok(values)
+    }
+
+    // What one part of the rest makes of the values that wait.
+    #[cycle(nested)]
+    fn token_of_rest(
+        &self,
+        case: Case,
+        asker: &Asker,
+        notes: &mut Notes,
+        depth: u32,
+        token: &Token,
+        values: &mut ManyValues,
+    ) -> Result<(), Halt>
+        ensures { Decides case.entry.version.now case.entry.seed
+            (token_prog self.now asker.now (definitions_prog depth self.now asker.now) token.now values.old)
+            (in_place result values.new) notes.old notes.new }
+    {
+        match token {
+            Token::Value(atom) => {
+                let found = self.atom(case, asker, notes, depth, atom)?;
+                values.push(found)?;
                 Ok(())
             }
             Token::Negated => negated_last(values),
@@ -302,7 +378,17 @@ fn point_found(y: Option<Millionths>) -> Result<Millionths, Halt>
     }
 }
 
-// The number that a name stands for.
+// The number that a name stands for, which is asked for.
+#[inline(never)]
+fn number(case: Case, notes: &mut Notes, name: &Name) -> Result<Val, Halt>
+    ensures { Decides case.entry.version.now case.entry.seed (asks (items.Name name.now) number_given)
+        result notes.old notes.new }
+{
+    let value = ask_name(case.version, notes, name)?;
+    number_given(value)
+}
+
+// The same, where it is known.
 fn number_given(number: Option<Val>) -> Result<Val, Halt>
     ensures { Comes (number_given number) result }
 {
@@ -313,7 +399,7 @@ fn number_given(number: Option<Val>) -> Result<Val, Halt>
 }
 
 // The last value with the other sign.
-fn negated_last(values: &mut WaitingValues) -> Result<(), Halt>
+fn negated_last(values: &mut ManyValues) -> Result<(), Halt>
     ensures { Comes (negated_last values.old) (in_place result values.new) }
 {
     let Some(value) = values.pop() else {
@@ -324,7 +410,7 @@ fn negated_last(values: &mut WaitingValues) -> Result<(), Halt>
 }
 
 // What an operator makes of the last two values.
-fn applied_last(operator: Operator, values: &mut WaitingValues) -> Result<(), Halt>
+fn applied_last(operator: Operator, values: &mut ManyValues) -> Result<(), Halt>
     ensures { Comes (applied_last operator values.old) (in_place result values.new) }
 {
     let Some(b) = values.pop() else {
@@ -350,7 +436,7 @@ pub fn arithmetic(found: Result<Val, ArithmeticFault>) -> Result<Val, Halt>
 }
 
 // The value that is left.
-fn last_value(values: &mut WaitingValues) -> Result<Val, Halt>
+fn last_value(values: &mut ManyValues) -> Result<Val, Halt>
     ensures { Comes (last_value values.old) result }
 {
     match values.pop() {

@@ -1,5 +1,5 @@
 // ASSIGN and LOOP: what a block sets of a parameter; and the value of a parameter.
-ghost use Rattle.std.specs.Prelude.{◌≡◌, ℕ, Some, IsSome, pos, option_copied};
+ghost use Rattle.std.specs.Prelude.{◌≡◌, ℕ, ℤ, Some, IsSome, pos, option_copied};
 ghost use Rattle.gw_entities.specs.Parameters.{parameter_at};
 ghost use Rattle.gw_meaning.specs.Statements.{A, B, operand};
 ghost use Rattle.gw_meaning.specs.Evaluation.{value_there, value_held, parameter_value, ◌~>◌};
@@ -92,8 +92,20 @@ impl State {
             (changing id result) notes.old notes.new }
     {
         let value = self.value_there(case, &self.for_one(x), notes, block.operand(B))?;
-        let was = self.parameters.get(x.number, &key);
+        let was = self.value_before(x, block.sign, &key);
         assign_with(block.sign, key, was, value)
+    }
+
+    // The value of a parameter, where what an ASSIGN sets hangs on it: only with a sign does it.
+    #[inline(always)]
+    fn value_before(&self, x: &Transaction, sign: Sign, key: &Key) -> Option<Val>
+        ensures { (v : ℤ) →
+            by_sign sign result v ≡ by_sign sign (parameter_at self.now.parameters x.now.number key.now) v }
+    {
+        match sign {
+            Sign::Absent => None,
+            Sign::Plus | Sign::Minus => self.parameters.get(x.number, key),
+        }
     }
 
     // What a LOOP sets, and where the transaction goes.

@@ -36,7 +36,7 @@ impl State {
     {
         match operand.node() {
             Node::Value(Atom::Constant(value)) => Ok(*value),
-            _ => self.term(case, asker, notes, DEEPEST, operand),
+            _ => self.evaluated(case, asker, notes, operand),
         }
     }
 
@@ -79,6 +79,7 @@ impl State {
 
     // The entity that an operand names, for a transaction.
     #[inline(always)]
+    #[tactic(auto, unfolding(gw_meaning::specs::Evaluation::value_prog, gw_meaning::specs::Evaluation::term_prog, gw_meaning::specs::Evaluation::atom_prog))]
     pub(crate) fn entity<'a>(
         &self,
         case: Case,
@@ -98,6 +99,7 @@ impl State {
                 let number = ask_name(case.version, notes, name.name())?;
                 named(name, number)
             }
+            Node::Value(Atom::Constant(number)) => numbered(*number),
             _ => self.computed_entity(case, &self.for_one(x), notes, expr),
         }
     }

@@ -133,6 +133,18 @@ impl ItemSteps {
         if self.is_asked_at(self.near[slot], asked) {
             return Ok(());
         }
+        self.note_item_of(asked, step, slot)
+    }
+
+    // Notes the item of a question, which its slot did not tell.
+    #[cold]
+    #[inline(never)]
+    fn note_item_of(&mut self, asked: Asked, step: u64, slot: usize) -> Result<(), AllocError>
+        requires { slot < 128 }
+        ensures ok { OnOk result ((q : Item) → step_of self.new q ≡
+            or_later (step_of self.old q) (if same_item (asked_item asked.entry) q then Some step else None)) }
+        ensures err { OnErr result (self.new ≡ self.old) }
+    {
         self.note_at(&asked.item()?, step, slot)
     }
 

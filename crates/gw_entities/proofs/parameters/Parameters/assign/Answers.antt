@@ -7,8 +7,8 @@ returns-clause-ok c =
     let there = c.in-Some.ensures.there in
     rw (← c.self.view_is)
     (on_ok_weaker c.put.result
-    (λ set_is. assigned_in_place c.self.inside.held.entries c.in-Some.index c.args.number c.args.key.now c.args.value there.0
-    c.in-Some-get_index_mut.values.now c.put.new.self c.in-Some.ensures.apart there.1 c.in-Some-get_index_mut.ensures.value set_is)
+    (λ set_is. assigned_in_place c.self.inside.held.entries c.in-Some.index c.args.number _ c.args.key.now c.args.value there.0
+    c.pair_mut-values.result.1.now c.put.new.self c.in-Some.ensures.apart there.1 c.pair_mut-values.ensures.value set_is)
     c.put.ensures.ok)
 
 pub returns-clause-err : goal.returns-clause-err
@@ -16,6 +16,6 @@ returns-clause-err c =
     let there = c.in-Some.ensures.there in
     rw (← c.self.view_is)
     (on_err_weaker c.put.result
-    (λ same. rewritten c.self.inside.held.entries c.in-Some.index c.args.number there.0
-    c.in-Some-get_index_mut.values.now c.put.new.self c.in-Some.ensures.apart there.1 c.in-Some-get_index_mut.ensures.value same)
+    (λ same. rewritten c.self.inside.held.entries c.in-Some.index c.args.number _ there.0
+    c.pair_mut-values.result.1.now c.put.new.self c.in-Some.ensures.apart there.1 c.pair_mut-values.ensures.value same)
     c.put.ensures.err)

@@ -10,7 +10,7 @@ returns-in_err-index c =
 pub returns : goal.returns
 returns c =
     let there = c.in_ok-index.ensures.there in
-    let found = values_at_index c.self.inside.held.entries c.in_ok-index.index c.args.number c.in_ok-values.field-0-0.now there.0
-    c.in_ok-values.values.now c.in_ok-index.ensures.apart there.1 c.in_ok-values.ensures.entry in
+    let found = values_at_index c.self.inside.held.entries c.in_ok-index.index c.args.number there.0 c.index.result.now
+    c.in_ok-index.ensures.apart there.1 c.index.ensures in
     rw (← c.self.view_is)
-    (c.get.ensures ∙ sym (parameter_is c.self.inside.held.entries c.args.number c.args.key.now (Some c.in_ok-values.values.now) found))
+    (c.get.ensures ∙ sym (parameter_is c.self.inside.held.entries c.args.number c.args.key.now (Some c.index.result.now) found))

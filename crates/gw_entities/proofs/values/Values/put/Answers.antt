@@ -5,4 +5,4 @@ pub returns-in-Some-clause-ok : goal.returns-in-Some-clause-ok
 returns-in-Some-clause-ok c =
     let first = rw c.deref.ensures.value at c.in-Some.ensures.there in
     rw (← c.self.view_is)
-    (key_set_among c.self.inside.few.items c.self.inside.many.entries c.in-Some.index c.args.key.now c.args.value first _ c.index_mut.ensures.value)
+    (key_set_among c.self.inside.few.items c.self.inside.many c.in-Some.index c.args.key.now c.args.value first _ c.index_mut.ensures.value)

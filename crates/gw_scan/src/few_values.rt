@@ -1,0 +1,123 @@
+ghost use Rattle.std.specs.Prelude.{◌≡◌, ◌<◌, ◌∷◌, [], IsFalse, length, reverse};
+ghost use Rattle.gw_meaning.specs.Evaluation.{negated_last, applied_last, last_value};
+ghost use Rattle.gw_scan.specs.Deciding.{Comes, in_place};
+ghost use Rattle.gw_scan.specs.WaitingValues.{Pops};
+
+use crate::expression::arithmetic;
+use crate::halt::Halt;
+use gw_expr::Operator;
+use gw_nums::Val;
+use std::marker::Model;
+
+// How many values wait in place. More wait only where parentheses nest to the right.
+const FEW: usize = 8;
+
+// The values of an expression that wait for their operator, the last one first, while they are few. A small value of its
+// own, with no list behind it, so that the count of those who wait stays in a register.
+#[derive(Debug, Drop)]
+pub struct FewValues {
+    few: [Val; FEW],
+    // How many wait.
+    count: usize,
+}
+
+impl Model for FewValues {
+    ghost use Rattle.std.specs.Prelude.{◌≤◌, ℤ, List, reverse, take};
+
+    ghost Value = { List ℤ };
+
+    ghost view = { λ w. reverse (take w.count w.few) };
+
+    // The 8 is FEW.
+    ghost invariant = { λ w. w.count ≤ 8 };
+}
+
+impl FewValues {
+    // No value.
+    #[inline(always)]
+    pub(crate) fn new() -> FewValues
+        ensures { result ≡ [] }
+    {
+        FewValues {
+            few: [Val::ZERO; FEW],
+            count: 0,
+        }
+    }
+
+    // Whether there is no place for one more.
+    #[inline(always)]
+    pub(crate) fn is_full(&self) -> bool
+        ensures { IsFalse result → length self.now < 8 }
+    {
+        self.count >= FEW
+    }
+
+    // The values in the order in which they came.
+    pub(crate) fn as_slice(&self) -> &[Val]
+        ensures { reverse result.now ≡ self.now }
+    {
+        &self.few[..self.count]
+    }
+
+    // One value more waits.
+    #[inline(always)]
+    pub(crate) fn push(&mut self, value: Val)
+        requires { length self.old < 8 }
+        ensures { self.new ≡ value ∷ self.old }
+    {
+        self.few[self.count] = value;
+        self.count += 1;
+    }
+
+    // Takes the last value, if any waits.
+    #[inline(always)]
+    fn pop(&mut self) -> Option<Val>
+        ensures last { Pops self.old result self.new }
+        ensures room { length self.new < 8 }
+    {
+        if self.count == 0 {
+            return None;
+        }
+        self.count -= 1;
+        Some(self.few[self.count])
+    }
+
+    // The last value with the other sign.
+    #[inline(always)]
+    pub(crate) fn negate_last(&mut self) -> Result<(), Halt>
+        ensures { Comes (negated_last self.old) (in_place result self.new) }
+    {
+        let Some(value) = self.pop() else {
+            return Err(Halt::RANGE);
+        };
+        self.push(value.negated());
+        Ok(())
+    }
+
+    // What an operator makes of the last two values.
+    #[inline(always)]
+    pub(crate) fn apply_last(&mut self, operator: Operator) -> Result<(), Halt>
+        ensures { Comes (applied_last operator self.old) (in_place result self.new) }
+    {
+        let Some(b) = self.pop() else {
+            return Err(Halt::RANGE);
+        };
+        let Some(a) = self.pop() else {
+            return Err(Halt::RANGE);
+        };
+        let value = arithmetic(operator.apply(a, b))?;
+        self.push(value);
+        Ok(())
+    }
+
+    // The value that is left.
+    #[inline(always)]
+    pub(crate) fn last(&self) -> Result<Val, Halt>
+        ensures { Comes (last_value self.now) result }
+    {
+        if self.count == 0 {
+            return Err(Halt::RANGE);
+        }
+        Ok(self.few[self.count - 1])
+    }
+}
