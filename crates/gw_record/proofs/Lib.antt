@@ -1,3 +1,4 @@
+pub mod SpacingLaws
 pub mod RecordLaws
 pub mod ReachLaws
 pub mod CutLaws

@@ -11,6 +11,7 @@ ghost use Rattle.gw_record.specs.Extending.{Goes, Extends, tallied};
 
 use crate::kept::Kept;
 use crate::recorded::Recorded;
+use crate::spacing::steps_ahead;
 use gw_model::Version;
 use gw_scan::{Tally, Turn, step};
 use std::alloc::{AllocError, Global};
@@ -30,6 +31,7 @@ impl Recorded {
         requires { Records version.now seed self.old }
         ensures records { Records version.now seed self.new }
         ensures every { self.new.every ≡ self.old.every }
+        ensures start { self.new.start ≡ self.old.start }
         ensures done { IfOk result (λ made. Extends version.now seed steps made self.old self.new) }
         ensures grows { self.old.moment ≤ self.new.moment }
         ensures bound { self.new.moment ≤ self.old.moment + steps }
@@ -61,6 +63,7 @@ impl Recorded {
         requires bound { self.old.moment < 1000000 }
         ensures records { Records version.now seed self.new }
         ensures every { self.new.every ≡ self.old.every }
+        ensures start { self.new.start ≡ self.old.start }
         ensures told { IfOk result (λ turn. Goes version.now seed turn self.old self.new) }
         ensures tally { IfOk result (λ turn. Counts turn tally.old tally.new) }
         ensures err { OnErr result ((self.new.moment ≡ self.old.moment) × (tally.new ≡ tally.old)) }
@@ -75,8 +78,8 @@ impl Recorded {
         Ok(turn)
     }
 
-    // One step further: the next multiple of the spacing comes one step nearer, and right after a multiple it is a
-    // spacing less one step off.
+    // One step further: the next multiple of the spacing comes one step nearer. Right after a multiple or the start it
+    // is looked for anew.
     #[inline(always)]
     fn move_on(&mut self)
         requires { self.old.moment < 1000000 }
@@ -84,20 +87,20 @@ impl Recorded {
     {
         self.moment += 1;
         self.ahead = if self.ahead == 0 {
-            self.every - 1
+            steps_ahead(self.every, self.start, self.moment)
         } else {
             self.ahead - 1
         };
     }
 
-    // Keeps the tip where it stands at a multiple of the spacing or a START is complete there, so that the run may
-    // leave it.
+    // Keeps the tip where it stands at the start or a multiple of the spacing, or a START is complete there, so that
+    // the run may leave it.
     #[inline(always)]
     fn keep(&mut self) -> Result<(), AllocError>
         ensures records { (t : Listing) (seed : ℕ) → Records t seed self.old → Records t seed self.new }
         ensures ok { OnOk result ((t : Listing) (seed : ℕ) → Records t seed self.old → IsKeptUp t seed self.new) }
         ensures same { (self.new.moment ≡ self.old.moment) × (self.new.every ≡ self.old.every) ×
-            (self.new.tip ≡ self.old.tip) × (self.new.firsts ≡ self.old.firsts) }
+            (self.new.start ≡ self.old.start) × (self.new.tip ≡ self.old.tip) × (self.new.firsts ≡ self.old.firsts) }
     {
         if self.is_wanted() {
             self.keep_state()?;
@@ -111,11 +114,12 @@ impl Recorded {
     #[inline(never)]
     fn keep_state(&mut self) -> Result<(), AllocError>
         requires { (t : Listing) (seed : ℕ) → Records t seed self.old →
-            IsWanted t seed self.old.every self.old.moment }
+            IsWanted t seed self.old.every self.old.start self.old.moment }
         ensures records { (t : Listing) (seed : ℕ) → Records t seed self.old → Records t seed self.new }
         ensures ok { OnOk result (IsThere self.new.kept self.new.moment) }
         ensures same { (self.new.moment ≡ self.old.moment) × (self.new.every ≡ self.old.every) ×
-            (self.new.tip ≡ self.old.tip) × (self.new.ends ≡ self.old.ends) × (self.new.firsts ≡ self.old.firsts) }
+            (self.new.start ≡ self.old.start) × (self.new.tip ≡ self.old.tip) × (self.new.ends ≡ self.old.ends) ×
+            (self.new.firsts ≡ self.old.firsts) }
     {
         if !self.is_there() {
             self.tip.share()?;
@@ -131,9 +135,9 @@ impl Recorded {
     // Whether the tip's state is to be kept when the run leaves it; if it is not, it may be there already.
     fn is_wanted(&self) -> bool
         ensures yes { IsTrue result → (t : Listing) (seed : ℕ) → Records t seed self.now →
-            IsWanted t seed self.now.every self.now.moment }
+            IsWanted t seed self.now.every self.now.start self.now.moment }
         ensures no { IsFalse result → (t : Listing) (seed : ℕ) → Records t seed self.now →
-            IsWanted t seed self.now.every self.now.moment → IsThere self.now.kept self.now.moment }
+            IsWanted t seed self.now.every self.now.start self.now.moment → IsThere self.now.kept self.now.moment }
         ensures ends { IsFalse result → self.now.tip.complete ≤ length self.now.ends }
     {
         self.ahead == 0 || (self.ends.len() as u64) < self.tip.complete()
@@ -158,7 +162,8 @@ impl Recorded {
         ensures ok { OnOk result ((t : Listing) (seed : ℕ) →
             Records t seed self.old → self.new.tip.complete ≤ length self.new.ends) }
         ensures same { (self.new.moment ≡ self.old.moment) × (self.new.every ≡ self.old.every) ×
-            (self.new.tip ≡ self.old.tip) × (self.new.kept ≡ self.old.kept) × (self.new.firsts ≡ self.old.firsts) }
+            (self.new.start ≡ self.old.start) × (self.new.tip ≡ self.old.tip) × (self.new.kept ≡ self.old.kept) ×
+            (self.new.firsts ≡ self.old.firsts) }
     {
         if (self.ends.len() as u64) < self.tip.complete() {
             self.ends.push(self.moment)?;

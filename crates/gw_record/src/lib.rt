@@ -11,6 +11,7 @@ mod kept;
 mod lookup;
 mod reach;
 mod recorded;
+mod spacing;
 
 pub use kept::Kept;
 pub use reach::Reach;
