@@ -22,6 +22,7 @@ returns c = λ e u is.
                 (w.in-Some.ensures t a h ∙ ap (λ (x : Touching). touched_step (touched_in x n) t a r) is)
                 (w.cut.ensures.kept t a h);
             every = w.cut.ensures.every;
+            start = w.cut.ensures.start;
           })
       | in_default w ↦
           subst (WentBack t e u n r) (sym w.run-is)
@@ -31,6 +32,7 @@ returns c = λ e u is.
                 λ a h. subst (λ o. IsKeptOf t a r o r.moment)
                 (w.in_default.ensures t a h ∙ ap (λ (x : Touching). touched_step (touched_in x n) t a r) is) refl;
             every = refl;
+            start = refl;
           })
     ] in
     is_rebased t e u n r c.match-touched.run c.numbered.ensures c.carry.ensures back
