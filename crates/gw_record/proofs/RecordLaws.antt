@@ -88,7 +88,7 @@ slice_get_more (z ∷ xs) x zero y is = is
 slice_get_more (z ∷ xs) x (suc i) y is = slice_get_more xs x i y is
 
 -- a kept state stays where one more is kept
-there_more : (xs : List Kept) (x : Kept) (m : ℕ) → IsThere xs m → IsThere (xs ++ x ∷ []) m
+pub there_more : (xs : List Kept) (x : Kept) (m : ℕ) → IsThere xs m → IsThere (xs ++ x ∷ []) m
 there_more xs x m (i, e, is, at) = (i, e, slice_get_more xs x i e is, at)
 
 -- the last one is there

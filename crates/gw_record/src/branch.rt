@@ -14,7 +14,7 @@ impl Recorded {
     {
         self.kept.clear();
         self.start = self.moment;
-        self.ahead = 0;
+        self.due = 0;
         self
     }
 }

@@ -1,12 +1,11 @@
 // Going back to a kept state.
-ghost use Rattle.std.specs.Prelude.{◌≡◌, ◌≤◌, ℕ};
+ghost use Rattle.std.specs.Prelude.{◌≡◌, ◌+◌, ◌%◌, ◌<◌, ◌≤◌, ℕ};
 ghost use Rattle.gw_meaning.specs.Listing.{Listing};
 ghost use Rattle.gw_record.specs.Cutting.{WentBack};
 ghost use Rattle.gw_record.specs.Tape.{Records, IsLastKept};
 
 use crate::kept::{Kept, count_before, count_until};
 use crate::recorded::Recorded;
-use crate::spacing::steps_ahead;
 
 impl Recorded {
     /// Goes back to the last kept moment at or before another, which is the start at the least: what came after it
@@ -37,7 +36,18 @@ impl Recorded {
         self.ends.truncate(count);
         self.notes.go_back(to.moment, &to.state);
         self.moment = to.moment;
-        self.ahead = steps_ahead(self.every, self.start, to.moment);
+        self.ahead = steps_ahead(to.moment, self.every);
+        self.due = 0;
         self.tip = to.state;
     }
+}
+
+// How many steps lead from a moment to the first multiple of a spacing that is not before it.
+fn steps_ahead(moment: u64, every: u64) -> u64
+    requires { 1 ≤ every }
+    ensures within { result < every }
+    ensures multiple { (moment + result) % every ≡ 0 }
+{
+    let past = moment % every;
+    if past == 0 { 0 } else { every - past }
 }

@@ -1,5 +1,5 @@
 // One step after another, each kept before it is left.
-ghost use Rattle.std.specs.Prelude.{◌≡◌, ◌+◌, ◌-◌, ◌≤◌, ◌<◌, ◌++◌, ℕ, Ok, IfOk, OnOk, OnErr, length, IsTrue, IsFalse};
+ghost use Rattle.std.specs.Prelude.{◌≡◌, ◌≢◌, ◌+◌, ◌-◌, ◌≤◌, ◌<◌, ◌++◌, ℕ, Ok, IfOk, OnOk, OnErr, length, IsTrue, IsFalse};
 ghost use Rattle.gw_meaning.specs.Listing.{Listing};
 ghost use Rattle.gw_meaning.specs.Changes.{decided};
 ghost use Rattle.gw_meaning.specs.Machine.{raised};
@@ -11,7 +11,6 @@ ghost use Rattle.gw_record.specs.Extending.{Goes, Extends, tallied};
 
 use crate::kept::Kept;
 use crate::recorded::Recorded;
-use crate::spacing::steps_ahead;
 use gw_model::Version;
 use gw_scan::{Tally, Turn, step};
 use std::alloc::{AllocError, Global};
@@ -78,8 +77,8 @@ impl Recorded {
         Ok(turn)
     }
 
-    // One step further: the next multiple of the spacing comes one step nearer. Right after a multiple or the start it
-    // is looked for anew.
+    // One step further: the next multiple of the spacing comes one step nearer, and right after a multiple it is a
+    // spacing less one step off.
     #[inline(always)]
     fn move_on(&mut self)
         requires { self.old.moment < 1000000 }
@@ -87,7 +86,7 @@ impl Recorded {
     {
         self.moment += 1;
         self.ahead = if self.ahead == 0 {
-            steps_ahead(self.every, self.start, self.moment)
+            self.every - 1
         } else {
             self.ahead - 1
         };
@@ -97,6 +96,30 @@ impl Recorded {
     // the run may leave it.
     #[inline(always)]
     fn keep(&mut self) -> Result<(), AllocError>
+        requires { self.old.start ≤ self.old.moment }
+        ensures records { (t : Listing) (seed : ℕ) → Records t seed self.old → Records t seed self.new }
+        ensures ok { OnOk result ((t : Listing) (seed : ℕ) → Records t seed self.old → IsKeptUp t seed self.new) }
+        ensures same { (self.new.moment ≡ self.old.moment) × (self.new.every ≡ self.old.every) ×
+            (self.new.start ≡ self.old.start) × (self.new.tip ≡ self.old.tip) × (self.new.firsts ≡ self.old.firsts) }
+    {
+        if self.is_due() {
+            self.keep_due()?;
+        }
+        Ok(())
+    }
+
+    // Whether there may be something left to keep at the tip.
+    fn is_due(&self) -> bool
+        ensures { IsFalse result → (t : Listing) (seed : ℕ) → Records t seed self.now → IsKeptUp t seed self.now }
+    {
+        self.ahead == 0 || self.due <= self.tip.complete()
+    }
+
+    // Keeps what is left to keep at the tip.
+    #[cold]
+    #[inline(never)]
+    fn keep_due(&mut self) -> Result<(), AllocError>
+        requires { self.old.start ≤ self.old.moment }
         ensures records { (t : Listing) (seed : ℕ) → Records t seed self.old → Records t seed self.new }
         ensures ok { OnOk result ((t : Listing) (seed : ℕ) → Records t seed self.old → IsKeptUp t seed self.new) }
         ensures same { (self.new.moment ≡ self.old.moment) × (self.new.every ≡ self.old.every) ×
@@ -106,12 +129,11 @@ impl Recorded {
             self.keep_state()?;
             self.keep_end()?;
         }
+        self.due = self.ends.len() as u64 + 1;
         Ok(())
     }
 
     // Keeps the state at the tip, which is wanted.
-    #[cold]
-    #[inline(never)]
     fn keep_state(&mut self) -> Result<(), AllocError>
         requires { (t : Listing) (seed : ℕ) → Records t seed self.old →
             IsWanted t seed self.old.every self.old.start self.old.moment }
@@ -139,7 +161,11 @@ impl Recorded {
         ensures no { IsFalse result → (t : Listing) (seed : ℕ) → Records t seed self.now →
             IsWanted t seed self.now.every self.now.start self.now.moment → IsThere self.now.kept self.now.moment }
         ensures ends { IsFalse result → self.now.tip.complete ≤ length self.now.ends }
+        ensures behind { IsFalse result → self.now.moment ≢ self.now.start }
     {
+        if self.moment == self.start {
+            return true;
+        }
         self.ahead == 0 || (self.ends.len() as u64) < self.tip.complete()
     }
 
@@ -154,8 +180,6 @@ impl Recorded {
     }
 
     // Notes the tip, which is kept, as a START end where it is one.
-    #[cold]
-    #[inline(never)]
     fn keep_end(&mut self) -> Result<(), AllocError>
         requires { IsThere self.old.kept self.old.moment }
         ensures records { (t : Listing) (seed : ℕ) → Records t seed self.old → Records t seed self.new }

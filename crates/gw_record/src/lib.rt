@@ -13,7 +13,6 @@ mod kept;
 mod lookup;
 mod reach;
 mod recorded;
-mod spacing;
 
 pub use kept::Kept;
 pub use reach::Reach;

@@ -19,8 +19,11 @@ pub struct Recorded {
     // From this moment on states are kept.
     pub(crate) start: u64,
     pub(crate) moment: u64,
-    // How many steps the tip stands before the next multiple of the spacing: 0 at one, and at the start.
+    // How many steps the tip stands before the next multiple of the spacing: 0 at one.
     pub(crate) ahead: u64,
+    // While fewer STARTs are complete than these, there is nothing to keep but at the multiples: one more than are noted,
+    // or 0 where the start may not be kept yet.
+    pub(crate) due: u64,
     pub(crate) tip: State,
     pub(crate) kept: Vec<Kept>,
     pub(crate) ends: Vec<u64>,
@@ -29,8 +32,8 @@ pub struct Recorded {
 }
 
 impl Model for Recorded {
-    ghost use Rattle.std.specs.Prelude.{◌≡◌};
-    ghost use Rattle.gw_record.specs.Spacing.{IsAhead};
+    ghost use Rattle.std.specs.Prelude.{◌≡◌, ◌+◌, ◌%◌, ◌<◌};
+    ghost use Rattle.gw_record.specs.Keeping.{IsDue};
     ghost use Rattle.gw_record.specs.Tape.{Tape};
 
     ghost Value = { Tape };
@@ -45,7 +48,8 @@ impl Model for Recorded {
       firsts = r.notes.firsts;
     } };
 
-    ghost invariant = { λ r. IsAhead r.every r.start r.moment r.ahead × (r.notes.streams ≡ r.tip.streams) };
+    ghost invariant = { λ r. (r.ahead < r.every) × ((r.moment + r.ahead) % r.every ≡ 0) ×
+        IsDue r.start r.moment r.kept.items r.ends.items r.due × (r.notes.streams ≡ r.tip.streams) };
 }
 
 impl Recorded {
@@ -63,6 +67,7 @@ impl Recorded {
             start: 0,
             moment: 0,
             ahead: 0,
+            due: 0,
             tip,
             kept: Vec::new(alloc),
             ends: Vec::new(alloc),
