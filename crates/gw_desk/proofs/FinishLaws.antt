@@ -70,7 +70,8 @@ module _ (b : Book) (rep seed place : ℕ) (d : Recording) (new : Tape) (h : IsB
   still_book made records every start =
       record { some = h.some; few = h.few; numbered = h.numbered; runs = new_runs records (every ∙ old_records.1) (start ∙ old_records.2) }
 
-  pub finishes : (k made : ℕ) → new.every ≡ d.run.every → new.start ≡ d.run.start → d.run.moment ≤ new.moment → AreWanted b.version seed k d.run.moment new.moment →
+  pub finishes : (k made : ℕ) → new.every ≡ d.run.every → new.start ≡ d.run.start → d.run.moment ≤ new.moment →
+      AreWanted b.version seed k d.run.moment new.moment →
       made ≡ tallied b.made (new.moment - d.run.moment) → Finishes b rep k (record b { runs = changed; made = made })
   finishes k made every start grows wanted counted =
       record {

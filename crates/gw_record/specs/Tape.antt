@@ -9,8 +9,8 @@ use Rattle.gw_uses.specs.declared.first_uses.FirstUses.{FirstUses}
 use Rattle.gw_record.specs.Parting.{AreInOrder, AreMoments}
 use Rattle.gw_uses.specs.Uses.{AreFirstUses, nothing_used}
 
--- what is recorded of a run: the moment from which on it keeps states; the state at the tip, after so many steps; states
--- kept on the way, in order; the moments of START ends, in order; and the first uses of items
+-- what is recorded of a run: the moment from which on it keeps states; the state at the tip, after so many steps;
+-- states kept on the way, in order; the moments of START ends, in order; and the first uses of items
 pub record Tape : Type 0 where
   pub every : ℕ
   pub start : ℕ

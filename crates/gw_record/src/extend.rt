@@ -116,8 +116,7 @@ impl Recorded {
     }
 
     // Keeps what is left to keep at the tip.
-    #[cold]
-    #[inline(never)]
+    #[inline(always)]
     fn keep_due(&mut self) -> Result<(), AllocError>
         requires { self.old.start ≤ self.old.moment }
         ensures records { (t : Listing) (seed : ℕ) → Records t seed self.old → Records t seed self.new }
@@ -134,6 +133,8 @@ impl Recorded {
     }
 
     // Keeps the state at the tip, which is wanted.
+    #[cold]
+    #[inline(never)]
     fn keep_state(&mut self) -> Result<(), AllocError>
         requires { (t : Listing) (seed : ℕ) → Records t seed self.old →
             IsWanted t seed self.old.every self.old.start self.old.moment }
@@ -180,6 +181,8 @@ impl Recorded {
     }
 
     // Notes the tip, which is kept, as a START end where it is one.
+    #[cold]
+    #[inline(never)]
     fn keep_end(&mut self) -> Result<(), AllocError>
         requires { IsThere self.old.kept self.old.moment }
         ensures records { (t : Listing) (seed : ℕ) → Records t seed self.old → Records t seed self.new }

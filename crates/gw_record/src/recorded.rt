@@ -21,8 +21,8 @@ pub struct Recorded {
     pub(crate) moment: u64,
     // How many steps the tip stands before the next multiple of the spacing: 0 at one.
     pub(crate) ahead: u64,
-    // While fewer STARTs are complete than these, there is nothing to keep but at the multiples: one more than are noted,
-    // or 0 where the start may not be kept yet.
+    // While fewer STARTs than these are complete, only the multiples of the spacing are left to keep: one more than are
+    // noted, or 0 where the start may not be kept yet.
     pub(crate) due: u64,
     pub(crate) tip: State,
     pub(crate) kept: Vec<Kept>,
