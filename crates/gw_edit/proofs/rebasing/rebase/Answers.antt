@@ -3,17 +3,17 @@ use Rattle.gw_edit.specs.Touching.{Touching, touched_in}
 use Rattle.gw_edit.specs.Touched.{touched_step}
 use Rattle.gw_edit.specs.Rebasing.{IsKeptOf}
 use Rattle.gw_edit.proofs.RebaseLaws.{WentBack, is_rebased}
-use Rattle.gw_edit.proofs.rebasing.rebase.Goals.{in-Some, in_default}
+use Rattle.gw_edit.proofs.rebasing.rebase.Goals.{in-Some+else-step-start, in_default}
 use Rattle.gw_edit.proofs.rebasing.rebase.Goals as goal
 
-pub returns : goal.returns
-returns c = λ e u is.
+pub returns-clause-rebased : goal.returns-clause-rebased
+returns-clause-rebased c = λ yes e u is.
     let t = c.args.old.now in
     let r = c.args.run.now in
     let n = c.args.replication in
     let back : WentBack t e u n r c.match-touched.run =
     elim c.match-touched.branch [
-      | in-Some w ↦
+      | in-Some+else-step-start w ↦
           subst (WentBack t e u n r) (sym w.run-is)
           (record {
             records = w.cut.ensures.records t;
