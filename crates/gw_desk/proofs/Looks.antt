@@ -62,10 +62,10 @@ module _ (t : Listing) (seed k : ℕ) (r : Tape) (h : Records t seed r) where
 
   -- the k-th START is complete at a recorded moment
   pub seen_complete : r.start ≡ 0 → (m : ℕ) → m ≤ r.moment → IsStartEnd t seed k m → Sees t seed k r (looks.Point m outcomes.Complete)
-  seen_complete zero m low e =
+  seen_complete at_zero m low e =
       let w = h.within in
       let found = search_from t seed k m (t.limit - m) e.state e.there e.first (omega (arith, low, w)) in (
-        record { from = omega (arith, zero); below = low; wanted = inr (inr (inr (k, e))) },
+        record { from = omega (arith, at_zero); below = low; wanted = inr (inr (inr (k, e))) },
         (e.state, e.there, found ∙ complete_now (t.limit - m) e.state e.complete),
         λ o. o.none m e.state low e.there e.complete,
       )
