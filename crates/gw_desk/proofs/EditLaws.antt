@@ -5,7 +5,7 @@ use Rattle.gw_meaning.specs.Numbers.{AreNumbered}
 use Rattle.gw_meaning.specs.Listing.{Listing, seed_at}
 use Rattle.gw_model.specs.Faults.{is_outside, fault_of}
 use Rattle.gw_model.specs.Spliced.{with_splice}
-use Rattle.gw_record.specs.Tape.{Tape, Records, blank}
+use Rattle.gw_record.specs.Tape.{Tape, blank}
 use Rattle.gw_edit.specs.declared.edit.Edit.{Edit}
 use Rattle.gw_edit.specs.declared.edit.Edit.TheVariants as edits
 use Rattle.gw_edit.specs.declared.fault.EditFault.{EditFault}

@@ -1,5 +1,5 @@
 -- What stays the record of a run: when a state is kept, when a step is made, when first uses are forgotten.
-use Rattle.std.proofs.Common.{◌≡◌, ◌⊎◌, ℕ, zero, suc, ◌+◌, ◌-◌, ◌<◌, ◌≤◌, Bool, true, false, cond, nat_eq, nat_lt, List, [], ◌∷◌, ◌++◌, length, get_or, slice_get, Option, Some, None, Ok, inl, inr, ⊎_elim, refl, sym, ap, ap₂, subst, ◌∙◌, arith}
+use Rattle.std.proofs.Common.{◌≡◌, ◌⊎◌, ℕ, zero, suc, ◌+◌, ◌-◌, ◌<◌, ◌≤◌, Bool, true, false, cond, nat_eq, nat_lt, List, [], ◌∷◌, ◌++◌, length, get_or, slice_get, Option, Some, None, Ok, inl, inr, ⊎_elim, refl, sym, ap, subst, ◌∙◌, arith}
 use Rattle.std.specs.List.{list_any}
 use Rattle.std.proofs.lemmas.Bool.Decides.{nat_tests}
 use Rattle.std.proofs.lemmas.List.{length_push}
@@ -34,10 +34,7 @@ use Rattle.gw_uses.specs.Uses.{first_in}
 use Rattle.gw_record.specs.Tape.{Tape, blank, from_tip, Records, IsKeptUp, IsStartEnd, IsWanted, IsThere, IsOfRun, IsEndThere}
 use Rattle.gw_uses.proofs.UseLaws.{reading_cut}
 use Rattle.gw_meaning.specs.declared.item.Item.TheVariants as items
-use Rattle.gw_meaning.specs.contracts.item.ItemEq.TheImpl.Laws as laws
 use Rattle.gw_uses.specs.Uses.{nothing_used, first_in, AreFirstUses}
-use Rattle.gw_meaning.specs.Reads.{same_item}
-use Rattle.gw_uses.specs.Steps.{step_of}
 
 -- nothing is used yet
 nothing_yet : (item : Item) → first_in nothing_used item ≡ None

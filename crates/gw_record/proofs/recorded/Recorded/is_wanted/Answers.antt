@@ -1,4 +1,4 @@
-use Rattle.std.proofs.Common.{⊎_elim, ◌≤◌, ◌<◌, ◌≡◌, ◌%◌, length, arith, rules}
+use Rattle.std.proofs.Common.{⊎_elim, ◌≤◌, ◌<◌, length, arith}
 use Rattle.std.proofs.lemmas.Bool.Decides.{nat_tests}
 use Rattle.gw_record.proofs.RecordLaws.{end_is_there}
 use Rattle.gw_record.proofs.recorded.Recorded.is_wanted.Goals as goal

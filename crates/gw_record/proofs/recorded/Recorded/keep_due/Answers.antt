@@ -1,4 +1,4 @@
-use Rattle.std.proofs.Common.{◌≡◌, ◌≤◌, ℕ, length, refl, rules, subst, sym}
+use Rattle.std.proofs.Common.{◌≡◌, ◌≤◌, length, refl, rules, subst, sym}
 use Rattle.gw_record.specs.Tape.{Tape, Records, IsThere}
 use Rattle.gw_record.proofs.KeepLaws.{due_next}
 use Rattle.gw_record.proofs.recorded.Recorded.keep_due.Goals.{then-is_wanted+in_ok-keep_state+in_ok-keep_end, else-is_wanted}

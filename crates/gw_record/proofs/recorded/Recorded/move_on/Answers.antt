@@ -22,8 +22,7 @@ invariant_of-self c =
     let later = due_later _ _ _ _ _ due in
     elim c.if-self-eq0.branch [
       | then-self-eq0 w ↦
-          let here : c.self.inside.moment + c.self.inside.ahead ≡ c.self.inside.moment = omega arith in
-          (
+          let here : c.self.inside.moment + c.self.inside.ahead ≡ c.self.inside.moment = omega arith in (
             omega arith,
             after_multiple _ _ _ (omega arith) (ap (λ n. n % c.self.inside.every) (sym here) ∙ multiple) w.self-is,
             later,
