@@ -1,6 +1,6 @@
 -- The recorded run that an edit leaves: it is of the edited version, and goes as far as it went, or, where a step read
 -- something touched, to the last kept moment at or before the first such step. Where that step comes before the run's
--- start, nothing is left. (Our own.)
+-- start, the run is lost. (Our own.)
 use Rattle.std.specs.Prelude.{◌≡◌, ℕ, ◌<◌, Option, Some, None, Ok}
 use Rattle.gw_meaning.specs.Listing.{Listing, seed_at}
 use Rattle.gw_record.specs.Tape.{Tape, Records, IsLastKept}

@@ -14,7 +14,7 @@ use gw_record::Recorded;
 
 /// Makes the recorded run of a replication that of the edited version, by what the edit touches: goes back to the last
 /// kept moment at or before the first step that read something touched, and no further. Where that step comes before
-/// the run's start, it answers `false` and changes nothing: no part of the run is left. It takes no memory.
+/// the run's start, it answers `false` and changes nothing: the run is lost to the edited version. It takes no memory.
 pub fn rebase(run: &mut Recorded, old: &Version, touch: &Touch, replication: u64) -> bool
     ensures rebased { IsTrue result → (e : Edit) (u : Listing) → touch.now ≡ touching_of old.now e u →
         IsRebased old.now e u replication run.old run.new }
