@@ -18,10 +18,11 @@ pub blank_records : (t : Listing) (seed every : ℕ) → Records t seed (blank e
 blank_records t seed every =
     record {
       tip = refl;
+      from = omega arith;
       within = omega arith;
       kept = λ i e is. absurd cc;
       rising = λ i j d low within. absurd (omega (arith, within));
-      all_kept = λ m less want. absurd (omega (arith, less));
+      all_kept = λ m from less want. absurd (omega (arith, less));
       ends = λ i m is. absurd cc;
       ends_rise = λ i j d low within. absurd (omega (arith, within));
       all_ends = λ m u less is. absurd (omega (arith, less));
@@ -34,7 +35,7 @@ blank_are_runs t every [] number = tt
 blank_are_runs t every (r ∷ rs) number = go (r.number == number) (blank_are_runs t every rs number) where
   go : (b : Bool) → IsRunOf t every (seed_in rs number) (run_in (blank_runs every rs) number) →
       IsRunOf t every (cond b (Some r.seed) (seed_in rs number)) (cond b (Some (blank every)) (run_in (blank_runs every rs) number))
-  go true h = (blank_records t r.seed every, refl)
+  go true h = (blank_records t r.seed every, refl, refl)
   go false h = h
 
 -- a version with runs of no steps makes a desk

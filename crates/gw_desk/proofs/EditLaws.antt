@@ -5,7 +5,7 @@ use Rattle.gw_meaning.specs.Numbers.{AreNumbered}
 use Rattle.gw_meaning.specs.Listing.{Listing, seed_at}
 use Rattle.gw_model.specs.Faults.{is_outside, fault_of}
 use Rattle.gw_model.specs.Spliced.{with_splice}
-use Rattle.gw_record.specs.Tape.{Tape, Records, blank}
+use Rattle.gw_record.specs.Tape.{Tape, blank}
 use Rattle.gw_edit.specs.declared.edit.Edit.{Edit}
 use Rattle.gw_edit.specs.declared.edit.Edit.TheVariants as edits
 use Rattle.gw_edit.specs.declared.fault.EditFault.{EditFault}
@@ -44,23 +44,27 @@ module _ (every : ℕ) (t : Listing) (e : Edit) (u : Listing) (old cut : List Re
         go : (b : Option ℕ) → seed_at u n ≡ b → (s : Option Tape) (r : Option Tape) → IsRebasedOf t e u n r s → (a : Option ℕ) → seed_at t n ≡ a →
             IsRunOf t every a r → IsRunOf u every b (cond (is_some b) (missing_or every b s) None)
         go None is s r h a was k = tt
-        go (Some b) is None r h a was k = (blank_records u b every, refl)
+        go (Some b) is None r h a was k = (blank_records u b every, refl, refl)
         go (Some b) is (Some s) None h a was k = absurd h
         go (Some b) is (Some s) (Some r) h None was k = absurd k
         go (Some b) is (Some s) (Some r) h (Some a) was k =
-            (h.records a b made was is k.0, h.every ∙ k.1)
+            let cut = h k.2 in
+            (cut.records a b made was is k.0, cut.every ∙ k.1, cut.start ∙ k.2)
 
   -- the run of a replication that both versions have
   pub kept_run : (n a b : ℕ) (r : Tape) → seed_at t n ≡ Some a → seed_at u n ≡ Some b → run_in old n ≡ Some r → (s : Tape) ×
-      (run_in (runs_behind every u cut) n ≡ Some s) × (s.every ≡ r.every) × IsKeptOf t a r (touched_step (touch_of t e u n) t a r) s.moment
+      (run_in (runs_behind every u cut) n ≡ Some s) × (s.every ≡ r.every) × (s.start ≡ r.start) ×
+      IsKeptOf t a r (touched_step (touch_of t e u n) t a r) s.moment
   kept_run n a b r was is there = go (run_in cut n) refl (subst (λ o. IsRebasedOf t e u n o (run_in cut n)) there (rebased_in t e u old cut rebased n)) where
-    records : Records t a r
-    records = (subst (λ o. IsRunOf t every (Some a) o) there (subst (λ o. IsRunOf t every o (run_in old n)) was (runs n))).0
+    of_run : IsRunOf t every (Some a) (Some r)
+    of_run = subst (λ o. IsRunOf t every (Some a) o) there (subst (λ o. IsRunOf t every o (run_in old n)) was (runs n))
 
     go : (s : Option Tape) → run_in cut n ≡ s → IsRebasedOf t e u n (Some r) s → (s : Tape) × (run_in (runs_behind every u cut) n ≡ Some s) ×
-        (s.every ≡ r.every) × IsKeptOf t a r (touched_step (touch_of t e u n) t a r) s.moment
+        (s.every ≡ r.every) × (s.start ≡ r.start) × IsKeptOf t a r (touched_step (touch_of t e u n) t a r) s.moment
     go None found h = absurd h
-    go (Some s) found h = (s, behind_in n ∙ (rw (is, found) refl), h.every, h.kept a records)
+    go (Some s) found h =
+        let cut = h of_run.2 in
+        (s, behind_in n ∙ (rw (is, found) refl), cut.every, cut.start, cut.kept a of_run.0)
 
   -- the run of a replication that comes in
   pub fresh_run : (n b : ℕ) → seed_at t n ≡ None → seed_at u n ≡ Some b → run_in (runs_behind every u cut) n ≡ Some (blank every)
@@ -177,8 +181,8 @@ module _ (b : Book) (e : Edit) (u : Listing) (cut runs : List Recording) (all : 
     every = refl;
     made = refl;
     kept = λ rep a x r was is there.
-        let (s, found, every, kept) = kept_run b.every b.version e u b.runs cut m.made m.desk.runs m.rebased rep a x r was is there in
-        record { run = s; there = found; every = every; kept = kept };
+        let (s, found, every, start, kept) = kept_run b.every b.version e u b.runs cut m.made m.desk.runs m.rebased rep a x r was is there in
+        record { run = s; there = found; every = every; start = start; kept = kept };
     fresh = λ rep x none is. fresh_run b.every b.version e u b.runs cut m.made m.desk.runs m.rebased rep x none is;
   })
 

@@ -38,7 +38,7 @@ module _ (b : Book) (rep seed place : ℕ) (d : Recording) (new : Tape) (h : IsB
   pub old_run : run_in b.runs rep ≡ Some d.run
   old_run = run_in_at b.runs rep place d first.0 first.1 first.2 ∙ ap (λ (r : Recording). Some r.run) (sym at)
 
-  pub old_records : Records b.version seed d.run × (d.run.every ≡ b.every)
+  pub old_records : Records b.version seed d.run × (d.run.every ≡ b.every) × (d.run.start ≡ 0)
   old_records = subst (λ o. IsRunOf b.version b.every (Some seed) o) old_run (subst (λ o. IsRunOf b.version b.every o (run_in b.runs rep)) is (h.runs rep))
 
   number : d.number ≡ rep
@@ -56,21 +56,24 @@ module _ (b : Book) (rep seed place : ℕ) (d : Recording) (new : Tape) (h : IsB
   pub others_stay : (n : ℕ) → n ≢ rep → run_in changed n ≡ run_in b.runs n
   others_stay n other = changed_in n ∙ (let e : (rep == n) ≡ false = grind (arith, nat_tests, other) in rw e refl)
 
-  pub new_runs : Records b.version seed new → new.every ≡ b.every → AreRuns b.version b.every changed
-  new_runs records every n = subst (λ o. IsRunOf b.version b.every (seed_at b.version n) o) (sym (changed_in n)) (go (rep == n) refl) where
+  pub new_runs : Records b.version seed new → new.every ≡ b.every → new.start ≡ 0 → AreRuns b.version b.every changed
+  new_runs records every start n = subst (λ o. IsRunOf b.version b.every (seed_at b.version n) o) (sym (changed_in n)) (go (rep == n) refl) where
     go : (x : Bool) → (rep == n) ≡ x → IsRunOf b.version b.every (seed_at b.version n) (cond x (Some new) (run_in b.runs n))
     go true e =
         let same : rep ≡ n = grind (arith, nat_tests) in
         let with_seed : seed_at b.version n ≡ Some seed = ap (λ m. seed_at b.version m) (sym same) ∙ is in
-        subst (λ o. IsRunOf b.version b.every o (Some new)) (sym with_seed) (records, every)
+        subst (λ o. IsRunOf b.version b.every o (Some new)) (sym with_seed) (records, every, start)
     go false e = h.runs n
 
-  pub still_book : (made : ℕ) → Records b.version seed new → new.every ≡ d.run.every → IsBook (record b { runs = changed; made = made })
-  still_book made records every = record { some = h.some; few = h.few; numbered = h.numbered; runs = new_runs records (every ∙ old_records.1) }
+  pub still_book : (made : ℕ) → Records b.version seed new → new.every ≡ d.run.every → new.start ≡ d.run.start →
+      IsBook (record b { runs = changed; made = made })
+  still_book made records every start =
+      record { some = h.some; few = h.few; numbered = h.numbered; runs = new_runs records (every ∙ old_records.1) (start ∙ old_records.2) }
 
-  pub finishes : (k made : ℕ) → new.every ≡ d.run.every → d.run.moment ≤ new.moment → AreWanted b.version seed k d.run.moment new.moment →
+  pub finishes : (k made : ℕ) → new.every ≡ d.run.every → new.start ≡ d.run.start → d.run.moment ≤ new.moment →
+      AreWanted b.version seed k d.run.moment new.moment →
       made ≡ tallied b.made (new.moment - d.run.moment) → Finishes b rep k (record b { runs = changed; made = made })
-  finishes k made every grows wanted counted =
+  finishes k made every start grows wanted counted =
       record {
         version = refl;
         every = refl;
@@ -83,7 +86,7 @@ module _ (b : Book) (rep seed place : ℕ) (d : Recording) (new : Tape) (h : IsB
             let same_run : a ≡ d.run = cc in
             let P : ℕ → Tape → Type 0 = λ s a. GoesOn b rep k s a (record b { runs = changed; made = made }) in
             subst (λ s. P s a) (sym same_seed) (subst (λ a. P seed a) (sym same_run)
-            (record { run = new; there = new_run; every = every; grows = grows; wanted = wanted; made = counted }));
+            (record { run = new; there = new_run; every = every; start = start; grows = grows; wanted = wanted; made = counted }));
       }
 
   pub reached : (k : ℕ) (reach : Reach) → Reaches b.version seed k new reach → (r : Tape) → run_in changed rep ≡ Some r → Reaches b.version seed k r reach

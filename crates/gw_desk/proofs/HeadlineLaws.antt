@@ -1,10 +1,9 @@
 -- Each report handed out is that of the version made anew, and of the model that `list` prints, run from zero.
 use Rattle.std.proofs.Common.{◌≡◌, ℕ, ◌+◌, [], ◌∷◌, length, ⊎_elim, refl, ap, sym, subst, ◌∙◌, length-append}
-use Rattle.std.specs.Prelude.{Ok, List, All}
+use Rattle.std.specs.Prelude.{Ok, List}
 use Rattle.std.proofs.lemmas.List.Elements.{All-map}
 use Rattle.gw_meaning.specs.declared.statement.Numbered.{Numbered}
 use Rattle.gw_meaning.specs.Listing.{Listing}
-use Rattle.gw_lines.specs.Models.{model_of}
 use Rattle.gw_lines.specs.Printed.{IsSpelled, listed_text}
 use Rattle.gw_lines.proofs.Printed.{printed_models}
 use Rattle.gw_lines.proofs.Whole.{models_are_read}

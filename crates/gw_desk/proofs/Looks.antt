@@ -61,11 +61,11 @@ module _ (t : Listing) (seed k : ℕ) (r : Tape) (h : Records t seed r) where
         none r.moment r.tip (omega arith) h.tip all
 
   -- the k-th START is complete at a recorded moment
-  pub seen_complete : (m : ℕ) → m ≤ r.moment → IsStartEnd t seed k m → Sees t seed k r (looks.Point m outcomes.Complete)
-  seen_complete m low e =
+  pub seen_complete : r.start ≡ 0 → (m : ℕ) → m ≤ r.moment → IsStartEnd t seed k m → Sees t seed k r (looks.Point m outcomes.Complete)
+  seen_complete at_zero m low e =
       let w = h.within in
       let found = search_from t seed k m (t.limit - m) e.state e.there e.first (omega (arith, low, w)) in (
-        record { below = low; wanted = inr (inr (k, e)) },
+        record { from = omega (arith, at_zero); below = low; wanted = inr (inr (inr (k, e))) },
         (e.state, e.there, found ∙ complete_now (t.limit - m) e.state e.complete),
         λ o. o.none m e.state low e.there e.complete,
       )
@@ -99,7 +99,7 @@ module _ (t : Listing) (seed k : ℕ) (r : Tape) (h : Records t seed r) where
           Sees t seed k r (cond b (seen_with r.moment o) looks.NoStart)
       go false o e = (e, shut end is)
       go true None e = (e, shut end is)
-      go true (Some o) e = (record { below = omega arith; wanted = inl refl }, (r.tip, h.tip, e), shut end is)
+      go true (Some o) e = (record { from = h.from; below = omega arith; wanted = inl refl }, (r.tip, h.tip, e), shut end is)
 
     -- the run goes on at the tip
     pub seen_open : (u : Machine) → step t seed r.tip ≡ Ok u → r.moment < t.limit → IsOpen t seed k r.moment

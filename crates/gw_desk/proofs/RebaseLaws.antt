@@ -40,7 +40,7 @@ abbrev pub IsRebasedOf : Listing → Edit → Listing → ℕ → Option Tape �
 IsRebasedOf t e u number None None = Unit {0}
 IsRebasedOf t e u number None (Some s) = ⊥
 IsRebasedOf t e u number (Some r) None = ⊥
-IsRebasedOf t e u number (Some r) (Some s) = IsRebased t e u number r s
+IsRebasedOf t e u number (Some r) (Some s) = r.start ≡ 0 → IsRebased t e u number r s
 
 pub rebased_in : (t : Listing) (e : Edit) (u : Listing) (old new : List Recording) → AreRebased t e u old new → (n : ℕ) →
     IsRebasedOf t e u n (run_in old n) (run_in new n)
@@ -56,7 +56,7 @@ rebased_in t e u (r ∷ old) (x ∷ new) h n =
           IsRebasedOf t e u n (run_in old n) (run_in new n) → IsRebasedOf t e u n (cond a (Some r.run) (run_in old n)) (cond b (Some x.run) (run_in new n))
       go true is true was first rest =
           let at : r.number ≡ n = grind (arith, nat_tests) in
-          subst (λ m. IsRebased t e u m r.run x.run) at first.run
+          λ zero. subst (λ m. IsRebased t e u m r.run x.run) at (first.run zero)
       go false is false was first rest = rest
       go true is false was first rest = let same = first.number in absurd (grind (arith, nat_tests))
       go false is true was first rest = let same = first.number in absurd (grind (arith, nat_tests))

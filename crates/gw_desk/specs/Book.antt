@@ -26,12 +26,12 @@ run_in (r ∷ rs) number = if r.number == number then Some r.run else run_in rs 
 abbrev pub place_in : List Recording → ℕ → Option ℕ
 place_in runs number = position (λ (r : Recording). r.number == number) runs
 
--- the run from zero of each replication that there is, with its seed, and of no other
+-- the run from zero of each replication that there is, with its seed, recorded from its start on; and of no other
 abbrev pub IsRunOf : Listing → ℕ → Option ℕ → Option Tape → Type 0
 IsRunOf t every None None = Unit {0}
 IsRunOf t every None (Some r) = ⊥
 IsRunOf t every (Some seed) None = ⊥
-IsRunOf t every (Some seed) (Some r) = Records t seed r × (r.every ≡ every)
+IsRunOf t every (Some seed) (Some r) = Records t seed r × (r.every ≡ every) × (r.start ≡ 0)
 
 abbrev pub AreRuns : Listing → ℕ → List Recording → Type 0
 AreRuns t every runs = (number : ℕ) → IsRunOf t every (seed_at t number) (run_in runs number)

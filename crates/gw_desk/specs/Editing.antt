@@ -17,6 +17,7 @@ pub record IsCut (old : Book) (e : Edit) (new : Book) (rep seed : ℕ) (r : Tape
   pub run : Tape
   pub there : run_in new.runs rep ≡ Some run
   pub every : run.every ≡ r.every
+  pub start : run.start ≡ r.start
   pub kept : IsKeptOf old.version seed r (touched_step (touch_of old.version e new.version rep) old.version seed r)
       run.moment
 

@@ -11,6 +11,7 @@ pub record GoesOn (old : Book) (rep k seed : ℕ) (a : Tape) (new : Book) : Type
   pub run : Tape
   pub there : run_in new.runs rep ≡ Some run
   pub every : run.every ≡ a.every
+  pub start : run.start ≡ a.start
   pub grows : a.moment ≤ run.moment
   pub wanted : AreWanted old.version seed k a.moment run.moment
   pub made : new.made ≡ tallied old.made (run.moment - a.moment)

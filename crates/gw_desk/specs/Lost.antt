@@ -20,6 +20,7 @@ goes_nowhere b rep k seed a there = record {
   run = a;
   there = there;
   every = refl;
+  start = refl;
   grows = le_refl a.moment;
   wanted = λ m s from to at. absurd (not-suc-le_self m (le_trans to from));
   made = ap (λ n. tallied b.made n) (sym (sub_self a.moment));

@@ -35,6 +35,7 @@ pub fn look_at(
     k: u64,
 ) -> Result<Look, AllocError>
     requires records { Records version.now seed run.now }
+    requires start { run.now.start ≡ 0 }
     requires some { 1 ≤ k }
     ensures { IfOk result (Sees version.now seed k run.now) }
 {
@@ -74,6 +75,7 @@ fn look_at_tip(
 
 // The same by what stopped the steps on the way to the end of START k: the recorded steps decide.
 pub fn look_behind(run: &Recorded, k: u64, reach: Reach) -> Look
+    requires start { run.now.start ≡ 0 }
     requires some { 1 ≤ k }
     requires stopped { IsStopped k run.now reach }
     ensures { (t : Listing) (seed : ℕ) → Records t seed run.now → Reaches t seed k run.now reach →

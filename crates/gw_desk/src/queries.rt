@@ -44,6 +44,7 @@ impl Desk {
         requires seed { seed_at self.now.version rep ≡ Some seed }
         requires run { run_in self.now.runs rep ≡ Some run.now }
         requires records { Records self.now.version seed run.now }
+        requires zero { run.now.start ≡ 0 }
         ensures { Peeks self.now rep k result }
     {
         match look_at(alloc, &self.version, seed, run, k) {

@@ -22,6 +22,7 @@ pub fn rebase_all(runs: &mut Vec<Recording>, old: &Version, touch: &Touch)
     ensures room { vec_capacity runs.new ≡ vec_capacity runs.old }
 {
     for recording in runs.iter_mut() {
+        // A run of a desk starts at 0, and of such a run something is always left.
         rebase(&mut recording.run, old, touch, recording.number);
     }
 }

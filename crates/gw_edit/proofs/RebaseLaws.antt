@@ -51,6 +51,7 @@ pub record WentBack (t : Listing) (e : Edit) (u : Listing) (n : ℕ) (r s : Tape
   pub records : (a : ℕ) → Records t a r → Records t a s
   pub kept : (a : ℕ) → Records t a r → IsKeptOf t a r (touched_step (touch_of t e u n) t a r) s.moment
   pub every : s.every ≡ r.every
+  pub start : s.start ≡ r.start
 
 module _ (t : Listing) (e : Edit) (u : Listing) (n : ℕ) (r s : Tape) (numbered : AreNumbered t.lines) (carries : Carries s) (back : WentBack t e u n r s) where
   carried_over : (a b : ℕ) → applied t e ≡ Ok u → seed_at t n ≡ Some a → seed_at u n ≡ Some b → Records t a r → Records u b s
@@ -62,4 +63,4 @@ module _ (t : Listing) (e : Edit) (u : Listing) (n : ℕ) (r s : Tape) (numbered
       (λ j less. All-from_recursion (SameAnswer t a u b) (reads t a j) (alike (reads t a j) (unread_at j less)))
 
   pub is_rebased : IsRebased t e u n r s
-  is_rebased = record { records = carried_over; kept = back.kept; every = back.every }
+  is_rebased = record { records = carried_over; kept = back.kept; every = back.every; start = back.start }

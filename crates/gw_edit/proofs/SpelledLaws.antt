@@ -1,8 +1,6 @@
 -- What is edited from statements that are spelled is spelled.
-use Rattle.std.proofs.Common.{◌≡◌, ℕ, suc, ◌+◌, ◌-◌, ◌<◌, ◌≤◌, ◌&&◌, Bool, true, false, cond, List, [], ◌∷◌, ◌++◌, Option, Some, None, Result, Ok, Err, length, take, drop, refl, ap, sym, subst, ◌∙◌, inl, inr, arith}
-use Rattle.std.specs.Prelude.{All, is_some, nat_lt}
-use Rattle.std.specs.Str.{bytes_eq}
-use Rattle.std.proofs.lemmas.Bool.{and_parts, cases_Bool}
+use Rattle.std.proofs.Common.{◌≡◌, ℕ, ◌+◌, ◌-◌, Bool, true, false, cond, List, [], ◌∷◌, ◌++◌, Option, Some, None, Result, Ok, Err, length, take, drop, refl, ap, sym, subst, ◌∙◌, inl, inr}
+use Rattle.std.proofs.lemmas.Bool.{cases_Bool}
 use Rattle.std.proofs.lemmas.List.Elements.{All-append, All-cons, All-drop, All-head, All-nil, All-tail, All-take}
 use Rattle.std.proofs.lemmas.Slice.Eq.{bytes_eq-Decides}
 use Rattle.gw_names.specs.Names.{name_of}
@@ -15,15 +13,13 @@ use Rattle.gw_lines.specs.Edits.{edit_lines, edit_of}
 use Rattle.gw_lines.specs.Points.{Completes, complete, past_remark, past_pairs, SpellsLines, spells_lines}
 use Rattle.gw_lines.specs.Printed.{IsSpelled, storage_of}
 use Rattle.gw_lines.specs.Reading.{◌>>=◌}
-use Rattle.gw_lines.specs.Spelling.{Label, no_label, named, Spells}
+use Rattle.gw_lines.specs.Spelling.{Label, no_label, named}
 use Rattle.gw_lines.proofs.Edits.{edits_are_read}
 use Rattle.gw_lines.proofs.PrintedWords.{is_name}
 use Rattle.gw_lines.proofs.PrintedStorage.{storages_spell}
 use Rattle.gw_model.specs.Faults.{is_outside}
 use Rattle.gw_model.specs.Spliced.{come, number_in, spliced, with_splice}
-use Rattle.gw_edit.specs.declared.edit.Edit.{Edit}
 use Rattle.gw_edit.specs.declared.edit.Edit.TheVariants as edits
-use Rattle.gw_edit.specs.declared.fault.EditFault.{EditFault}
 use Rattle.gw_edit.specs.Applied.{capacity_at, checked, has_replication, is_capacity, or_refusal, reseeded, spelled_by, storage_in, storage_place, without_number}
 use Rattle.gw_edit.specs.Spelled.{AreSpelled, EditsAreSpelled}
 use Rattle.gw_edit.proofs.Splits.{place_in}

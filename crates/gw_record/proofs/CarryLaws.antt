@@ -9,7 +9,7 @@ use Rattle.gw_meaning.specs.Step.{run}
 use Rattle.gw_meaning.specs.Reads.{reads, or_later, first_reading, is_use}
 use Rattle.gw_frame.specs.Alike.{AnswersAlike}
 use Rattle.gw_frame.proofs.ReadLaws.{run_before, unseen_reads}
-use Rattle.gw_record.specs.Tape.{Tape, Records, IsStartEnd}
+use Rattle.gw_record.specs.Tape.{Tape, Records, IsStartEnd, IsWanted}
 use Rattle.gw_record.specs.Carrying.{Carries}
 
 -- a run that comes so far came to a state before
@@ -65,18 +65,25 @@ module _ (t : Listing) (seed : ℕ) (u : Listing) (new_seed : ℕ) (r : Tape)
     first = λ i s less is done. e.first i s less (there i s (omega (arith, less, low)) is) done;
   }
 
+  wanted_there : (m : ℕ) → m ≤ r.moment → IsWanted t seed r.every r.start m → IsWanted u new_seed r.every r.start m
+  wanted_there m low = ⊎_elim (λ at. inl at) (λ other. inr (⊎_elim (λ n. inl n) (λ (k, end). inr (k, end_there k m low end)) other))
+
+  wanted_back : (m : ℕ) → m ≤ r.moment → IsWanted u new_seed r.every r.start m → IsWanted t seed r.every r.start m
+  wanted_back m low = ⊎_elim (λ at. inl at) (λ other. inr (⊎_elim (λ n. inl n) (λ (k, end). inr (k, end_back k m low end)) other))
+
   pub carried : Records u new_seed r
   carried =
       let same = unseen_reads t seed u new_seed r.moment r.tip h.tip alike in
       record {
         tip = same.0;
+        from = h.from;
         within = let w = h.within in omega (arith, w, limit);
         kept = λ i e is.
             let o = h.kept i e is in
-            let wanted = ⊎_elim (λ m. inl m) (λ (k, end). inr (k, end_there k e.moment o.below end)) o.wanted in
-            record { there = there e.moment e.state o.below o.there; wanted = wanted; below = o.below };
+            let wanted = wanted_there e.moment o.below o.wanted in
+            record { there = there e.moment e.state o.below o.there; wanted = wanted; from = o.from; below = o.below };
         rising = h.rising;
-        all_kept = λ m less want. h.all_kept m less (⊎_elim (λ m. inl m) (λ (k, end). inr (k, end_back k m (omega (arith, less)) end)) want);
+        all_kept = λ m from less want. h.all_kept m from less (wanted_back m (omega (arith, less)) want);
         ends = λ i m is. let o = h.ends i m is in record { end = end_there (i + 1) m o.below o.end; below = o.below; kept = o.kept };
         ends_rise = h.ends_rise;
         all_ends = λ m s less is. h.all_ends m s less (back m s (omega (arith, less)) is);

@@ -1,7 +1,6 @@
 -- What is left of a recorded run that goes back to a kept state is the record of the shorter run.
 use Rattle.std.proofs.Common.{◌≡◌, ℕ, zero, suc, ◌+◌, ◌-◌, ◌<◌, ◌≤◌, Bool, true, false, nat_eq, nat_lt, nat_le, List, [], ◌∷◌, ◌++◌, length, take, get_or, slice_get, Some, Ok, inl, inr, ⊎_elim, refl, sym, ap, subst, ◌∙◌, arith}
 use Rattle.std.proofs.lemmas.Bool.Decides.{nat_tests}
-use Rattle.std.proofs.Math.Nat.{zero-mod}
 use Rattle.std.proofs.lemmas.List.{length-take-le}
 use Rattle.std.proofs.lemmas.Option.{slice_get-get_or, slice_get_within, get_or_from_slice_get}
 use Rattle.std.proofs.lemmas.List.Sorted.{IsNonDecreasingBy-take}
@@ -91,10 +90,10 @@ module _ (t : Listing) (seed : ℕ) (r : Tape) (m n j k : ℕ) (e : Kept) (f : F
       rw (a, b) at le
 
   -- a wanted moment before it is kept in front
-  there_before : (i : ℕ) → i < e.moment → IsWanted t seed r.every i → IsThere (take j r.kept) i
-  there_before i less want =
+  there_before : (i : ℕ) → r.start ≤ i → i < e.moment → IsWanted t seed r.every r.start i → IsThere (take j r.kept) i
+  there_before i from less want =
       let e1 = early in
-      let (at_i, d, is, same) = h.all_kept i (omega (arith, less, e1, before)) want in
+      let (at_i, d, is, same) = h.all_kept i from (omega (arith, less, e1, before)) want in
       let front : at_i ≤ j = in_front at_i d is (omega (arith, same, less, e1)) in
       go at_i d is same (nat_eq at_i j) refl front where
         go : (q : ℕ) (d : Kept) → slice_get r.kept q ≡ Some d → d.moment ≡ i → (b : Bool) → nat_eq q j ≡ b → q ≤ j → IsThere (take j r.kept) i
@@ -108,8 +107,11 @@ module _ (t : Listing) (seed : ℕ) (r : Tape) (m n j k : ℕ) (e : Kept) (f : F
             let less_j : q < j = grind (arith, nat_tests) in
             (q, d, slice_get_take r.kept j q d less_j is, same)
 
-  own : (there : run t seed e.moment ≡ Ok e.state) × IsWanted t seed r.every e.moment
+  own : (there : run t seed e.moment ≡ Ok e.state) × IsWanted t seed r.every r.start e.moment
   own = let o = h.kept j e at in (o.there, o.wanted)
+
+  from_start : r.start ≤ e.moment
+  from_start = (h.kept j e at).from
 
   -- the c-th START end of those noted
   noted_end : (c : ℕ) → 1 ≤ c → c ≤ length r.ends → IsStartEnd t seed c (get_or r.ends (c - 1) 0)
@@ -175,12 +177,13 @@ module _ (t : Listing) (seed : ℕ) (r : Tape) (m n j k : ℕ) (e : Kept) (f : F
       let w = h.within in
       record {
         tip = own.0;
+        from = from_start;
         within = omega (arith, e1, before, w);
         kept = λ i d is.
             let p = taken_at r.kept j i d is in
             let o = h.kept i d p.1 in
             let l = p.0 in
-            record { there = o.there; wanted = o.wanted; below = not_later i d p.1 (omega (arith, l)) };
+            record { there = o.there; wanted = o.wanted; from = o.from; below = not_later i d p.1 (omega (arith, l)) };
         rising = IsNonDecreasingBy-take (λ (e : Kept). e.moment) j r.kept h.rising;
         all_kept = there_before;
         ends = λ i d is.
@@ -191,7 +194,11 @@ module _ (t : Listing) (seed : ℕ) (r : Tape) (m n j k : ℕ) (e : Kept) (f : F
             let test : nat_lt (get_or r.ends i 0) e.moment ≡ true = ends.0 i 0 (omega arith) l in
             let less0 : nat_lt d e.moment ≡ true = rw there at test in
             let less : d < e.moment = grind (arith, nat_tests) in
-            record { end = o.end; below = omega (arith, less); kept = there_before d less (inr (i + 1, o.end)) };
+            record {
+              end = o.end;
+              below = omega (arith, less);
+              kept = λ behind. there_before d (omega (arith, behind)) less (inr (inr (i + 1, o.end)));
+            };
         ends_rise = IsNonDecreasingBy-take (λ (m : ℕ). m) k r.ends h.ends_rise;
         all_ends = few_before;
         tip_end = one_more;
@@ -206,14 +213,16 @@ module _ (t : Listing) (seed : ℕ) (r : Tape) (m n j k : ℕ) (e : Kept) (f : F
   is_last : (i : ℕ) → IsKept t seed r i → i ≤ m → i ≤ e.moment
   is_last i kept low =
       ⊎_elim (λ same. absurd (omega (arith, same, low, before)))
-      (λ want. let (q, d, is, at_i) = h.all_kept i (omega (arith, low, before)) want in
+      (λ want. let (q, d, is, at_i) = h.all_kept i kept.from (omega (arith, low, before)) want in
       let front = in_front q d is (omega (arith, at_i, low)) in
       let le = not_later q d is front in
       omega (arith, at_i, le))
       kept.wanted
 
   last_kept : IsLastKept t seed r m e.moment
-  last_kept = let e1 = early in record { kept = record { below = omega (arith, e1, before); wanted = inr own.1 }; below = e1; last = is_last }
+  last_kept =
+      let e1 = early in
+      record { kept = record { from = from_start; below = omega (arith, e1, before); wanted = inr own.1 }; below = e1; last = is_last }
 
 -- a run that went back to the last of its states at or before a moment
 pub cut_back :
@@ -229,26 +238,27 @@ cut_back t seed r m n rest e new h before within part is w =
     let last = last_kept t seed r m n j w.count e new.firsts h before until next at ends w.few w.firsts w.clock in
     let same : Tape = record {
       every = new.every;
+      start = new.start;
       moment = new.moment;
       tip = new.tip;
       kept = new.kept;
       ends = new.ends;
       firsts = new.firsts;
     } in
-    let made : Records t seed same = rw (w.every, w.moment, w.tip, w.kept, w.ends, front) back in
+    let made : Records t seed same = rw (w.every, w.start, w.moment, w.tip, w.kept, w.ends, front) back in
     (made, rw w.moment last)
 
--- moment 0 is kept, so there is one to go back to
+-- the start is kept, so from there on there is one to go back to
 pub one_is_kept :
-    (t : Listing) (seed : ℕ) (r : Tape) (m n : ℕ) → Records t seed r → m < r.moment →
+    (t : Listing) (seed : ℕ) (r : Tape) (m n : ℕ) → Records t seed r → r.start ≤ m → m < r.moment →
     (AreInOrder r.kept → AreUntil r.kept m n) → n ≡ 0 → ⊥
-one_is_kept t seed r m n h before part none =
-    let (i, e, is, at) = h.all_kept 0 (omega (arith, before)) (inl (zero-mod r.every)) in
+one_is_kept t seed r m n h from before part none =
+    let (i, e, is, at) = h.all_kept r.start (omega arith) (omega (arith, from, before)) (inl refl) in
     let inside = slice_get_within r.kept i e is in
     let there : get_or r.kept i e ≡ e = get_or_from_slice_get r.kept i e e is in
     let test : nat_le (get_or r.kept i e).moment m ≡ false = (part h.rising).1 i e (omega (arith, none)) inside in
     let late : nat_le e.moment m ≡ false = rw there at test in
-    grind (arith, nat_tests, at)
+    grind (arith, nat_tests, at, from)
 
 -- where the last state at or before a moment is of another, none is of it
 pub not_among :

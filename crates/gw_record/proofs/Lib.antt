@@ -1,4 +1,5 @@
 pub mod RecordLaws
+pub mod KeepLaws
 pub mod ReachLaws
 pub mod CutLaws
 pub mod CarryLaws

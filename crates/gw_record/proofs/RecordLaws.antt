@@ -1,5 +1,5 @@
 -- What stays the record of a run: when a state is kept, when a step is made, when first uses are forgotten.
-use Rattle.std.proofs.Common.{◌≡◌, ◌⊎◌, ℕ, zero, suc, ◌+◌, ◌-◌, ◌<◌, ◌≤◌, Bool, true, false, cond, nat_eq, nat_lt, List, [], ◌∷◌, ◌++◌, length, get_or, slice_get, Option, Some, None, Ok, inl, inr, ⊎_elim, refl, sym, ap, ap₂, subst, ◌∙◌, arith}
+use Rattle.std.proofs.Common.{◌≡◌, ◌⊎◌, ℕ, zero, suc, ◌+◌, ◌-◌, ◌<◌, ◌≤◌, Bool, true, false, cond, nat_eq, nat_lt, List, [], ◌∷◌, ◌++◌, length, get_or, slice_get, Option, Some, None, Ok, inl, inr, ⊎_elim, refl, sym, ap, subst, ◌∙◌, arith}
 use Rattle.std.specs.List.{list_any}
 use Rattle.std.proofs.lemmas.Bool.Decides.{nat_tests}
 use Rattle.std.proofs.lemmas.List.{length_push}
@@ -31,13 +31,10 @@ use Rattle.gw_record.specs.declared.kept.Kept.{Kept}
 use Rattle.gw_uses.specs.declared.first_uses.FirstUses.{FirstUses}
 use Rattle.gw_uses.specs.Steps.{below, AreBelow}
 use Rattle.gw_uses.specs.Uses.{first_in}
-use Rattle.gw_record.specs.Tape.{Tape, blank, Records, IsKeptUp, IsStartEnd, IsWanted, IsThere, IsOfRun, IsEndThere}
+use Rattle.gw_record.specs.Tape.{Tape, blank, from_tip, Records, IsKeptUp, IsStartEnd, IsWanted, IsThere, IsOfRun, IsEndThere}
 use Rattle.gw_uses.proofs.UseLaws.{reading_cut}
 use Rattle.gw_meaning.specs.declared.item.Item.TheVariants as items
-use Rattle.gw_meaning.specs.contracts.item.ItemEq.TheImpl.Laws as laws
 use Rattle.gw_uses.specs.Uses.{nothing_used, first_in, AreFirstUses}
-use Rattle.gw_meaning.specs.Reads.{same_item}
-use Rattle.gw_uses.specs.Steps.{step_of}
 
 -- nothing is used yet
 nothing_yet : (item : Item) → first_in nothing_used item ≡ None
@@ -61,10 +58,11 @@ blank_firsts t seed = record { each = nothing_yet; clock = λ i d less. absurd (
 pub blank_records : (t : Listing) (seed every : ℕ) → Records t seed (blank every)
 blank_records t seed every = record {
   tip = refl;
+  from = omega arith;
   within = omega arith;
   kept = λ i e is. absurd cc;
   rising = λ i j d before within. absurd (omega (arith, within));
-  all_kept = λ m less want. absurd (omega (arith, less));
+  all_kept = λ m from less want. absurd (omega (arith, less));
   ends = λ i m is. absurd cc;
   ends_rise = λ i j d before within. absurd (omega (arith, within));
   all_ends = λ m u less is. absurd (omega (arith, less));
@@ -87,7 +85,7 @@ slice_get_more (z ∷ xs) x zero y is = is
 slice_get_more (z ∷ xs) x (suc i) y is = slice_get_more xs x i y is
 
 -- a kept state stays where one more is kept
-there_more : (xs : List Kept) (x : Kept) (m : ℕ) → IsThere xs m → IsThere (xs ++ x ∷ []) m
+pub there_more : (xs : List Kept) (x : Kept) (m : ℕ) → IsThere xs m → IsThere (xs ++ x ∷ []) m
 there_more xs x m (i, e, is, at) = (i, e, slice_get_more xs x i e is, at)
 
 -- the last one is there
@@ -116,11 +114,11 @@ tip_is_end t seed r h more =
       first = λ m u less is done. let few = h.all_ends m u less is in absurd (omega (arith, few, done));
     }
 
--- where no more are complete, a START end at the tip is noted and kept
+-- where no more are complete, a START end at a tip behind the start is noted and kept
 pub end_is_there :
-    (t : Listing) (seed k : ℕ) (r : Tape) → Records t seed r → r.tip.complete ≤ length r.ends → IsStartEnd t seed k r.moment →
-    IsThere r.kept r.moment
-end_is_there t seed k r h few end =
+    (t : Listing) (seed k : ℕ) (r : Tape) → Records t seed r → r.start < r.moment → r.tip.complete ≤ length r.ends →
+    IsStartEnd t seed k r.moment → IsThere r.kept r.moment
+end_is_there t seed k r h behind few end =
     let found : Ok end.state ≡ Ok r.tip = sym end.there ∙ h.tip in
     let same : end.state ≡ r.tip = cc in
     let count : r.tip.complete ≡ k = ap (λ (s : Machine). s.complete) (sym same) ∙ end.complete in
@@ -132,28 +130,31 @@ end_is_there t seed k r h few end =
     let low = same_end t seed k m r.moment is end in
     let high = same_end t seed k r.moment m end is in
     let at : m ≡ r.moment = omega (arith, low, high) in
-    subst (λ n. IsThere r.kept n) at noted.kept
+    subst (λ n. IsThere r.kept n) at (noted.kept (omega (arith, behind, at)))
 
 -- the state at the tip is kept
 pub state_kept :
-    (t : Listing) (seed : ℕ) (r : Tape) → Records t seed r → IsWanted t seed r.every r.moment →
+    (t : Listing) (seed : ℕ) (r : Tape) → Records t seed r → IsWanted t seed r.every r.start r.moment →
     Records t seed (record r { kept = r.kept ++ (record { moment = r.moment; state = r.tip }) ∷ [] })
 state_kept t seed r h wanted =
     let last : Kept = record { moment = r.moment; state = r.tip } in
     record {
       tip = h.tip;
+      from = h.from;
       within = h.within;
       kept = λ i e is. ⊎_elim
-          (λ old. let o = h.kept i e old in record { there = o.there; wanted = o.wanted; below = o.below })
+          (λ old. let o = h.kept i e old in record { there = o.there; wanted = o.wanted; from = o.from; below = o.below })
           (λ new.
           let R : Tape = record r { kept = r.kept ++ last ∷ [] } in
-          subst (λ (e : Kept). IsOfRun t seed R e) new.1 (record { there = h.tip; wanted = wanted; below = omega arith }))
+          subst (λ (e : Kept). IsOfRun t seed R e) new.1 (record { there = h.tip; wanted = wanted; from = h.from; below = omega arith }))
           (pushed_at r.kept last i e is);
       rising = IsNonDecreasingBy-push (λ (e : Kept). e.moment) r.kept last h.rising (λ d some.
           let i : ℕ = length r.kept - 1 in
           (h.kept i (get_or r.kept i d) (slice_get-get_or r.kept i d (omega (arith, some)))).below);
-      all_kept = λ m less want. there_more r.kept last m (h.all_kept m less want);
-      ends = λ i m is. let o = h.ends i m is in record { end = o.end; below = o.below; kept = there_more r.kept last m o.kept };
+      all_kept = λ m from less want. there_more r.kept last m (h.all_kept m from less want);
+      ends = λ i m is.
+          let o = h.ends i m is in
+          record { end = o.end; below = o.below; kept = λ behind. there_more r.kept last m (o.kept behind) };
       ends_rise = h.ends_rise;
       all_ends = h.all_ends;
       tip_end = h.tip_end;
@@ -171,14 +172,15 @@ end_kept t seed r h more there =
     let R : Tape = record r { ends = r.ends ++ r.moment ∷ [] } in
     record {
       tip = h.tip;
+      from = h.from;
       within = h.within;
-      kept = λ i e is. let o = h.kept i e is in record { there = o.there; wanted = o.wanted; below = o.below };
+      kept = λ i e is. let o = h.kept i e is in record { there = o.there; wanted = o.wanted; from = o.from; below = o.below };
       rising = h.rising;
       all_kept = h.all_kept;
       ends = λ i m is. ⊎_elim
           (λ old. let o = h.ends i m old in record { end = o.end; below = o.below; kept = o.kept })
           (λ new. let P : ℕ → ℕ → Type 0 = λ k m. IsEndThere t seed R (k + 1) m in
-          subst (λ k. P k m) (sym new.0) (subst (λ m. P (length r.ends) m) new.1 (record { end = end; below = omega arith; kept = there })))
+          subst (λ k. P k m) (sym new.0) (subst (λ m. P (length r.ends) m) new.1 (record { end = end; below = omega arith; kept = λ behind. there })))
           (pushed_at r.ends r.moment i m is);
       ends_rise = IsNonDecreasingBy-push (λ (m : ℕ). m) r.ends r.moment h.ends_rise (λ d some.
           let i : ℕ = length r.ends - 1 in
@@ -242,7 +244,6 @@ complete_moved s (moves.Refuse id key units) = complete_active s s.active _ (λ 
 complete_moved s moves.Pick = complete_picked s s.current
 complete_moved s (moves.Clock time) = omega arith
 
--- a step is made, and the items that it read are noted
 -- a step completes one START at most
 complete_step : (t : Listing) (seed : ℕ) (s u : Machine) → step t seed s ≡ Ok u → u.complete ≤ s.complete + 1
 complete_step t seed s u is = go (result_of t seed (decide s)) refl where
@@ -255,6 +256,7 @@ complete_step t seed s u is = go (result_of t seed (decide s)) refl where
     ok_is_no_err : Ok u ≡ Err end → ⊥
     ok_is_no_err h = absurd cc
 
+-- a step is made, and the items that it read are noted
 pub made :
     (t : Listing) (seed : ℕ) (r : Tape) (u : Machine) (f : FirstUses) → Records t seed r → IsKeptUp t seed r → r.moment < t.limit →
     step t seed r.tip ≡ Ok u →
@@ -263,11 +265,15 @@ pub made :
 made t seed r u f h up room goes noted clock =
     let one : r.moment + 1 ≡ suc r.moment = omega arith in
     record {
+      from = let f = h.from in omega (arith, f);
       tip = ap (λ n. run t seed n) one ∙ (run_on t seed r.moment r.tip h.tip ∙ goes);
       within = omega (arith, room);
-      kept = λ i e is. let o = h.kept i e is in let l = o.below in record { there = o.there; wanted = o.wanted; below = omega (arith, l) };
+      kept = λ i e is.
+          let o = h.kept i e is in
+          let l = o.below in
+          record { there = o.there; wanted = o.wanted; from = o.from; below = omega (arith, l) };
       rising = h.rising;
-      all_kept = λ i less want. kept_before i less want (nat_eq i r.moment) refl;
+      all_kept = λ i from less want. kept_before i from less want (nat_eq i r.moment) refl;
       ends = λ i e is. let o = h.ends i e is in let l = o.below in record { end = o.end; below = omega (arith, l); kept = o.kept };
       ends_rise = h.ends_rise;
       all_ends = λ i u less is. before i u less is (nat_eq i r.moment) refl;
@@ -294,11 +300,11 @@ made t seed r u f h up room goes noted clock =
           omega (arith, few, ap (λ (v : Machine). v.complete) same)
       before i u less is false e = h.all_ends i u (grind (arith, nat_tests)) is
 
-      kept_before : (i : ℕ) → i < r.moment + 1 → IsWanted t seed r.every i → (b : Bool) → nat_eq i r.moment ≡ b → IsThere r.kept i
-      kept_before i less want true e =
+      kept_before : (i : ℕ) → r.start ≤ i → i < r.moment + 1 → IsWanted t seed r.every r.start i → (b : Bool) → nat_eq i r.moment ≡ b → IsThere r.kept i
+      kept_before i from less want true e =
           let at : i ≡ r.moment = grind (arith, nat_tests) in
-          subst (λ n. IsThere r.kept n) (sym at) (up.state (subst (λ n. IsWanted t seed r.every n) at want))
-      kept_before i less want false e = h.all_kept i (grind (arith, nat_tests)) want
+          subst (λ n. IsThere r.kept n) (sym at) (up.state (subst (λ n. IsWanted t seed r.every r.start n) at want))
+      kept_before i from less want false e = h.all_kept i from (grind (arith, nat_tests)) want
 
 -- what was noted of a step that was not made is forgotten
 pub forgotten :
@@ -308,8 +314,9 @@ pub forgotten :
 forgotten t seed r f h cut clock =
     record {
       tip = h.tip;
+      from = h.from;
       within = h.within;
-      kept = λ i e is. let o = h.kept i e is in record { there = o.there; wanted = o.wanted; below = o.below };
+      kept = λ i e is. let o = h.kept i e is in record { there = o.there; wanted = o.wanted; from = o.from; below = o.below };
       rising = h.rising;
       all_kept = h.all_kept;
       ends = λ i m is. let o = h.ends i m is in record { end = o.end; below = o.below; kept = o.kept };
@@ -323,3 +330,19 @@ forgotten t seed r f h cut clock =
         clock = clock;
       };
     }
+
+-- from its tip on it is the record of the same run
+pub begun_at_tip : (t : Listing) (seed : ℕ) (r : Tape) → Records t seed r → Records t seed (from_tip r)
+begun_at_tip t seed r h = record {
+  tip = h.tip;
+  from = omega arith;
+  within = h.within;
+  kept = λ i e is. absurd cc;
+  rising = λ i j d before within. absurd (omega (arith, within));
+  all_kept = λ m from less want. absurd (omega (arith, from, less));
+  ends = λ i m is. let o = h.ends i m is in let l = o.below in record { end = o.end; below = l; kept = λ behind. absurd (omega (arith, behind, l)) };
+  ends_rise = h.ends_rise;
+  all_ends = h.all_ends;
+  tip_end = h.tip_end;
+  firsts = h.firsts;
+}

@@ -10,6 +10,7 @@ use Rattle.gw_record.specs.Tape.{Tape}
 -- the START ends before the moment gone back to stay, and of the first uses those of the steps below it
 pub record WentBack (old : Tape) (to : Kept) (new : Tape) : Type 0 where
   pub every : new.every ≡ old.every
+  pub start : new.start ≡ old.start
   pub moment : new.moment ≡ to.moment
   pub tip : new.tip ≡ to.state
   pub kept : new.kept ≡ old.kept

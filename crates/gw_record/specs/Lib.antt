@@ -1,5 +1,6 @@
 pub mod Parting
 pub mod Tape
+pub mod Keeping
 pub mod Extending
 pub mod Cutting
 pub mod Reaching

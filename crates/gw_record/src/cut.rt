@@ -8,13 +8,15 @@ use crate::kept::{Kept, count_before, count_until};
 use crate::recorded::Recorded;
 
 impl Recorded {
-    /// Goes back to the last kept moment at or before another, which is 0 at the least: what came after it is
-    /// forgotten. At the tip's moment or behind it nothing changes. It takes no memory.
+    /// Goes back to the last kept moment at or before another, which is the start at the least: what came after it
+    /// is forgotten. At the tip's moment or behind it nothing changes. It takes no memory.
     pub fn cut(&mut self, moment: u64)
+        requires { self.old.start ≤ moment }
         ensures records { (t : Listing) (seed : ℕ) → Records t seed self.old → Records t seed self.new }
         ensures kept { (t : Listing) (seed : ℕ) → Records t seed self.old →
             IsLastKept t seed self.old moment self.new.moment }
         ensures every { self.new.every ≡ self.old.every }
+        ensures start { self.new.start ≡ self.old.start }
     {
         if moment < self.moment {
             let count = count_until(self.kept.as_slice(), moment);
@@ -35,6 +37,7 @@ impl Recorded {
         self.notes.go_back(to.moment, &to.state);
         self.moment = to.moment;
         self.ahead = steps_ahead(to.moment, self.every);
+        self.due = 0;
         self.tip = to.state;
     }
 }

@@ -1,5 +1,5 @@
 // One step after another, each kept before it is left.
-ghost use Rattle.std.specs.Prelude.{◌≡◌, ◌+◌, ◌-◌, ◌≤◌, ◌<◌, ◌++◌, ℕ, Ok, IfOk, OnOk, OnErr, length, IsTrue, IsFalse};
+ghost use Rattle.std.specs.Prelude.{◌≡◌, ◌≢◌, ◌+◌, ◌-◌, ◌≤◌, ◌<◌, ◌++◌, ℕ, Ok, IfOk, OnOk, OnErr, length, IsTrue, IsFalse};
 ghost use Rattle.gw_meaning.specs.Listing.{Listing};
 ghost use Rattle.gw_meaning.specs.Changes.{decided};
 ghost use Rattle.gw_meaning.specs.Machine.{raised};
@@ -30,6 +30,7 @@ impl Recorded {
         requires { Records version.now seed self.old }
         ensures records { Records version.now seed self.new }
         ensures every { self.new.every ≡ self.old.every }
+        ensures start { self.new.start ≡ self.old.start }
         ensures done { IfOk result (λ made. Extends version.now seed steps made self.old self.new) }
         ensures grows { self.old.moment ≤ self.new.moment }
         ensures bound { self.new.moment ≤ self.old.moment + steps }
@@ -61,6 +62,7 @@ impl Recorded {
         requires bound { self.old.moment < 1000000 }
         ensures records { Records version.now seed self.new }
         ensures every { self.new.every ≡ self.old.every }
+        ensures start { self.new.start ≡ self.old.start }
         ensures told { IfOk result (λ turn. Goes version.now seed turn self.old self.new) }
         ensures tally { IfOk result (λ turn. Counts turn tally.old tally.new) }
         ensures err { OnErr result ((self.new.moment ≡ self.old.moment) × (tally.new ≡ tally.old)) }
@@ -90,19 +92,43 @@ impl Recorded {
         };
     }
 
-    // Keeps the tip where it stands at a multiple of the spacing or a START is complete there, so that the run may
-    // leave it.
+    // Keeps the tip where it stands at the start or a multiple of the spacing, or a START is complete there, so that
+    // the run may leave it.
     #[inline(always)]
     fn keep(&mut self) -> Result<(), AllocError>
+        requires { self.old.start ≤ self.old.moment }
         ensures records { (t : Listing) (seed : ℕ) → Records t seed self.old → Records t seed self.new }
         ensures ok { OnOk result ((t : Listing) (seed : ℕ) → Records t seed self.old → IsKeptUp t seed self.new) }
         ensures same { (self.new.moment ≡ self.old.moment) × (self.new.every ≡ self.old.every) ×
-            (self.new.tip ≡ self.old.tip) × (self.new.firsts ≡ self.old.firsts) }
+            (self.new.start ≡ self.old.start) × (self.new.tip ≡ self.old.tip) × (self.new.firsts ≡ self.old.firsts) }
+    {
+        if self.is_due() {
+            self.keep_due()?;
+        }
+        Ok(())
+    }
+
+    // Whether there may be something left to keep at the tip.
+    fn is_due(&self) -> bool
+        ensures { IsFalse result → (t : Listing) (seed : ℕ) → Records t seed self.now → IsKeptUp t seed self.now }
+    {
+        self.ahead == 0 || self.due <= self.tip.complete()
+    }
+
+    // Keeps what is left to keep at the tip.
+    #[inline(always)]
+    fn keep_due(&mut self) -> Result<(), AllocError>
+        requires { self.old.start ≤ self.old.moment }
+        ensures records { (t : Listing) (seed : ℕ) → Records t seed self.old → Records t seed self.new }
+        ensures ok { OnOk result ((t : Listing) (seed : ℕ) → Records t seed self.old → IsKeptUp t seed self.new) }
+        ensures same { (self.new.moment ≡ self.old.moment) × (self.new.every ≡ self.old.every) ×
+            (self.new.start ≡ self.old.start) × (self.new.tip ≡ self.old.tip) × (self.new.firsts ≡ self.old.firsts) }
     {
         if self.is_wanted() {
             self.keep_state()?;
             self.keep_end()?;
         }
+        self.due = self.ends.len() as u64 + 1;
         Ok(())
     }
 
@@ -111,11 +137,12 @@ impl Recorded {
     #[inline(never)]
     fn keep_state(&mut self) -> Result<(), AllocError>
         requires { (t : Listing) (seed : ℕ) → Records t seed self.old →
-            IsWanted t seed self.old.every self.old.moment }
+            IsWanted t seed self.old.every self.old.start self.old.moment }
         ensures records { (t : Listing) (seed : ℕ) → Records t seed self.old → Records t seed self.new }
         ensures ok { OnOk result (IsThere self.new.kept self.new.moment) }
         ensures same { (self.new.moment ≡ self.old.moment) × (self.new.every ≡ self.old.every) ×
-            (self.new.tip ≡ self.old.tip) × (self.new.ends ≡ self.old.ends) × (self.new.firsts ≡ self.old.firsts) }
+            (self.new.start ≡ self.old.start) × (self.new.tip ≡ self.old.tip) × (self.new.ends ≡ self.old.ends) ×
+            (self.new.firsts ≡ self.old.firsts) }
     {
         if !self.is_there() {
             self.tip.share()?;
@@ -131,11 +158,15 @@ impl Recorded {
     // Whether the tip's state is to be kept when the run leaves it; if it is not, it may be there already.
     fn is_wanted(&self) -> bool
         ensures yes { IsTrue result → (t : Listing) (seed : ℕ) → Records t seed self.now →
-            IsWanted t seed self.now.every self.now.moment }
+            IsWanted t seed self.now.every self.now.start self.now.moment }
         ensures no { IsFalse result → (t : Listing) (seed : ℕ) → Records t seed self.now →
-            IsWanted t seed self.now.every self.now.moment → IsThere self.now.kept self.now.moment }
+            IsWanted t seed self.now.every self.now.start self.now.moment → IsThere self.now.kept self.now.moment }
         ensures ends { IsFalse result → self.now.tip.complete ≤ length self.now.ends }
+        ensures behind { IsFalse result → self.now.moment ≢ self.now.start }
     {
+        if self.moment == self.start {
+            return true;
+        }
         self.ahead == 0 || (self.ends.len() as u64) < self.tip.complete()
     }
 
@@ -158,7 +189,8 @@ impl Recorded {
         ensures ok { OnOk result ((t : Listing) (seed : ℕ) →
             Records t seed self.old → self.new.tip.complete ≤ length self.new.ends) }
         ensures same { (self.new.moment ≡ self.old.moment) × (self.new.every ≡ self.old.every) ×
-            (self.new.tip ≡ self.old.tip) × (self.new.kept ≡ self.old.kept) × (self.new.firsts ≡ self.old.firsts) }
+            (self.new.start ≡ self.old.start) × (self.new.tip ≡ self.old.tip) × (self.new.kept ≡ self.old.kept) ×
+            (self.new.firsts ≡ self.old.firsts) }
     {
         if (self.ends.len() as u64) < self.tip.complete() {
             self.ends.push(self.moment)?;

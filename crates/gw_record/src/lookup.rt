@@ -15,8 +15,8 @@ use gw_nums::Time;
 use gw_scan::State;
 
 impl Recorded {
-    /// The state after so many steps, where it is kept: at the multiples of the spacing, at START ends and at
-    /// the tip. There is none behind the tip.
+    /// The state after so many steps, where it is kept: at the start, at the multiples of the spacing and the START
+    /// ends behind it, and at the tip. There is none before the start or behind the tip.
     pub fn state_at(&self, moment: u64) -> Option<&State>
         ensures { (t : Listing) (seed : ℕ) → Records t seed self.now →
             IsStateAt t seed self.now moment (option_copied result) }
@@ -27,8 +27,8 @@ impl Recorded {
         state_in(self.kept.as_slice(), moment)
     }
 
-    /// The moment right after the step that completed the k-th START, from 1, if it is complete at the tip. There
-    /// is no START 0.
+    /// The moment right after the step that completed the k-th START, from 1, if it is complete at the tip. It may
+    /// lie before the start. There is no START 0.
     pub fn start_end(&self, k: u64) -> Option<u64>
         ensures { (t : Listing) (seed : ℕ) → Records t seed self.now → IsEndOf t seed self.now k result }
     {

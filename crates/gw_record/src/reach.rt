@@ -35,6 +35,7 @@ impl Recorded {
         requires { Records version.now seed self.old }
         ensures records { Records version.now seed self.new }
         ensures every { self.new.every ≡ self.old.every }
+        ensures start { self.new.start ≡ self.old.start }
         ensures grows { self.old.moment ≤ self.new.moment }
         ensures wanted { AreWanted version.now seed k self.old.moment self.new.moment }
         ensures tally { tally.new ≡ tallied tally.old (self.new.moment - self.old.moment) }

@@ -11,14 +11,19 @@ use gw_scan::{Notes, State};
 use std::alloc::{AllocError, Global};
 use std::marker::Model;
 
-/// A recorded run: the state at its tip, states kept on the way at the multiples of a spacing and at START ends,
-/// and the first step that uses each item.
+/// A recorded run: the state at its tip, states kept on the way from its start, at the multiples of a spacing and at
+/// START ends, and the first step that uses each item.
 #[derive(Drop)]
 pub struct Recorded {
     pub(crate) every: u64,
+    // From this moment on states are kept.
+    pub(crate) start: u64,
     pub(crate) moment: u64,
     // How many steps the tip stands before the next multiple of the spacing: 0 at one.
     pub(crate) ahead: u64,
+    // While fewer STARTs than these are complete, only the multiples of the spacing are left to keep: one more than are
+    // noted, or 0 where the start may not be kept yet.
+    pub(crate) due: u64,
     pub(crate) tip: State,
     pub(crate) kept: Vec<Kept>,
     pub(crate) ends: Vec<u64>,
@@ -28,12 +33,14 @@ pub struct Recorded {
 
 impl Model for Recorded {
     ghost use Rattle.std.specs.Prelude.{◌≡◌, ◌+◌, ◌%◌, ◌<◌};
+    ghost use Rattle.gw_record.specs.Keeping.{IsDue};
     ghost use Rattle.gw_record.specs.Tape.{Tape};
 
     ghost Value = { Tape };
 
     ghost view = { λ r. record {
       every = r.every;
+      start = r.start;
       moment = r.moment;
       tip = r.tip;
       kept = r.kept.items;
@@ -42,11 +49,11 @@ impl Model for Recorded {
     } };
 
     ghost invariant = { λ r. (r.ahead < r.every) × ((r.moment + r.ahead) % r.every ≡ 0) ×
-        (r.notes.streams ≡ r.tip.streams) };
+        IsDue r.start r.moment r.kept.items r.ends.items r.due × (r.notes.streams ≡ r.tip.streams) };
 }
 
 impl Recorded {
-    /// The run of no steps, which is to keep the states at the multiples of `every` (1 to 1,000,000).
+    /// The run of no steps, which starts at 0, and is to keep the states at the multiples of `every` (1 to 1,000,000).
     #[tactic(auto, using(crate::proofs::RecordLaws::blank_firsts))]
     pub fn new(alloc: Global, every: u64) -> Recorded
         requires { 1 ≤ every }
@@ -57,8 +64,10 @@ impl Recorded {
         let notes = Notes::new(alloc, &tip);
         Recorded {
             every,
+            start: 0,
             moment: 0,
             ahead: 0,
+            due: 0,
             tip,
             kept: Vec::new(alloc),
             ends: Vec::new(alloc),
@@ -66,7 +75,14 @@ impl Recorded {
         }
     }
 
-    /// How many steps are recorded, 0 up to the version's step limit: the tip's moment.
+    /// The moment from which on it keeps states, which no call changes: 0 for the run from zero.
+    pub fn start(&self) -> u64
+        ensures { result ≡ self.now.start }
+    {
+        self.start
+    }
+
+    /// How many steps lead from zero to the tip, 0 up to the version's step limit: the tip's moment.
     pub fn tip(&self) -> u64
         ensures { result ≡ self.now.moment }
     {

@@ -6,7 +6,7 @@ use Rattle.gw_desk.proofs.look.look_behind.Goals as goal
 pub returns-in-Some : goal.returns-in-Some
 returns-in-Some c = λ t seed h reached.
     let end = (rw c.in-Some.is at c.start_end.ensures) t seed h in
-    seen_complete t seed c.args.k c.args.run.now h c.in-Some.moment end.0 end.1
+    seen_complete t seed c.args.k c.args.run.now h c.requires.start c.in-Some.moment end.0 end.1
 
 pub unreachable-requires : goal.unreachable-requires
 unreachable-requires c =

@@ -15,7 +15,8 @@ loop-recording-preserved c =
     record {
       count = search rules;
       done = λ e u touch.
-          (let now : IsRebasedRecording t e u (get_or cur i y) x = record { number = refl; run = c.rebase.ensures e u touch } in
+          (let now : IsRebasedRecording t e u (get_or cur i y) x =
+          record { number = refl; run = λ zero. c.rebase.ensures.rebased (c.rebase.ensures.zero zero) e u touch } in
           one_more t e u c.args.runs.now.items cur i x known.count (search rules) (known.done e u touch) known.rest y now);
       rest = rest_stays c.args.runs.now.items cur i x known.rest;
     }

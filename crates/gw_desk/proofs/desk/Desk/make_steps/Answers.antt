@@ -15,7 +15,7 @@ invariant_of-self c =
     let seed = rw (← c.self.view_is) at c.requires.seed in
     let found = rw c.as_slice.ensures.value at c.in-Some.ensures.place in
     still_book _ c.args.rep c.args.seed c.in-Some.place c.index_mut.result.now c.reach.new.self c.self.invariant seed (sym found)
-    c.index_mut.ensures.value c.reach.new.tally c.reach.ensures.records c.reach.ensures.every
+    c.index_mut.ensures.value c.reach.new.tally c.reach.ensures.records c.reach.ensures.every c.reach.ensures.start
 
 pub unreachable-requires : goal.unreachable-requires
 unreachable-requires c =
@@ -28,14 +28,15 @@ returns-clause-steps c =
     let seed = rw (← c.self.view_is) at c.requires.seed in
     let found = rw c.as_slice.ensures.value at c.in-Some.ensures.place in
     rw (← c.self.view_is) (finishes _ c.args.rep c.args.seed c.in-Some.place c.index_mut.result.now c.reach.new.self c.self.invariant seed (sym found)
-    c.index_mut.ensures.value c.args.k c.reach.new.tally c.reach.ensures.every c.reach.ensures.grows c.reach.ensures.wanted c.reach.ensures.tally)
+    c.index_mut.ensures.value c.args.k c.reach.new.tally c.reach.ensures.every c.reach.ensures.start c.reach.ensures.grows
+    c.reach.ensures.wanted c.reach.ensures.tally)
 
 pub returns-clause-desk : goal.returns-clause-desk
 returns-clause-desk c =
     let seed = rw (← c.self.view_is) at c.requires.seed in
     let found = rw c.as_slice.ensures.value at c.in-Some.ensures.place in
     still_book _ c.args.rep c.args.seed c.in-Some.place c.index_mut.result.now c.reach.new.self c.self.invariant seed (sym found)
-    c.index_mut.ensures.value c.reach.new.tally c.reach.ensures.records c.reach.ensures.every
+    c.index_mut.ensures.value c.reach.new.tally c.reach.ensures.records c.reach.ensures.every c.reach.ensures.start
 
 pub returns-clause-reached : goal.returns-clause-reached
 returns-clause-reached c =

@@ -24,11 +24,13 @@ returns-in-None-clause-records c = λ t seed h.
     let within = rw c.as_slice.ensures.value at c.count_until-count.ensures.bound in
     let parts = rw c.as_slice.ensures.value at c.count_until-count.ensures.parts in
     let none : c.count_until-count.result ≡ 0 = grind (arith, within) in
-    absurd (one_is_kept t seed _ c.args.moment _ (rw (← c.self.view_is) at h) c.if-moment-self.true parts none)
+    let from = rw (← c.self.view_is) at c.requires in
+    absurd (one_is_kept t seed _ c.args.moment _ (rw (← c.self.view_is) at h) from c.if-moment-self.true parts none)
 
 pub returns-in-None-clause-kept : goal.returns-in-None-clause-kept
 returns-in-None-clause-kept c = λ t seed h.
     let within = rw c.as_slice.ensures.value at c.count_until-count.ensures.bound in
     let parts = rw c.as_slice.ensures.value at c.count_until-count.ensures.parts in
     let none : c.count_until-count.result ≡ 0 = grind (arith, within) in
-    absurd (one_is_kept t seed _ c.args.moment _ (rw (← c.self.view_is) at h) c.if-moment-self.true parts none)
+    let from = rw (← c.self.view_is) at c.requires in
+    absurd (one_is_kept t seed _ c.args.moment _ (rw (← c.self.view_is) at h) from c.if-moment-self.true parts none)

@@ -7,6 +7,7 @@ abbrev pub invariant-loop-made : goal.invariant-loop-made
 invariant-loop-made l = record {
   records : Records l.version l.seed l.self;
   every : l.self.every ≡ l.fn.self.every;
+  start : l.self.start ≡ l.fn.self.start;
   moment : l.self.moment ≡ l.fn.self.moment + l.made;
   tally : l.tally ≡ tallied l.fn.tally l.made;
 }

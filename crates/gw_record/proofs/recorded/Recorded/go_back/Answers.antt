@@ -7,6 +7,7 @@ returns c =
     let parts = rw c.as_slice.ensures.value at c.count_before-count.ensures.parts in
     rw (← c.self.view_is) (record {
       every = refl;
+      start = refl;
       moment = refl;
       tip = refl;
       kept = refl;

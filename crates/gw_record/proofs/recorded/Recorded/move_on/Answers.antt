@@ -1,5 +1,6 @@
 use Rattle.std.proofs.Common.{◌≡◌, ◌+◌, ◌-◌, ◌%◌, ◌≤◌, ℕ, sym, ap, ◌∙◌, arith}
 use Rattle.std.proofs.Math.Nat.{add-mod_right}
+use Rattle.gw_record.proofs.KeepLaws.{due_later}
 use Rattle.gw_record.proofs.recorded.Recorded.move_on.Goals.{then-self-eq0, else-self-eq0}
 use Rattle.gw_record.proofs.recorded.Recorded.move_on.Goals as goal
 
@@ -17,10 +18,15 @@ nearer every moment ahead less at is =
 
 pub invariant_of-self : goal.invariant_of-self
 invariant_of-self c =
-    let (within, multiple, streams) = c.self.invariant in
+    let (within, multiple, due, streams) = c.self.invariant in
+    let later = due_later _ _ _ _ _ due in
     elim c.if-self-eq0.branch [
       | then-self-eq0 w ↦
-          let here : c.self.inside.moment + c.self.inside.ahead ≡ c.self.inside.moment = omega arith in
-          (omega arith, after_multiple _ _ _ (omega arith) (ap (λ n. n % c.self.inside.every) (sym here) ∙ multiple) w.self-is, streams)
-      | else-self-eq0 w ↦ (omega arith, nearer _ _ _ _ multiple (omega arith), streams)
+          let here : c.self.inside.moment + c.self.inside.ahead ≡ c.self.inside.moment = omega arith in (
+            omega arith,
+            after_multiple _ _ _ (omega arith) (ap (λ n. n % c.self.inside.every) (sym here) ∙ multiple) w.self-is,
+            later,
+            streams,
+          )
+      | else-self-eq0 w ↦ (omega arith, nearer _ _ _ _ multiple (omega arith), later, streams)
     ]

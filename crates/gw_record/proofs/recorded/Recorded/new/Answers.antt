@@ -7,6 +7,7 @@ pub returns-clause-records : goal.returns-clause-records
 returns-clause-records c = λ t seed.
     let r : Tape = record {
       every = c.args.every;
+      start = 0;
       moment = 0;
       tip = c.zero-tip.result;
       kept = c.new.result.items;

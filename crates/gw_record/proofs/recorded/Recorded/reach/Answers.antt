@@ -22,6 +22,7 @@ loop-moment-preserved c =
     record {
       records = c.in_ok-go.ensures.records;
       every = c.in_ok-go.ensures.every ∙ i.every;
+      start = c.in_ok-go.ensures.start ∙ i.start;
       moment = search rules;
       grows = search rules;
       wanted = subst (λ n. AreWanted c.args.version.now c.args.seed c.args.k c.args.self.now.moment n) (sym went)

@@ -8,6 +8,7 @@ abbrev pub invariant-loop-moment : goal.invariant-loop-moment
 invariant-loop-moment l = record {
   records : Records l.version l.seed l.self;
   every : l.self.every ≡ l.fn.self.every;
+  start : l.self.start ≡ l.fn.self.start;
   moment : l.self.moment ≡ l._moment;
   grows : l.fn.self.moment ≤ l.self.moment;
   wanted : AreWanted l.version l.seed l.k l.fn.self.moment l.self.moment;
