@@ -34,3 +34,10 @@ returns-in-None-clause-kept c = λ t seed h.
     let none : c.count_until-count.result ≡ 0 = grind (arith, within) in
     let from = rw (← c.self.view_is) at c.requires in
     absurd (one_is_kept t seed _ c.args.moment _ (rw (← c.self.view_is) at h) from c.if-moment-self.true parts none)
+
+pub invariant_of-self : goal.invariant_of-self
+invariant_of-self c =
+    let (within, multiple, due, streams) = c.self.invariant in
+    let from = rw (← c.self.view_is) at c.requires in
+    let before = c.if-moment-self.true in
+    (within, multiple, record { few = due.few; at_start = λ low. absurd (omega (arith, from, before, low)) }, streams)

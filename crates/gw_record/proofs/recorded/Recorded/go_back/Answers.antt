@@ -1,4 +1,4 @@
-use Rattle.std.proofs.Common.{refl}
+use Rattle.std.proofs.Common.{inl, refl, arith}
 use Rattle.gw_record.proofs.recorded.Recorded.go_back.Goals as goal
 
 pub returns : goal.returns
@@ -18,3 +18,8 @@ returns c =
       firsts = c.go_back.ensures.each;
       clock = c.go_back.ensures.clock;
     })
+
+pub invariant_of-self : goal.invariant_of-self
+invariant_of-self c =
+    let ahead = c.steps_ahead-self-inside.ensures in
+    (ahead.within, ahead.multiple, record { few = omega arith; at_start = λ low. inl refl }, c.go_back.ensures.drawn)

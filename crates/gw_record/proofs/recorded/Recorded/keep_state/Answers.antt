@@ -1,3 +1,4 @@
+use Rattle.gw_record.proofs.KeepLaws.{due_kept}
 use Rattle.gw_record.proofs.RecordLaws.{state_kept, there_last}
 use Rattle.gw_record.proofs.recorded.Recorded.keep_state.Goals as goal
 
@@ -9,3 +10,8 @@ returns-in_ok-push-clause-records c = rw (c.in_ok-push.ensures.items, c.in_ok-st
 
 pub returns-in_ok-push-clause-ok : goal.returns-in_ok-push-clause-ok
 returns-in_ok-push-clause-ok c = rw c.in_ok-push.ensures.items (there_last _ _)
+
+pub invariant_of-self-in-Continue-branch-3 : goal.invariant_of-self-in-Continue-branch-3
+invariant_of-self-in-Continue-branch-3 c =
+    let (within, multiple, due, streams) = c.self.invariant in
+    (within, multiple, rw c.in_ok-push.ensures.items (due_kept _ _ _ _ _ _ due), rw c.share.ensures streams)
