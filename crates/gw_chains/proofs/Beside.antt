@@ -7,8 +7,8 @@ use Rattle.indexmap.specs.IndexMap.{set_value_at}
 use Rattle.gw_names.specs.declared.key.Key.{Key}
 use Rattle.gw_names.specs.Keys.{key_eq}
 use Rattle.gw_entities.specs.Tables.{value_of, with_value, IsPlace}
-use Rattle.gw_entities.proofs.Entries.{Some_same, none_of_keys, no_key, pushed_is, apart_pushed}
-use Rattle.gw_entities.proofs.Lookups.{written_at}
+use Rattle.gw_entities.proofs.Entries.{none_of_keys, no_key, pushed_is, apart_pushed}
+use Rattle.gw_entities.proofs.Lookups.{Some_same, written_at}
 use Rattle.gw_entities.proofs.TableLaws.{key_eq_equiv}
 use Rattle.std.proofs.lemmas.Map.Entries.{lookup_from_place}
 use Rattle.gw_meaning.specs.declared.transaction.Transaction.{Transaction}

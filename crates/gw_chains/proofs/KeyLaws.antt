@@ -20,7 +20,8 @@ late_key few behind k (Some n) long there =
     let place = there.1 in
     late_at few behind there.0 n k (omega (arith, place, long)) there.2
 
-pub none_both : (t : Key → Bool) (few behind : List Key) → list_any t few ≡ false → list_any t behind ≡ false → list_any t (few ++ behind) ≡ false
+none_both : (t : Key → Bool) (few behind : List Key) → list_any t few ≡ false → list_any t behind ≡ false →
+    list_any t (few ++ behind) ≡ false
 none_both t [] behind early late = late
 none_both t (f ∷ few) behind early late = go (t f) early (none_both t few behind) where
   go : (b : Bool) → (b || list_any t few) ≡ false → (list_any t few ≡ false → list_any t behind ≡ false → list_any t (few ++ behind) ≡ false) →

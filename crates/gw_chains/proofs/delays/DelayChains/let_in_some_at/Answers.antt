@@ -84,6 +84,7 @@ returns c = λ s.
     let kept = with_value (delays_of (zip ks cs)) key (without_share shares chain) in
     let written = written_is (zip ks cs) _ key _ c.let_in_some.new.self found set in
     rw (← c.self.view_is, delay_is (zip ks cs) key _ found)
-    (ap (λ ds. record s { delays = ds; current = current; counts = counts }) (written ∙ ap (with_value (delays_of (zip ks cs)) key) c.let_in_some.ensures.items) ∙
+    (ap (λ ds. record s { delays = ds; current = current; counts = counts })
+    (written ∙ ap (with_value (delays_of (zip ks cs)) key) c.let_in_some.ensures.items) ∙
     (ap (λ (t : Machine). record t { delays = kept }) (c.let_in_some.ensures.let_in (record s { delays = delays_of (zip ks cs) })) ∙
     sym (some_let_in_is key shares [] chain old (value_is (zip ks cs) key _ found))))

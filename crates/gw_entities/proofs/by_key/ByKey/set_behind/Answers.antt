@@ -6,7 +6,8 @@ use Rattle.indexmap.specs.IndexSet.{spare}
 use Rattle.gw_names.specs.declared.key.Key.{Key}
 use Rattle.gw_entities.specs.Few.{IsReady, keys_behind}
 use Rattle.gw_entities.specs.Tables.{AreApart}
-use Rattle.gw_entities.proofs.Entries.{Some_same, pushed_is, apart_pushed, keys_pushed}
+use Rattle.gw_entities.proofs.Entries.{pushed_is, apart_pushed, keys_pushed}
+use Rattle.gw_entities.proofs.Lookups.{Some_same}
 use Rattle.gw_entities.proofs.by_key.ByKey.set_behind.Goals as goal
 
 pub returns : goal.returns
