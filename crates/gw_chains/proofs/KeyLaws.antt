@@ -1,5 +1,5 @@
 -- A key among the first few, and behind them.
-use Rattle.std.proofs.Common.{◌≡◌, ℕ, zero, suc, ◌+◌, Bool, true, false, ◌||◌, List, [], ◌∷◌, ◌++◌, length, Option, Some, None, IfSome, IfNone, slice_get, subst, arith}
+use Rattle.std.proofs.Common.{◌≡◌, ℕ, zero, suc, ◌+◌, Bool, true, false, ◌||◌, List, [], ◌∷◌, ◌++◌, length, Some, slice_get, subst, arith}
 use Rattle.std.specs.List.{list_any}
 use Rattle.gw_names.specs.declared.key.Key.{Key}
 
@@ -8,19 +8,12 @@ early_key [] behind i k at = absurd cc
 early_key (f ∷ few) behind zero k at = at
 early_key (f ∷ few) behind (suc i) k at = early_key few behind i k at
 
-late_at : (few behind : List Key) (i n : ℕ) (k : Key) → n ≡ length few + i → slice_get behind i ≡ Some k → slice_get (few ++ behind) n ≡ Some k
-late_at [] behind i n k is at = let same : i ≡ n = omega (arith, is) in subst (λ j. slice_get behind j ≡ Some k) same at
-late_at (f ∷ few) behind i zero k is at = absurd (omega (arith, is))
-late_at (f ∷ few) behind i (suc n) k is at = late_at few behind i n k (omega (arith, is)) at
+pub late_key : (few behind : List Key) (i n : ℕ) (k : Key) → n ≡ length few + i → slice_get behind i ≡ Some k → slice_get (few ++ behind) n ≡ Some k
+late_key [] behind i n k is at = let same : i ≡ n = omega (arith, is) in subst (λ j. slice_get behind j ≡ Some k) same at
+late_key (f ∷ few) behind i zero k is at = absurd (omega (arith, is))
+late_key (f ∷ few) behind i (suc n) k is at = late_key few behind i n k (omega (arith, is)) at
 
-pub late_key : (few behind : List Key) (k : Key) (o : Option ℕ) → length few ≡ 8 →
-    IfSome o (λ n. (i : ℕ) × (n ≡ 8 + i) × (slice_get behind i ≡ Some k)) → IfSome o (λ n. slice_get (few ++ behind) n ≡ Some k)
-late_key few behind k None long there = tt
-late_key few behind k (Some n) long there =
-    let place = there.1 in
-    late_at few behind there.0 n k (omega (arith, place, long)) there.2
-
-none_both : (t : Key → Bool) (few behind : List Key) → list_any t few ≡ false → list_any t behind ≡ false →
+pub none_both : (t : Key → Bool) (few behind : List Key) → list_any t few ≡ false → list_any t behind ≡ false →
     list_any t (few ++ behind) ≡ false
 none_both t [] behind early late = late
 none_both t (f ∷ few) behind early late = go (t f) early (none_both t few behind) where
@@ -28,8 +21,3 @@ none_both t (f ∷ few) behind early late = go (t f) early (none_both t few behi
       (b || list_any t (few ++ behind)) ≡ false
   go true h rest = absurd cc
   go false h rest = rest h late
-
-pub none_late : (t : Key → Bool) (few behind : List Key) (o : Option ℕ) → list_any t few ≡ false → IfNone o (list_any t behind ≡ false) →
-    IfNone o (list_any t (few ++ behind) ≡ false)
-none_late t few behind None early late = none_both t few behind early late
-none_late t few behind (Some n) early late = late

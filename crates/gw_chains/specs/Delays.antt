@@ -7,12 +7,6 @@ use Rattle.gw_meaning.specs.declared.transaction.Transaction.{Transaction}
 use Rattle.gw_meaning.specs.Machine.{waiting}
 use Rattle.gw_chains.specs.Chains.{Chain, delays_of}
 
--- keys in order
-pub record KeyList : Type 0 where
-  pub keys : List Key
-  -- for how many more there is room
-  pub room : ℕ
-
 -- who is on each of these chains
 abbrev pub queues_of : List (Chain Transaction) → List (List Transaction)
 queues_of chains = map (λ (c : Chain Transaction). c.items) chains

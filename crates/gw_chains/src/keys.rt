@@ -1,9 +1,9 @@
-ghost use Rattle.std.specs.Prelude.{◌≡◌, ℕ, ◌+◌, ◌<◌, ◌++◌, ◌∷◌, [], Some, false, slice_get, IfSome, IfNone, IfOk, OnOk};
+ghost use Rattle.std.specs.Prelude.{◌≡◌, ◌<◌, ◌++◌, ◌∷◌, [], Some, false, slice_get, IfSome, IfNone, IfOk, OnOk};
 ghost use Rattle.std.specs.List.{list_any};
 ghost use Rattle.gw_names.specs.Keys.{key_eq};
 
+use gw_entities::KeySet;
 use gw_names::Key;
-use indexmap::IndexSet;
 use std::alloc::{AllocError, Global};
 use std::marker::Model;
 
@@ -16,20 +16,19 @@ const FEW_KEYS: usize = 8;
 pub struct Keys {
     few: Vec<Key>,
     // None while there are fewer than a few.
-    behind: IndexSet<Key>,
+    behind: KeySet,
 }
 
 impl Model for Keys {
     ghost use Rattle.std.specs.Prelude.{◌≡◌, ◌-◌, ◌<◌, ◌≤◌, ◌++◌, [], length, vec_capacity, if◌then◌else◌, nat_lt};
-    ghost use Rattle.indexmap.specs.IndexSet.{spare};
-    ghost use Rattle.gw_chains.specs.Delays.{KeyList};
+    ghost use Rattle.gw_entities.specs.Few.{KeyList};
 
     ghost Value = { KeyList };
 
     // The 8 here and below is FEW_KEYS.
     ghost view = { λ k. record {
       keys = k.few.items ++ k.behind.keys;
-      room = if nat_lt (length k.few.items) 8 then vec_capacity k.few - length k.few.items else spare k.behind;
+      room = if nat_lt (length k.few.items) 8 then vec_capacity k.few - length k.few.items else k.behind.room;
     } };
 
     ghost invariant = { λ k. (length k.few.items ≤ 8) × (length k.few.items < 8 → k.behind.keys ≡ []) };
@@ -42,7 +41,7 @@ impl Keys {
     {
         Keys {
             few: Vec::new(alloc),
-            behind: IndexSet::new(alloc),
+            behind: KeySet::new(alloc),
         }
     }
 
@@ -60,7 +59,10 @@ impl Keys {
         if self.few.len() < FEW_KEYS {
             return None;
         }
-        place_behind(&self.behind, key)
+        match self.behind.place(key) {
+            Some(index) => Some(FEW_KEYS + index),
+            None => None,
+        }
     }
 
     // Makes room for one more key.
@@ -71,7 +73,7 @@ impl Keys {
         if self.few.len() < FEW_KEYS {
             self.few.reserve(1)
         } else {
-            self.behind.reserve(1)
+            self.behind.reserve()
         }
     }
 
@@ -83,11 +85,8 @@ impl Keys {
     {
         if self.few.len() < FEW_KEYS {
             self.few.push_reserved(key);
-            return;
-        }
-        match self.behind.insert(key) {
-            Ok(_) => (),
-            Err(_) => unreachable!(),
+        } else {
+            self.behind.insert(key);
         }
     }
 
@@ -95,28 +94,9 @@ impl Keys {
     pub fn copy(&self) -> Result<Keys, AllocError>
         ensures { IfOk result (λ k. k.keys ≡ self.now.keys) }
     {
-        let few = self.few.clone()?;
-        // To clone a set that holds nothing costs more than to make one.
-        let behind = if self.few.len() < FEW_KEYS {
-            IndexSet::new(*self.few.allocator())
-        } else {
-            self.behind.clone()?
-        };
-        Ok(Keys { few, behind })
-    }
-}
-
-// Where a key lies behind the first few, by its hash, if it is there.
-#[cold]
-#[inline(never)]
-fn place_behind(behind: &IndexSet<Key>, key: &Key) -> Option<usize>
-    ensures there { IfSome result (λ n. (i : ℕ) × (n ≡ 8 + i) × (slice_get behind.now.keys i ≡ Some key.now)) }
-    ensures none { IfNone result (list_any (key_eq key.now) behind.now.keys ≡ false) }
-{
-    // The length, which is below 2^63, bounds the index.
-    let _bound = behind.len();
-    match behind.get_full(key) {
-        Some((index, _)) => Some(FEW_KEYS + index),
-        None => None,
+        Ok(Keys {
+            few: self.few.clone()?,
+            behind: self.behind.copy()?,
+        })
     }
 }
