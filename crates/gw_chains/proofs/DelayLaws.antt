@@ -1,22 +1,14 @@
--- The delay chains in the words of the map that keeps them, and how many wait.
-use Rattle.std.proofs.Common.{◌≡◌, ℕ, zero, suc, ◌+◌, ◌≤◌, ◌<◌, ◌^◌, ◌-◌, Bool, true, false, cond, List, [], ◌∷◌, length, take, Option, Some, None, IfSome, IfNone, slice_get, unwrap_or, option_copied, Bor, refl, sym, ap, subst, ◌∙◌, arith}
+-- The delay chains by key, and how many wait.
+use Rattle.std.proofs.Common.{◌≡◌, ℕ, ◌+◌, ◌≤◌, ◌<◌, ◌^◌, ◌-◌, Bool, true, false, cond, List, [], ◌∷◌, length, Option, Some, None, unwrap_or, option_copied, Bor, refl, sym, ap, subst, ◌∙◌, arith}
 use Rattle.std.proofs.lemmas.List.{length-append}
-use Rattle.std.proofs.Math.Seq.{take-length}
 use Rattle.std.proofs.lemmas.Bool.{cond_both}
-use Rattle.std.specs.List.{IsDistinct}
 use Rattle.std.specs.Slice.{IsItemAt}
-use Rattle.std.specs.Option.{option_map}
-use Rattle.std.specs.Map.{keys_of, values_of, set_value}
-use Rattle.std.proofs.lemmas.Option.{slice_get-map}
-use Rattle.std.proofs.lemmas.Map.Entries.{lookup_from_place}
-use Rattle.indexmap.specs.IndexMap.{insert_entry, set_value_at}
+use Rattle.std.specs.Map.{set_value}
 use Rattle.gw_nums.specs.Range.{is_below}
 use Rattle.gw_names.specs.declared.key.Key.{Key}
 use Rattle.gw_names.specs.Keys.{key_eq}
 use Rattle.gw_entities.specs.Tables.{value_of, with_value, IsPlace}
-use Rattle.gw_entities.proofs.ComingLaws.{key_same}
-use Rattle.gw_entities.proofs.Lookups.{written_at}
-use Rattle.gw_entities.proofs.TableLaws.{key_eq_equiv, set_value_is, insert_entry_is, copied_is}
+use Rattle.gw_entities.proofs.TableLaws.{set_value_is}
 use Rattle.gw_meaning.specs.declared.transaction.Transaction.{Transaction}
 use Rattle.gw_meaning.specs.Machine.{delay_at, waiting}
 use Rattle.gw_meaning.specs.Changes.{lined_up}
@@ -28,42 +20,12 @@ Chains = List (Key × Chain Transaction)
 abbrev Delays : Type 0
 Delays = List (Key × List Transaction)
 
--- a chain at an index is that of the facility with its key
-pub at_key : (cs : Chains) (i : ℕ) (kept key : Key) (chain : Chain Transaction) → slice_get cs i ≡ Some (kept, chain) →
-    key_eq key kept ≡ true → (own : Chain Transaction) × (slice_get cs i ≡ Some (key, own))
-at_key cs i kept key chain at same = (chain, at ∙ ap (λ (k : Key). Some (k, chain)) (sym (key_same key kept same)))
-
--- where it lies
-pub placed : (cs : Chains) (key : Key) (o : Option ℕ) → IsDistinct key_eq (keys_of cs) →
-    IfSome o (λ i. (chain : Chain Transaction) × (slice_get cs i ≡ Some (key, chain))) → IfNone o (value_of cs key ≡ None) → IsPlace cs key o
-placed cs key None apart there none = none
-placed cs key (Some i) apart there none = (there.0, there.1, lookup_from_place key_eq_equiv cs i key there.0 apart there.1)
-
+-- where a chain lies
 pub place_there : (cs : Chains) (key : Key) (o : Option ℕ) (i : ℕ) → o ≡ Some i → IsPlace cs key o → IsPlace cs key (Some i)
 place_there cs key o i is placed = subst (IsPlace cs key) is placed
 
 pub place_of_queue : (cs : Chains) (key : Key) (o : Option ℕ) (i : ℕ) → o ≡ Some i → IsWaitingPlace cs key o → IsPlace cs key (Some i)
 place_of_queue cs key o i is queue = subst (IsWaitingPlace cs key) is queue
-
--- what lies there is its chain
-pub found_there : (cs : Chains) (i : ℕ) (key kept : Key) (chain : Chain Transaction) → IsPlace cs key (Some i) → slice_get cs i ≡ Some (kept, chain) →
-    Some chain ≡ value_of cs key
-found_there cs i key kept chain there is =
-    let own : Chain Transaction = there.0 in
-    let at : slice_get cs i ≡ Some (key, own) = there.1 in
-    let same : (kept, chain) ≡ (key, own) = cc in
-    ap (λ (c : Key × Chain Transaction). Some c.1) same ∙ sym there.2
-
-pub read_there : (cs : Chains) (i : ℕ) (key : Key) (chain : Chain Transaction) → IsPlace cs key (Some i) → slice_get (values_of cs) i ≡ Some chain →
-    Some chain ≡ value_of cs key
-read_there cs i key chain there is =
-    sym is ∙ slice_get-map (λ (c : Key × Chain Transaction). c.1) cs i ∙ ap (option_map (λ (c : Key × Chain Transaction). c.1)) there.1
-    ∙ sym there.2
-
--- and what is written there, which lies there from then on
-pub set_there : (cs : Chains) (i : ℕ) (key : Key) (chain : Chain Transaction) → IsDistinct key_eq (keys_of cs) →
-    IsPlace cs key (Some i) → set_value_at cs i chain ≡ set_value (key_eq key) cs chain
-set_there cs i key chain apart there = written_at key_eq key_eq_equiv cs i key there.0 chain apart there.1
 
 -- the delay chain of a facility
 delay_items : (cs : Chains) (key : Key) → delay_at (delays_of cs) key ≡ items_of (value_of cs key)
@@ -94,10 +56,6 @@ with_delay (c ∷ cs) key chain = go (key_eq key c.0) (with_delay cs key chain) 
 pub written_is : (cs fs : Chains) (key : Key) (was chain : Chain Transaction) → Some was ≡ value_of cs key → fs ≡ set_value (key_eq key) cs chain →
     delays_of fs ≡ with_value (delays_of cs) key chain.items
 written_is cs fs key was chain found is = ap delays_of (is ∙ set_value_is cs key chain was (sym found)) ∙ with_delay cs key chain
-
-pub inserted_is : (cs fs : Chains) (key : Key) (chain : Chain Transaction) → fs ≡ insert_entry key_eq cs key chain →
-    delays_of fs ≡ with_value (delays_of cs) key chain.items
-inserted_is cs fs key chain is = ap delays_of (is ∙ insert_entry_is cs key chain) ∙ with_delay cs key chain
 
 -- the chain that is there already
 pub with_same : (ds : Delays) (key : Key) (xs : List Transaction) → value_of ds key ≡ Some xs → with_value ds key xs ≡ ds
@@ -169,39 +127,6 @@ pub one_less_waits : (ds es : Delays) (key : Key) (x : Transaction) (xs : List T
     delay_at ds key ≡ x ∷ xs → es ≡ with_value ds key xs → n - 1 ≡ length (waiting es)
 one_less_waits ds es key x xs n all is without = rw without (omega (arith, one_waits ds key x xs is, all))
 
--- the chains up to an index, and the one there inserted behind them
-keys_are : (cs : Chains) → keys_of (delays_of cs) ≡ keys_of cs
-keys_are [] = refl
-keys_are (c ∷ cs) = ap (λ ks. c.0 ∷ ks) (keys_are cs)
-
-length_is : (cs : Chains) → length (delays_of cs) ≡ length cs
-length_is [] = refl
-length_is (c ∷ cs) = ap suc (length_is cs)
-
-item_is : (cs : Chains) (i : ℕ) (key : Key) (chain : Chain Transaction) → Some (key, chain) ≡ slice_get cs i →
-    Some (key, chain.items) ≡ slice_get (delays_of cs) i
-item_is [] i key chain is = absurd cc
-item_is (c ∷ cs) zero key chain is = let same : (key, chain) ≡ c = cc in ap (λ (d : Key × Chain Transaction). Some (d.0, d.1.items)) same
-item_is (c ∷ cs) (suc i) key chain is = item_is cs i key chain is
-
-insert_delay : (cs : Chains) (key : Key) (chain : Chain Transaction) →
-    delays_of (insert_entry key_eq cs key chain) ≡ insert_entry key_eq (delays_of cs) key chain.items
-insert_delay cs key chain =
-    ap delays_of (insert_entry_is cs key chain) ∙ (with_delay cs key chain ∙ sym (insert_entry_is (delays_of cs) key chain.items))
-
-pub copied_chain : (cs fs gs : Chains) (i : ℕ) (key other : Key) (chain copy : Chain Transaction) → IsDistinct key_eq (keys_of cs) →
-    Some (key, chain) ≡ slice_get cs i → other ≡ key → copy.items ≡ chain.items → delays_of fs ≡ take i (delays_of cs) →
-    gs ≡ insert_entry key_eq fs other copy → delays_of gs ≡ take (i + 1) (delays_of cs)
-copied_chain cs fs gs i key other chain copy apart at same equal done is =
-    copied_is (delays_of cs) (delays_of gs) i key other chain.items (subst (IsDistinct key_eq) (sym (keys_are cs)) apart) (item_is cs i key chain at) same
-    (ap delays_of is ∙ (insert_delay fs other copy ∙
-    (ap (λ (ds : Delays). insert_entry key_eq ds other copy.items) done ∙
-    ap (insert_entry key_eq (take i (delays_of cs)) other) equal)))
-
-pub all_copied : (cs fs : Chains) (n : ℕ) → n ≡ length cs → delays_of fs ≡ take n (delays_of cs) → delays_of fs ≡ delays_of cs
-all_copied cs fs n all is =
-    is ∙ (ap (λ m. take m (delays_of cs)) (all ∙ sym (length_is cs)) ∙ take-length (delays_of cs))
-
 -- the first of a chain
 true_false : true ≡ false → ⊥
 true_false is = cc
@@ -223,19 +148,6 @@ value_written (c ∷ cs) key was chain h = go (key_eq key c.0) refl h (value_wri
   go true here h rest = rw here refl
   go false here h rest = rw here (rest h)
 
-set_at : (cs : Chains) (i : ℕ) (key : Key) (own chain : Chain Transaction) → slice_get cs i ≡ Some (key, own) →
-    slice_get (set_value_at cs i chain) i ≡ Some (key, chain)
-set_at [] i key own chain at = absurd cc
-set_at (c ∷ cs) zero key own chain at = let same : c ≡ (key, own) = cc in ap (λ (d : Key × Chain Transaction). Some (d.0, chain)) same
-set_at (c ∷ cs) (suc i) key own chain at = set_at cs i key own chain at
-
-pub still_there : (cs : Chains) (i : ℕ) (key : Key) (o : Option ℕ) (chain : Chain Transaction) → o ≡ Some i → IsDistinct key_eq (keys_of cs) →
-    IsPlace cs key (Some i) → IsPlace (set_value_at cs i chain) key o
-still_there cs i key o chain is apart there =
-    let value : value_of (set_value_at cs i chain) key ≡ Some chain =
-    ap (λ (fs : Chains). value_of fs key) (set_there cs i key chain apart there) ∙ value_written cs key there.0 chain (sym there.2) in
-    subst (IsPlace (set_value_at cs i chain) key) (sym is) (chain, set_at cs i key there.0 chain there.1, value)
-
 pub has_place : (cs fs : Chains) (key : Key) (was chain : Chain Transaction) (n spare : ℕ) → Some was ≡ value_of cs key →
     fs ≡ set_value (key_eq key) cs chain → chain.items ≡ was.items → 1 ≤ chain.room → n ≡ length (waiting (delays_of cs)) → n < 2 ^ 64 - 1 →
     HasPlace (record { chains = fs; spare = spare }) key
@@ -253,8 +165,8 @@ lined_up_there cs fs key was chain x found is longer =
     ap (with_value (delays_of cs) key) (longer ∙ ap (lined_up x) (sym (delay_is cs key (Some was) found)))
 
 pub lined_up_fresh : (cs fs : Chains) (key : Key) (chain : Chain Transaction) (fresh : List Transaction) (x : Transaction) → None ≡ value_of cs key →
-    fs ≡ insert_entry key_eq cs key chain → chain.items ≡ lined_up x fresh → fresh ≡ [] →
+    fs ≡ with_value cs key chain → chain.items ≡ lined_up x fresh → fresh ≡ [] →
     delays_of fs ≡ with_value (delays_of cs) key (lined_up x (delay_at (delays_of cs) key))
 lined_up_fresh cs fs key chain fresh x none is longer empty =
-    inserted_is cs fs key chain is ∙
+    ap delays_of is ∙ with_delay cs key chain ∙
     ap (with_value (delays_of cs) key) (longer ∙ ap (lined_up x) (empty ∙ sym (delay_is cs key None none)))

@@ -145,13 +145,17 @@ times_kept ss k s u is same =
     map-set f ss k u ∙ (ap (set (least_times ss) k) (ap least_time same) ∙
     (sym (map-set f ss k s) ∙ ap (map f) (ap (set ss k) is ∙ set-get_or ss k s)))
 
+-- one more of a list, or what stands for it, is copied
+pub map_copied : {A B : Type 0} (f : A → B) (xs copies : List A) (k : ℕ) (x y : A) → k < length xs → x ≡ get_or xs k x → f y ≡ f x →
+    map f copies ≡ map f (take k xs) → map f (copies ++ y ∷ []) ≡ map f (take (k + 1) xs)
+map_copied {A} {B} f xs copies k x y h is same done =
+    let more : take (k + 1) xs ≡ take k xs ++ x ∷ [] = take_more xs k x h ∙ ap (λ (z : A). take k xs ++ z ∷ []) (sym is) in
+    map-append f copies (y ∷ []) ∙ (ap (λ (os : List B). os ++ f y ∷ []) done ∙
+    (ap (λ (o : B). map f (take k xs) ++ o ∷ []) same ∙ sym (ap (map f) more ∙ map-append f (take k xs) (x ∷ []))))
+
 pub times_copied : (ss copies : List Closed) (k : ℕ) (s u : Closed) → k < length ss → s ≡ get_or ss k s → u.items ≡ s.items →
     least_times copies ≡ least_times (take k ss) → least_times (copies ++ u ∷ []) ≡ least_times (take (k + 1) ss)
-times_copied ss copies k s u h is same done =
-    let f : Closed → Option ℕ = λ (s : Closed). least_time s.items in
-    let more : take (k + 1) ss ≡ take k ss ++ s ∷ [] = take_more ss k s h ∙ ap (λ x. take k ss ++ x ∷ []) (sym is) in
-    map-append f copies (u ∷ []) ∙ (ap (λ os. os ++ least_time u.items ∷ []) done ∙
-    (ap (λ o. least_times (take k ss) ++ o ∷ []) (ap least_time same) ∙ sym (ap (map f) more ∙ map-append f (take k ss) (s ∷ []))))
+times_copied ss copies k s u h is same done = map_copied (λ (s : Closed). least_time s.items) ss copies k s u h is (ap least_time same) done
 
 -- those that are empty go
 none_is : (n : ℕ) → time_of n ≡ None → nat_le n 1001000000000 ≡ false

@@ -6,3 +6,5 @@ pub mod SegmentLaws
 pub mod ClosingUp
 pub mod Leasts
 pub mod Earliest
+pub mod Beside
+pub mod KeyLaws

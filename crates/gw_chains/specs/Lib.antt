@@ -4,3 +4,4 @@ pub use Rattle.gw_meaning.specs.Step
 pub mod Chains
 pub mod Segments
 pub mod ClosingUp
+pub mod Delays

@@ -87,12 +87,12 @@ impl PriorityChain {
         ensures items { self.new.items ≡ lined_up x self.old.items }
         ensures room { self.old.room ≤ self.new.room + 1 }
     {
-        self.line_up_equal(&x);
+        self.line_up_ref(&x);
     }
 
     // The same for one that is borrowed. Where it goes to the end, as most do, it is copied right there.
     #[inline(always)]
-    pub(crate) fn line_up_equal(&mut self, x: &Transaction)
+    pub(crate) fn line_up_ref(&mut self, x: &Transaction)
         requires { 0 < self.old.room }
         ensures items { self.new.items ≡ lined_up x.now self.old.items }
         ensures room { self.old.room ≤ self.new.room + 1 }

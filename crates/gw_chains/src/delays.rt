@@ -1,29 +1,26 @@
-ghost use Rattle.std.specs.Prelude.{◌≡◌, ◌<◌, [], length, min, option_copied, Some, None, drop, suc, slice_get, IsTrue};
-ghost use Rattle.std.specs.Prelude.{IsFalse, IfSome, IfNone, IfOk, OnOk};
-ghost use Rattle.indexmap.specs.IndexMap.{spare};
-ghost use Rattle.gw_entities.specs.Tables.{value_of, with_value, IsPlace};
+ghost use Rattle.std.specs.Prelude.{◌≡◌, ◌<◌, [], length, option_copied, Some, None, IfOk, OnOk};
+ghost use Rattle.gw_entities.specs.Tables.{with_value, IsPlace};
 ghost use Rattle.gw_meaning.specs.Changes.{lined_up, some_let_in};
-ghost use Rattle.gw_meaning.specs.declared.transaction.Transaction.{Transaction};
 ghost use Rattle.gw_meaning.specs.Machine.{Machine, delay_at, waiting};
-ghost use Rattle.gw_chains.specs.Chains.{Chain, delays_of, items_of, first_of, without_first, with_share};
+ghost use Rattle.gw_chains.specs.Chains.{delays_of, items_of, first_of, without_first, with_share};
 ghost use Rattle.gw_chains.specs.Chains.{IsWaitingPlace, HasPlace, HasRoomToLetAllIn};
+ghost use Rattle.gw_chains.specs.Delays.{queues_of};
 
 use crate::chain::PriorityChain;
 use crate::counts::Counts;
+use crate::keys::Keys;
 use gw_meaning::Transaction;
 use gw_names::Key;
-use indexmap::IndexMap;
 use std::alloc::{AllocError, Global};
 use std::marker::Model;
 use std::mem;
 
-// So many chains are looked through one by one, and those behind them by their hash. Most models have no more.
-const FEW_CHAINS: usize = 8;
-
 /// The delay chain of each facility and storage that somebody waited for, in the order of first waiting.
 #[derive(Drop)]
 pub struct DelayChains {
-    chains: IndexMap<Key, PriorityChain>,
+    keys: Keys,
+    // The chain of each key.
+    chains: Vec<PriorityChain>,
     // An empty chain, for the next entity that has none.
     fresh: PriorityChain,
     // How many wait on all chains.
@@ -31,19 +28,19 @@ pub struct DelayChains {
 }
 
 impl Model for DelayChains {
-    ghost use Rattle.std.specs.Prelude.{◌≡◌, [], length, min};
-    ghost use Rattle.indexmap.specs.IndexMap.{spare};
-    ghost use Rattle.gw_meaning.specs.Machine.{waiting};
-    ghost use Rattle.gw_chains.specs.Chains.{Delays, delays_of};
+    ghost use Rattle.std.specs.Prelude.{◌-◌, min, vec_len, vec_capacity};
+    ghost use Rattle.std.specs.List.{zip};
+    ghost use Rattle.gw_chains.specs.Chains.{Delays};
+    ghost use Rattle.gw_chains.specs.Delays.{AreKept};
 
     ghost Value = { Delays };
 
     ghost view = { λ d. record {
-      chains = d.chains.entries;
-      spare = min (spare d.chains) d.fresh.room;
+      chains = zip d.keys.keys d.chains.items;
+      spare = min d.keys.room (min (vec_capacity d.chains - vec_len d.chains) d.fresh.room);
     } };
 
-    ghost invariant = { λ d. (d.fresh.items ≡ []) × (d.count ≡ length (waiting (delays_of d.chains.entries))) };
+    ghost invariant = { λ d. AreKept d.keys.keys d.chains.items d.fresh.items d.count };
 }
 
 impl DelayChains {
@@ -52,7 +49,8 @@ impl DelayChains {
         ensures { result.chains ≡ [] }
     {
         DelayChains {
-            chains: IndexMap::new(alloc),
+            keys: Keys::new(alloc),
+            chains: Vec::new(alloc),
             fresh: PriorityChain::new(alloc),
             count: 0,
         }
@@ -81,7 +79,7 @@ impl DelayChains {
     pub fn place(&self, key: &Key) -> Option<usize>
         ensures { IsPlace self.now.chains key.now result }
     {
-        place(&self.chains, key)
+        self.keys.place(key)
     }
 
     /// Where the chain of a facility or a storage lies, for the other calls that take a place: none where nobody waits
@@ -93,7 +91,7 @@ impl DelayChains {
         if self.count == 0 {
             return None;
         }
-        place(&self.chains, key)
+        self.keys.place(key)
     }
 
     /// The chain of a facility or a storage, where somebody waited for it; none where nobody waits at all now.
@@ -161,10 +159,11 @@ impl DelayChains {
             return Err(AllocError);
         }
         let Some(index) = place else {
+            self.keys.reserve()?;
             self.chains.reserve(1)?;
             return self.fresh.reserve(1);
         };
-        let (_, chain) = self.chains.pair_mut(index);
+        let chain = &mut self.chains[index];
         chain.reserve(1)
     }
 
@@ -189,7 +188,7 @@ impl DelayChains {
         ensures { delays_of self.new.chains ≡
             with_value (delays_of self.old.chains) key.now (lined_up x (delay_at (delays_of self.old.chains) key.now)) }
     {
-        let (_, chain) = self.chains.pair_mut(index);
+        let chain = &mut self.chains[index];
         chain.line_up(x);
         self.count += 1;
     }
@@ -202,7 +201,11 @@ impl DelayChains {
         ensures { delays_of self.new.chains ≡
             with_value (delays_of self.old.chains) key (lined_up x (delay_at (delays_of self.old.chains) key)) }
     {
-        put_first(&mut self.chains, &mut self.fresh, key, x);
+        let alloc = *self.chains.allocator();
+        let mut chain = mem::replace(&mut self.fresh, PriorityChain::new(alloc));
+        chain.line_up(x);
+        self.keys.push(key);
+        self.chains.push_reserved(chain);
         self.count += 1;
     }
 
@@ -228,7 +231,7 @@ impl DelayChains {
         let Some(index) = place else {
             return None;
         };
-        let (_, chain) = self.chains.pair_mut(index);
+        let chain = &mut self.chains[index];
         let x = chain.take_first()?;
         self.count -= 1;
         Some(x)
@@ -279,7 +282,7 @@ impl DelayChains {
         let Some(index) = place else {
             return;
         };
-        let (_, chain) = self.chains.pair_mut(index);
+        let chain = &mut self.chains[index];
         let before = chain.len();
         chain.let_in_some(shares, current, counts);
         let gone = before - chain.len();
@@ -291,17 +294,10 @@ impl DelayChains {
         ensures { IfOk result (λ d. delays_of d.chains ≡ delays_of self.now.chains) }
     {
         let alloc = *self.chains.allocator();
-        let len = self.chains.len();
-        let mut chains = IndexMap::with_capacity(alloc, len)?;
-        for i in 0..len {
-            match self.chains.get_index(i) {
-                Some((key, chain)) => {
-                    chains.insert(key.clone()?, chain.copy()?)?;
-                }
-                None => unreachable!(),
-            }
-        }
+        let keys = self.keys.copy()?;
+        let chains = copy_chains(alloc, &self.chains)?;
         Ok(DelayChains {
+            keys,
             chains,
             fresh: PriorityChain::new(alloc),
             count: self.count,
@@ -309,71 +305,13 @@ impl DelayChains {
     }
 }
 
-// Puts a transaction on a chain of its own, where nobody has waited for the facility or the storage.
-#[inline(never)]
-fn put_first(
-    chains: &mut IndexMap<Key, PriorityChain>,
-    fresh: &mut PriorityChain,
-    key: Key,
-    x: Transaction,
-)
-    requires none { value_of chains.old.entries key ≡ None }
-    requires room { 0 < min (spare chains.old) fresh.old.room }
-    requires fresh { fresh.old.items ≡ [] }
-    ensures delays { delays_of chains.new.entries ≡
-        with_value (delays_of chains.old.entries) key (lined_up x (delay_at (delays_of chains.old.entries) key)) }
-    ensures fresh { fresh.new.items ≡ [] }
+// Chains of the same transactions.
+fn copy_chains(alloc: Global, chains: &[PriorityChain]) -> Result<Vec<PriorityChain>, AllocError>
+    ensures { IfOk result (λ cs. queues_of cs.items ≡ queues_of chains.now) }
 {
-    let alloc = *chains.allocator();
-    let mut chain = mem::replace(fresh, PriorityChain::new(alloc));
-    chain.line_up(x);
-    match chains.insert(key, chain) {
-        Ok(_) => (),
-        Err(_) => unreachable!(),
+    let mut copies = Vec::with_capacity(alloc, chains.len())?;
+    for chain in chains {
+        copies.push(chain.copy()?)?;
     }
-}
-
-// Where the chain of a facility or a storage lies, if it has one: the first few are looked through.
-#[inline(always)]
-#[tactic(auto, using(crate::proofs::DelayLaws::placed))]
-fn place(chains: &IndexMap<Key, PriorityChain>, key: &Key) -> Option<usize>
-    ensures { IsPlace chains.now.entries key.now result }
-{
-    for index in 0..chains.len() {
-        if index >= FEW_CHAINS {
-            return place_by_hash(chains, key);
-        }
-        if is_at(chains, index, key) {
-            return Some(index);
-        }
-    }
-    None
-}
-
-// Whether the chain of a facility or a storage lies at an index.
-#[inline(always)]
-fn is_at(chains: &IndexMap<Key, PriorityChain>, index: usize, key: &Key) -> bool
-    ensures there { IsTrue result → (chain : Chain Transaction) ×
-        (slice_get chains.now.entries index ≡ Some (key.now, chain)) }
-    ensures other { IsFalse result → value_of (drop index chains.now.entries) key.now ≡
-        value_of (drop (suc index) chains.now.entries) key.now }
-{
-    match chains.get_index(index) {
-        Some((kept, _)) => *key == *kept,
-        None => false,
-    }
-}
-
-// The same as `place`, by the hash of the key.
-#[cold]
-#[inline(never)]
-fn place_by_hash(chains: &IndexMap<Key, PriorityChain>, key: &Key) -> Option<usize>
-    ensures there { IfSome result (λ i. (chain : Chain Transaction) ×
-        (slice_get chains.now.entries i ≡ Some (key.now, chain))) }
-    ensures none { IfNone result (value_of chains.now.entries key.now ≡ None) }
-{
-    match chains.get_full(key) {
-        Some((index, _, _)) => Some(index),
-        None => None,
-    }
+    Ok(copies)
 }

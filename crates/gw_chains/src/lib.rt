@@ -9,6 +9,7 @@ mod counts;
 mod delays;
 mod entering;
 mod future;
+mod keys;
 mod segment;
 mod times;
 

@@ -1,5 +1,5 @@
 ghost use Rattle.std.specs.Prelude.{◌≡◌, ◌+◌, ◌-◌, ◌++◌, ◌∷◌, ◌≤◌, ◌<◌, ◌^◌, ◌==◌, List, [], length, take, drop, filter, not};
-ghost use Rattle.std.specs.Prelude.{Some, IfOk, OnOk};
+ghost use Rattle.std.specs.Prelude.{IfOk, OnOk};
 ghost use Rattle.gw_meaning.specs.declared.transaction.Transaction.{Transaction};
 ghost use Rattle.gw_meaning.specs.declared.transaction.Event.{Event};
 ghost use Rattle.gw_meaning.specs.Changes.{all_lined_up, due, is_due};
@@ -299,7 +299,7 @@ fn take_first(events: &mut Vec<Event>, earliest: &mut Earliest, current: &mut Pr
     ensures room { current.old.room ≤ current.new.room + 1 }
 {
     let index = earliest.least.first;
-    current.line_up_equal(&events[index].transaction);
+    current.line_up_ref(&events[index].transaction);
     let front = earliest.front(events);
     let last = events.len() - 1;
     *earliest = close_up(events, index, front);
@@ -396,7 +396,7 @@ fn take_more(
     for i in from..events.len() {
         let event = events[i];
         if event.time == time {
-            current.line_up_equal(&event.transaction);
+            current.line_up_ref(&event.transaction);
         } else {
             kept.least.meet(event.time, kept.len);
             events[kept.len] = event;

@@ -10,26 +10,10 @@ use Rattle.gw_names.specs.declared.key.Key.{Key}
 use Rattle.gw_names.specs.Keys.{key_eq}
 use Rattle.gw_entities.specs.Few.{keys_behind}
 use Rattle.gw_entities.specs.Tables.{value_of, with_value, AreApart, IsPlace}
+use Rattle.gw_entities.proofs.Lookups.{Some_same, later}
 use Rattle.gw_entities.proofs.TableLaws.{key_eq_equiv}
 
-pub Some_same : {A : Type 0} {a b : A} → Some a ≡ Some b → a ≡ b
-Some_same e = cc
-
 module _ {V : Type 0} where
-  -- a key that differs from all is none of them
-  differs :
-      (a : Key) (es : List (Key × V)) (i : ℕ) (e : Key × V) → AllByRecursion (λ b. key_eq a b ≡ false) (keys_of es) →
-      slice_get es i ≡ Some e → key_eq a e.0 ≡ false
-  differs a [] i e h at = absurd cc
-  differs a (x ∷ xs) zero e h at = ap (λ (p : Key × V). key_eq a p.0) (sym (Some_same at)) ∙ h.0
-  differs a (x ∷ xs) (suc i) e h at = differs a xs i e h.1 at
-
-  later :
-      (x : Key × V) (xs : List (Key × V)) (i : ℕ) (e : Key × V) → AreApart (x ∷ xs) → slice_get xs i ≡ Some e →
-      key_eq e.0 x.0 ≡ false
-  later x xs i e apart at =
-      key_eq_equiv.symm e.0 x.0 ∙ differs x.0 xs i e (IsDistinct-head key_eq x.0 (keys_of xs) apart) at
-
   -- the value of the key at an index
   pub value_there : (es : List (Key × V)) (i : ℕ) (e : Key × V) → AreApart es → slice_get es i ≡ Some e → value_of es e.0 ≡ Some e.1
   value_there [] i e apart at = absurd cc
@@ -38,7 +22,7 @@ module _ {V : Type 0} where
       ap (λ b. cond b (Some x.1) (value_of xs e.0)) (ap (λ (p : Key × V). key_eq e.0 p.0) same ∙ key_eq_equiv.refl e.0)
       ∙ ap (λ (p : Key × V). Some p.1) same
   value_there (x ∷ xs) (suc i) e apart at =
-      ap (λ b. cond b (Some x.1) (value_of xs e.0)) (later x xs i e apart at)
+      ap (λ b. cond b (Some x.1) (value_of xs e.0)) (later key_eq key_eq_equiv x xs i e.0 e.1 apart at)
       ∙ value_there xs i e (IsDistinct-tail key_eq x.0 (keys_of xs) apart) at
 
   -- a value that is written at the index of its key
@@ -52,7 +36,7 @@ module _ {V : Type 0} where
       ∙ ap (λ (p : Key × V). (p.0, value) ∷ xs) same)
   set_is (x ∷ xs) (suc i) e value apart at =
       ap (λ (l : List (Key × V)). x ∷ l) (set_is xs i e value (IsDistinct-tail key_eq x.0 (keys_of xs) apart) at)
-      ∙ sym (ap (λ b. cond b ((x.0, value) ∷ xs) (x ∷ with_value xs e.0 value)) (later x xs i e apart at))
+      ∙ sym (ap (λ b. cond b ((x.0, value) ∷ xs) (x ∷ with_value xs e.0 value)) (later key_eq key_eq_equiv x xs i e.0 e.1 apart at))
 
   keys_set : (es : List (Key × V)) (i : ℕ) (e : Key × V) (value : V) → slice_get es i ≡ Some e → keys_of (set es i (e.0, value)) ≡ keys_of es
   keys_set [] i e value at = absurd cc

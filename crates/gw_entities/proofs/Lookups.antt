@@ -18,7 +18,7 @@ lt_test m n less = grind (arith, nat_tests)
 not_below : (n : ℕ) → nat_lt n n ≡ false
 not_below n = grind (arith, nat_tests)
 
-Some_same : {A : Type 0} {a b : A} → Some a ≡ Some b → a ≡ b
+pub Some_same : {A : Type 0} {a b : A} → Some a ≡ Some b → a ≡ b
 Some_same e = cc
 
 -- the last item takes the place of the one at an index, whatever is read of an empty list
@@ -76,7 +76,7 @@ module _ {K V : Type 0} (eq : K → K → Bool) (laws : IsEquivalence eq) where
   first : (e : K × V) (key : K) (value : V) → Some e ≡ Some (key, value) → eq key e.0 ≡ true
   first e key value at = ap (λ (p : K × V). eq key p.0) (pair_same e key value at) ∙ laws.refl key
 
-  later :
+  pub later :
       (e : K × V) (es : List (K × V)) (i : ℕ) (key : K) (value : V) → IsDistinct eq (keys_of (e ∷ es)) →
       slice_get es i ≡ Some (key, value) → eq key e.0 ≡ false
   later e es i key value apart at =

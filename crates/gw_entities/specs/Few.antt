@@ -1,11 +1,17 @@
--- The first few entries, which are looked through one by one, and the keys of those behind them. No public clause cites
--- this module. (Our own.)
+-- The first few entries, which are looked through one by one, and the keys of those behind them. Of public clauses only
+-- those of `KeySet` cite this module. (Our own.)
 use Rattle.std.specs.Prelude.{◌≡◌, ◌<◌, ◌≤◌, ℕ, Bool, true, List, [], ◌∷◌, Option, None, Some, take, slice_get, nat_lt, if◌then◌else◌}
 use Rattle.std.specs.Map.{lookup}
 use Rattle.indexmap.specs.IndexSet.{insert_key}
 use Rattle.gw_names.specs.declared.key.Key.{Key}
 use Rattle.gw_names.specs.Keys.{key_eq}
 use Rattle.gw_entities.specs.Tables.{Touched}
+
+-- keys in order
+pub record KeyList : Type 0 where
+  pub keys : List Key
+  -- for how many more there is room
+  pub room : ℕ
 
 -- at an index stands the first entry whose key passes
 pub record StandsFirst {K V : Type 0} (test : K → Bool) (es : List (K × V)) (i : ℕ) : Type 0 where

@@ -1,11 +1,10 @@
 ghost use Rattle.std.specs.Prelude.{◌≡◌, ◌<◌, ◌≤◌, [], length, take, None, slice_get, IfOk, OnOk, OnErr, unwrap_or};
 ghost use Rattle.std.specs.Option.{option_map};
-ghost use Rattle.indexmap.specs.IndexSet.{spare};
 ghost use Rattle.gw_entities.specs.Few.{keys_behind};
 ghost use Rattle.gw_entities.specs.Tables.{value_of, with_value, HasRoom, IsPlace, AreApart};
 
+use crate::key_set::KeySet;
 use gw_names::Key;
-use indexmap::IndexSet;
 use std::alloc::{AllocError, Global};
 use std::marker::Model;
 
@@ -18,7 +17,7 @@ const FEW_ENTITIES: usize = 8;
 pub struct ByKey<V: Copy> {
     entries: Vec<(Key, V)>,
     // The keys of those behind the first few, looked for by their hash.
-    behind: IndexSet<Key>,
+    behind: KeySet,
     // Two copies of the key that room was made for, if it has no value yet: one for the entry, and one for the set, which
     // the first few do not need.
     ready: Option<(Key, Key)>,
@@ -26,7 +25,6 @@ pub struct ByKey<V: Copy> {
 
 impl<V: Copy> Model for ByKey<V> {
     ghost use Rattle.std.specs.Prelude.{◌≡◌, length, drop, vec_capacity};
-    ghost use Rattle.indexmap.specs.IndexSet.{spare};
     ghost use Rattle.std.specs.Option.{option_map};
     ghost use Rattle.std.specs.Map.{keys_of};
     ghost use Rattle.gw_names.specs.declared.key.Key.{Key};
@@ -42,7 +40,7 @@ impl<V: Copy> Model for ByKey<V> {
 
     // The 8 here and below is FEW_ENTITIES.
     ghost invariant = { λ t. AreApart t.entries.items × (t.behind.keys ≡ keys_of (drop 8 t.entries.items))
-        × IsReady (length t.entries.items) (vec_capacity t.entries) (spare t.behind) t.ready };
+        × IsReady (length t.entries.items) (vec_capacity t.entries) t.behind.room t.ready };
 }
 
 impl<V: Copy> ByKey<V> {
@@ -52,7 +50,7 @@ impl<V: Copy> ByKey<V> {
     {
         ByKey {
             entries: Vec::new(alloc),
-            behind: IndexSet::new(alloc),
+            behind: KeySet::new(alloc),
             ready: None,
         }
     }
@@ -127,7 +125,7 @@ impl<V: Copy> ByKey<V> {
         let hashed = key.clone()?;
         self.entries.reserve(1)?;
         if self.entries.len() >= FEW_ENTITIES {
-            self.behind.reserve(1)?;
+            self.behind.reserve()?;
         }
         self.ready = Some((listed, hashed));
         Ok(())
@@ -156,8 +154,8 @@ impl<V: Copy> ByKey<V> {
         requires { value_of (take 8 self.now.entries) key.now ≡ None }
         ensures { IsPlace self.now.entries key.now result }
     {
-        match self.behind.get_full(key) {
-            Some((index, _)) => Some(FEW_ENTITIES + index),
+        match self.behind.place(key) {
+            Some(index) => Some(FEW_ENTITIES + index),
             None => None,
         }
     }
@@ -220,32 +218,23 @@ impl<V: Copy> ByKey<V> {
         ensures { IfOk result (λ t. t.entries ≡ self.now.entries) }
     {
         let alloc = *self.entries.allocator();
-        // To clone a set that holds nothing costs more than to make one.
-        let behind = if self.entries.len() <= FEW_ENTITIES {
-            IndexSet::new(alloc)
-        } else {
-            self.behind.clone()?
-        };
         Ok(ByKey {
             entries: copy_entries(alloc, &self.entries)?,
-            behind,
+            behind: self.behind.copy()?,
             ready: None,
         })
     }
 }
 
 // Adds the key of an entity that comes behind so many others to the set, unless it is one of the first few.
-fn add_behind(behind: &mut IndexSet<Key>, len: usize, key: Key)
-    requires { 8 ≤ len → 0 < spare behind.old }
+fn add_behind(behind: &mut KeySet, len: usize, key: Key)
+    requires { 8 ≤ len → 0 < behind.old.room }
     ensures { behind.new.keys ≡ keys_behind len behind.old.keys key }
 {
     if len < FEW_ENTITIES {
         return;
     }
-    match behind.insert(key) {
-        Ok(_) => (),
-        Err(_) => unreachable!(),
-    }
+    behind.insert(key);
 }
 
 // A copy of the entries.

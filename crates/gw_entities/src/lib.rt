@@ -2,13 +2,15 @@
 //!
 //! A [`Level`] is a content over time: its sum is exact, tick by tick. [`Facility`], [`Queue`] and [`Storage`] count
 //! what a report tells of them; each takes any change. [`ByKey`] keeps a value for each entity, and [`Comings`] who
-//! came to which queue; all that they grow by is reserved first. [`Parameters`] keeps the parameters of transactions.
+//! came to which queue; all that they grow by is reserved first. [`KeySet`] looks keys up by their hash, and is small
+//! where it holds nothing. [`Parameters`] keeps the parameters of transactions.
 #![tactic(auto)]
 
 mod behind;
 mod by_key;
 mod comings;
 mod facility;
+mod key_set;
 mod laws;
 mod level;
 mod many_comings;
@@ -20,6 +22,7 @@ mod values;
 pub use by_key::ByKey;
 pub use comings::Comings;
 pub use facility::Facility;
+pub use key_set::KeySet;
 pub use laws::sum_is_over_ticks;
 pub use level::Level;
 pub use parameters::Parameters;

@@ -99,6 +99,10 @@ impl ManyComings {
     pub fn copy(&self) -> Result<ManyComings, AllocError>
         ensures { IfOk result (λ c. c.comings ≡ self.now.comings) }
     {
+        // To clone sets that hold nothing costs more than to make them.
+        if self.pairs.is_empty() {
+            return Ok(ManyComings::new(*self.pairs.allocator()));
+        }
         Ok(ManyComings {
             queues: self.queues.clone()?,
             pairs: self.pairs.clone()?,

@@ -27,7 +27,7 @@ returns-clause-current c =
     let events = c.args.events.now.items in
     let e = c.index.result.now in
     let there = first_there events t i c.requires.some c.requires.earliest.least in
-    rw (left c, c.line_up_equal.ensures.items) (sym (ap (λ xs. all_lined_up xs c.args.current.now.items) (one_less_due t i events e there c.index.ensures)))
+    rw (left c, c.line_up_ref.ensures.items) (sym (ap (λ xs. all_lined_up xs c.args.current.now.items) (one_less_due t i events e there c.index.ensures)))
 
 pub returns-clause-stay : goal.returns-clause-stay
 returns-clause-stay c =

@@ -22,8 +22,8 @@ loop-i-preserved c =
     elim c.if-eq.branch [
       | then-eq w ↦
           let now : is_due t x ≡ true = sym c.eq.ensures ∙ w.if-eq.true in
-          let taken = w.line_up_equal.ensures.room in
-          let up = w.line_up_equal.ensures.items in
+          let taken = w.line_up_ref.ensures.room in
+          let up = w.line_up_ref.ensures.items in
           record {
             long = rw w.events-is long;
             room = rw w.current-is (omega (arith, room, taken));

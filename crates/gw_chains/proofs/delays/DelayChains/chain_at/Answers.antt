@@ -1,10 +1,22 @@
-use Rattle.std.proofs.Common.{sym}
-use Rattle.gw_chains.proofs.DelayLaws.{delay_is, place_of_queue, read_there}
+use Rattle.std.proofs.Common.{sym, arith}
+use Rattle.std.specs.List.{zip}
+use Rattle.gw_chains.proofs.Beside.{read_beside, within_beside}
+use Rattle.gw_chains.proofs.DelayLaws.{delay_is, place_of_queue}
 use Rattle.gw_chains.proofs.delays.DelayChains.chain_at.Goals as goal
+
+pub index-requires : goal.index-requires
+index-requires c =
+    let ks = c.self.inside.keys.keys in
+    let cs = c.self.inside.chains.items in
+    let key = c.args.key.now in
+    let there = place_of_queue (zip ks cs) key c.args.place c.in-Some.index c.in-Some.is (rw (← c.self.view_is) at c.requires) in
+    omega (arith, within_beside ks cs c.in-Some.index key there)
 
 pub returns : goal.returns
 returns c =
-    let cs = c.self.inside.chains.entries in
+    let ks = c.self.inside.keys.keys in
+    let cs = c.self.inside.chains.items in
     let key = c.args.key.now in
-    let there = place_of_queue cs key c.args.place c.in-Some.index c.in-Some.is (rw (← c.self.view_is) at c.requires) in
-    rw (← c.self.view_is) (sym (delay_is cs key _ (read_there cs c.in-Some.index key c.index.result.now there c.index.ensures)))
+    let there = place_of_queue (zip ks cs) key c.args.place c.in-Some.index c.in-Some.is (rw (← c.self.view_is) at c.requires) in
+    rw (← c.self.view_is)
+    (sym (delay_is (zip ks cs) key _ (read_beside ks cs c.in-Some.index key c.index.result.now there c.index.ensures)))

@@ -4,7 +4,6 @@ use Rattle.std.specs.Map.{keys_of}
 use Rattle.gw_names.specs.declared.key.Key.{Key}
 use Rattle.gw_names.specs.Keys.{key_eq}
 use Rattle.gw_entities.specs.Tables.{value_of, AreApart, IsPlace}
-use Rattle.gw_entities.proofs.ComingLaws.{find_passes, key_same}
 use Rattle.gw_entities.proofs.Entries.{entry_behind, none_of_keys, value_there}
 use Rattle.gw_entities.proofs.Fewer.{none_among}
 use Rattle.gw_entities.proofs.by_key.ByKey.place_behind.Goals as goal
@@ -21,11 +20,8 @@ pub returns-in-Some : goal.returns-in-Some
 returns-in-Some g c =
     let es = c.self.inside.entries.items in
     let (apart, behind, ready) = c.self.invariant in
-    let i = c.in-Some.index in
-    let k = c.in-Some.field-0-1.now in
-    let same = key_same c.args.key.now k (find_passes (key_eq c.args.key.now) c.self.inside.behind.keys k c.in-Some.ensures.key) in
-    let stored = rw behind at c.in-Some.ensures.stored in
-    rw (← c.self.view_is) (stands es i c.args.key.now k apart same stored)
+    let stored = rw behind at c.in-Some.ensures.there in
+    rw (← c.self.view_is) (stands es c.in-Some.index c.args.key.now c.args.key.now apart refl stored)
 
 pub returns-in-None : goal.returns-in-None
 returns-in-None g c =
@@ -33,6 +29,6 @@ returns-in-None g c =
     let (apart, behind, ready) = c.self.invariant in
     let key = c.args.key.now in
     let few = rw (← c.self.view_is) at c.requires in
-    let others = none_of_keys (drop 8 es) key (rw behind at (sym c.in-None.ensures.found)) in
+    let others = none_of_keys (drop 8 es) key (rw behind at c.in-None.ensures.none) in
     rw (← c.self.view_is)
     (ap (λ l. value_of l key) (sym (take-append-drop 8 es)) ∙ (none_among (key_eq key) (take 8 es) (drop 8 es) few ∙ others))

@@ -1,6 +1,5 @@
 use Rattle.std.proofs.Common.{set, sym, subst, ap, ◌∙◌, length-set, drop}
 use Rattle.std.specs.List.{IsDistinct}
-use Rattle.indexmap.specs.IndexSet.{spare}
 use Rattle.gw_names.specs.Keys.{key_eq}
 use Rattle.gw_entities.specs.Few.{IsReady}
 use Rattle.gw_entities.proofs.Entries.{written, keys_drop}
@@ -24,6 +23,6 @@ invariant_of-self g c =
     let new = written es i c.args.key.now e c.args.value apart place c.index_mut.ensures.value in (
       subst (λ ks. IsDistinct key_eq ks) (sym new.1) apart,
       behind ∙ (keys_drop 8 es ∙ (ap (λ ks. drop 8 ks) (sym new.1) ∙ sym (keys_drop 8 (set es i (e.0, c.args.value))))),
-      subst (λ n. IsReady n c.self.inside.entries.cap (spare c.self.inside.behind) c.self.inside.ready)
+      subst (λ n. IsReady n c.self.inside.entries.cap c.self.inside.behind.room c.self.inside.ready)
           (sym (length-set es i (e.0, c.args.value))) ready,
     )

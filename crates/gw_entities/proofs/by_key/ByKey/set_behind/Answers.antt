@@ -2,11 +2,11 @@ use Rattle.std.proofs.Common.{◌≡◌, ◌++◌, ◌∷◌, [], drop, length, 
 use Rattle.std.specs.Map.{keys_of}
 use Rattle.std.specs.Option.{option_map}
 use Rattle.std.specs.Vec.{vec_capacity}
-use Rattle.indexmap.specs.IndexSet.{spare}
 use Rattle.gw_names.specs.declared.key.Key.{Key}
 use Rattle.gw_entities.specs.Few.{IsReady, keys_behind}
 use Rattle.gw_entities.specs.Tables.{AreApart}
-use Rattle.gw_entities.proofs.Entries.{Some_same, pushed_is, apart_pushed, keys_pushed}
+use Rattle.gw_entities.proofs.Entries.{pushed_is, apart_pushed, keys_pushed}
+use Rattle.gw_entities.proofs.Lookups.{Some_same}
 use Rattle.gw_entities.proofs.by_key.ByKey.set_behind.Goals as goal
 
 pub returns : goal.returns
@@ -27,7 +27,7 @@ invariant_of-self g c =
     let room = rw (← c.self.view_is) at c.requires.room in
     let none = rw (← c.self.view_is) at c.requires.none in
     let own : c.in-Some.listed ≡ key = Some_same (ap (λ o. option_map (λ (p : Key × Key). p.0) o) c.in-Some.ensures.value ∙ room none) in
-    let copies = subst (λ o. IsReady (length es) (vec_capacity c.self.inside.entries) (spare c.self.inside.behind) o) (sym c.in-Some.ensures.value) ready in
+    let copies = subst (λ o. IsReady (length es) (vec_capacity c.self.inside.entries) c.self.inside.behind.room o) (sym c.in-Some.ensures.value) ready in
     let other : c.in-Some.hashed ≡ key = copies.0 ∙ own in
     let items : c.push_reserved.new.self.items ≡ es ++ (key, c.args.value) ∷ [] =
     c.push_reserved.ensures.items ∙ ap (λ k. es ++ (k, c.args.value) ∷ []) own in

@@ -1,7 +1,7 @@
 use Rattle.std.proofs.Common.{◌∙◌, refl, sym, subst}
 use Rattle.gw_meaning.specs.Machine.{AreInOrder}
 use Rattle.gw_chains.proofs.ChainLaws.{lined_up_in_order}
-use Rattle.gw_chains.proofs.chain.PriorityChain.line_up_equal.Goals as goal
+use Rattle.gw_chains.proofs.chain.PriorityChain.line_up_ref.Goals as goal
 
 pub invariant_of-self : goal.invariant_of-self
 invariant_of-self c =

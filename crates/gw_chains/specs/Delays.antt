@@ -1,0 +1,19 @@
+-- How `DelayChains` keeps the delay chains: each beside its key. No public clause cites this module. (Our own.)
+use Rattle.std.specs.Prelude.{◌≡◌, ℕ, List, [], length, map}
+use Rattle.std.specs.List.{IsDistinct, zip}
+use Rattle.gw_names.specs.declared.key.Key.{Key}
+use Rattle.gw_names.specs.Keys.{key_eq}
+use Rattle.gw_meaning.specs.declared.transaction.Transaction.{Transaction}
+use Rattle.gw_meaning.specs.Machine.{waiting}
+use Rattle.gw_chains.specs.Chains.{Chain, delays_of}
+
+-- who is on each of these chains
+abbrev pub queues_of : List (Chain Transaction) → List (List Transaction)
+queues_of chains = map (λ (c : Chain Transaction). c.items) chains
+
+-- a chain for each key, an empty one for the next key, and how many are on all of them
+pub record AreKept (keys : List Key) (chains : List (Chain Transaction)) (fresh : List Transaction) (count : ℕ) : Type 0 where
+  pub apart : IsDistinct key_eq keys
+  pub beside : length chains ≡ length keys
+  pub empty : fresh ≡ []
+  pub counted : count ≡ length (waiting (delays_of (zip keys chains)))
