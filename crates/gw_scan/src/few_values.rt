@@ -1,7 +1,7 @@
-ghost use Rattle.std.specs.Prelude.{◌≡◌, ◌<◌, ◌∷◌, [], IsFalse, length, reverse};
+ghost use Rattle.std.specs.Prelude.{◌≡◌, ◌<◌, ◌∷◌, [], IsFalse, IsSome, length, reverse};
 ghost use Rattle.gw_meaning.specs.Evaluation.{negated_last, applied_last, last_value};
 ghost use Rattle.gw_scan.specs.Deciding.{Comes, in_place};
-ghost use Rattle.gw_scan.specs.WaitingValues.{Pops};
+ghost use Rattle.gw_scan.specs.WaitingValues.{Pops, last_of, last_two, replaced, joined};
 
 use crate::expression::arithmetic;
 use crate::halt::Halt;
@@ -99,15 +99,42 @@ impl FewValues {
     pub(crate) fn apply_last(&mut self, operator: Operator) -> Result<(), Halt>
         ensures { Comes (applied_last operator self.old) (in_place result self.new) }
     {
-        let Some(b) = self.pop() else {
-            return Err(Halt::RANGE);
-        };
-        let Some(a) = self.pop() else {
+        let Some((a, b)) = self.last_two() else {
             return Err(Halt::RANGE);
         };
         let value = arithmetic(operator.apply(a, b))?;
-        self.push(value);
+        self.join_two(value);
         Ok(())
+    }
+
+    // The last two values, the last one behind, if two wait.
+    #[inline(always)]
+    fn last_two(&self) -> Option<(Val, Val)>
+        ensures { result ≡ last_two self.now }
+    {
+        if self.count < 2 {
+            return None;
+        }
+        Some((self.few[self.count - 2], self.few[self.count - 1]))
+    }
+
+    // One value in place of the last two.
+    #[inline(always)]
+    fn join_two(&mut self, value: Val)
+        requires { IsSome (last_two self.old) }
+        ensures { self.new ≡ joined value self.old }
+    {
+        let _ = self.pop();
+        self.set_last(value);
+    }
+
+    // One value in place of the last one.
+    #[inline(always)]
+    fn set_last(&mut self, value: Val)
+        requires { IsSome (last_of self.old) }
+        ensures { self.new ≡ replaced value self.old }
+    {
+        self.few[self.count - 1] = value;
     }
 
     // The value that is left.
