@@ -26,7 +26,7 @@ run_in (r ∷ rs) number = if r.number == number then Some r.run else run_in rs 
 abbrev pub place_in : List Recording → ℕ → Option ℕ
 place_in runs number = position (λ (r : Recording). r.number == number) runs
 
--- the run from zero of each replication that there is, with its seed, recorded from its start on; and of no other
+-- the run from zero of each replication that there is, with its seed, in a record that starts at 0; and of no other
 abbrev pub IsRunOf : Listing → ℕ → Option ℕ → Option Tape → Type 0
 IsRunOf t every None None = Unit {0}
 IsRunOf t every None (Some r) = ⊥

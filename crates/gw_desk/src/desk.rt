@@ -81,7 +81,7 @@ impl Desk {
         self.edits.as_slice()
     }
 
-    /// The recorded run of a replication, from zero, of the version that is open; none where there is no such
+    /// The recorded run of a replication, of the version that is open, which starts at 0; none where there is no such
     /// replication.
     pub fn run(&self, rep: u64) -> Option<&Recorded>
         ensures value { option_copied result ≡ run_in self.now.runs rep }

@@ -1,4 +1,4 @@
-// A run that begins where another one stands.
+// A recorded run that starts at the tip of another.
 ghost use Rattle.std.specs.Prelude.{◌≡◌, ℕ};
 ghost use Rattle.gw_meaning.specs.Listing.{Listing};
 ghost use Rattle.gw_record.specs.Tape.{Records, from_tip};

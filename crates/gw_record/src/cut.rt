@@ -8,8 +8,8 @@ use crate::kept::{Kept, count_before, count_until};
 use crate::recorded::Recorded;
 
 impl Recorded {
-    /// Goes back to the last kept moment at or before another, which is the start at the least: what came after it
-    /// is forgotten. At the tip's moment or behind it nothing changes. It takes no memory.
+    /// Goes back to the last kept moment at or before `moment`, which is never before the start. What came after it is
+    /// forgotten. At the tip's moment or behind it nothing changes. It takes no memory.
     pub fn cut(&mut self, moment: u64)
         requires { self.old.start ≤ moment }
         ensures records { (t : Listing) (seed : ℕ) → Records t seed self.old → Records t seed self.new }

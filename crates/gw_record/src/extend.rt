@@ -155,7 +155,8 @@ impl Recorded {
         Ok(())
     }
 
-    // Whether the tip's state is to be kept when the run leaves it; if it is not, it may be there already.
+    // Whether the tip's state is to be kept when the run leaves it. Where this says no, a state that is wanted is kept
+    // already.
     fn is_wanted(&self) -> bool
         ensures yes { IsTrue result → (t : Listing) (seed : ℕ) → Records t seed self.now →
             IsWanted t seed self.now.every self.now.start self.now.moment }

@@ -75,7 +75,8 @@ impl Recorded {
         }
     }
 
-    /// The moment from which on it keeps states, which no call changes: 0 for the run from zero.
+    /// The moment from which on it keeps states: 0, or where [`Recorded::into_branch`] made a branch. No other call
+    /// changes it.
     pub fn start(&self) -> u64
         ensures { result ≡ self.now.start }
     {

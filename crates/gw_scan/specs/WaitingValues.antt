@@ -1,4 +1,4 @@
--- The values of an expression that wait for their operator.
+-- The values of an expression that wait for their operator. (Our own.)
 use Rattle.std.specs.Prelude.{◌≡◌, ℤ, List, [], ◌∷◌, Option, Some, None}
 
 -- of the old values the last one, which stands first, is taken, where there is one, and the new ones are left
@@ -6,11 +6,12 @@ abbrev pub Pops : List ℤ → Option ℤ → List ℤ → Type 0
 Pops old None new = old ≡ []
 Pops old (Some v) new = old ≡ v ∷ new
 
--- the last of the values, and the last two, the last one behind
+-- the last of the values, if any waits
 abbrev pub last_of : List ℤ → Option ℤ
 last_of [] = None
 last_of (v ∷ values) = Some v
 
+-- the last two, the last one behind, if two wait
 abbrev pub last_two : List ℤ → Option (ℤ × ℤ)
 last_two [] = None
 last_two (b ∷ []) = None

@@ -12,8 +12,8 @@ use std::marker::Model;
 // How many values wait in place. More wait only where parentheses nest to the right.
 const FEW: usize = 8;
 
-// The values of an expression that wait for their operator, the last one first, while they are few. A small value of its
-// own, with no list behind it, so that the count of those who wait stays in a register.
+// The values of an expression that wait for their operator, the last one first, while they are few. No list stands
+// within, so that the count of those who wait stays in a register.
 #[derive(Debug, Drop)]
 pub struct FewValues {
     few: [Val; FEW],

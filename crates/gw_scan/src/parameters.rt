@@ -96,7 +96,8 @@ impl State {
         assign_with(block.sign, key, was, value)
     }
 
-    // The value of a parameter, where what an ASSIGN sets hangs on it: only with a sign does it.
+    // The value that a parameter has before an ASSIGN. It is looked up only where the ASSIGN has a sign: else what is
+    // set does not depend on it.
     #[inline(always)]
     fn value_before(&self, x: &Transaction, sign: Sign, key: &Key) -> Option<Val>
         ensures { (v : ℤ) →
