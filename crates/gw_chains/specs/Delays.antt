@@ -12,7 +12,8 @@ abbrev pub queues_of : List (Chain Transaction) → List (List Transaction)
 queues_of chains = map (λ (c : Chain Transaction). c.items) chains
 
 -- a chain for each key, an empty one for the next key, and how many are on all of them
-pub record AreKept (keys : List Key) (chains : List (Chain Transaction)) (fresh : List Transaction) (count : ℕ) : Type 0 where
+pub record AreKept (keys : List Key) (chains : List (Chain Transaction)) (fresh : List Transaction) (count : ℕ) :
+    Type 0 where
   pub apart : IsDistinct key_eq keys
   pub beside : length chains ≡ length keys
   pub empty : fresh ≡ []

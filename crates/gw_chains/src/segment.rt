@@ -240,8 +240,8 @@ impl Earliest {
         }
     }
 
-    // The same, for a loop: that the time is less is rare there, and told apart, so that the loop carries one least time
-    // along and not two.
+    // The same, for a loop: that the time is less is rare there, and told apart, so that the loop carries one least
+    // time along and not two.
     #[inline(always)]
     fn meet_in_loop(&mut self, time: Time, index: usize)
         ensures { Meets time index self.old self.new }

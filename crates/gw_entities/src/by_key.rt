@@ -18,8 +18,8 @@ pub struct ByKey<V: Copy> {
     entries: Vec<(Key, V)>,
     // The keys of those behind the first few, looked for by their hash.
     behind: KeySet,
-    // Two copies of the key that room was made for, if it has no value yet: one for the entry, and one for the set, which
-    // the first few do not need.
+    // Two copies of the key that room was made for, if it has no value yet: one for the entry, and one for the set,
+    // which the first few do not need.
     ready: Option<(Key, Key)>,
 }
 

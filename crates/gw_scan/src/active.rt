@@ -7,8 +7,8 @@ use gw_meaning::{Destination, StatementId, Transaction, TransactionChange};
 use gw_nums::{Clock, Time, Val};
 use std::marker::Model;
 
-// The active transaction, if there is one. Its place is the same whether or not there is one, so a block that knows that
-// there is one need not test it.
+// The active transaction, if there is one. Its place is the same whether or not there is one, so a block that knows
+// that there is one need not test it.
 #[derive(Drop)]
 pub struct Active {
     is_there: bool,
