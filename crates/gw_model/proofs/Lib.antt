@@ -7,4 +7,4 @@ pub mod Making
 pub mod Apart
 pub mod Known
 pub mod Answering
-pub mod Named
+pub mod Slots

@@ -1,23 +1,26 @@
-ghost use Rattle.std.specs.Prelude.{◌≡◌, ℕ, List, IfOk, option_copied};
+ghost use Rattle.std.specs.Prelude.{◌≡◌, ◌<◌, ℕ, List, Some, None, if◌then◌else◌, length, replicate, IfOk, OnOk, option_copied};
+ghost use Rattle.std.specs.Str.{bytes_eq};
 ghost use Rattle.std.specs.BTreeMap as tree;
 ghost use Rattle.std.specs.Ordering.{nat_cmp};
 ghost use Rattle.std.specs.Cmp.Lexicographic.{slice_cmp};
-ghost use Rattle.gw_model.specs.ByName.{value_of};
+ghost use Rattle.gw_names.specs.Heads.{mark_of};
 
 use gw_names::Name;
 use std::alloc::{AllocError, Global};
 use std::collections::BTreeMap;
 
-// So many names are looked through one by one, and those behind them in a map. Most models have no more.
-const FEW_NAMES: usize = 8;
+// A slot for each mark of a name.
+const SLOTS: usize = 127;
 
 /// A value for each of some names, to be looked up at each step.
 #[derive(Debug, Drop)]
 pub struct ByName<T> {
-    /// The first few.
-    pub few: Vec<Named<T>>,
+    /// At each mark a name that has it, if any has.
+    pub slots: Vec<Option<Named<T>>>,
     /// All others.
     pub many: BTreeMap<Name, T>,
+    // The 127 is SLOTS.
+    pub ghost all_slots: { length slots.items ≡ 127 },
 }
 
 /// A name and its value.
@@ -28,28 +31,55 @@ pub struct Named<T> {
 }
 
 impl<T: Drop> ByName<T> {
+    ghost use Rattle.gw_model.specs.ByName.{value_of};
+
     /// The values of a map.
     pub fn from_map(alloc: Global, map: BTreeMap<Name, T>) -> Result<ByName<T>, AllocError>
         ensures { IfOk result (λ t. (name : List ℕ) → value_of t name ≡ tree.get (slice_cmp nat_cmp) map name) }
     {
-        let mut few = Vec::new(alloc);
-        let mut many = map;
-        for _ in 0..FEW_NAMES {
-            if let Some((name, value)) = many.pop_first() {
-                few.push(Named { name, value })?;
-            }
+        let mut values = ByName::empty(alloc)?;
+        let mut rest = map;
+        while let Some((name, value)) = rest.pop_first() {
+            values.add(name, value)?;
         }
-        Ok(ByName { few, many })
+        Ok(values)
+    }
+
+    // No name has a value.
+    fn empty(alloc: Global) -> Result<ByName<T>, AllocError>
+        ensures { IfOk result (λ t. (name : List ℕ) → value_of t name ≡ None) }
+    {
+        Ok(ByName {
+            slots: empty_slots(alloc)?,
+            many: BTreeMap::new(alloc),
+        })
+    }
+
+    // Gives a value to a name that has none: in its slot, or in the map where another name lies there.
+    fn add(&mut self, name: Name, value: T) -> Result<(), AllocError>
+        requires { value_of self.old name ≡ None }
+        ensures { OnOk result ((other : List ℕ) → value_of self.new other ≡
+            (if bytes_eq name other then Some value else value_of self.old other)) }
+    {
+        let slot = slot_of(&name);
+        if self.slots[slot].is_some() {
+            self.many.insert(name, value)?;
+        } else {
+            self.slots[slot] = Some(Named { name, value });
+        }
+        Ok(())
     }
 }
 
 impl<T> ByName<T> {
+    ghost use Rattle.gw_model.specs.ByName.{value_of};
+
     /// The value of a name.
     #[inline(always)]
     pub fn get(&self, name: &Name) -> Option<&T>
         ensures { option_copied result ≡ value_of self.now name.now }
     {
-        for named in self.few.as_slice() {
+        if let Some(named) = &self.slots[slot_of(name)] {
             if named.name == *name {
                 return Some(&named.value);
             }
@@ -60,7 +90,7 @@ impl<T> ByName<T> {
         self.get_behind(name)
     }
 
-    // The value of a name that is not among the first few.
+    // The value of a name that does not lie in its slot.
     #[cold]
     #[inline(never)]
     fn get_behind(&self, name: &Name) -> Option<&T>
@@ -68,4 +98,24 @@ impl<T> ByName<T> {
     {
         self.many.get(name)
     }
+}
+
+// The slot of a name.
+#[inline(always)]
+fn slot_of(name: &Name) -> usize
+    ensures value { result ≡ mark_of name.now }
+    ensures small { result < 127 }
+{
+    name.mark() as usize
+}
+
+// Slots in which no name lies.
+fn empty_slots<T: Drop>(alloc: Global) -> Result<Vec<Option<Named<T>>>, AllocError>
+    ensures { IfOk result (λ slots. slots.items ≡ replicate 127 None) }
+{
+    let mut slots = Vec::with_capacity(alloc, SLOTS)?;
+    for _ in 0..SLOTS {
+        slots.push(None)?;
+    }
+    Ok(slots)
 }

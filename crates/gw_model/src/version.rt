@@ -268,14 +268,6 @@ impl Version {
         }
     }
 
-    /// Whether so many units fit into the storage of this name, where nothing of it is in use.
-    #[inline(always)]
-    pub fn fits(&self, name: &Name, units: u64) -> bool
-        ensures { result ≡ nat_le units (capacity_at self.now name.now) }
-    {
-        units <= self.capacity(name)
-    }
-
     /// The i-th command, from 1.
     pub fn command(&self, i: u64) -> Option<&Command>
         ensures { option_copied result ≡ command_at self.now i }
