@@ -12,6 +12,7 @@ use Rattle.gw_names.specs.Keys.{key_eq, told_by}
 use Rattle.gw_entities.specs.Comings.{came, with_coming, AreOnce}
 use Rattle.gw_entities.specs.Places.{before_rest, named}
 use Rattle.std.proofs.lemmas.Cmp.{nat_eq_equiv}
+use Rattle.gw_entities.proofs.Lookups.{Some_same}
 use Rattle.gw_entities.proofs.TableLaws.{key_eq_equiv}
 
 clash : (b : Bool) → b ≡ false → b ≡ true → ⊥
@@ -117,11 +118,11 @@ not_found qs (p ∷ ps) key number none = go (slice_get qs p.0) refl (not_found 
   go (Some k) e rest =
       ap (λ b. (b && nat_eq number p.1) || came (named qs ps) key number) (none_at (key_eq key) qs p.0 k none e) ∙ rest
 
-pub find_passes : (t : Key → Bool) (qs : List Key) (k : Key) → Some k ≡ find t qs → t k ≡ true
+pub find_passes : {K : Type 0} (t : K → Bool) (qs : List K) (k : K) → Some k ≡ find t qs → t k ≡ true
 find_passes t [] k e = absurd cc
 find_passes t (q ∷ qs) k e = go (t q) refl e (λ f. find_passes t qs k f) where
   go : (b : Bool) → t q ≡ b → Some k ≡ (if b then Some q else find t qs) → (Some k ≡ find t qs → t k ≡ true) → t k ≡ true
-  go true h f rest = ap t (Some_key k q f) ∙ h
+  go true h f rest = ap t (Some_same f) ∙ h
   go false h f rest = rest f
 
 -- ---- one more

@@ -1,10 +1,14 @@
 -- Entries that are looked through one by one, with others behind them.
-use Rattle.std.proofs.Common.{◌≡◌, ℕ, Bool, true, false, cond, zero, suc, ◌+◌, List, [], ◌∷◌, ◌++◌, take, set, Some, None, refl, sym, ap, ◌∙◌, arith}
-use Rattle.std.proofs.Common.{◌<◌, length, get_or}
+use Rattle.std.proofs.Common.{◌≡◌, ℕ, Bool, true, false, cond, zero, suc, ◌+◌, List, [], ◌∷◌, ◌++◌, take, set, Option, Some, None, refl, sym, ap, ◌∙◌, arith}
+use Rattle.std.proofs.Common.{◌<◌, ◌≤◌, length, get_or, nat_lt}
+use Rattle.std.proofs.Math.Seq.{take-append_seam}
+use Rattle.std.proofs.lemmas.Bool.Decides.{nat_tests}
+use Rattle.std.proofs.lemmas.List.{take-append-le}
 use Rattle.std.specs.List.{slice_get}
+use Rattle.std.specs.Option.{option_map}
 use Rattle.std.specs.Map.{lookup}
-use Rattle.std.proofs.lemmas.Option.{slice_get_read, get_or_from_slice_get}
-use Rattle.indexmap.specs.IndexMap.{insert_entry}
+use Rattle.std.proofs.lemmas.Option.{slice_get_read, slice_get_within, get_or_from_slice_get}
+use Rattle.indexmap.specs.IndexMap.{insert_entry, set_value_at}
 use Rattle.std.proofs.Common.{append-nil}
 use Rattle.gw_names.specs.declared.key.Key.{Key}
 use Rattle.gw_names.specs.Keys.{key_eq}
@@ -60,9 +64,61 @@ module _ {K V : Type 0} (test : K → Bool) where
   same_entry : (es : List (K × V)) (i : ℕ) (first : StandsFirst test es i) (e : K × V) → e ≡ get_or es i e → first.entry ≡ e
   same_entry es i first e is = sym (is ∙ get_or_from_slice_get es i first.entry e first.there)
 
+  found_place : (es : List (K × V)) (i : ℕ) → StandsFirst test es i → i < length es
+  found_place es i first = slice_get_within es i first.entry first.there
+
+  at_before : (es fs : List (K × V)) (i : ℕ) (e : K × V) → slice_get es i ≡ Some e → slice_get (es ++ fs) i ≡ Some e
+  at_before [] fs i e at = absurd cc
+  at_before (x ∷ xs) fs zero e at = at
+  at_before (x ∷ xs) fs (suc i) e at = at_before xs fs i e at
+
+  -- the first stands first with others behind them too
+  pub stands_before : (es fs : List (K × V)) (i : ℕ) → StandsFirst test es i → StandsFirst test (es ++ fs) i
+  stands_before es fs i first = record {
+    entry = first.entry;
+    there = at_before es fs i first.entry first.there;
+    passes = first.passes;
+    before = ap (λ l. lookup test l) (take-append-le i es fs (omega (arith, found_place es i first))) ∙ first.before;
+  }
+
   pub found : (es fs : List (K × V)) (i : ℕ) → StandsFirst test es i → (e : K × V) → e ≡ get_or es i e → lookup test (es ++ fs) ≡ Some e.1
   found es fs i first e is =
       found_at es fs i first.entry first.there first.passes first.before ∙ ap (λ (p : K × V). Some p.1) (same_entry es i first e is)
+
+take_all : {X : Type 0} (n : ℕ) (xs : List X) → length xs ≤ n → take n xs ≡ xs
+take_all zero [] low = refl
+take_all zero (x ∷ xs) low = absurd (omega (arith, low))
+take_all (suc n) [] low = refl
+take_all (suc n) (x ∷ xs) low = ap (λ l. x ∷ l) (take_all n xs (omega (arith, low)))
+
+module _ {K V : Type 0} where
+  -- those that are looked through one by one are the first few
+  pub first_few : (es fs : List (K × V)) → length es ≤ 8 → (length es < 8 → fs ≡ []) → take 8 (es ++ fs) ≡ es
+  first_few es fs few none = go (nat_lt (length es) 8) refl where
+    go : (b : Bool) → nat_lt (length es) 8 ≡ b → take 8 (es ++ fs) ≡ es
+    go true e =
+        let less : length es < 8 = grind (arith, nat_tests) in
+        ap (λ l. take 8 (es ++ l)) (none less) ∙ (ap (λ l. take 8 l) (append-nil es) ∙ take_all 8 es few)
+    go false e =
+        let all : length es ≡ 8 = grind (arith, nat_tests) in
+        ap (λ n. take n (es ++ fs)) (sym all) ∙ take-append_seam es fs
+
+  -- a value that is written at the index of one of them
+  pub set_within :
+      (es fs : List (K × V)) (i : ℕ) (e : K × V) (now : V) → i < length es → e ≡ get_or es i e →
+      set es i (e.0, now) ++ fs ≡ set_value_at (es ++ fs) i now
+  set_within [] fs i e now within is = absurd (omega (arith, within))
+  set_within (x ∷ xs) fs zero e now within is = ap (λ (p : K × V). (p.0, now) ∷ (xs ++ fs)) is
+  set_within (x ∷ xs) fs (suc i) e now within is = ap (λ (l : List (K × V)). x ∷ l) (set_within xs fs i e now (omega (arith, within)) is)
+
+module _ {K V : Type 0} (test : K → Bool) where
+  -- the value that is read where the first stands
+  pub first_value :
+      (es : List (K × V)) (i : ℕ) (o : Option V) → StandsFirst test es i → option_map (λ (p : K × V). p.1) (slice_get es i) ≡ o → lookup test es ≡ o
+  first_value es i o first is =
+      ap (λ l. lookup test l) (sym (append-nil es))
+      ∙ (found_at test es [] i first.entry first.there first.passes first.before
+      ∙ (sym (ap (λ r. option_map (λ (p : K × V). p.1) r) first.there) ∙ is))
 
 module _ {K V : Type 0} (eq : K → K → Bool) where
   -- a value that is written where the first stands
@@ -82,12 +138,21 @@ module _ {K V : Type 0} (eq : K → K → Bool) where
     go true h rest = absurd cc
     go false h rest = ap (λ (l : List (K × V)). x ∷ l) (rest h)
 
-  pub set_among :
+  set_among :
       (es fs : List (K × V)) (i : ℕ) (key : K) (now : V) → StandsFirst (eq key) es i → (e : K × V) → e ≡ get_or es i e →
       insert_entry eq (es ++ fs) key now ≡ set es i (e.0, now) ++ fs
   set_among es fs i key now first e is =
       set_at es fs i key now first.entry first.there first.passes first.before
       ∙ ap (λ (p : K × V). set es i (p.0, now) ++ fs) (same_entry (eq key) es i first e is)
+
+  set_first : (es : List (K × V)) (i : ℕ) (key : K) (now : V) → StandsFirst (eq key) es i → set_value_at es i now ≡ insert_entry eq es key now
+  set_first es i key now first =
+      let e = first.entry in
+      let read : e ≡ get_or es i e = sym (get_or_from_slice_get es i e e first.there) in
+      let nothing = append-nil es in
+      ap (λ l. set_value_at l i now) (sym nothing)
+      ∙ (sym (set_within es [] i e now (found_place (eq key) es i first) read)
+      ∙ (sym (set_among es [] i key now first e read) ∙ ap (λ l. insert_entry eq l key now) nothing))
 
   -- one of which none stands there
   pub set_behind :
@@ -108,6 +173,10 @@ module _ {V : Type 0} where
       (es fs : List (Key × V)) (i : ℕ) (key : Key) (now : V) → StandsFirst (key_eq key) es i → (e : Key × V) → e ≡ get_or es i e →
       set es i (e.0, now) ++ fs ≡ with_value (es ++ fs) key now
   key_set_among es fs i key now first e is = sym (set_among key_eq es fs i key now first e is) ∙ insert_entry_is (es ++ fs) key now
+
+  pub key_set_first :
+      (es : List (Key × V)) (i : ℕ) (key : Key) (now : V) → StandsFirst (key_eq key) es i → set_value_at es i now ≡ with_value es key now
+  key_set_first es i key now first = set_first key_eq es i key now first ∙ insert_entry_is es key now
 
   pub key_set_behind :
       (es fs gs : List (Key × V)) (key : Key) (now : V) → value_of es key ≡ None → gs ≡ with_value fs key now →

@@ -1,10 +1,10 @@
 -- An entry at an index, in the words of a look-up by its key.
-use Rattle.std.proofs.Common.{◌≡◌, ℕ, Bool, true, false, cond, not, zero, suc, ◌+◌, ◌-◌, ◌<◌, List, [], ◌∷◌, length, take, drop, set, None, Some, nat_lt, refl, sym, ap, ◌∙◌, arith}
+use Rattle.std.proofs.Common.{◌≡◌, ℕ, Bool, true, false, cond, not, zero, suc, ◌+◌, ◌-◌, ◌<◌, List, [], ◌∷◌, length, take, set, None, Some, nat_lt, refl, sym, ap, ◌∙◌, arith}
 use Rattle.std.specs.Prelude.{position, swap_remove}
 use Rattle.std.specs.List.{IsDistinct, AllByRecursion, slice_get, position_or_len}
 use Rattle.std.specs.Option.{option_map_or}
 use Rattle.std.specs.Cmp.{IsEquivalence}
-use Rattle.std.specs.Map.{keys_of, lookup, lookup_key, set_value}
+use Rattle.std.specs.Map.{keys_of, lookup, set_value}
 use Rattle.std.proofs.lemmas.Bool.Decides.{nat_tests}
 use Rattle.std.proofs.lemmas.List.{get_or_default}
 use Rattle.std.proofs.lemmas.Option.{slice_get_within}
@@ -30,23 +30,6 @@ other_default x xs i d =
 module _ {K V : Type 0} where
   pair_same : (e : K × V) (key : K) (value : V) → Some e ≡ Some (key, value) → e ≡ (key, value)
   pair_same e key value h = cc
-
-  -- an entry whose key does not pass is none that is looked for: the rest has what is
-  pub passed :
-      (test : K → Bool) (es : List (K × V)) (i : ℕ) (kept : K) (value : V) → slice_get es i ≡ Some (kept, value) → test kept ≡ false →
-      lookup test (drop i es) ≡ lookup test (drop (suc i) es)
-  passed test [] i kept value at other = absurd cc
-  passed test (e ∷ es) zero kept value at other =
-      ap (λ (b : Bool). cond b (Some e.1) (lookup test es)) (ap (λ (p : K × V). test p.0) (pair_same e kept value at) ∙ other)
-  passed test (e ∷ es) (suc i) kept value at other = passed test es i kept value at other
-
-  -- a key that is found passes
-  pub key_passes : (test : K → Bool) (es : List (K × V)) (k : K) → Some k ≡ lookup_key test es → test k ≡ true
-  key_passes test [] k e = absurd cc
-  key_passes test (p ∷ es) k e = go (test p.0) refl e (λ f. key_passes test es k f) where
-    go : (b : Bool) → test p.0 ≡ b → Some k ≡ cond b (Some p.0) (lookup_key test es) → (Some k ≡ lookup_key test es → test k ≡ true) → test k ≡ true
-    go true h f rest = ap test (Some_same f) ∙ h
-    go false h f rest = rest f
 
   -- where no key passes
   nowhere : (test : K → Bool) (es : List (K × V)) → lookup test es ≡ None → position_or_len test (keys_of es) ≡ length (keys_of es)

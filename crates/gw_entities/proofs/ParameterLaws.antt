@@ -1,109 +1,84 @@
--- The parameters of transactions in the words of the map that keeps them.
-use Rattle.std.proofs.Common.{◌≡◌, ℕ, ◌+◌, Bool, true, false, cond, not, suc, List, [], ◌∷◌, length, take, nat_eq, Option, Some, None, slice_get, unwrap_or, refl, sym, ap, ◌∙◌, zero, arith}
-use Rattle.std.specs.Prelude.{ℤ}
-use Rattle.std.specs.List.{position_or_len, IsDistinct, AllByRecursion}
-use Rattle.std.specs.Prelude.{position, swap_remove}
-use Rattle.std.specs.Option.{option_map, option_map_or}
-use Rattle.std.specs.Map.{lookup, keys_of, values_of, set_value}
-use Rattle.std.proofs.lemmas.List.{length-map}
-use Rattle.std.proofs.lemmas.Option.{slice_get-map}
-use Rattle.std.proofs.Math.Seq.{take-length}
+-- The parameters of transactions, in the words of the list that keeps them.
+use Rattle.std.proofs.Common.{◌≡◌, ℕ, ◌+◌, ◌-◌, ◌<◌, ◌≤◌, Bool, true, false, cond, not, List, [], ◌∷◌, ◌++◌, length, take, drop, set, get_or, nat_eq, nat_lt, Option, Some, None, slice_get, unwrap_or, refl, sym, ap, subst, ◌∙◌, arith}
+use Rattle.std.specs.Prelude.{ℤ, position, swap_remove}
+use Rattle.std.specs.List.{position_or_len, IsDistinct}
+use Rattle.std.specs.Option.{option_map_or}
+use Rattle.std.specs.Map.{lookup, keys_of}
+use Rattle.std.proofs.lemmas.List.{length-map, length-drop, length-take, drop-set-lt, drop-set-add, drop-take, get_or-drop, get_or_default, nil_from_length}
+use Rattle.std.proofs.lemmas.Option.{get_or_from_slice_get}
 use Rattle.std.proofs.lemmas.Bool.{eqb-true}
 use Rattle.std.proofs.lemmas.Bool.Decides.{nat_tests}
 use Rattle.std.proofs.lemmas.Cmp.{nat_eq_equiv}
-use Rattle.std.proofs.lemmas.Map.Entries.{lookup_from_place}
-use Rattle.std.proofs.lemmas.Map.Keys.{IsDistinct-head, IsDistinct-tail}
-use Rattle.indexmap.specs.IndexMap.{insert_entry, set_value_at, swap_remove_entry}
+use Rattle.std.proofs.lemmas.Map.Entries.{lookup_from_place, length-keys_of}
+use Rattle.indexmap.specs.IndexMap.{insert_entry, swap_remove_entry}
 use Rattle.gw_names.specs.declared.key.Key.{Key}
+use Rattle.gw_entities.specs.Few.{keys_behind, numbers_without}
 use Rattle.gw_entities.specs.Tables.{value_of, with_value}
-use Rattle.gw_entities.proofs.Lookups.{written_at, removed_at, no_position}
+use Rattle.gw_entities.proofs.Entries.{keys_set, keys_drop, keys_removed, keys_pushed, pushed, set_is, distinct_pushed, distinct_removed}
+use Rattle.gw_entities.proofs.Lookups.{removed_at, no_position}
 use Rattle.gw_entities.specs.Parameters.{Held, values_at, parameter_at, with_values, assigned, without}
 
 abbrev Values : Type 0
 Values = List (Key × ℤ)
 
-abbrev pub entries_of : Option Values → Values
+abbrev entries_of : Option Values → Values
 entries_of None = []
 entries_of (Some t) = t
 
 -- the values of a transaction
-pub values_are : (es : Held) (n : ℕ) (o : Option Values) → o ≡ lookup (nat_eq n) es → values_at es n ≡ entries_of o
+values_are : (es : Held) (n : ℕ) (o : Option Values) → o ≡ lookup (nat_eq n) es → values_at es n ≡ entries_of o
 values_are es n None is = ap (λ o. unwrap_or o []) (sym is)
 values_are es n (Some t) is = ap (λ o. unwrap_or o []) (sym is)
 
-pub parameter_is : (es : Held) (n : ℕ) (key : Key) (o : Option Values) → o ≡ lookup (nat_eq n) es →
-    parameter_at es n key ≡ value_of (entries_of o) key
-parameter_is es n key o is = ap (λ vs. value_of vs key) (values_are es n o is)
+values_found : (es : Held) (i n : ℕ) (t : Values) → IsDistinct nat_eq (keys_of es) → slice_get es i ≡ Some (n, t) →
+    values_at es n ≡ t
+values_found es i n t apart at = values_are es n (Some t) (sym (lookup_from_place nat_eq_equiv es i n t apart at))
+
+-- what is read at the index of a transaction
+entry_is : (es : Held) (i n : ℕ) (t : Values) (e : ℕ × Values) → slice_get es i ≡ Some (n, t) → e ≡ get_or es i e → e ≡ (n, t)
+entry_is es i n t e at read = read ∙ get_or_from_slice_get es i (n, t) e at
+
+pub values_read :
+    (es : Held) (i n : ℕ) (t : Values) (e : ℕ × Values) → slice_get es i ≡ Some (n, t) → e ≡ get_or es i e → e.1 ≡ t
+values_read es i n t e at read = ap (λ (q : ℕ × Values). q.1) (entry_is es i n t e at read)
 
 -- an entry at an index is that of the transaction with its number
 pub at_number : (es : Held) (i k n : ℕ) (t : Values) → slice_get es i ≡ Some (k, t) → nat_eq n k ≡ true →
     (values : Values) × (slice_get es i ≡ Some (n, values))
 at_number es i k n t at same = (t, at ∙ ap (λ m. Some (m, t)) (sym (eqb-true n k same)))
 
-pair_same : (e : ℕ × Values) (n : ℕ) (t : Values) → Some e ≡ Some (n, t) → e ≡ (n, t)
-pair_same e n t h = cc
-
-values_found : (es : Held) (i n : ℕ) (t : Values) → IsDistinct nat_eq (keys_of es) → slice_get es i ≡ Some (n, t) →
-    Some t ≡ lookup (nat_eq n) es
-values_found es i n t apart at = sym (lookup_from_place nat_eq_equiv es i n t apart at)
-
-same_read : (es : Held) (i n k : ℕ) (t u : Values) → slice_get es i ≡ Some (n, t) → slice_get es i ≡ Some (k, u) → u ≡ t
-same_read es i n k t u at is = ap (λ (e : ℕ × Values). e.1) (pair_same (k, u) n t (sym is ∙ at))
-
--- the values at the index of a transaction
-pub values_at_index : (es : Held) (i n : ℕ) (t u : Values) → IsDistinct nat_eq (keys_of es) → slice_get es i ≡ Some (n, t) →
-    slice_get (values_of es) i ≡ Some u → Some u ≡ lookup (nat_eq n) es
-values_at_index es i n t u apart at is =
-    let own : slice_get (values_of es) i ≡ Some t = slice_get-map (λ (e : ℕ × Values). e.1) es i ∙ ap (option_map (λ (e : ℕ × Values). e.1)) at in
-    let same : u ≡ t = cc in
-    ap Some same ∙ values_found es i n t apart at
+-- a parameter of a transaction that has some
+pub parameter_found :
+    (es : Held) (i n : ℕ) (key : Key) (t : Values) (e : ℕ × Values) → IsDistinct nat_eq (keys_of es) → slice_get es i ≡ Some (n, t) →
+    e ≡ get_or es i e → value_of e.1 key ≡ parameter_at es n key
+parameter_found es i n key t e apart at read =
+    ap (λ (p : ℕ × Values). value_of p.1 key) (entry_is es i n t e at read)
+    ∙ ap (λ vs. value_of vs key) (sym (values_found es i n t apart at))
 
 -- the values of a transaction that are set
-written : (es : Held) (n : ℕ) (was now : Values) → Some was ≡ lookup (nat_eq n) es → set_value (nat_eq n) es now ≡ with_values es n now
-written [] n was now h = absurd cc
-written (e ∷ es) n was now h = go (nat_eq n e.0) h (written es n was now) where
-  go : (b : Bool) → Some was ≡ cond b (Some e.1) (lookup (nat_eq n) es) →
-      (Some was ≡ lookup (nat_eq n) es → set_value (nat_eq n) es now ≡ with_values es n now) →
-      cond b ((e.0, now) ∷ es) (e ∷ set_value (nat_eq n) es now) ≡ cond b ((e.0, now) ∷ es) (e ∷ with_values es n now)
-  go true h rest = refl
-  go false h rest = ap (λ (hs : Held). e ∷ hs) (rest h)
-
-pub inserted : (es : Held) (n : ℕ) (now : Values) → insert_entry nat_eq es n now ≡ with_values es n now
+inserted : (es : Held) (n : ℕ) (now : Values) → insert_entry nat_eq es n now ≡ with_values es n now
 inserted [] n now = refl
 inserted (e ∷ es) n now = ap (λ (hs : Held). cond (nat_eq n e.0) ((e.0, now) ∷ es) (e ∷ hs)) (inserted es n now)
 
--- those that are there already
-same_values : (es : Held) (n : ℕ) (was : Values) → Some was ≡ lookup (nat_eq n) es → with_values es n was ≡ es
-same_values [] n was h = absurd cc
-same_values (e ∷ es) n was h = go (nat_eq n e.0) h (same_values es n was) where
-  go : (b : Bool) → Some was ≡ cond b (Some e.1) (lookup (nat_eq n) es) →
-      (Some was ≡ lookup (nat_eq n) es → with_values es n was ≡ es) →
-      cond b ((e.0, was) ∷ es) (e ∷ with_values es n was) ≡ e ∷ es
-  go true h rest = let same : was ≡ e.1 = cc in ap (λ (t : Values). (e.0, t) ∷ es) same
-  go false h rest = ap (λ (hs : Held). e ∷ hs) (rest h)
+-- a parameter that is set, of a transaction that has some and of one that has none
+pub assigned_in_place :
+    (es : Held) (i n : ℕ) (key : Key) (value : ℤ) (t : Values) (e : ℕ × Values) (now : Values) → IsDistinct nat_eq (keys_of es) →
+    slice_get es i ≡ Some (n, t) → e ≡ get_or es i e → now ≡ with_value e.1 key value → set es i (e.0, now) ≡ assigned es n key value
+assigned_in_place es i n key value t e now apart at read set_to =
+    let is = entry_is es i n t e at read in
+    ap (λ (p : ℕ × Values). set es i (p.0, now)) is
+    ∙ (set_is nat_eq nat_eq_equiv es i (n, t) now apart at
+    ∙ (inserted es n now
+    ∙ ap (λ vs. with_values es n vs)
+    (set_to ∙ (ap (λ (p : ℕ × Values). with_value p.1 key value) is ∙ ap (λ vs. with_value vs key value) (sym (values_found es i n t apart at))))))
 
--- a parameter that is set, of a transaction that has some and of one that has none; and values that are written back
-pub assigned_in_place : (es : Held) (i n k : ℕ) (key : Key) (value : ℤ) (t was now : Values) → IsDistinct nat_eq (keys_of es) →
-    slice_get es i ≡ Some (n, t) → slice_get es i ≡ Some (k, was) → now ≡ with_value was key value →
-    set_value_at es i now ≡ assigned es n key value
-assigned_in_place es i n k key value t was now apart at is set_is =
-    let found = values_found es i n t apart at in
-    written_at nat_eq nat_eq_equiv es i n t now apart at ∙ (written es n t now found ∙
-    ap (with_values es n) (set_is ∙ (ap (λ (u : Values). with_value u key value) (same_read es i n k t was at is) ∙
-    ap (λ vs. with_value vs key value) (sym (values_are es n (Some t) found)))))
-
-pub assigned_behind : (es fs : Held) (n : ℕ) (key : Key) (value : ℤ) (now : Values) → None ≡ lookup (nat_eq n) es →
-    now ≡ with_value [] key value → fs ≡ insert_entry nat_eq es n now → fs ≡ assigned es n key value
-assigned_behind es fs n key value now none set_is is =
-    is ∙ (inserted es n now ∙
-    ap (with_values es n) (set_is ∙ ap (λ vs. with_value vs key value) (sym (values_are es n None none))))
-
-pub rewritten : (es : Held) (i n k : ℕ) (t was now : Values) → IsDistinct nat_eq (keys_of es) → slice_get es i ≡ Some (n, t) →
-    slice_get es i ≡ Some (k, was) → now ≡ was → set_value_at es i now ≡ es
-rewritten es i n k t was now apart at is same =
-    let found = values_found es i n t apart at in
-    written_at nat_eq nat_eq_equiv es i n t now apart at ∙ (written es n t now found ∙
-    (ap (with_values es n) (same ∙ same_read es i n k t was at is) ∙ same_values es n t found))
+pub assigned_behind :
+    (es : Held) (n : ℕ) (key : Key) (value : ℤ) (now : Values) → lookup (nat_eq n) es ≡ None → now ≡ with_value [] key value →
+    es ++ (n, now) ∷ [] ≡ assigned es n key value
+assigned_behind es n key value now none set_to =
+    sym (pushed nat_eq es n now none)
+    ∙ (inserted es n now
+    ∙ ap (λ vs. with_values es n vs) (set_to ∙ ap (λ vs. with_value vs key value) (sym (values_are es n None (sym none)))))
 
 -- the parameters of a transaction that are forgotten
 place_same : (n : ℕ) (es : Held) → position_or_len (nat_eq n) (keys_of es) ≡ position_or_len (λ (h : ℕ × Values). nat_eq n h.0) es
@@ -118,48 +93,92 @@ stays : (es : Held) (n : ℕ) → lookup (nat_eq n) es ≡ None → swap_remove_
 stays [] n none = refl
 stays (e ∷ es) n none = ap (λ o. option_map_or (λ i. swap_remove (e ∷ es) i e) o (e ∷ es)) (no_position (nat_eq n) (e ∷ es) none)
 
-pub removed : (es : Held) (n : ℕ) → swap_remove_entry (nat_eq n) es ≡ without es n
+removed : (es : Held) (n : ℕ) → swap_remove_entry (nat_eq n) es ≡ without es n
 removed [] n = refl
 removed (e ∷ es) n =
     ap (λ o. option_map_or (λ i. swap_remove (e ∷ es) i e) o (e ∷ es)) (position_same n (e ∷ es))
 
-pub forgotten : (es fs : Held) (i n : ℕ) (t : Values) → IsDistinct nat_eq (keys_of es) → slice_get es i ≡ Some (n, t) →
-    fs ≡ swap_remove es i (n, t) → fs ≡ without es n
-forgotten es fs i n t apart at is = is ∙ (removed_at nat_eq nat_eq_equiv es i n t apart at ∙ removed es n)
+pub forgotten :
+    (es : Held) (i n : ℕ) (t : Values) (e : ℕ × Values) → IsDistinct nat_eq (keys_of es) → slice_get es i ≡ Some (n, t) →
+    e ≡ get_or es i e → swap_remove es i e ≡ without es n
+forgotten es i n t e apart at read =
+    ap (λ (p : ℕ × Values). swap_remove es i p) (entry_is es i n t e at read)
+    ∙ (removed_at nat_eq nat_eq_equiv es i n t apart at ∙ removed es n)
 
 pub none_forgotten : (es : Held) (n : ℕ) → lookup (nat_eq n) es ≡ None → es ≡ without es n
 none_forgotten es n none = sym (stays es n none) ∙ removed es n
 
-one_later : (i : ℕ) → suc i ≡ i + 1
-one_later i = omega arith
+-- the numbers of those behind the first few, once one goes: one of the first few, and one of these
+removed_first : (ks : List ℕ) (i k m : ℕ) → length ks ≡ 9 + m → i < 8 → take (length (drop 8 ks) - 1) (drop 8 ks) ≡ drop 8 (swap_remove ks i k)
+removed_first ks i k m long less =
+    let y = get_or ks (length ks - 1) k in
+    let there : length (drop 8 ks) - 1 ≡ m = omega (arith, long, length-drop 8 ks) in
+    let all : length ks - 1 ≡ 8 + m = omega (arith, long) in
+    ap (λ n. take n (drop 8 ks)) there
+    ∙ (ap (λ l. take m l) (sym (drop-set-lt 8 ks i y less))
+    ∙ (sym (drop-take 8 m (set ks i y)) ∙ ap (λ n. drop 8 (take n (set ks i y))) (sym all)))
 
-nat_eq_symm : (a b : ℕ) → nat_eq a b ≡ nat_eq b a
-nat_eq_symm a b = grind (arith, nat_tests)
+removed_later : (ks : List ℕ) (j k m : ℕ) → length ks ≡ 9 + m → swap_remove (drop 8 ks) j 0 ≡ drop 8 (swap_remove ks (8 + j) k)
+removed_later ks j k m long =
+    let there : length (drop 8 ks) - 1 ≡ m = omega (arith, long, length-drop 8 ks) in
+    let all : length ks - 1 ≡ 8 + m = omega (arith, long) in
+    let y = get_or ks (8 + m) k in
+    let last : get_or (drop 8 ks) m 0 ≡ y = get_or-drop 8 ks m 0 ∙ get_or_default ks (8 + m) 0 k (omega (arith, long)) in
+    ap (λ n. take n (set (drop 8 ks) j (get_or (drop 8 ks) n 0))) there
+    ∙ (ap (λ z. take m (set (drop 8 ks) j z)) last
+    ∙ (ap (λ l. take m l) (sym (drop-set-add 8 ks j y))
+    ∙ (sym (drop-take 8 m (set ks (8 + j) y)) ∙ ap (λ n. drop 8 (take n (set ks (8 + j) (get_or ks n k)))) (sym all))))
 
--- the values of the same transactions, up to an index, with those of the one there behind them
-differs : (a : ℕ) (es : Held) (i n : ℕ) (t : Values) → AllByRecursion (λ b. nat_eq a b ≡ false) (keys_of es) → slice_get es i ≡ Some (n, t) →
-    nat_eq a n ≡ false
-differs a [] i n t h at = absurd cc
-differs a (e ∷ es) zero n t h at = ap (λ (p : ℕ × Values). nat_eq a p.0) (sym (pair_same e n t at)) ∙ h.0
-differs a (e ∷ es) (suc i) n t h at = differs a es i n t h.1 at
+removed_none : (ks : List ℕ) (i k : ℕ) → length ks ≤ 8 → drop 8 ks ≡ drop 8 (swap_remove ks i k)
+removed_none ks i k few =
+    let last = length ks - 1 in
+    let l = set ks i (get_or ks last k) in
+    let short : length (take last l) ≤ 8 = omega (arith, few, length-take last l) in
+    nil_from_length (drop 8 ks) (omega (arith, few, length-drop 8 ks))
+    ∙ sym (nil_from_length (drop 8 (take last l)) (omega (arith, short, length-drop 8 (take last l))))
 
-one_more : (es : Held) (i n : ℕ) (t : Values) → IsDistinct nat_eq (keys_of es) → slice_get es i ≡ Some (n, t) →
-    with_values (take i es) n t ≡ take (suc i) es
-one_more [] i n t apart at = absurd cc
-one_more (e ∷ es) zero n t apart at = ap (λ (p : ℕ × Values). p ∷ []) (sym (pair_same e n t at))
-one_more (e ∷ es) (suc i) n t apart at =
-    let other : nat_eq n e.0 ≡ false = nat_eq_symm n e.0 ∙ differs e.0 es i n t (IsDistinct-head nat_eq e.0 (keys_of es) apart) at in
-    let rest = one_more es i n t (IsDistinct-tail nat_eq e.0 (keys_of es) apart) at in
-    ap (λ b. cond b ((e.0, t) ∷ take i es) (e ∷ with_values (take i es) n t)) other
-    ∙ ap (λ (hs : Held). e ∷ hs) rest
+behind_removed : (ks : List ℕ) (i k : ℕ) → i < length ks → numbers_without i (drop 8 ks) ≡ drop 8 (swap_remove ks i k)
+behind_removed ks i k within = go (nat_lt i 8) refl (nat_lt 8 (length ks)) refl where
+  go : (b : Bool) → nat_lt i 8 ≡ b → (c : Bool) → nat_lt 8 (length ks) ≡ c →
+      cond b (take (length (drop 8 ks) - 1) (drop 8 ks)) (swap_remove (drop 8 ks) (i - 8) 0) ≡ drop 8 (swap_remove ks i k)
+  go true e false f =
+      let few : length ks ≤ 8 = grind (arith, nat_tests) in
+      let none = nil_from_length (drop 8 ks) (omega (arith, few, length-drop 8 ks)) in
+      ap (λ (l : List ℕ). take (length l - 1) l) none ∙ (sym none ∙ removed_none ks i k few)
+  go true e true f =
+      let less : i < 8 = grind (arith, nat_tests) in
+      let many : 8 < length ks = grind (arith, nat_tests) in
+      removed_first ks i k (length ks - 9) (omega (arith, many)) less
+  go false e c f =
+      let more : 8 ≤ i = grind (arith, nat_tests) in
+      let same : 8 + (i - 8) ≡ i = omega (arith, more) in
+      removed_later ks (i - 8) k (length ks - 9) (omega (arith, more, within)) ∙ ap (λ j. drop 8 (swap_remove ks j k)) same
 
-pub copied : (es fs gs : Held) (i n : ℕ) (was now : Values) → IsDistinct nat_eq (keys_of es) → Some (n, was) ≡ slice_get es i →
-    now ≡ was → fs ≡ take i es → gs ≡ insert_entry nat_eq fs n now → gs ≡ take (i + 1) es
-copied es fs gs i n was now apart at same done is =
-    is ∙ (inserted fs n now ∙
-    (ap (λ (hs : Held). with_values hs n now) done ∙
-    (ap (with_values (take i es) n) same ∙
-    (one_more es i n was apart (sym at) ∙ ap (λ k. take k es) (one_later i)))))
+-- what is known of the transactions and of the numbers of those behind the first few stays so: where values are written, where a
+-- transaction comes behind the others, and where one goes
+pub kept_set :
+    (es : Held) (ks : List ℕ) (i : ℕ) (e : ℕ × Values) (now : Values) → IsDistinct nat_eq (keys_of es) → ks ≡ keys_of (drop 8 es) →
+    e ≡ get_or es i e → IsDistinct nat_eq (keys_of (set es i (e.0, now))) × (ks ≡ keys_of (drop 8 (set es i (e.0, now))))
+kept_set es ks i e now apart behind read =
+    let same = keys_set es i e now read in (
+      subst (λ l. IsDistinct nat_eq l) (sym same) apart,
+      behind ∙ (keys_drop 8 es ∙ (ap (λ l. drop 8 l) (sym same) ∙ sym (keys_drop 8 (set es i (e.0, now))))),
+    )
 
-pub all_copied : (es fs : Held) (n : ℕ) → n ≡ length es → fs ≡ take n es → fs ≡ es
-all_copied es fs n all is = is ∙ (ap (λ m. take m es) all ∙ take-length es)
+pub kept_pushed :
+    (es : Held) (ks : List ℕ) (n : ℕ) (now : Values) → IsDistinct nat_eq (keys_of es) → ks ≡ keys_of (drop 8 es) →
+    lookup (nat_eq n) es ≡ None →
+    IsDistinct nat_eq (keys_of (es ++ (n, now) ∷ [])) × (keys_behind nat_eq (length es) ks n ≡ keys_of (drop 8 (es ++ (n, now) ∷ [])))
+kept_pushed es ks n now apart behind none =
+    (distinct_pushed nat_eq nat_eq_equiv es n now apart none, keys_pushed nat_eq es ks n now behind none)
+
+pub kept_removed :
+    (es : Held) (ks : List ℕ) (i : ℕ) (e : ℕ × Values) → IsDistinct nat_eq (keys_of es) → ks ≡ keys_of (drop 8 es) → i < length es →
+    e ≡ get_or es i e → IsDistinct nat_eq (keys_of (swap_remove es i e)) × (numbers_without i ks ≡ keys_of (drop 8 (swap_remove es i e)))
+kept_removed es ks i e apart behind within read =
+    let inside : i < length (keys_of es) = omega (arith, within, length-keys_of es) in (
+      distinct_removed nat_eq nat_eq_equiv es i e within read apart,
+      ap (λ l. numbers_without i l) (behind ∙ keys_drop 8 es)
+          ∙ (behind_removed (keys_of es) i e.0 inside
+          ∙ (ap (λ l. drop 8 l) (sym (keys_removed es i e)) ∙ sym (keys_drop 8 (swap_remove es i e)))),
+    )

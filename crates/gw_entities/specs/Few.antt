@@ -1,10 +1,9 @@
 -- The first few entries, which are looked through one by one, and the keys of those behind them. Of public clauses only
--- those of `KeySet` cite this module. (Our own.)
-use Rattle.std.specs.Prelude.{◌≡◌, ◌<◌, ◌≤◌, ℕ, Bool, true, List, [], ◌∷◌, Option, None, Some, take, slice_get, nat_lt, if◌then◌else◌}
+-- those of `KeySet` and `Parameters` cite this module. (Our own.)
+use Rattle.std.specs.Prelude.{◌≡◌, ◌<◌, ◌≤◌, ◌-◌, ℕ, Bool, true, List, [], ◌∷◌, Option, None, Some, length, take, slice_get, swap_remove, nat_lt, if◌then◌else◌}
 use Rattle.std.specs.Map.{lookup}
 use Rattle.indexmap.specs.IndexSet.{insert_key}
 use Rattle.gw_names.specs.declared.key.Key.{Key}
-use Rattle.gw_names.specs.Keys.{key_eq}
 use Rattle.gw_entities.specs.Tables.{Touched}
 
 -- keys in order
@@ -21,7 +20,7 @@ pub record StandsFirst {K V : Type 0} (test : K → Bool) (es : List (K × V)) (
   pub before : lookup test (take i es) ≡ None
 
 -- where a key is ready, there are two equal copies of it, the list of so many entries has room for one more, and so has
--- the set of the keys behind the first few, where the entry would be one of them (8 is FEW_ENTITIES, here and below)
+-- the set of the keys behind the first few, where the entry would be one of them (8 is FEW_ENTITIES)
 abbrev pub IsReady : ℕ → ℕ → ℕ → Option (Key × Key) → Type 0
 IsReady len capacity spare None = Unit {0}
 IsReady len capacity spare (Some p) = (p.1 ≡ p.0) × (len < capacity) × (8 ≤ len → 0 < spare)
@@ -31,6 +30,13 @@ abbrev pub entries_in : {V : Type 0} → List (Touched V) → List (Key × V)
 entries_in [] = []
 entries_in (t ∷ ts) = t.entries
 
--- the keys of the entities behind the first few, once one with this key is added behind so many entities
-abbrev pub keys_behind : ℕ → List Key → Key → List Key
-keys_behind len keys key = if nat_lt len 8 then keys else insert_key key_eq keys key
+-- the keys of those behind the first few, once one with this key is added behind so many (8 is FEW_ENTITIES, or
+-- FEW_TRANSACTIONS)
+abbrev pub keys_behind : {K : Type 0} → (K → K → Bool) → ℕ → List K → K → List K
+keys_behind eq len keys key = if nat_lt len 8 then keys else insert_key eq keys key
+
+-- the numbers of those behind the first few, once the one at an index among all goes, and the last one comes to its
+-- place (8 is FEW_TRANSACTIONS; the 0 is never read)
+abbrev pub numbers_without : ℕ → List ℕ → List ℕ
+numbers_without index numbers =
+    if nat_lt index 8 then take (length numbers - 1) numbers else swap_remove numbers (index - 8) 0

@@ -1,9 +1,12 @@
 -- The parameters of transactions: for each transaction that has some, by its number, its values by key in order of
 -- first assignment. (Manual. Our own: the order of the transactions.)
-use Rattle.std.specs.Prelude.{ℕ, ℤ, nat_eq, List, [], ◌∷◌, Option, if◌then◌else◌, unwrap_or}
+use Rattle.std.specs.Prelude.{◌≡◌, ◌<◌, ℕ, ℤ, nat_eq, List, [], ◌∷◌, Option, None, Some, slice_get, if◌then◌else◌, unwrap_or}
 use Rattle.std.specs.Map.{lookup}
 use Rattle.indexmap.specs.IndexMap.{swap_remove_by}
 use Rattle.gw_names.specs.declared.key.Key.{Key}
+use Rattle.gw_names.specs.Keys.{key_eq}
+use Rattle.gw_entities.specs.declared.parameters.ParameterPlace.{ParameterPlace}
+use Rattle.gw_entities.specs.Few.{StandsFirst}
 use Rattle.gw_entities.specs.Tables.{value_of, with_value}
 
 abbrev pub Held : Type 0
@@ -26,6 +29,14 @@ with_values (h ∷ hs) number values =
 -- with a parameter of a transaction set
 abbrev pub assigned : Held → ℕ → Key → ℤ → Held
 assigned held number key value = with_values held number (with_value (values_at held number) key value)
+
+-- where a parameter of a transaction lies, if that is known: which of the transactions that have some, and which of
+-- its first few parameters (8 is FEW_PARAMETERS)
+abbrev pub IsKnownPlace : Held → ℕ → Key → Option ParameterPlace → Type 0
+IsKnownPlace held number key None = Unit {0}
+IsKnownPlace held number key (Some place) =
+    (values : List (Key × ℤ)) × (slice_get held place.transaction ≡ Some (number, values)) × (place.parameter < 8)
+    × StandsFirst (key_eq key) values place.parameter
 
 -- without the parameters of a transaction: those of the last one come to their place
 abbrev pub without : Held → ℕ → Held

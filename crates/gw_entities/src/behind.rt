@@ -71,6 +71,16 @@ impl Behind {
         self.tables[0].put(key, value)
     }
 
+    // Forgets all of them.
+    #[inline(always)]
+    pub fn clear(&mut self)
+        ensures { self.new ≡ [] }
+    {
+        if !self.tables.is_empty() {
+            self.tables.clear();
+        }
+    }
+
     // The same parameters.
     pub fn copy(&self) -> Result<Behind, AllocError>
         ensures { IfOk result (λ b. b ≡ self.now) }

@@ -1,5 +1,6 @@
 ghost use Rattle.std.specs.Prelude.{◌≡◌, ◌<◌, ◌≤◌, [], length, take, None, slice_get, IfOk, OnOk, OnErr, unwrap_or};
 ghost use Rattle.std.specs.Option.{option_map};
+ghost use Rattle.gw_names.specs.Keys.{key_eq};
 ghost use Rattle.gw_entities.specs.Few.{keys_behind};
 ghost use Rattle.gw_entities.specs.Tables.{value_of, with_value, HasRoom, IsPlace, AreApart};
 
@@ -229,7 +230,7 @@ impl<V: Copy> ByKey<V> {
 // Adds the key of an entity that comes behind so many others to the set, unless it is one of the first few.
 fn add_behind(behind: &mut KeySet, len: usize, key: Key)
     requires { 8 ≤ len → 0 < behind.old.room }
-    ensures { behind.new.keys ≡ keys_behind len behind.old.keys key }
+    ensures { behind.new.keys ≡ keys_behind key_eq len behind.old.keys key }
 {
     if len < FEW_ENTITIES {
         return;

@@ -3,7 +3,8 @@
 //! A [`Level`] is a content over time: its sum is exact, tick by tick. [`Facility`], [`Queue`] and [`Storage`] count
 //! what a report tells of them; each takes any change. [`ByKey`] keeps a value for each entity, and [`Comings`] who
 //! came to which queue; all that they grow by is reserved first. [`KeySet`] looks keys up by their hash, and is small
-//! where it holds nothing. [`Parameters`] keeps the parameters of transactions.
+//! where it holds nothing. [`Parameters`] keeps the parameters of transactions, and a [`ParameterPlace`] says where one
+//! lies.
 #![tactic(auto)]
 
 mod behind;
@@ -25,6 +26,6 @@ pub use facility::Facility;
 pub use key_set::KeySet;
 pub use laws::sum_is_over_ticks;
 pub use level::Level;
-pub use parameters::Parameters;
+pub use parameters::{ParameterPlace, Parameters};
 pub use queue::Queue;
 pub use storage::Storage;

@@ -1,4 +1,4 @@
-ghost use Rattle.std.specs.Prelude.{◌≡◌, ◌+◌, ◌≤◌, nat_le};
+ghost use Rattle.std.specs.Prelude.{◌≡◌, ◌≤◌};
 ghost use Rattle.gw_entities.specs.Records.{never_used, entered, left, storage_anew};
 
 use crate::level::Level;
@@ -69,14 +69,6 @@ impl Storage {
         ensures { result ≡ self.level }
     {
         self.level
-    }
-
-    /// Whether so many more units may come into use, where it has `capacity` units.
-    pub fn fits(self, units: u64, capacity: u64) -> bool
-        ensures { result ≡ nat_le (self.level.content + units) capacity }
-    {
-        let content = self.level.content();
-        content <= capacity && units <= capacity - content
     }
 
     /// So many units come into use.

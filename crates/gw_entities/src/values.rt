@@ -1,4 +1,6 @@
-ghost use Rattle.std.specs.Prelude.{◌≡◌, ◌<◌, ◌++◌, [], length, None, IfOk, IfSome, IfNone, OnOk, OnErr};
+ghost use Rattle.std.specs.Prelude.{◌≡◌, ◌<◌, ◌≤◌, ◌++◌, [], length, take, slice_get, None, Some, IfOk, IfSome, IfNone, OnOk, OnErr};
+ghost use Rattle.std.specs.Option.{option_map};
+ghost use Rattle.indexmap.specs.IndexMap.{set_value_at};
 ghost use Rattle.gw_names.specs.declared.key.Key.TheVariants as keys;
 ghost use Rattle.gw_names.specs.Keys.{key_eq};
 ghost use Rattle.gw_entities.specs.Few.{StandsFirst};
@@ -24,15 +26,15 @@ pub struct Values {
 }
 
 impl Model for Values {
-    ghost use Rattle.std.specs.Prelude.{◌≡◌, ◌<◌, ◌++◌, ℤ, List, [], length};
+    ghost use Rattle.std.specs.Prelude.{◌≡◌, ◌<◌, ◌≤◌, ◌++◌, ℤ, List, [], length};
     ghost use Rattle.gw_names.specs.declared.key.Key.{Key};
 
     ghost Value = { List (Key × ℤ) };
 
     ghost view = { λ v. v.few.items ++ v.many };
 
-    // The 8 is FEW_PARAMETERS.
-    ghost invariant = { λ v. length v.few.items < 8 → v.many ≡ [] };
+    // The 8 here and below is FEW_PARAMETERS.
+    ghost invariant = { λ v. (length v.few.items ≤ 8) × (length v.few.items < 8 → v.many ≡ []) };
 }
 
 impl Values {
@@ -71,6 +73,52 @@ impl Values {
         }
     }
 
+    // Where a parameter lies, if it is among the first few.
+    #[inline(always)]
+    pub fn place(&self, key: &Key) -> Option<usize>
+        ensures few { IfSome result (λ i. i < 8) }
+        ensures there { IfSome result (λ i. StandsFirst (key_eq key.now) self.now i) }
+        ensures none { IfNone result (value_of (take 8 self.now) key.now ≡ None) }
+    {
+        place(&self.few, key)
+    }
+
+    // The value at an index among the first few.
+    #[inline(always)]
+    pub fn value_at(&self, index: usize) -> Val
+        requires few { index < 8 }
+        requires there { index < length self.now }
+        ensures { option_map (λ e. e.1) (slice_get self.now index) ≡ Some result }
+    {
+        self.few[index].1
+    }
+
+    // Sets the value at an index among the first few.
+    #[inline(always)]
+    pub fn set_at(&mut self, index: usize, value: Val)
+        requires few { index < 8 }
+        requires there { index < length self.old }
+        ensures { self.new ≡ set_value_at self.old index value }
+    {
+        self.few[index].1 = value;
+    }
+
+    // The value of a parameter that is not among the first few, if it has one.
+    pub fn get_behind(&self, key: &Key) -> Option<Val>
+        requires { value_of (take 8 self.now) key.now ≡ None }
+        ensures { result ≡ value_of self.now key.now }
+    {
+        self.many.get(key)
+    }
+
+    // Forgets all values, and keeps the memory of the first few.
+    pub fn clear(&mut self)
+        ensures { self.new ≡ [] }
+    {
+        self.few.clear();
+        self.many.clear();
+    }
+
     // Sets a parameter, or changes nothing where memory is refused.
     pub fn put(&mut self, key: &Key, value: Val) -> Result<(), AllocError>
         ensures ok { OnOk result (self.new ≡ with_value self.old key.now value) }
@@ -103,10 +151,12 @@ fn put_behind(
     value: Val,
 ) -> Result<(), AllocError>
     requires none { value_of few.old.items key.now ≡ None }
+    requires few { length few.old.items ≤ 8 }
     requires behind { length few.old.items < 8 → many.old ≡ [] }
     ensures ok { OnOk result
         (few.new.items ++ many.new ≡ with_value (few.old.items ++ many.old) key.now value) }
     ensures err { OnErr result (few.new.items ++ many.new ≡ few.old.items ++ many.old) }
+    ensures few { length few.new.items ≤ 8 }
     ensures behind { length few.new.items < 8 → many.new ≡ [] }
 {
     if few.len() < FEW_PARAMETERS {

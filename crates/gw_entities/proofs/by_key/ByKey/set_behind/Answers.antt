@@ -3,6 +3,7 @@ use Rattle.std.specs.Map.{keys_of}
 use Rattle.std.specs.Option.{option_map}
 use Rattle.std.specs.Vec.{vec_capacity}
 use Rattle.gw_names.specs.declared.key.Key.{Key}
+use Rattle.gw_names.specs.Keys.{key_eq}
 use Rattle.gw_entities.specs.Few.{IsReady, keys_behind}
 use Rattle.gw_entities.specs.Tables.{AreApart}
 use Rattle.gw_entities.proofs.Entries.{pushed_is, apart_pushed, keys_pushed}
@@ -32,9 +33,9 @@ invariant_of-self g c =
     let items : c.push_reserved.new.self.items ≡ es ++ (key, c.args.value) ∷ [] =
     c.push_reserved.ensures.items ∙ ap (λ k. es ++ (k, c.args.value) ∷ []) own in
     let long : c.len.result ≡ length es = search rules in
-    let keys = c.add_behind.ensures ∙ (ap (λ n. keys_behind n c.self.inside.behind.keys c.in-Some.hashed) long
-    ∙ ap (λ k. keys_behind (length es) c.self.inside.behind.keys k) other) in (
+    let keys = c.add_behind.ensures ∙ (ap (λ n. keys_behind key_eq n c.self.inside.behind.keys c.in-Some.hashed) long
+    ∙ ap (λ k. keys_behind key_eq (length es) c.self.inside.behind.keys k) other) in (
       subst AreApart (sym items) (apart_pushed es key c.args.value apart none),
-      keys ∙ (keys_pushed es c.self.inside.behind.keys key c.args.value behind none ∙ ap (λ l. keys_of (drop 8 l)) (sym items)),
+      keys ∙ (keys_pushed key_eq es c.self.inside.behind.keys key c.args.value behind none ∙ ap (λ l. keys_of (drop 8 l)) (sym items)),
       rw c.in-Some.ensures.after tt,
     )

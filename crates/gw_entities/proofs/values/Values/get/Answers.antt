@@ -12,4 +12,5 @@ returns-in-Some c =
 pub returns-in-None : goal.returns-in-None
 returns-in-None c =
     let none = rw (c.deref.ensures.value, sym c.in-Num.is) at c.in-None.ensures.none in
-    rw (← c.self.view_is) ((rw (sym c.in-Num.is) at c.numbered.ensures) ∙ sym (none_among (key_eq c.args.key.now) c.self.inside.few.items c.self.inside.many none))
+    let among = none_among (key_eq c.args.key.now) c.self.inside.few.items c.self.inside.many none in
+    rw (← c.self.view_is) ((rw (sym c.in-Num.is) at c.numbered.ensures) ∙ sym among)
