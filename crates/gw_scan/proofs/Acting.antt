@@ -1,5 +1,5 @@
 -- What was decided, and then made.
-use Rattle.std.proofs.Common.{◌≡◌, ℕ, arith, List, [], ◌∷◌, length, Option, Some, None, Result, Ok, Err, refl, ap, sym, subst, ◌∙◌}
+use Rattle.std.proofs.Common.{◌≡◌, ℕ, ℤ, arith, List, [], ◌∷◌, length, Option, Some, None, Result, Ok, Err, refl, ap, sym, subst, ◌∙◌}
 use Rattle.gw_meaning.specs.declared.item.Item.{Item}
 use Rattle.gw_meaning.specs.declared.item.Item.TheVariants as items
 use Rattle.gw_meaning.specs.declared.moves.Arrival.{Arrival}
@@ -12,12 +12,14 @@ use Rattle.gw_meaning.specs.Listing.{Listing}
 use Rattle.gw_meaning.specs.Machine.{Machine}
 use Rattle.gw_meaning.specs.Questions.{Answer, ask}
 use Rattle.gw_meaning.specs.Evaluation.{Eval, asks, gives, ◌~>◌}
-use Rattle.gw_meaning.specs.Changes.{decided, moved}
+use Rattle.gw_meaning.specs.Changes.{decided, moved, placed, crossed, with_active}
+use Rattle.gw_entities.specs.Parameters.{assigned}
+use Rattle.gw_names.specs.declared.key.Key.{Key}
 use Rattle.gw_meaning.specs.Step.{try_prog, attempt_prog, pick_prog, clock_prog, least_time}
 use Rattle.gw_scan.specs.declared.halt.Why.{Why}
 use Rattle.gw_scan.specs.declared.halt.Why.TheVariants as whys
 use Rattle.gw_scan.specs.Noted.{Noted, Asks, Keeps, Tries}
-use Rattle.gw_scan.specs.Deciding.{Decides, generated, starting}
+use Rattle.gw_scan.specs.Deciding.{Decides, Comes, generated, looped, sent, starting}
 use Rattle.gw_scan.specs.Stepping.{Acts, Goes, Makes}
 use Rattle.gw_scan.proofs.Binding.{decides_asked, decides_then, decides_halt, decides_gives, decides_comes}
 use Rattle.gw_scan.proofs.StepLaws.{IsIdle, decides_keeps, idle_undrawn}
@@ -26,6 +28,37 @@ use Rattle.gw_scan.proofs.StepLaws.{IsIdle, decides_keeps, idle_undrawn}
 pub clock_is_next : (s : Machine) (xs : List Transaction) → length xs ≡ 0 → pick_prog s xs ≡ clock_prog (least_time s.future)
 clock_is_next s [] none = refl
 clock_is_next s (x ∷ xs) none = absurd (omega (arith, none))
+
+-- what a TRANSFER makes of a state, wherever its transaction goes
+pub moved_sent : (s : Machine) (id : ℕ) (to : Option ℕ) →
+    moved s (sent id to) ≡ with_active s.active (λ x. record s {
+      active = Some (record (placed x id) { destination = to });
+      counts = crossed fates.Active s.counts x.current id;
+    }) s
+moved_sent s id None = refl
+moved_sent s id (Some to) = refl
+
+-- and a LOOP
+pub moved_looped : (s : Machine) (id : ℕ) (key : Key) (left : ℤ) (to : Option ℕ) →
+    moved s (looped id key left to) ≡ with_active s.active (λ x. record s {
+      active = Some (record (placed x id) { destination = to });
+      counts = crossed fates.Active s.counts x.current id;
+      parameters = assigned s.parameters x.number key left;
+    }) s
+moved_looped s id key left None = refl
+moved_looped s id key left (Some to) = refl
+
+-- the exit by `?` behind what neither asks nor draws
+pub goes_exit :
+    {A : Type 0} (p : Eval A) (k : A → Eval Move) (r : Result (Unit {0}) Why) (e halt : Why) (s : Machine) → r ≡ Err e → e ≡ halt →
+    Comes p (Err halt) → Goes (p ~> k) r s s
+goes_exit p k r e halt s is same h =
+    let exit : r ≡ Err halt = is ∙ ap (λ f. Err f) same in
+    let F : Result (Unit {0}) Why → Type 0 = λ m. Goes (p ~> k) m s s in
+    subst F (sym exit) (stays halt h) where
+      stays : (halt : Why) → Comes p (Err halt) → Goes (p ~> k) (Err halt) s s
+      stays (whys.End end) h = (ap (λ q. q ~> k) h, refl)
+      stays whys.Memory h = refl
 
 module _ (t : Listing) (seed : ℕ) where
   -- a GENERATE is entered with the transaction that it makes next
@@ -87,24 +120,36 @@ module _ (t : Listing) (seed : ℕ) where
   acts_then p k a (Ok u) before after xs ys zs first h = (h.0, decides_then t seed p k a (Ok h.0) xs ys zs first h.1, h.2)
   acts_then p k a (Err halt) before after xs ys zs first h = (decides_then t seed p k a (Err halt) xs ys zs first h.0, h.1)
 
+  pub acts_whole :
+      {A : Type 0} (p : Eval A) (k : A → Eval Move) (q : Eval Move) (a : A) (r : Result (Unit {0}) Why) (before after : Machine)
+      (xs ys zs : Noted) → q ≡ (p ~> k) → Decides t seed p (Ok a) xs ys → Acts t seed (k a) r before after ys zs →
+      Acts t seed q r before after xs zs
+  acts_whole p k q a r before after xs ys zs whole first h =
+      let F : Eval Move → Type 0 = λ m. Acts t seed m r before after xs zs in
+      subst F (sym whole) (acts_then p k a r before after xs ys zs first h)
+
+  -- where the evaluation comes to no move, nothing changes
+  pub acts_ends :
+      (q : Eval Move) (r : Result (Unit {0}) Why) (e halt : Why) (s : Machine) (xs ys : Noted) → r ≡ Err e → e ≡ halt →
+      Decides t seed q (Err halt) xs ys → Acts t seed q r s s xs ys
+  acts_ends q r e halt s xs ys is same h =
+      let exit : r ≡ Err halt = is ∙ ap (λ f. Err f) same in
+      let F : Result (Unit {0}) Why → Type 0 = λ m. Acts t seed q m s s xs ys in
+      subst F (sym exit) (h, refl)
+
   -- the exit by `?` behind the first evaluation
   pub acts_exit :
       {A : Type 0} (p : Eval A) (k : A → Eval Move) (q : Eval Move) (r : Result (Unit {0}) Why) (e halt : Why) (s : Machine) (xs ys : Noted) →
       q ≡ (p ~> k) → r ≡ Err e → e ≡ halt → Decides t seed p (Err halt) xs ys → Acts t seed q r s s xs ys
   acts_exit {A} p k q r e halt s xs ys whole is same h =
-      let exit : r ≡ Err halt = is ∙ ap (λ f. Err f) same in
-      let F : Result (Unit {0}) Why → Type 0 = λ m. Acts t seed q m s s xs ys in
       let G : Eval Move → Type 0 = λ m. Decides t seed m (Err halt) xs ys in
-      subst F (sym exit) (subst G (sym whole) (decides_halt t seed p k halt xs ys h), refl)
+      acts_ends q r e halt s xs ys is same (subst G (sym whole) (decides_halt t seed p k halt xs ys h))
 
   -- where memory is refused, nothing changes
   pub acts_memory :
       (q : Eval Move) (r : Result (Unit {0}) Why) (e : Why) (s : Machine) (xs ys : Noted) → r ≡ Err e → e ≡ whys.Memory →
       Keeps xs ys → Acts t seed q r s s xs ys
-  acts_memory q r e s xs ys is same h =
-      let exit : r ≡ Err whys.Memory = is ∙ ap (λ f. Err f) same in
-      let F : Result (Unit {0}) Why → Type 0 = λ m. Acts t seed q m s s xs ys in
-      subst F (sym exit) (h, refl)
+  acts_memory q r e s xs ys is same h = acts_ends q r e whys.Memory s xs ys is same h
 
   -- a move that neither asked nor drew, made with the streams that were noted before
   pub acts_went :

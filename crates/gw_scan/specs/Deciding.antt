@@ -1,15 +1,22 @@
 -- What a function that asks came to, against the evaluation that it stands for.
-use Rattle.std.specs.Prelude.{◌≡◌, ℕ, List, Option, Some, None, Result, Ok, Err}
+use Rattle.std.specs.Prelude.{◌≡◌, ℕ, ℤ, List, Option, Some, None, Result, Ok, Err}
+use Rattle.gw_names.specs.declared.key.Key.{Key}
 use Rattle.gw_meaning.specs.declared.moves.Change.TheVariants as changes
 use Rattle.gw_meaning.specs.declared.moves.Arrival.{Arrival}
-use Rattle.gw_meaning.specs.declared.transaction_change.TransactionChange.{TransactionChange}
+use Rattle.gw_meaning.specs.declared.transaction_change.TransactionChange.TheVariants as own
 use Rattle.gw_meaning.specs.declared.moves.Fate.{Fate}
 use Rattle.gw_meaning.specs.declared.moves.Fate.TheVariants as fates
 use Rattle.gw_meaning.specs.declared.moves.Move.{Move}
 use Rattle.gw_meaning.specs.declared.moves.Move.TheVariants as moves
 use Rattle.gw_meaning.specs.Listing.{Listing}
 use Rattle.gw_meaning.specs.Questions.{result_of, items_of}
-use Rattle.gw_meaning.specs.Evaluation.{Eval, gives, ends_with}
+use Rattle.gw_meaning.specs.Evaluation.{Eval, gives, ends_with, value_there, ◌~>◌}
+use Rattle.gw_meaning.specs.Machine.{Machine}
+use Rattle.gw_meaning.specs.Statements.{B, operand}
+use Rattle.gw_meaning.specs.Step.{for_one, assign_with, left_of, loop_with}
+use Rattle.gw_meaning.specs.declared.statement.Block.{Block}
+use Rattle.gw_meaning.specs.declared.transaction.Transaction.{Transaction}
+use Rattle.gw_entities.specs.Parameters.{parameter_at}
 use Rattle.gw_scan.specs.Noted.{Noted, Reads, Keeps}
 use Rattle.gw_scan.specs.declared.halt.Why.{Why}
 use Rattle.gw_scan.specs.declared.halt.Why.TheVariants as whys
@@ -39,11 +46,39 @@ abbrev pub generated : ℕ → Result (Option Arrival) Why → Result Move Why
 generated id (Ok next) = Ok (moves.Enter id (changes.Generate next) fates.Active)
 generated id (Err halt) = Err halt
 
--- a block that changes its transaction alone is entered, where a change was decided, if any
-abbrev pub changing : ℕ → Result (Option TransactionChange) Why → Result Move Why
-changing id (Ok (Some change)) = Ok (moves.Enter id (changes.Transaction change) fates.Active)
-changing id (Ok None) = Ok (moves.Enter id changes.Nothing fates.Active)
-changing id (Err halt) = Err halt
+-- a PRIORITY is entered
+abbrev pub prioritized : ℕ → ℤ → Move
+prioritized id to = moves.Enter id (changes.Transaction (own.Priority to)) fates.Active
+
+-- a TRANSFER is entered, where it was decided to which block the transaction goes, if not to the next one
+abbrev pub sent : ℕ → Option ℕ → Move
+sent id None = moves.Enter id changes.Nothing fates.Active
+sent id (Some to) = moves.Enter id (changes.Transaction (own.Transfer to)) fates.Active
+
+-- the same, of what was decided
+abbrev pub sending : ℕ → Result (Option ℕ) Why → Result Move Why
+sending id (Ok to) = Ok (sent id to)
+sending id (Err halt) = Err halt
+
+-- a LOOP is entered with so much left of its parameter, where it was decided to which block the transaction goes, if
+-- not to the next one
+abbrev pub looped : ℕ → Key → ℤ → Option ℕ → Move
+looped id key left None = moves.Enter id (changes.Transaction (own.Assign key left)) fates.Active
+looped id key left (Some to) = moves.Enter id (changes.Transaction (own.Loop key left to)) fates.Active
+
+-- the same, of what was decided
+abbrev pub looping : ℕ → Key → ℤ → Result (Option ℕ) Why → Result Move Why
+looping id key left (Ok to) = Ok (looped id key left to)
+looping id key left (Err halt) = Err halt
+
+-- what an ASSIGN and a LOOP come to, once it is known which parameter they are of
+abbrev pub assign_key : Machine → Transaction → ℕ → Block → Key → Eval Move
+assign_key s x id b key = value_there s (for_one s x) (operand b B) ~>
+    (λ v. assign_with id b.sign key (parameter_at s.parameters x.number key) v)
+
+abbrev pub loop_key : Machine → Transaction → ℕ → Block → Key → Eval Move
+loop_key s x id b key =
+    left_of (parameter_at s.parameters x.number key) ~> (λ left. loop_with id key left (operand b B))
 
 -- a START is made, where its first transactions were decided
 abbrev pub starting : ℕ → Result (List Arrival) Why → Result Move Why

@@ -1,9 +1,9 @@
 ghost use Rattle.std.specs.Prelude.{◌≡◌, Some, None, IsSome, is_some, option_copied};
 ghost use Rattle.gw_meaning.specs.declared.transaction.Transaction.{Transaction};
-ghost use Rattle.gw_meaning.specs.Changes.{placed, own_marked};
+ghost use Rattle.gw_meaning.specs.Changes.{placed};
 
 use gw_chains::place;
-use gw_meaning::{Destination, StatementId, Transaction, TransactionChange};
+use gw_meaning::{Destination, StatementId, Transaction};
 use gw_nums::{Clock, Time, Val};
 use std::marker::Model;
 
@@ -103,20 +103,31 @@ impl Active {
         place(&mut self.x, id);
     }
 
-    // What a change makes of it.
+    // It is marked with a time.
     #[inline(always)]
-    pub(crate) fn change(&mut self, change: &TransactionChange, clock: Clock)
+    pub(crate) fn mark(&mut self, clock: Clock)
         requires { IsSome self.old }
-        ensures { (x : Transaction) → self.old ≡ Some x → self.new ≡ Some (own_marked change.now clock x) }
+        ensures { (x : Transaction) → self.old ≡ Some x → self.new ≡ Some (record x { mark = clock }) }
     {
-        match change {
-            TransactionChange::Mark => self.x.mark = clock.time(),
-            TransactionChange::Priority { to } => self.x.priority = *to,
-            TransactionChange::Transfer { to } | TransactionChange::Loop { to, .. } => {
-                self.x.destination = Destination::to(*to)
-            }
-            TransactionChange::Assign { .. } => (),
-        }
+        self.x.mark = clock.time();
+    }
+
+    // It gets a priority.
+    #[inline(always)]
+    pub(crate) fn set_priority(&mut self, to: Val)
+        requires { IsSome self.old }
+        ensures { (x : Transaction) → self.old ≡ Some x → self.new ≡ Some (record x { priority = to }) }
+    {
+        self.x.priority = to;
+    }
+
+    // It goes to this block next, or to the one behind its own where none is set.
+    #[inline(always)]
+    pub(crate) fn set_destination(&mut self, to: Destination)
+        requires { IsSome self.old }
+        ensures { (x : Transaction) → self.old ≡ Some x → self.new ≡ Some (record x { destination = to }) }
+    {
+        self.x.destination = to;
     }
 
     // An equal one.

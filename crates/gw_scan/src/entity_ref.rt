@@ -1,32 +1,17 @@
 // The entity that an operand names.
-ghost use Rattle.std.specs.Prelude.{◌≡◌, IfOk};
 ghost use Rattle.gw_meaning.specs.Evaluation.{named, numbered};
 ghost use Rattle.gw_scan.specs.Deciding.{Comes};
-ghost use Rattle.gw_scan.specs.EntityRef.{key_of, keyed};
+ghost use Rattle.gw_scan.specs.EntityRef.{keyed};
 
 use crate::halt::Halt;
 use gw_names::{EntityName, Key};
 use gw_nums::Val;
-use std::alloc::AllocError;
 
 /// An entity that an operand names: by a name, whose key it lends, or by a number, from 1.
 #[derive(Clone, Copy, Debug)]
 pub enum EntityRef<'a> {
     Named(&'a Key),
     Numbered(u32),
-}
-
-impl EntityRef<'_> {
-    // Its key, as one of its own.
-    #[inline(always)]
-    pub(crate) fn to_key(self) -> Result<Key, AllocError>
-        ensures { IfOk result (λ key. key ≡ key_of self.entry) }
-    {
-        match self {
-            EntityRef::Named(key) => key.clone(),
-            EntityRef::Numbered(number) => Ok(Key::Num(number)),
-        }
-    }
 }
 
 // The entity with a name, or with the number that the name stands for.

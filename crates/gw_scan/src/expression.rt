@@ -1,8 +1,9 @@
 // The values of expressions, part by part, and those of VARIABLEs and FUNCTIONs within them.
-ghost use Rattle.std.specs.Prelude.{◌≡◌, ◌<◌, [], Some, None, length, option_copied};
+ghost use Rattle.std.specs.Prelude.{◌≡◌, [], Some, None, option_copied};
 ghost use Rattle.gw_meaning.specs.declared.item.Item.TheVariants as items;
 ghost use Rattle.gw_meaning.specs.Evaluation.{asks, value_prog, arithmetic, negated_last, applied_last, is_of_variable, of_variable, is_of_function, of_function, whole_of_function, is_random, random_of, argument_by, argument_prog, point_found, function_given, atom_prog, token_prog, tokens_prog, last_value, term_prog, definitions_prog, number_given, ◌~>◌};
 ghost use Rattle.gw_scan.specs.Deciding.{Decides, Comes, in_place};
+ghost use Rattle.gw_scan.specs.WaitingValues.{HasRoomFor};
 
 use crate::attributes::random_part;
 use crate::case::{Case, ask_function, ask_name, ask_variable};
@@ -240,7 +241,7 @@ impl State {
     {
         let mut values = FewValues::new();
         for index in 0..tokens.len() {
-            if values.is_full() {
+            if values.is_full_for(&tokens[index]) {
                 let mut many = self.rest(case, asker, notes, depth, &tokens[index..], values)?;
                 return last_value(&mut many);
             }
@@ -261,7 +262,7 @@ impl State {
         token: &Token,
         values: &mut FewValues,
     ) -> Result<(), Halt>
-        requires { length values.old < 8 }
+        requires { HasRoomFor token.now values.old }
         ensures { Decides case.entry.version.now case.entry.seed
             (token_prog self.now asker.now (definitions_prog depth self.now asker.now) token.now values.old)
             (in_place result values.new) notes.old notes.new }

@@ -1,11 +1,11 @@
 ghost use Rattle.std.specs.Prelude.{◌≡◌, ◌<◌, ◌∷◌, [], IsFalse, IsSome, length, reverse};
 ghost use Rattle.gw_meaning.specs.Evaluation.{negated_last, applied_last, last_value};
 ghost use Rattle.gw_scan.specs.Deciding.{Comes, in_place};
-ghost use Rattle.gw_scan.specs.WaitingValues.{Pops, last_of, last_two, replaced, joined};
+ghost use Rattle.gw_scan.specs.WaitingValues.{HasRoomFor, Pops, last_of, last_two, replaced, joined};
 
 use crate::expression::arithmetic;
 use crate::halt::Halt;
-use gw_expr::Operator;
+use gw_expr::{Operator, Token};
 use gw_nums::Val;
 use std::marker::Model;
 
@@ -44,12 +44,15 @@ impl FewValues {
         }
     }
 
-    // Whether there is no place for one more.
+    // Whether a part of an expression needs a place for one more, and there is none.
     #[inline(always)]
-    pub(crate) fn is_full(&self) -> bool
-        ensures { IsFalse result → length self.now < 8 }
+    pub(crate) fn is_full_for(&self, token: &Token) -> bool
+        ensures { IsFalse result → HasRoomFor token.now self.now }
     {
-        self.count >= FEW
+        match token {
+            Token::Value(_) => self.count >= FEW,
+            Token::Negated | Token::Applied(_) => false,
+        }
     }
 
     // The values in the order in which they came.
@@ -65,8 +68,9 @@ impl FewValues {
         requires { length self.old < 8 }
         ensures { self.new ≡ value ∷ self.old }
     {
-        self.few[self.count] = value;
-        self.count += 1;
+        let place = self.count;
+        self.few[place] = value;
+        self.count = place + 1;
     }
 
     // Takes the last value, if any waits.

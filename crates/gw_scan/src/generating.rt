@@ -18,7 +18,7 @@ use crate::making::make;
 use crate::notes::Notes;
 use crate::state::State;
 use gw_meaning::operands::{A, B, D, E};
-use gw_meaning::{Arrival, Block, StatementId, Transaction, TransactionChange};
+use gw_meaning::{Arrival, Block, StatementId, Transaction};
 use std::alloc::AllocError;
 
 impl State {
@@ -103,8 +103,7 @@ impl State {
         self.counts.reserve(id)?;
         self.counts.reserve(arrival.id)?;
         enter_active(&mut self.active, &mut self.counts, id);
-        self.active
-            .change(&TransactionChange::Mark, self.clocks.clock());
+        self.active.mark(self.clocks.clock());
         make(&mut self.next, &mut self.future, &mut self.counts, arrival);
         Ok(())
     }
@@ -119,8 +118,7 @@ impl State {
     {
         self.counts.reserve(id)?;
         enter_active(&mut self.active, &mut self.counts, id);
-        self.active
-            .change(&TransactionChange::Mark, self.clocks.clock());
+        self.active.mark(self.clocks.clock());
         Ok(())
     }
 }

@@ -9,7 +9,6 @@ mod active;
 mod arrival;
 mod attributes;
 mod case;
-mod changing;
 mod clocks;
 mod commands;
 mod copy;

@@ -1,23 +1,31 @@
-// ASSIGN and LOOP: what a block sets of a parameter; and the value of a parameter.
-ghost use Rattle.std.specs.Prelude.{◌≡◌, ℕ, ℤ, Some, IsSome, pos, option_copied};
-ghost use Rattle.gw_entities.specs.Parameters.{parameter_at};
+// ASSIGN and LOOP: what a block sets of a parameter, which is looked up once where it is among the first few of its
+// transaction; and the value of a parameter.
+ghost use Rattle.std.specs.Prelude.{◌≡◌, ℕ, ℤ, Some, IsSome, OnOk, OnErr, pos, option_copied};
+ghost use Rattle.gw_entities.specs.Parameters.{parameter_at, IsKnownPlace};
 ghost use Rattle.gw_meaning.specs.Statements.{A, B, operand};
-ghost use Rattle.gw_meaning.specs.Evaluation.{value_there, value_held, parameter_value, ◌~>◌};
-ghost use Rattle.gw_meaning.specs.Step.{for_one, by_sign, or_zero, assign_to, assign_with, assign_prog, left_of, loop_back, loop_to, loop_with, loop_prog};
+ghost use Rattle.gw_meaning.specs.Evaluation.{value_held, parameter_value};
+ghost use Rattle.gw_meaning.specs.Step.{for_one, by_sign, or_zero, assign_with, assign_prog, left_of, loop_back, loop_to, loop_with, loop_prog};
 ghost use Rattle.gw_meaning.specs.declared.transaction.Transaction.{Transaction};
-ghost use Rattle.gw_scan.specs.Stepping.{Acts};
-ghost use Rattle.gw_scan.specs.Deciding.{Decides, Comes, changing};
+ghost use Rattle.gw_meaning.specs.Changes.{moved};
+ghost use Rattle.gw_names.specs.declared.key.Key.{Key};
+ghost use Rattle.gw_scan.specs.EntityRef.{key_of};
+ghost use Rattle.gw_scan.specs.Stepping.{Acts, Goes};
+ghost use Rattle.gw_scan.specs.Deciding.{Decides, Comes, assign_key, loop_key, looped, looping};
 
 use crate::case::{Case, ask_label};
+use crate::entering::enter_active;
+use crate::entity_ref::EntityRef;
 use crate::expression::arithmetic;
 use crate::halt::Halt;
 use crate::notes::Notes;
 use crate::state::State;
+use gw_entities::{ParameterPlace, Parameters};
 use gw_expr::{Expr, Node, Operator};
-use gw_meaning::operands::{A, B};
-use gw_meaning::{Asker, Block, Sign, StatementId, Transaction, TransactionChange};
+use gw_meaning::operands::B;
+use gw_meaning::{Asker, Block, Destination, Sign, StatementId};
 use gw_names::Key;
 use gw_nums::{ArithmeticFault, Val};
+use std::alloc::AllocError;
 
 impl State {
     // A parameter is set, or something is added to it or taken from it.
@@ -34,9 +42,88 @@ impl State {
             (assign_prog self.old (for_one self.old x) id block.now.sign (operand block.now A) (operand block.now B))
             result self.old self.new notes.old notes.new }
     {
+        let parameter = self.own_entity(case, notes, block)?;
+        self.assign_entity(case, notes, id, block, parameter)
+    }
+
+    // The same, of the parameter that was named: a name lends its key, and a number makes one here.
+    #[inline(always)]
+    fn assign_entity(
+        &mut self,
+        case: Case,
+        notes: &mut Notes,
+        id: StatementId,
+        block: &Block,
+        parameter: EntityRef,
+    ) -> Result<(), Halt>
+        requires { IsSome self.old.active }
+        ensures { (x : Transaction) → self.old.active ≡ Some x → Acts case.entry.version.now case.entry.seed
+            (assign_key self.old x id block.now (key_of parameter.entry))
+            result self.old self.new notes.old notes.new }
+    {
+        match parameter {
+            EntityRef::Named(key) => self.assign_named(case, notes, id, block, key),
+            EntityRef::Numbered(number) => {
+                self.assign_parameter(case, notes, id, block, &Key::Num(number))
+            }
+        }
+    }
+
+    // The same, of a parameter with a name. Never inlined, so that the way of one with a number stays short.
+    #[inline(never)]
+    fn assign_named(
+        &mut self,
+        case: Case,
+        notes: &mut Notes,
+        id: StatementId,
+        block: &Block,
+        key: &Key,
+    ) -> Result<(), Halt>
+        requires { IsSome self.old.active }
+        ensures { (x : Transaction) → self.old.active ≡ Some x → Acts case.entry.version.now case.entry.seed
+            (assign_key self.old x id block.now key.now)
+            result self.old self.new notes.old notes.new }
+    {
+        self.assign_parameter(case, notes, id, block, key)
+    }
+
+    // The same, of the parameter with a key.
+    #[inline(always)]
+    fn assign_parameter(
+        &mut self,
+        case: Case,
+        notes: &mut Notes,
+        id: StatementId,
+        block: &Block,
+        key: &Key,
+    ) -> Result<(), Halt>
+        requires { IsSome self.old.active }
+        ensures { (x : Transaction) → self.old.active ≡ Some x → Acts case.entry.version.now case.entry.seed
+            (assign_key self.old x id block.now key.now)
+            result self.old self.new notes.old notes.new }
+    {
         let x = self.active.get();
-        let change = self.assign_of(case, x, notes, block);
-        self.enter_changing(id, change, notes)
+        let value = self.value_there(case, &self.for_one(x), notes, block.operand(B))?;
+        let assigned = self.assign(id, block.sign, key, value);
+        self.with_draws(assigned, notes)
+    }
+
+    // The parameter with a key is set to what a value makes of it.
+    #[inline(always)]
+    fn assign(&mut self, id: StatementId, sign: Sign, key: &Key, value: Val) -> Result<(), Halt>
+        requires { IsSome self.old.active }
+        ensures { (x : Transaction) → self.old.active ≡ Some x →
+            Goes (assign_with id sign key.now (parameter_at self.old.parameters x.number key.now) value)
+            result self.old self.new }
+    {
+        let number = self.active.get().number;
+        let (place, was) = value_before(&self.parameters, number, sign, key);
+        let to = arithmetic(by_sign(sign, was, value))?;
+        self.counts.reserve(id)?;
+        // The last that may be refused.
+        self.parameters.assign_at(number, key, place, to)?;
+        enter_active(&mut self.active, &mut self.counts, id);
+        Ok(())
     }
 
     // A parameter loses 1, and the transaction goes to a block while it is not 0.
@@ -53,96 +140,99 @@ impl State {
             (loop_prog self.old (for_one self.old x) id (operand block.now A) (operand block.now B))
             result self.old self.new notes.old notes.new }
     {
-        let x = self.active.get();
-        let change = self.loop_of(case, x, notes, block);
-        self.enter_changing(id, change, notes)
+        let parameter = self.own_entity(case, notes, block)?;
+        self.loop_entity(case, notes, id, block, parameter)
     }
 
-    // What an ASSIGN sets.
+    // The same, of the parameter that was named.
     #[inline(always)]
-    fn assign_of(
-        &self,
+    fn loop_entity(
+        &mut self,
         case: Case,
-        x: &Transaction,
         notes: &mut Notes,
+        id: StatementId,
         block: &Block,
-    ) -> Result<Option<TransactionChange>, Halt>
-        ensures { (id : ℕ) → Decides case.entry.version.now case.entry.seed
-            (assign_prog self.now (for_one self.now x.now) id block.now.sign (operand block.now A)
-            (operand block.now B))
-            (changing id result) notes.old notes.new }
+        parameter: EntityRef,
+    ) -> Result<(), Halt>
+        requires { IsSome self.old.active }
+        ensures { (x : Transaction) → self.old.active ≡ Some x → Acts case.entry.version.now case.entry.seed
+            (loop_key self.old x id block.now (key_of parameter.entry))
+            result self.old self.new notes.old notes.new }
     {
-        let parameter = self.entity(case, x, notes, block.operand(A))?;
-        let key = parameter.to_key()?;
-        self.assign_at(case, x, notes, block, key)
-    }
-
-    #[inline(always)]
-    fn assign_at(
-        &self,
-        case: Case,
-        x: &Transaction,
-        notes: &mut Notes,
-        block: &Block,
-        key: Key,
-    ) -> Result<Option<TransactionChange>, Halt>
-        ensures { (id : ℕ) → Decides case.entry.version.now case.entry.seed
-            (value_there self.now (for_one self.now x.now) (operand block.now B) ~>
-            (λ v. assign_with id block.now.sign key (parameter_at self.now.parameters x.now.number key) v))
-            (changing id result) notes.old notes.new }
-    {
-        let value = self.value_there(case, &self.for_one(x), notes, block.operand(B))?;
-        let was = self.value_before(x, block.sign, &key);
-        assign_with(block.sign, key, was, value)
-    }
-
-    // The value that a parameter has before an ASSIGN. It is looked up only where the ASSIGN has a sign: else what is
-    // set does not depend on it.
-    #[inline(always)]
-    fn value_before(&self, x: &Transaction, sign: Sign, key: &Key) -> Option<Val>
-        ensures { (v : ℤ) →
-            by_sign sign result v ≡ by_sign sign (parameter_at self.now.parameters x.now.number key.now) v }
-    {
-        match sign {
-            Sign::Absent => None,
-            Sign::Plus | Sign::Minus => self.parameters.get(x.number, key),
+        match parameter {
+            EntityRef::Named(key) => self.loop_named(case, notes, id, block, key),
+            EntityRef::Numbered(number) => {
+                self.loop_parameter(case, notes, id, block, &Key::Num(number))
+            }
         }
     }
 
-    // What a LOOP sets, and where the transaction goes.
-    #[inline(always)]
-    fn loop_of(
-        &self,
+    // The same, of a parameter with a name (as `assign_named`).
+    #[inline(never)]
+    fn loop_named(
+        &mut self,
         case: Case,
-        x: &Transaction,
         notes: &mut Notes,
+        id: StatementId,
         block: &Block,
-    ) -> Result<Option<TransactionChange>, Halt>
-        ensures { (id : ℕ) → Decides case.entry.version.now case.entry.seed
-            (loop_prog self.now (for_one self.now x.now) id (operand block.now A) (operand block.now B))
-            (changing id result) notes.old notes.new }
+        key: &Key,
+    ) -> Result<(), Halt>
+        requires { IsSome self.old.active }
+        ensures { (x : Transaction) → self.old.active ≡ Some x → Acts case.entry.version.now case.entry.seed
+            (loop_key self.old x id block.now key.now)
+            result self.old self.new notes.old notes.new }
     {
-        let parameter = self.entity(case, x, notes, block.operand(A))?;
-        let key = parameter.to_key()?;
-        self.loop_at(case, x, notes, key, block.operand(B))
+        self.loop_parameter(case, notes, id, block, key)
     }
 
+    // The same, of the parameter with a key.
     #[inline(always)]
-    fn loop_at(
-        &self,
+    fn loop_parameter(
+        &mut self,
         case: Case,
-        x: &Transaction,
         notes: &mut Notes,
-        key: Key,
-        label: Option<&Expr>,
-    ) -> Result<Option<TransactionChange>, Halt>
-        ensures { (id : ℕ) → Decides case.entry.version.now case.entry.seed
-            (left_of (parameter_at self.now.parameters x.now.number key) ~>
-            (λ left. loop_with id key left (option_copied label.entry))) (changing id result) notes.old notes.new }
+        id: StatementId,
+        block: &Block,
+        key: &Key,
+    ) -> Result<(), Halt>
+        requires { IsSome self.old.active }
+        ensures { (x : Transaction) → self.old.active ≡ Some x → Acts case.entry.version.now case.entry.seed
+            (loop_key self.old x id block.now key.now)
+            result self.old self.new notes.old notes.new }
     {
-        let was = self.parameters.get(x.number, &key);
+        let number = self.active.get().number;
+        let (place, was) = self.parameters.look(number, key);
         let left = left_of(was)?;
-        loop_with(case, notes, key, left, label)
+        let to = loop_with(case, notes, left, block.operand(B))?;
+        self.make_loop(id, key, place, left, to)?;
+        self.take_draws(notes);
+        Ok(())
+    }
+
+    // The parameter with a key is set to what is left of it, and the transaction goes to a block, or to the next one
+    // where none is set.
+    #[inline(always)]
+    fn make_loop(
+        &mut self,
+        id: StatementId,
+        key: &Key,
+        place: Option<ParameterPlace>,
+        left: Val,
+        to: Destination,
+    ) -> Result<(), AllocError>
+        requires there { IsSome self.old.active }
+        requires place { (x : Transaction) → self.old.active ≡ Some x →
+            IsKnownPlace self.old.parameters x.number key.now place }
+        ensures ok { OnOk result (self.new ≡ moved self.old (looped id key.now left to)) }
+        ensures err { OnErr result (self.new ≡ self.old) }
+    {
+        let number = self.active.get().number;
+        self.counts.reserve(id)?;
+        // The last that may be refused.
+        self.parameters.assign_at(number, key, place, left)?;
+        enter_active(&mut self.active, &mut self.counts, id);
+        self.active.set_destination(to);
+        Ok(())
     }
 
     // The value of a parameter of the transaction that asks.
@@ -167,6 +257,24 @@ fn value_held(value: Option<Val>) -> Result<Val, Halt>
     }
 }
 
+// Where a parameter of a transaction lies before an ASSIGN, and its value. It is looked up only where the ASSIGN has a
+// sign: else what is set does not depend on it.
+#[inline(always)]
+fn value_before(
+    parameters: &Parameters,
+    number: u64,
+    sign: Sign,
+    key: &Key,
+) -> (Option<ParameterPlace>, Option<Val>)
+    ensures place { IsKnownPlace parameters.now number key.now result.0 }
+    ensures value { (v : ℤ) → by_sign sign result.1 v ≡ by_sign sign (parameter_at parameters.now number key.now) v }
+{
+    match sign {
+        Sign::Absent => (None, None),
+        Sign::Plus | Sign::Minus => parameters.look(number, key),
+    }
+}
+
 // What a value makes of a parameter, by the sign before it.
 fn by_sign(sign: Sign, was: Option<Val>, value: Val) -> Result<Val, ArithmeticFault>
     ensures { result ≡ by_sign sign was value }
@@ -185,24 +293,6 @@ fn or_zero(value: Option<Val>) -> Val
         Some(value) => value,
         None => Val::ZERO,
     }
-}
-
-fn assign_with(
-    sign: Sign,
-    key: Key,
-    was: Option<Val>,
-    value: Val,
-) -> Result<Option<TransactionChange>, Halt>
-    ensures { (id : ℕ) → Comes (assign_with id sign key was value) (changing id result) }
-{
-    let to = arithmetic(by_sign(sign, was, value))?;
-    assign_to(key, to)
-}
-
-fn assign_to(key: Key, to: Val) -> Result<Option<TransactionChange>, Halt>
-    ensures { (id : ℕ) → Comes (assign_to id key to) (changing id result) }
-{
-    Ok(Some(TransactionChange::Assign { key, to }))
 }
 
 // What a LOOP leaves of a parameter.
@@ -224,32 +314,28 @@ fn one() -> Val
     }
 }
 
-// At 0 to the next block, else back to the one with the label.
+// Where a transaction goes at a LOOP: at 0 to the next block, else back to the one with the label.
+#[inline(always)]
 fn loop_with(
     case: Case,
     notes: &mut Notes,
-    key: Key,
     left: Val,
     label: Option<&Expr>,
-) -> Result<Option<TransactionChange>, Halt>
-    ensures { (id : ℕ) → Decides case.entry.version.now case.entry.seed
-        (loop_with id key left (option_copied label.entry)) (changing id result) notes.old notes.new }
+) -> Result<Destination, Halt>
+    ensures { (id : ℕ) → (key : Key) → Decides case.entry.version.now case.entry.seed
+        (loop_with id key left (option_copied label.entry)) (looping id key left result) notes.old notes.new }
 {
     if left.magnitude() == 0 {
-        return assign_to(key, left);
+        return Ok(Destination::none());
     }
-    loop_to(case, notes, key, left, label)
+    loop_to(case, notes, label)
 }
 
-fn loop_to(
-    case: Case,
-    notes: &mut Notes,
-    key: Key,
-    left: Val,
-    label: Option<&Expr>,
-) -> Result<Option<TransactionChange>, Halt>
-    ensures { (id : ℕ) → Decides case.entry.version.now case.entry.seed
-        (loop_to id key left (option_copied label.entry)) (changing id result) notes.old notes.new }
+// Back to the block with a label.
+#[inline(always)]
+fn loop_to(case: Case, notes: &mut Notes, label: Option<&Expr>) -> Result<Destination, Halt>
+    ensures { (id : ℕ) → (key : Key) → (left : ℤ) → Decides case.entry.version.now case.entry.seed
+        (loop_to id key left (option_copied label.entry)) (looping id key left result) notes.old notes.new }
 {
     let Some(expr) = label else {
         return Err(Halt::NO_NEXT_BLOCK);
@@ -257,21 +343,18 @@ fn loop_to(
     match expr.node() {
         Node::Label(name) => {
             let to = ask_label(case.version, notes, name)?;
-            loop_back(key, left, to)
+            loop_back(to)
         }
         _ => Err(Halt::NO_NEXT_BLOCK),
     }
 }
 
-fn loop_back(
-    key: Key,
-    left: Val,
-    to: Option<StatementId>,
-) -> Result<Option<TransactionChange>, Halt>
-    ensures { (id : ℕ) → Comes (loop_back id key left to) (changing id result) }
+#[inline(always)]
+fn loop_back(to: Option<StatementId>) -> Result<Destination, Halt>
+    ensures { (id : ℕ) → (key : Key) → (left : ℤ) → Comes (loop_back id key left to) (looping id key left result) }
 {
     match to {
-        Some(to) => Ok(Some(TransactionChange::Loop { key, left, to })),
+        Some(to) => Ok(Destination::to(to)),
         None => Err(Halt::NO_NEXT_BLOCK),
     }
 }

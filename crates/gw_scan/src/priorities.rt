@@ -2,17 +2,20 @@
 ghost use Rattle.std.specs.Prelude.{◌≡◌, ℕ, Some, IsSome};
 ghost use Rattle.gw_meaning.specs.Statements.{A, operand};
 ghost use Rattle.gw_meaning.specs.Step.{for_one, mark_prog, priority_prog};
+ghost use Rattle.gw_meaning.specs.Evaluation.{gives};
 ghost use Rattle.gw_meaning.specs.Listing.{Listing};
 ghost use Rattle.gw_meaning.specs.declared.transaction.Transaction.{Transaction};
-ghost use Rattle.gw_scan.specs.Stepping.{Acts};
-ghost use Rattle.gw_scan.specs.Deciding.{Decides, changing};
+ghost use Rattle.gw_scan.specs.Deciding.{prioritized};
+ghost use Rattle.gw_scan.specs.Stepping.{Acts, Goes};
 
 use crate::case::Case;
+use crate::entering::enter_active;
 use crate::halt::Halt;
 use crate::notes::Notes;
 use crate::state::State;
 use gw_meaning::operands::A;
-use gw_meaning::{Block, StatementId, Transaction, TransactionChange};
+use gw_meaning::{Block, StatementId};
+use gw_nums::Val;
 
 impl State {
     // A transaction is marked with the clock.
@@ -22,7 +25,20 @@ impl State {
         ensures { (version : Listing) (seed : ℕ) →
             Acts version seed (mark_prog id) result self.old self.new notes.now notes.now }
     {
-        self.enter_changing(id, Ok(Some(TransactionChange::Mark)), notes)
+        let marked = self.mark(id);
+        self.with_draws(marked, notes)
+    }
+
+    // The block is entered, and its transaction marked; the draws come behind.
+    #[inline(always)]
+    fn mark(&mut self, id: StatementId) -> Result<(), Halt>
+        requires { IsSome self.old.active }
+        ensures { Goes (mark_prog id) result self.old self.new }
+    {
+        self.counts.reserve(id)?;
+        enter_active(&mut self.active, &mut self.counts, id);
+        self.active.mark(self.clocks.clock());
+        Ok(())
     }
 
     // A transaction gets another priority, and stays active.
@@ -40,24 +56,20 @@ impl State {
             result self.old self.new notes.old notes.new }
     {
         let x = self.active.get();
-        let change = self.priority_of(case, x, notes, block);
-        self.enter_changing(id, change, notes)
+        let to = self.value_there(case, &self.for_one(x), notes, block.operand(A))?;
+        let given = self.give_priority(id, to);
+        self.with_draws(given, notes)
     }
 
-    // The priority that the operand says.
+    // The block is entered, and its transaction gets the priority; the draws come behind.
     #[inline(always)]
-    fn priority_of(
-        &self,
-        case: Case,
-        x: &Transaction,
-        notes: &mut Notes,
-        block: &Block,
-    ) -> Result<Option<TransactionChange>, Halt>
-        ensures { (id : ℕ) → Decides case.entry.version.now case.entry.seed
-            (priority_prog self.now (for_one self.now x.now) id (operand block.now A))
-            (changing id result) notes.old notes.new }
+    fn give_priority(&mut self, id: StatementId, to: Val) -> Result<(), Halt>
+        requires { IsSome self.old.active }
+        ensures { Goes (gives (prioritized id to)) result self.old self.new }
     {
-        let to = self.value_there(case, &self.for_one(x), notes, block.operand(A))?;
-        Ok(Some(TransactionChange::Priority { to }))
+        self.counts.reserve(id)?;
+        enter_active(&mut self.active, &mut self.counts, id);
+        self.active.set_priority(to);
+        Ok(())
     }
 }

@@ -1,19 +1,22 @@
 // TRANSFER: where the transaction goes is asked and drawn.
-ghost use Rattle.std.specs.Prelude.{◌≡◌, ◌<◌, ℕ, IsSome, if◌then◌else◌, nat_lt, option_copied};
+ghost use Rattle.std.specs.Prelude.{◌≡◌, ◌<◌, ℕ, IsSome, OnOk, OnErr, if◌then◌else◌, nat_lt, option_copied};
+ghost use Rattle.gw_meaning.specs.Changes.{moved};
 ghost use Rattle.gw_meaning.specs.Evaluation.{millionths};
 ghost use Rattle.gw_meaning.specs.Statements.{A, B, C, operand};
 ghost use Rattle.gw_meaning.specs.Step.{by_fraction, go_to, lead_to, transfer_prog};
 ghost use Rattle.gw_scan.specs.Stepping.{Acts};
-ghost use Rattle.gw_scan.specs.Deciding.{Decides, Comes, changing};
+ghost use Rattle.gw_scan.specs.Deciding.{Decides, Comes, sent, sending};
 
 use crate::case::{Case, ask_label};
 use crate::draws::{draw, millionths};
+use crate::entering::enter_active;
 use crate::halt::Halt;
 use crate::notes::Notes;
 use crate::state::State;
 use gw_expr::{Expr, Node};
 use gw_meaning::operands::{A, B, C};
-use gw_meaning::{Block, StatementId, TransactionChange};
+use gw_meaning::{Block, Destination, StatementId};
+use std::alloc::AllocError;
 
 impl State {
     // A transaction is sent to a block, or goes on to the next one.
@@ -30,21 +33,32 @@ impl State {
             (transfer_prog id (operand block.now A) (operand block.now B) (operand block.now C))
             result self.old self.new notes.old notes.new }
     {
-        let change = transfer_of(case, notes, block);
-        self.enter_changing(id, change, notes)
+        let to = transfer_of(case, notes, block)?;
+        self.send(id, to)?;
+        self.take_draws(notes);
+        Ok(())
+    }
+
+    // The active transaction enters a block and goes to another one, or to the next one where none is set.
+    #[inline(always)]
+    fn send(&mut self, id: StatementId, to: Destination) -> Result<(), AllocError>
+        requires { IsSome self.old.active }
+        ensures ok { OnOk result (self.new ≡ moved self.old (sent id to)) }
+        ensures err { OnErr result (self.new ≡ self.old) }
+    {
+        self.counts.reserve(id)?;
+        enter_active(&mut self.active, &mut self.counts, id);
+        self.active.set_destination(to);
+        Ok(())
     }
 }
 
 // Where it is sent.
 #[inline(always)]
-fn transfer_of(
-    case: Case,
-    notes: &mut Notes,
-    block: &Block,
-) -> Result<Option<TransactionChange>, Halt>
+fn transfer_of(case: Case, notes: &mut Notes, block: &Block) -> Result<Destination, Halt>
     ensures { (id : ℕ) → Decides case.entry.version.now case.entry.seed
         (transfer_prog id (operand block.now A) (operand block.now B) (operand block.now C))
-        (changing id result) notes.old notes.new }
+        (sending id result) notes.old notes.new }
 {
     transfer(
         case,
@@ -62,10 +76,10 @@ fn transfer(
     fraction: Option<&Expr>,
     near: Option<&Expr>,
     far: Option<&Expr>,
-) -> Result<Option<TransactionChange>, Halt>
+) -> Result<Destination, Halt>
     ensures { (id : ℕ) → Decides case.entry.version.now case.entry.seed
         (transfer_prog id (option_copied fraction.entry) (option_copied near.entry) (option_copied far.entry))
-        (changing id result) notes.old notes.new }
+        (sending id result) notes.old notes.new }
 {
     let Some(expr) = fraction else {
         return lead_to(case, notes, near);
@@ -83,10 +97,10 @@ fn by_fraction(
     part: u32,
     near: Option<&Expr>,
     far: Option<&Expr>,
-) -> Result<Option<TransactionChange>, Halt>
+) -> Result<Destination, Halt>
     ensures { (id : ℕ) → Decides case.entry.version.now case.entry.seed
         (by_fraction id part (option_copied near.entry) (option_copied far.entry))
-        (changing id result) notes.old notes.new }
+        (sending id result) notes.old notes.new }
 {
     let number = draw(case, notes, 1)?;
     lead_to(case, notes, chosen(number, part, near, far))
@@ -112,32 +126,28 @@ fn chosen<'a>(
 
 // To the block with a label, or to the next block where there is none.
 #[inline(always)]
-fn lead_to(
-    case: Case,
-    notes: &mut Notes,
-    label: Option<&Expr>,
-) -> Result<Option<TransactionChange>, Halt>
+fn lead_to(case: Case, notes: &mut Notes, label: Option<&Expr>) -> Result<Destination, Halt>
     ensures { (id : ℕ) → Decides case.entry.version.now case.entry.seed (lead_to id (option_copied label.entry))
-        (changing id result) notes.old notes.new }
+        (sending id result) notes.old notes.new }
 {
     let Some(expr) = label else {
-        return Ok(None);
+        return Ok(Destination::none());
     };
     match expr.node() {
         Node::Label(name) => {
             let to = ask_label(case.version, notes, name)?;
             go_to(to)
         }
-        _ => Ok(None),
+        _ => Ok(Destination::none()),
     }
 }
 
 #[inline(always)]
-fn go_to(to: Option<StatementId>) -> Result<Option<TransactionChange>, Halt>
-    ensures { (id : ℕ) → Comes (go_to id to) (changing id result) }
+fn go_to(to: Option<StatementId>) -> Result<Destination, Halt>
+    ensures { (id : ℕ) → Comes (go_to id to) (sending id result) }
 {
     match to {
-        Some(to) => Ok(Some(TransactionChange::Transfer { to })),
+        Some(to) => Ok(Destination::to(to)),
         None => Err(Halt::NO_NEXT_BLOCK),
     }
 }

@@ -3,7 +3,7 @@ use Rattle.gw_expr.specs.Term.{Term}
 use Rattle.gw_meaning.specs.declared.moves.Move.{Move}
 use Rattle.gw_meaning.specs.Evaluation.{Eval, draw, millionths}
 use Rattle.gw_meaning.specs.Step.{by_fraction, lead_to}
-use Rattle.gw_scan.specs.Deciding.{Decides, changing}
+use Rattle.gw_scan.specs.Deciding.{Decides, sending}
 use Rattle.gw_scan.proofs.Binding.{decides_whole}
 use Rattle.gw_scan.proofs.transfer.by_fraction.Goals as goal
 
@@ -14,7 +14,7 @@ returns c id =
     let near = option_copied c.args.near in
     let far = option_copied c.args.far in
     let led : ℕ → Eval Move = λ x. lead_to id (cond (nat_lt (millionths x) c.args.part) far near) in
-    let F : Option Term → Type 0 = λ o. Decides t seed (lead_to id o) (changing id c.lead_to.result) c.draw.new.notes c.lead_to.new.notes in
+    let F : Option Term → Type 0 = λ o. Decides t seed (lead_to id o) (sending id c.lead_to.result) c.draw.new.notes c.lead_to.new.notes in
     let here = subst F c.chosen.ensures (c.lead_to.ensures id) in
-    decides_whole t seed (draw 1) led (by_fraction id c.args.part near far) c.in_ok-number.number (changing id c.lead_to.result)
+    decides_whole t seed (draw 1) led (by_fraction id c.args.part near far) c.in_ok-number.number (sending id c.lead_to.result)
     c.args.notes.now c.draw.new.notes c.lead_to.new.notes refl c.in_ok-number.ensures here

@@ -77,11 +77,11 @@ computed-returns-in_err-token n c =
     let vs = definitions_prog c.args.depth s q in
     let ts = c.args.tokens.now in
     let i = c.loop-index.index in
-    let here = c.index-tokens-index.result in
+    let here = c.index-tokens-index-in-loop-index.result in
     let first = token_prog s q vs here c.loop-index.values in
     let rest : List ℤ → Eval (List ℤ) = λ more. tokens_prog s q vs (drop (i + 1) ts) more in
     let whole : tokens_prog s q vs (drop i ts) c.loop-index.values ≡ (first ~> rest) =
-    ap (λ us. tokens_prog s q vs us c.loop-index.values) (item_drop ts i here c.loop-index-test.true c.index-tokens-index.is) in
+    ap (λ us. tokens_prog s q vs us c.loop-index.values) (item_drop ts i here c.loop-index-test.true c.index-tokens-index-in-loop-index.is) in
     let e = c.in_err-token.field-0.0 in
     let behind = decides_exit t seed first rest (tokens_prog s q vs (drop i ts) c.loop-index.values) (Err e) e e _ _ whole refl refl c.in_err-token.ensures in
     let all = c.loop-index.invariant (Err e) c.token.new.notes behind in
@@ -96,11 +96,11 @@ computed-loop-index-preserved n c = λ r all h.
     let vs = definitions_prog c.args.depth s q in
     let ts = c.args.tokens.now in
     let i = c.loop-index.index in
-    let here = c.index-tokens-index.result in
+    let here = c.index-tokens-index-in-loop-index.result in
     let first = token_prog s q vs here c.loop-index.values in
     let rest : List ℤ → Eval (List ℤ) = λ more. tokens_prog s q vs (drop (i + 1) ts) more in
     let whole : tokens_prog s q vs (drop i ts) c.loop-index.values ≡ (first ~> rest) =
-    ap (λ us. tokens_prog s q vs us c.loop-index.values) (item_drop ts i here c.loop-index-test.true c.index-tokens-index.is) in
+    ap (λ us. tokens_prog s q vs us c.loop-index.values) (item_drop ts i here c.loop-index-test.true c.index-tokens-index-in-loop-index.is) in
     c.loop-index.invariant r all
     (decides_whole t seed first rest _ c.token.new.values r c.loop-index.notes c.token.new.notes all whole c.in_ok-token.ensures h)
 
@@ -132,8 +132,8 @@ computed-returns-in_err-many n c =
     let all = c.loop-index.invariant (Err e) c.rest.new.notes (subst F (take_rest ts c.loop-index.index) c.in_err-many.ensures) in
     decides_exit t seed (tokens_prog s q vs ts []) last_value _ c.from_residual.result _ e _ _ refl p.1 p.2 all
 
-pub computed-returns-then-is_full : goal.computed-returns-then-is_full
-computed-returns-then-is_full n c =
+pub computed-returns-then-is_full_for : goal.computed-returns-then-is_full_for
+computed-returns-then-is_full_for n c =
     let t = c.args.case.version.now in
     let seed = c.args.case.seed in
     let s = c.args.self.now in

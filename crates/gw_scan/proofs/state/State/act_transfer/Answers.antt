@@ -1,12 +1,36 @@
+use Rattle.std.proofs.Common.{ap, sym, subst, ◌∙◌, Ok}
+use Rattle.std.proofs.lemmas.Result.{err_from_is_err_and}
+use Rattle.gw_meaning.specs.Machine.{Machine}
 use Rattle.gw_meaning.specs.Statements.{A, B, C, operand}
 use Rattle.gw_meaning.specs.Step.{transfer_prog}
-use Rattle.gw_scan.specs.Deciding.{changing}
-use Rattle.gw_scan.proofs.Acting.{acts_made}
+use Rattle.gw_scan.specs.Deciding.{sent, sending}
+use Rattle.gw_scan.specs.Stepping.{Acts}
+use Rattle.gw_scan.proofs.Acting.{acts_ends, acts_memory}
+use Rattle.gw_scan.proofs.StepLaws.{decides_keeps}
 use Rattle.gw_scan.proofs.state.State.act_transfer.Goals as goal
 
-pub returns : goal.returns
-returns c =
+pub returns-in_err-to : goal.returns-in_err-to
+returns-in_err-to c =
+    let p = err_from_is_err_and c.from_residual.result c.from_residual.ensures.1 in
     let b = c.args.block.now in
-    acts_made c.args.case.version.now c.args.case.seed (transfer_prog c.args.id (operand b A) (operand b B) (operand b C))
-    (changing c.args.id c.transfer_of-change.result) c.enter_changing.result c.args.self.now c.enter_changing.new.self c.args.notes.now
-    c.transfer_of-change.new.notes (c.transfer_of-change.ensures c.args.id) c.enter_changing.ensures
+    acts_ends c.args.case.version.now c.args.case.seed (transfer_prog c.args.id (operand b A) (operand b B) (operand b C)) _ _
+    c.in_err-to.field-0.0 c.args.self.now _ _ p.1 p.2 (c.in_err-to.ensures c.args.id)
+
+pub returns-in_err-send : goal.returns-in_err-send
+returns-in_err-send c =
+    let p = err_from_is_err_and c.from_residual-in_err-send.result c.from_residual-in_err-send.ensures.1 in
+    let t = c.args.case.version.now in
+    let seed = c.args.case.seed in
+    let s = c.args.self.now in
+    let b = c.args.block.now in
+    let q = transfer_prog c.args.id (operand b A) (operand b B) (operand b C) in
+    let kept = decides_keeps t seed q (sending c.args.id (Ok c.in_ok-to.to)) _ _ (c.in_ok-to.ensures c.args.id) in
+    let F : Machine → Type 0 = λ after. Acts t seed q c.from_residual-in_err-send.result s after c.args.notes.now c.transfer_of.new.notes in
+    subst F (sym c.in_err-send.ensures.err) (acts_memory t seed q _ _ s _ _ p.1 p.2 kept)
+
+pub returns : goal.returns
+returns c = (
+  sent c.args.id c.in_ok-to.to,
+  c.in_ok-to.ensures c.args.id,
+  c.take_draws.ensures ∙ ap (λ (after : Machine). record after { streams = c.transfer_of.new.notes.streams }) c.in_ok-send.ensures.ok,
+)

@@ -1,0 +1,34 @@
+use Rattle.std.proofs.Common.{◌≡◌, ℤ, ap, ◌∙◌, rules}
+use Rattle.std.proofs.lemmas.Result.{err_from_is_err_and}
+use Rattle.gw_entities.specs.Parameters.{parameter_at}
+use Rattle.gw_meaning.specs.declared.moves.Change.TheVariants as changes
+use Rattle.gw_meaning.specs.declared.moves.Fate.TheVariants as fates
+use Rattle.gw_meaning.specs.declared.moves.Move.{Move}
+use Rattle.gw_meaning.specs.declared.moves.Move.TheVariants as moves
+use Rattle.gw_meaning.specs.declared.transaction_change.TransactionChange.TheVariants as own
+use Rattle.gw_meaning.specs.Evaluation.{Eval, gives, arithmetic, ◌~>◌}
+use Rattle.gw_meaning.specs.Step.{assign_to, by_sign}
+use Rattle.gw_scan.proofs.Acting.{goes_exit}
+use Rattle.gw_scan.proofs.state.State.assign.Goals as goal
+
+pub returns-in_err-to : goal.returns-in_err-to
+returns-in_err-to c x is =
+    let p = err_from_is_err_and c.from_residual.result c.from_residual.ensures.1 in
+    let s = c.args.self.now in
+    let key = c.args.key.now in
+    let rest : ℤ → Eval Move = λ v. assign_to c.args.id key v in
+    let same : c.get.result.now ≡ x = search rules in
+    let found : by_sign c.args.sign (parameter_at s.parameters x.number key) c.args.value ≡ c.by_sign.result = search rules in
+    rw found (goes_exit (arithmetic c.by_sign.result) rest _ _ c.in_err-to.field-0.0 s p.1 p.2 c.in_err-to.ensures)
+
+pub returns : goal.returns
+returns c x is =
+    let s = c.args.self.now in
+    let key = c.args.key.now in
+    let to = c.in_ok-to.to in
+    let m = moves.Enter c.args.id (changes.Transaction (own.Assign key to)) fates.Active in
+    let same : c.get.result.now ≡ x = search rules in
+    let found : by_sign c.args.sign (parameter_at s.parameters x.number key) c.args.value ≡ c.by_sign.result = search rules in
+    let goes : (arithmetic (by_sign c.args.sign (parameter_at s.parameters x.number key) c.args.value) ~> (λ v. assign_to c.args.id key v)) ≡ gives m =
+    ap (λ r. arithmetic r ~> (λ v. assign_to c.args.id key v)) found ∙ ap (λ q. q ~> (λ v. assign_to c.args.id key v)) c.in_ok-to.ensures in
+    (m, goes, rw is (search rules))
