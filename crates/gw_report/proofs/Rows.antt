@@ -1,5 +1,6 @@
 -- A row, column by column; a number in a cell.
-use Rattle.std.proofs.Common.{◌≡◌, ℕ, ℤ, pos, negsuc, ap, ◌∙◌, ◌+◌, ◌<◌, List, [], ◌∷◌, ◌⊎◌, Some, None, slice_get, length, get_or, drop, refl, inl, inr, add-one, drop-cons, arith}
+use Rattle.std.proofs.Common.{◌≡◌, ℕ, ℤ, pos, negsuc, ap, ◌∙◌, ◌+◌, ◌<◌, List, [], ◌∷◌, ◌++◌}
+use Rattle.std.proofs.Common.{append_assoc, ◌⊎◌, Some, None, slice_get, length, get_or, drop, refl, inl, inr, add-one, drop-cons, arith}
 use Rattle.std.proofs.lemmas.Option.{slice_get_within, slice_get-get_or, get_or_from_slice_get}
 use Rattle.std.specs.Fmt.{decimal, signed_decimal}
 use Rattle.gw_report.specs.Layout.{Column, row_behind}
@@ -35,3 +36,8 @@ got_drop xs i x h =
 pub none_left : {X : Type 0} (xs : List X) (i : ℕ) → i < length xs → slice_get xs i ≡ None → ⊥
 none_left [] i h none = omega arith
 none_left (x ∷ xs) i h none = let some = slice_get-get_or (x ∷ xs) i x h in cc
+
+-- a cell more, in front of what is left of the row
+pub cell_then : (before gap cell rest after : List ℕ) → after ≡ before ++ (gap ++ cell) → after ++ rest ≡ before ++ (gap ++ (cell ++ rest))
+cell_then before gap cell rest after put =
+    ap (λ l. l ++ rest) put ∙ append_assoc before (gap ++ cell) rest ∙ ap (λ l. before ++ l) (append_assoc gap cell rest)

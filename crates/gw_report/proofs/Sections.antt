@@ -8,7 +8,7 @@ use Rattle.gw_meaning.specs.declared.statement.Block.{Block}
 use Rattle.gw_meaning.specs.declared.statement.Body.TheVariants as bodies
 use Rattle.gw_meaning.specs.declared.statement.Numbered.{Numbered}
 use Rattle.gw_report.specs.Blocks.{block_columns, block_line, block_lines}
-use Rattle.gw_report.specs.Layout.{Column, row_of, row_behind, rows_of, section_of, cell_of}
+use Rattle.gw_report.specs.Layout.{Column, heading_of, row_of, row_behind, rows_of, section_of, cell_of}
 use Rattle.gw_report.specs.Cells.{if_any, under_heading}
 use Rattle.gw_report.proofs.Rows.{got_drop}
 
@@ -31,12 +31,12 @@ row_has : (columns : List Column) (row : List (List ℕ)) → HasByte (row_of co
 unfolding row_of
 row_has columns row = row_behind_has [] columns row
 
-any_shown : (columns : List Column) (text more : List ℕ) → HasByte text → if_any columns (text ++ more) ≡ under_heading columns (text ++ more)
-any_shown columns text more h = rw h.is refl
+any_shown : (heading text more : List ℕ) → HasByte text → if_any heading (text ++ more) ≡ under_heading heading (text ++ more)
+any_shown heading text more h = rw h.is refl
 
-pub section_shown : (columns : List Column) (rows : List (List (List ℕ))) → if_any columns (rows_of columns rows) ≡ section_of columns rows
+pub section_shown : (columns : List Column) (rows : List (List (List ℕ))) → if_any (heading_of columns) (rows_of columns rows) ≡ section_of columns rows
 section_shown columns [] = refl
-section_shown columns (row ∷ rows) = any_shown columns (row_of columns row) (rows_of columns rows) (row_has columns row)
+section_shown columns (row ∷ rows) = any_shown (heading_of columns) (row_of columns row) (rows_of columns rows) (row_has columns row)
 
 -- lines that lists of rows make, one list after another
 pub rows_joined : {X : Type 0} (columns : List Column) (f : X → List (List (List ℕ))) (xs : List X) →

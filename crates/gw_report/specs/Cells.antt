@@ -1,7 +1,7 @@
 -- The columns and cells of the code, as texts of the layout. (Our own.)
 use Rattle.std.specs.Prelude.{ℕ, ℤ, ◌+◌, ◌/◌, ◌%◌, List, [], ◌∷◌, ◌++◌, decimal, if◌then◌else◌}
 use Rattle.gw_nums.specs.Range.{magnitude, is_negative}
-use Rattle.gw_report.specs.Layout.{Column, heading_of}
+use Rattle.gw_report.specs.Layout.{Column}
 use Rattle.gw_report.specs.declared.column.Column as code
 use Rattle.gw_report.specs.declared.column.Cell.{Cell}
 use Rattle.gw_report.specs.declared.column.Cell.TheVariants.{Text, Number, Signed, Thousandths}
@@ -20,9 +20,9 @@ fraction_of n = 46 ∷ digit_of (n / 100) ∷ digit_of (n / 10) ∷ digit_of n �
 abbrev pub decimals : ℕ → List ℕ
 decimals n = decimal (n / 1000) ++ fraction_of n
 
--- a column of the code
+-- a column of the code, whose title does not show in a row
 abbrev pub column_of : code.Column → Column
-column_of column = record { title = column.0.now; width = column.1; side = column.2 }
+column_of column = record { title = []; width = column.0; side = column.1 }
 
 -- the text of a cell
 abbrev pub text_of_cell : Cell → List ℕ
@@ -31,11 +31,11 @@ text_of_cell (Number number) = decimal number
 text_of_cell (Signed value) = signed value
 text_of_cell (Thousandths number) = decimals number
 
--- an empty line, a heading, and the bytes of lines
-abbrev pub under_heading : List Column → List ℕ → List ℕ
-under_heading columns lines = 10 ∷ heading_of columns ++ lines
+-- an empty line, the bytes of a heading, and those of lines
+abbrev pub under_heading : List ℕ → List ℕ → List ℕ
+under_heading heading lines = 10 ∷ heading ++ lines
 
 -- the same, or nothing where there are no lines
-abbrev pub if_any : List Column → List ℕ → List ℕ
-if_any columns [] = []
-if_any columns (b ∷ bs) = under_heading columns (b ∷ bs)
+abbrev pub if_any : List ℕ → List ℕ → List ℕ
+if_any heading [] = []
+if_any heading (b ∷ bs) = under_heading heading (b ∷ bs)

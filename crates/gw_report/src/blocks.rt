@@ -1,59 +1,58 @@
 ghost use Rattle.std.specs.Prelude.{◌≡◌, ◌++◌, OnOk};
-ghost use Rattle.gw_report.specs.Layout.{rows_of};
+ghost use Rattle.gw_report.specs.Layout.{rows_of, heading_of};
 ghost use Rattle.gw_report.specs.Blocks.{label_text, block_columns, block_lines, blocks_text};
 
-use crate::column::{Cell, Column, Side, put_row};
+use crate::column::Side;
 use crate::position::position_of;
-use crate::section::{LINES, put_table};
+use crate::section::put_table;
+use crate::sheet::Sheet;
 use gw_meaning::{Body, Numbered};
 use gw_model::Version;
 use gw_names::Name;
 use gw_scan::State;
 use std::alloc::AllocError;
 
-const BLOCK_COLUMNS: [Column; 6] = [
-    Column(b"LABEL", 10, Side::Left),
-    Column(b"LOC", 5, Side::Right),
-    Column(b"BLOCK TYPE", 10, Side::Left),
-    Column(b"ENTRY COUNT", 11, Side::Right),
-    Column(b"CURRENT COUNT", 13, Side::Right),
-    Column(b"RETRY", 6, Side::Right),
-];
-
 /// Appends the blocks, in order.
 pub fn put_blocks(out: &mut Vec<u8>, version: &Version, state: &State) -> Result<(), AllocError>
     ensures { OnOk result (out.new.items ≡ out.old.items ++ blocks_text version.now state.now) }
 {
-    let mut lines = Vec::with_capacity(*out.allocator(), LINES)?;
+    let mut lines = Sheet::new(*out.allocator());
     for line in version.lines() {
         put_block(&mut lines, version, state, line)?;
     }
-    put_table(out, &BLOCK_COLUMNS, lines.as_slice())
+    put_table(out, block_heading(), lines.as_slice())
+}
+
+// The heading of the section.
+#[tactic(auto, unfolding(crate::specs::Layout::heading_of, crate::specs::Layout::row_of))]
+fn block_heading() -> &'static [u8]
+    ensures { result.now ≡ heading_of block_columns }
+{
+    b"LABEL        LOC BLOCK TYPE ENTRY COUNT CURRENT COUNT  RETRY\n"
 }
 
 // The line of a block.
 fn put_block(
-    out: &mut Vec<u8>,
+    out: &mut Sheet,
     version: &Version,
     state: &State,
     line: &Numbered,
 ) -> Result<(), AllocError>
-    ensures { OnOk result (out.new.items ≡ out.old.items ++
+    ensures { OnOk result (out.new ≡ out.old ++
         rows_of block_columns (block_lines version.now state.now line.now)) }
 {
     let Body::Block(block) = &line.statement.body else {
         return Ok(());
     };
     let count = state.count(line.number);
-    let cells = [
-        Cell::Text(label_text(&line.statement.label)),
-        Cell::Number(position_of(version, Some(line.number))),
-        Cell::Text(block.verb.word()),
-        Cell::Number(count.entries),
-        Cell::Number(count.content),
-        Cell::Number(0),
-    ];
-    put_row(out, &BLOCK_COLUMNS, &cells)
+    out.make_room()?;
+    out.put_text(0, 10, Side::Left, label_text(&line.statement.label))?;
+    out.put_number(1, 5, position_of(version, Some(line.number)))?;
+    out.put_text(1, 10, Side::Left, block.verb.word())?;
+    out.put_number(1, 11, count.entries)?;
+    out.put_number(1, 13, count.content)?;
+    out.put_number(1, 6, 0)?;
+    out.end_row()
 }
 
 // A label, or nothing.

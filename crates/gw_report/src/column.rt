@@ -1,8 +1,8 @@
-ghost use Rattle.std.specs.Prelude.{◌≡◌, ◌≤◌, ◌++◌, ◌∷◌, OnOk, [], map, length, take, drop, decimal};
-ghost use Rattle.gw_report.specs.Layout.{blanks, cell_of, row_of, heading_of};
-ghost use Rattle.gw_report.specs.Cells.{column_of, text_of_cell, signed, digit_of, decimals};
+ghost use Rattle.std.specs.Prelude.{◌≡◌, ◌≤◌, ◌++◌, OnOk, map, decimal};
+ghost use Rattle.gw_report.specs.Layout.{blanks, fitted, cell_of, row_of};
+ghost use Rattle.gw_report.specs.Cells.{column_of, text_of_cell, signed, decimals, fraction_of, digit_of};
 
-use crate::laid::{LINE, MARGIN, lay_heading, lay_row};
+use crate::sheet::Sheet;
 use gw_nums::Val;
 use itoa::Buffer;
 use std::alloc::AllocError;
@@ -14,9 +14,9 @@ pub enum Side {
     Right,
 }
 
-/// A column of a section: its title, its width, and the side on which its texts stand.
+/// A column of a section: its width, and the side on which its texts stand. Its title stands in the section's heading.
 #[derive(Clone, Copy, Debug)]
-pub struct Column(pub &'static [u8], pub usize, pub Side);
+pub struct Column(pub usize, pub Side);
 
 /// What a row says in a column.
 #[derive(Clone, Copy, Debug)]
@@ -28,162 +28,105 @@ pub enum Cell<'a> {
     Thousandths(u128),
 }
 
-/// Appends the heading of a section.
-pub fn put_heading(out: &mut Vec<u8>, columns: &[Column]) -> Result<(), AllocError>
-    ensures { OnOk result (out.new.items ≡ out.old.items ++ heading_of (map column_of columns.now)) }
-{
-    let mut line = [b' '; LINE];
-    match lay_heading(&mut line, columns) {
-        Some(end) => put_laid(out, &line, end),
-        None => put_wide_heading(out, columns),
-    }
-}
-
 /// Appends a row: its cells in their columns.
-pub fn put_row(out: &mut Vec<u8>, columns: &[Column], cells: &[Cell]) -> Result<(), AllocError>
-    ensures { OnOk result (out.new.items ≡ out.old.items ++
-        row_of (map column_of columns.now) (map text_of_cell cells.now)) }
+pub fn put_row(sheet: &mut Sheet, columns: &[Column], cells: &[Cell]) -> Result<(), AllocError>
+    ensures { OnOk result (sheet.new ≡ sheet.old ++ row_of (map column_of columns.now) (map text_of_cell cells.now)) }
 {
-    let mut line = [b' '; LINE];
-    match lay_row(&mut line, columns, cells) {
-        Some(end) => put_laid(out, &line, end),
-        None => put_wide_row(out, columns, cells),
-    }
-}
-
-// Appends what is laid out in a line, behind its margin, and the end of the line.
-fn put_laid(out: &mut Vec<u8>, line: &[u8], end: usize) -> Result<(), AllocError>
-    requires { (20 ≤ end) × (end ≤ length line.now) }
-    ensures { OnOk result (out.new.items ≡ out.old.items ++ (drop 20 (take end line.now) ++ 10 ∷ [])) }
-{
-    out.extend_from_slice(&line[MARGIN..end])?;
-    end_line(out)
-}
-
-// A heading that does not fit in a line, or with a title that is wider than its column.
-#[tactic(auto, using(crate::proofs::Rows::item_drop), unfolding(crate::specs::Layout::heading_of, crate::specs::Layout::row_of))]
-fn put_wide_heading(out: &mut Vec<u8>, columns: &[Column]) -> Result<(), AllocError>
-    ensures { OnOk result (out.new.items ≡ out.old.items ++ heading_of (map column_of columns.now)) }
-{
-    let mut before = b"".as_slice();
-    for column in columns {
-        out.extend_from_slice(before)?;
-        put_text(out, column, column.0)?;
-        before = b" ";
-    }
-    end_line(out)
-}
-
-// A row that does not fit in a line, or in which a text is wider than its column.
-#[tactic(auto, unfolding(crate::specs::Layout::row_of))]
-fn put_wide_row(out: &mut Vec<u8>, columns: &[Column], cells: &[Cell]) -> Result<(), AllocError>
-    ensures { OnOk result (out.new.items ≡ out.old.items ++
-        row_of (map column_of columns.now) (map text_of_cell cells.now)) }
-{
-    let mut before = b"".as_slice();
+    sheet.make_room()?;
+    let mut gap = 0;
     for (column, cell) in columns.iter().zip(cells) {
-        out.extend_from_slice(before)?;
-        put_cell(out, column, cell)?;
-        before = b" ";
+        put_cell(sheet, gap, column, cell)?;
+        gap = 1;
     }
-    end_line(out)
+    sheet.end_row()
 }
 
-fn end_line(out: &mut Vec<u8>) -> Result<(), AllocError>
-    ensures { OnOk result (out.new.items ≡ out.old.items ++ (10 ∷ [])) }
+// Appends a cell behind a gap.
+fn put_cell(sheet: &mut Sheet, gap: usize, column: &Column, cell: &Cell) -> Result<(), AllocError>
+    requires { gap ≤ 1 }
+    ensures { OnOk result (sheet.new ≡ sheet.old ++
+        (blanks gap ++ cell_of (column_of column.now) (text_of_cell cell.now))) }
 {
-    out.push(b'\n')?;
-    Ok(())
-}
-
-fn put_cell(out: &mut Vec<u8>, column: &Column, cell: &Cell) -> Result<(), AllocError>
-    ensures { OnOk result (out.new.items ≡ out.old.items ++ cell_of (column_of column.now) (text_of_cell cell.now)) }
-{
+    let Column(width, side) = *column;
     match *cell {
-        Cell::Text(text) => put_text(out, column, text),
-        Cell::Number(number) => put_number(out, column, number),
-        Cell::Signed(value) => put_signed(out, column, value),
-        Cell::Thousandths(number) => put_thousandths(out, column, number),
+        Cell::Text(text) => sheet.put_text(gap, width, side, text),
+        Cell::Number(number) => put_number(sheet, gap, width, side, number),
+        Cell::Signed(value) => put_signed(sheet, gap, width, side, value),
+        Cell::Thousandths(number) => put_thousandths(sheet, gap, width, side, number),
     }
 }
 
-fn put_number(out: &mut Vec<u8>, column: &Column, number: u64) -> Result<(), AllocError>
-    ensures { OnOk result (out.new.items ≡ out.old.items ++ cell_of (column_of column.now) (decimal number)) }
+fn put_number(
+    sheet: &mut Sheet,
+    gap: usize,
+    width: usize,
+    side: Side,
+    number: u64,
+) -> Result<(), AllocError>
+    requires { gap ≤ 1 }
+    ensures { OnOk result (sheet.new ≡ sheet.old ++ (blanks gap ++ fitted side width (decimal number))) }
 {
-    let mut digits = Buffer::new();
-    put_text(out, column, digits.format(number).as_bytes())
+    match side {
+        Side::Left => {
+            let mut digits = Buffer::new();
+            sheet.put_text(gap, width, side, digits.format(number).as_bytes())
+        }
+        Side::Right => sheet.put_number(gap, width, number),
+    }
 }
 
 #[tactic(auto, using(crate::proofs::Rows::signed_is))]
-fn put_signed(out: &mut Vec<u8>, column: &Column, value: Val) -> Result<(), AllocError>
-    ensures { OnOk result (out.new.items ≡ out.old.items ++ cell_of (column_of column.now) (signed value)) }
+fn put_signed(
+    sheet: &mut Sheet,
+    gap: usize,
+    width: usize,
+    side: Side,
+    value: Val,
+) -> Result<(), AllocError>
+    requires { gap ≤ 1 }
+    ensures { OnOk result (sheet.new ≡ sheet.old ++ (blanks gap ++ fitted side width (signed value))) }
 {
     let mut digits = Buffer::new();
-    put_text(out, column, digits.format(value.get()).as_bytes())
+    sheet.put_text(gap, width, side, digits.format(value.get()).as_bytes())
 }
 
-fn put_thousandths(out: &mut Vec<u8>, column: &Column, number: u128) -> Result<(), AllocError>
-    ensures { OnOk result (out.new.items ≡ out.old.items ++ cell_of (column_of column.now) (decimals number)) }
+fn put_thousandths(
+    sheet: &mut Sheet,
+    gap: usize,
+    width: usize,
+    side: Side,
+    number: u128,
+) -> Result<(), AllocError>
+    requires { gap ≤ 1 }
+    ensures { OnOk result (sheet.new ≡ sheet.old ++ (blanks gap ++ fitted side width (decimals number))) }
 {
     let mut digits = Buffer::new();
-    let fraction = [
+    let fraction = fraction_of(number);
+    let whole = digits.format(number / 1000).as_bytes();
+    match side {
+        Side::Left => sheet.put_apart(gap, width, side, whole, &fraction),
+        Side::Right => {
+            sheet.put_text(gap, width.saturating_sub(4), side, whole)?;
+            sheet.put_text(0, 4, Side::Left, &fraction)
+        }
+    }
+}
+
+// The three decimals of a number of thousandths, behind a point.
+fn fraction_of(number: u128) -> [u8; 4]
+    ensures { result ≡ fraction_of number }
+{
+    [
         b'.',
         digit_of(number / 100),
         digit_of(number / 10),
         digit_of(number),
-    ];
-    put_parts(
-        out,
-        column,
-        digits.format(number / 1000).as_bytes(),
-        &fraction,
-    )
+    ]
 }
 
-/// The last digit of a number.
-pub fn digit_of(number: u128) -> u8
+// The last digit of a number.
+fn digit_of(number: u128) -> u8
     ensures { result ≡ digit_of number }
 {
     b'0' + (number % 10) as u8
-}
-
-fn put_text(out: &mut Vec<u8>, column: &Column, text: &[u8]) -> Result<(), AllocError>
-    ensures { OnOk result (out.new.items ≡ out.old.items ++ cell_of (column_of column.now) text.now) }
-{
-    put_parts(out, column, text, b"")
-}
-
-// A text of two parts.
-fn put_parts(
-    out: &mut Vec<u8>,
-    column: &Column,
-    front: &[u8],
-    back: &[u8],
-) -> Result<(), AllocError>
-    ensures { OnOk result (out.new.items ≡ out.old.items ++
-        cell_of (column_of column.now) (front.now ++ back.now)) }
-{
-    let Column(_, width, side) = *column;
-    let spare = width.saturating_sub(front.len() + back.len());
-    match side {
-        Side::Left => {
-            out.extend_from_slice(front)?;
-            out.extend_from_slice(back)?;
-            put_blanks(out, spare)
-        }
-        Side::Right => {
-            put_blanks(out, spare)?;
-            out.extend_from_slice(front)?;
-            out.extend_from_slice(back)
-        }
-    }
-}
-
-fn put_blanks(out: &mut Vec<u8>, count: usize) -> Result<(), AllocError>
-    ensures { OnOk result (out.new.items ≡ out.old.items ++ blanks count) }
-{
-    for _ in 0..count {
-        out.push(b' ')?;
-    }
-    Ok(())
 }

@@ -1,26 +1,27 @@
 ghost use Rattle.std.specs.Prelude.{◌≡◌, ◌++◌, OnOk, IfOk, map};
-ghost use Rattle.gw_report.specs.Layout.{row_of, rows_of};
+ghost use Rattle.gw_report.specs.Layout.{row_of, rows_of, heading_of};
 ghost use Rattle.gw_report.specs.Facilities.{facility_columns, facility_line, facilities_text};
 
 use crate::column::{Cell, Column, Side, put_row};
 use crate::entity::{average_cell, key_cell};
-use crate::section::{LINES, put_section};
+use crate::section::put_section;
+use crate::sheet::Sheet;
 use gw_entities::Facility;
 use gw_names::Key;
 use gw_scan::State;
 use std::alloc::{AllocError, Global};
 
 const FACILITY_COLUMNS: [Column; 10] = [
-    Column(b"FACILITY", 10, Side::Left),
-    Column(b"ENTRIES", 8, Side::Right),
-    Column(b"UTIL.", 8, Side::Right),
-    Column(b"AVE. TIME", 11, Side::Right),
-    Column(b"AVAIL.", 6, Side::Right),
-    Column(b"OWNER", 7, Side::Right),
-    Column(b"PEND", 4, Side::Right),
-    Column(b"INTER", 5, Side::Right),
-    Column(b"RETRY", 5, Side::Right),
-    Column(b"DELAY", 5, Side::Right),
+    Column(10, Side::Left),
+    Column(8, Side::Right),
+    Column(8, Side::Right),
+    Column(11, Side::Right),
+    Column(6, Side::Right),
+    Column(7, Side::Right),
+    Column(4, Side::Right),
+    Column(5, Side::Right),
+    Column(5, Side::Right),
+    Column(5, Side::Right),
 ];
 
 /// Appends the facilities, in order of first touch.
@@ -28,16 +29,24 @@ pub fn put_facilities(out: &mut Vec<u8>, state: &State) -> Result<(), AllocError
     ensures { OnOk result (out.new.items ≡ out.old.items ++ facilities_text state.now) }
 {
     let lines = facility_lines(*out.allocator(), state)?;
-    put_section(out, &FACILITY_COLUMNS, lines.as_slice())
+    put_section(out, facility_heading(), lines.as_slice())
+}
+
+// The heading of the section.
+#[tactic(auto, unfolding(crate::specs::Layout::heading_of, crate::specs::Layout::row_of))]
+fn facility_heading() -> &'static [u8]
+    ensures { result.now ≡ heading_of facility_columns }
+{
+    b"FACILITY    ENTRIES    UTIL.   AVE. TIME AVAIL.   OWNER PEND INTER RETRY DELAY\n"
 }
 
 // The lines of the facilities.
-fn facility_lines(alloc: Global, state: &State) -> Result<Vec<u8>, AllocError>
-    ensures { IfOk result (λ lines. lines.items ≡
+fn facility_lines(alloc: Global, state: &State) -> Result<Sheet, AllocError>
+    ensures { IfOk result (λ lines. lines ≡
         rows_of facility_columns (map (facility_line state.now) state.now.entities.facilities)) }
 {
     let facilities = state.entities().facilities();
-    let mut lines = Vec::with_capacity(alloc, LINES)?;
+    let mut lines = Sheet::new(alloc);
     for index in 0..facilities.len() {
         if let Some((key, facility)) = facilities.at(index) {
             put_facility(&mut lines, state, key, facility)?;
@@ -47,14 +56,14 @@ fn facility_lines(alloc: Global, state: &State) -> Result<Vec<u8>, AllocError>
 }
 
 // The line of a facility.
-#[tactic(auto, unfolding(crate::specs::Facilities::facility_line))]
+#[tactic(auto, unfolding(crate::specs::Facilities::facility_line, crate::specs::Layout::row_of))]
 fn put_facility(
-    out: &mut Vec<u8>,
+    out: &mut Sheet,
     state: &State,
     key: &Key,
     facility: Facility,
 ) -> Result<(), AllocError>
-    ensures { OnOk result (out.new.items ≡ out.old.items ++
+    ensures { OnOk result (out.new ≡ out.old ++
         row_of facility_columns (facility_line state.now (key.now, facility))) }
 {
     let sum = facility.level().sum_up_to(state.clock_now());

@@ -1,51 +1,41 @@
 ghost use Rattle.std.specs.Prelude.{◌≡◌, ◌++◌, OnOk, IfOk, map};
-ghost use Rattle.gw_report.specs.Layout.{rows_of};
+ghost use Rattle.gw_report.specs.Layout.{rows_of, heading_of};
 ghost use Rattle.gw_report.specs.Chains.{by_time, future_columns, future_line, future_text};
 
-use crate::column::{Column, Side};
 use crate::line::put_line;
-use crate::section::{LINES, put_section};
+use crate::section::put_section;
+use crate::sheet::Sheet;
 use gw_chains::FutureChain;
 use gw_meaning::Event;
 use gw_model::Version;
 use gw_scan::State;
 use std::alloc::{AllocError, Global};
 
-const FUTURE_COLUMNS: [Column; 5] = [
-    Column(b"FEC XN", 8, Side::Right),
-    Column(b"PRI", 11, Side::Right),
-    Column(b"BDT", 10, Side::Right),
-    Column(b"CURRENT", 7, Side::Right),
-    Column(b"NEXT", 7, Side::Right),
-];
-
 /// Appends the future chain by time, and at equal times in the order of coming.
 pub fn put_future(out: &mut Vec<u8>, version: &Version, state: &State) -> Result<(), AllocError>
     ensures { OnOk result (out.new.items ≡ out.old.items ++ future_text version.now state.now) }
 {
     let lines = future_lines(*out.allocator(), version, state.future())?;
-    put_section(out, &FUTURE_COLUMNS, lines.as_slice())
+    put_section(out, future_heading(), lines.as_slice())
+}
+
+// The heading of the section.
+#[tactic(auto, unfolding(crate::specs::Layout::heading_of, crate::specs::Layout::row_of))]
+fn future_heading() -> &'static [u8]
+    ensures { result.now ≡ heading_of future_columns }
+{
+    b"  FEC XN         PRI        BDT CURRENT    NEXT\n"
 }
 
 // The lines of the future chain.
-fn future_lines(
-    alloc: Global,
-    version: &Version,
-    future: &FutureChain,
-) -> Result<Vec<u8>, AllocError>
-    ensures { IfOk result (λ lines. lines.items ≡
+fn future_lines(alloc: Global, version: &Version, future: &FutureChain) -> Result<Sheet, AllocError>
+    ensures { IfOk result (λ lines. lines ≡
         rows_of future_columns (map (future_line version.now) (by_time future.now.items))) }
 {
     let events = by_time(alloc, future)?;
-    let mut lines = Vec::with_capacity(alloc, LINES)?;
+    let mut lines = Sheet::new(alloc);
     for event in &events {
-        put_line(
-            &mut lines,
-            &FUTURE_COLUMNS,
-            version,
-            event.time,
-            &event.transaction,
-        )?;
+        put_line(&mut lines, version, event.time, &event.transaction)?;
     }
     Ok(lines)
 }

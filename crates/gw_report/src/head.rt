@@ -1,18 +1,20 @@
 ghost use Rattle.std.specs.Prelude.{◌≡◌, ◌++◌, OnOk};
-ghost use Rattle.gw_report.specs.Report.{head_text};
+ghost use Rattle.gw_report.specs.Layout.{heading_of};
+ghost use Rattle.gw_report.specs.Report.{head_columns, head_text};
 
 use crate::column::{Cell, Column, Side, put_row};
 use crate::section::put_table;
+use crate::sheet::Sheet;
 use gw_model::Version;
 use gw_scan::State;
 use std::alloc::AllocError;
 
 const HEAD_COLUMNS: [Column; 5] = [
-    Column(b"START TIME", 10, Side::Right),
-    Column(b"END TIME", 10, Side::Right),
-    Column(b"BLOCKS", 10, Side::Right),
-    Column(b"FACILITIES", 10, Side::Right),
-    Column(b"STORAGES", 10, Side::Right),
+    Column(10, Side::Right),
+    Column(10, Side::Right),
+    Column(10, Side::Right),
+    Column(10, Side::Right),
+    Column(10, Side::Right),
 ];
 
 /// Appends the head: from when to when, and how much there is.
@@ -26,7 +28,15 @@ pub fn put_head(out: &mut Vec<u8>, version: &Version, state: &State) -> Result<(
         Cell::Number(state.entities().facilities().len() as u64),
         Cell::Number(state.entities().storages().len() as u64),
     ];
-    let mut line = Vec::new(*out.allocator());
+    let mut line = Sheet::new(*out.allocator());
     put_row(&mut line, &HEAD_COLUMNS, &cells)?;
-    put_table(out, &HEAD_COLUMNS, line.as_slice())
+    put_table(out, head_heading(), line.as_slice())
+}
+
+// The heading of the section.
+#[tactic(auto, unfolding(crate::specs::Layout::heading_of, crate::specs::Layout::row_of))]
+fn head_heading() -> &'static [u8]
+    ensures { result.now ≡ heading_of head_columns }
+{
+    b"START TIME   END TIME     BLOCKS FACILITIES   STORAGES\n"
 }

@@ -1,9 +1,9 @@
 //! The standard report of one START of one replication, as bytes.
 //!
-//! [`print`] is the only call, beside the law that the numbers of statements do not show. A section is a table of
-//! columns and a function that appends its lines; the definition of the whole text, `specs/Report.antt`, and
-//! `report.rt` name the sections in the same order. A row is written in place over a line of blanks (`laid.rt`), and
-//! cell by cell only where the line is too short or a text wider than its column (`column.rt`).
+//! [`print`] is the only call, beside the law that the numbers of statements do not show. A section is a heading and a
+//! function that appends its lines; the definition of the whole text, `specs/Report.antt`, and `report.rt` name the
+//! sections in the same order. The lines of a section are written in place over blanks (`sheet.rt`): those of the
+//! blocks and the chains cell by cell, the others by a table of their columns (`column.rt`).
 #![tactic(auto)]
 
 mod blocks;
@@ -21,6 +21,7 @@ mod position;
 mod queues;
 mod report;
 mod section;
+mod sheet;
 mod storages;
 mod title;
 

@@ -3,14 +3,15 @@ ghost use Rattle.std.specs.List.{flat_map};
 ghost use Rattle.indexmap.specs.IndexSet.{insert_all};
 ghost use Rattle.gw_names.specs.Keys.{key_eq};
 ghost use Rattle.gw_meaning.specs.Listing.{label_at, number_at, operands_of_definition};
-ghost use Rattle.gw_report.specs.Layout.{row_of, rows_of};
+ghost use Rattle.gw_report.specs.Layout.{row_of, rows_of, heading_of};
 ghost use Rattle.gw_report.specs.Names.{name_columns, name_line, name_lines, names_in, names_of, names_text};
 ghost use Rattle.gw_report.specs.Names.{names_in_atom, names_in_operand, names_in_term, names_in_token, next_behind};
 ghost use Rattle.gw_report.specs.NameKeys.{as_keys, names_among};
 
 use crate::column::{Cell, Column, Side, put_row};
 use crate::position::position_of;
-use crate::section::{LINES, put_section};
+use crate::section::put_section;
+use crate::sheet::Sheet;
 use gw_expr::{Atom, Expr, Node, Subject, Token};
 use gw_meaning::{Body, Definition, Numbered};
 use gw_model::Version;
@@ -18,10 +19,7 @@ use gw_names::{Key, Name};
 use indexmap::IndexSet;
 use std::alloc::{AllocError, Global};
 
-const NAME_COLUMNS: [Column; 2] = [
-    Column(b"NAME", 10, Side::Left),
-    Column(b"VALUE", 10, Side::Right),
-];
+const NAME_COLUMNS: [Column; 2] = [Column(10, Side::Left), Column(10, Side::Right)];
 
 // The first value of a name that labels no block.
 const FIRST_VALUE: u64 = 10_000;
@@ -33,7 +31,15 @@ pub fn put_names(out: &mut Vec<u8>, version: &Version) -> Result<(), AllocError>
     let alloc = *out.allocator();
     let names = names_of(alloc, version)?;
     let lines = name_lines(alloc, version, names.as_slice())?;
-    put_section(out, &NAME_COLUMNS, lines.as_slice())
+    put_section(out, name_heading(), lines.as_slice())
+}
+
+// The heading of the section.
+#[tactic(auto, unfolding(crate::specs::Layout::heading_of, crate::specs::Layout::row_of))]
+fn name_heading() -> &'static [u8]
+    ensures { result.now ≡ heading_of name_columns }
+{
+    b"NAME            VALUE\n"
 }
 
 // The names of a version.
@@ -148,11 +154,11 @@ fn add_name(names: &mut IndexSet<Key>, name: &Name) -> Result<(), AllocError>
 }
 
 // The lines of the names.
-fn name_lines(alloc: Global, version: &Version, names: &[Key]) -> Result<Vec<u8>, AllocError>
-    ensures { IfOk result (λ lines. lines.items ≡
+fn name_lines(alloc: Global, version: &Version, names: &[Key]) -> Result<Sheet, AllocError>
+    ensures { IfOk result (λ lines. lines ≡
         rows_of name_columns (name_lines version.now 10000 (names_among names.now))) }
 {
-    let mut lines = Vec::with_capacity(alloc, LINES)?;
+    let mut lines = Sheet::new(alloc);
     let mut next = FIRST_VALUE;
     for key in names {
         if let Key::Named(name) = key {
@@ -163,9 +169,10 @@ fn name_lines(alloc: Global, version: &Version, names: &[Key]) -> Result<Vec<u8>
 }
 
 // The line of a name. Gives the next value behind it.
-fn put_name(out: &mut Vec<u8>, version: &Version, next: u64, name: &Name) -> Result<u64, AllocError>
+#[tactic(auto, unfolding(crate::specs::Layout::row_of))]
+fn put_name(out: &mut Sheet, version: &Version, next: u64, name: &Name) -> Result<u64, AllocError>
     requires { next < 2 ^ 64 - 1 }
-    ensures row { OnOk result (out.new.items ≡ out.old.items ++
+    ensures row { OnOk result (out.new ≡ out.old ++
         row_of name_columns (name_line version.now next name.now)) }
     ensures next { IfOk result (λ n. n ≡
         next_behind next (number_at version.now name.now) (label_at version.now name.now)) }

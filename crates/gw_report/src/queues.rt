@@ -1,25 +1,26 @@
 ghost use Rattle.std.specs.Prelude.{◌≡◌, ◌++◌, OnOk, IfOk, map};
-ghost use Rattle.gw_report.specs.Layout.{row_of, rows_of};
+ghost use Rattle.gw_report.specs.Layout.{row_of, rows_of, heading_of};
 ghost use Rattle.gw_report.specs.Queues.{queue_columns, queue_line, queues_text};
 
 use crate::column::{Cell, Column, Side, put_row};
 use crate::entity::{average_cell, key_cell};
-use crate::section::{LINES, put_section};
+use crate::section::put_section;
+use crate::sheet::Sheet;
 use gw_entities::Queue;
 use gw_names::Key;
 use gw_scan::State;
 use std::alloc::{AllocError, Global};
 
 const QUEUE_COLUMNS: [Column; 9] = [
-    Column(b"QUEUE", 10, Side::Left),
-    Column(b"MAX", 8, Side::Right),
-    Column(b"CONT.", 8, Side::Right),
-    Column(b"ENTRY", 8, Side::Right),
-    Column(b"ENTRY(0)", 8, Side::Right),
-    Column(b"AVE.CONT.", 11, Side::Right),
-    Column(b"AVE.TIME", 11, Side::Right),
-    Column(b"AVE.(-0)", 11, Side::Right),
-    Column(b"RETRY", 5, Side::Right),
+    Column(10, Side::Left),
+    Column(8, Side::Right),
+    Column(8, Side::Right),
+    Column(8, Side::Right),
+    Column(8, Side::Right),
+    Column(11, Side::Right),
+    Column(11, Side::Right),
+    Column(11, Side::Right),
+    Column(5, Side::Right),
 ];
 
 /// Appends the queues, in order of first touch.
@@ -27,16 +28,24 @@ pub fn put_queues(out: &mut Vec<u8>, state: &State) -> Result<(), AllocError>
     ensures { OnOk result (out.new.items ≡ out.old.items ++ queues_text state.now) }
 {
     let lines = queue_lines(*out.allocator(), state)?;
-    put_section(out, &QUEUE_COLUMNS, lines.as_slice())
+    put_section(out, queue_heading(), lines.as_slice())
+}
+
+// The heading of the section.
+#[tactic(auto, unfolding(crate::specs::Layout::heading_of, crate::specs::Layout::row_of))]
+fn queue_heading() -> &'static [u8]
+    ensures { result.now ≡ heading_of queue_columns }
+{
+    b"QUEUE           MAX    CONT.    ENTRY ENTRY(0)   AVE.CONT.    AVE.TIME    AVE.(-0) RETRY\n"
 }
 
 // The lines of the queues.
-fn queue_lines(alloc: Global, state: &State) -> Result<Vec<u8>, AllocError>
-    ensures { IfOk result (λ lines. lines.items ≡
+fn queue_lines(alloc: Global, state: &State) -> Result<Sheet, AllocError>
+    ensures { IfOk result (λ lines. lines ≡
         rows_of queue_columns (map (queue_line state.now) state.now.entities.queues)) }
 {
     let queues = state.entities().queues();
-    let mut lines = Vec::with_capacity(alloc, LINES)?;
+    let mut lines = Sheet::new(alloc);
     for index in 0..queues.len() {
         if let Some((key, queue)) = queues.at(index) {
             put_queue(&mut lines, state, key, queue)?;
@@ -46,9 +55,9 @@ fn queue_lines(alloc: Global, state: &State) -> Result<Vec<u8>, AllocError>
 }
 
 // The line of a queue.
-#[tactic(auto, unfolding(crate::specs::Queues::queue_line))]
-fn put_queue(out: &mut Vec<u8>, state: &State, key: &Key, queue: Queue) -> Result<(), AllocError>
-    ensures { OnOk result (out.new.items ≡ out.old.items ++
+#[tactic(auto, unfolding(crate::specs::Queues::queue_line, crate::specs::Layout::row_of))]
+fn put_queue(out: &mut Sheet, state: &State, key: &Key, queue: Queue) -> Result<(), AllocError>
+    ensures { OnOk result (out.new ≡ out.old ++
         row_of queue_columns (queue_line state.now (key.now, queue))) }
 {
     let sum = queue.level().sum_up_to(state.clock_now());

@@ -1,11 +1,12 @@
 ghost use Rattle.gw_meaning.specs.Listing.{Listing};
 ghost use Rattle.std.specs.Prelude.{◌≡◌, ◌++◌, OnOk, IfOk, map};
-ghost use Rattle.gw_report.specs.Layout.{row_of, rows_of};
+ghost use Rattle.gw_report.specs.Layout.{row_of, rows_of, heading_of};
 ghost use Rattle.gw_report.specs.Storages.{units_of, storage_columns, storage_line, storages_text};
 
 use crate::column::{Cell, Column, Side, put_row};
 use crate::entity::{average_cell, key_cell};
-use crate::section::{LINES, put_section};
+use crate::section::put_section;
+use crate::sheet::Sheet;
 use gw_entities::Storage;
 use gw_model::Version;
 use gw_names::Key;
@@ -13,17 +14,17 @@ use gw_scan::State;
 use std::alloc::{AllocError, Global};
 
 const STORAGE_COLUMNS: [Column; 11] = [
-    Column(b"STORAGE", 10, Side::Left),
-    Column(b"CAP.", 8, Side::Right),
-    Column(b"REM.", 8, Side::Right),
-    Column(b"MIN.", 8, Side::Right),
-    Column(b"MAX.", 8, Side::Right),
-    Column(b"ENTRIES", 8, Side::Right),
-    Column(b"AVL.", 4, Side::Right),
-    Column(b"AVE.C.", 11, Side::Right),
-    Column(b"UTIL.", 8, Side::Right),
-    Column(b"RETRY", 5, Side::Right),
-    Column(b"DELAY", 5, Side::Right),
+    Column(10, Side::Left),
+    Column(8, Side::Right),
+    Column(8, Side::Right),
+    Column(8, Side::Right),
+    Column(8, Side::Right),
+    Column(8, Side::Right),
+    Column(4, Side::Right),
+    Column(11, Side::Right),
+    Column(8, Side::Right),
+    Column(5, Side::Right),
+    Column(5, Side::Right),
 ];
 
 /// Appends the storages, in order of first touch, with the units that the version gives them.
@@ -31,16 +32,24 @@ pub fn put_storages(out: &mut Vec<u8>, version: &Version, state: &State) -> Resu
     ensures { OnOk result (out.new.items ≡ out.old.items ++ storages_text version.now state.now) }
 {
     let lines = storage_lines(*out.allocator(), version, state)?;
-    put_section(out, &STORAGE_COLUMNS, lines.as_slice())
+    put_section(out, storage_heading(), lines.as_slice())
+}
+
+// The heading of the section.
+#[tactic(auto, unfolding(crate::specs::Layout::heading_of, crate::specs::Layout::row_of))]
+fn storage_heading() -> &'static [u8]
+    ensures { result.now ≡ heading_of storage_columns }
+{
+    b"STORAGE        CAP.     REM.     MIN.     MAX.  ENTRIES AVL.      AVE.C.    UTIL. RETRY DELAY\n"
 }
 
 // The lines of the storages.
-fn storage_lines(alloc: Global, version: &Version, state: &State) -> Result<Vec<u8>, AllocError>
-    ensures { IfOk result (λ lines. lines.items ≡
+fn storage_lines(alloc: Global, version: &Version, state: &State) -> Result<Sheet, AllocError>
+    ensures { IfOk result (λ lines. lines ≡
         rows_of storage_columns (map (storage_line version.now state.now) state.now.entities.storages)) }
 {
     let storages = state.entities().storages();
-    let mut lines = Vec::with_capacity(alloc, LINES)?;
+    let mut lines = Sheet::new(alloc);
     for index in 0..storages.len() {
         if let Some((key, storage)) = storages.at(index) {
             put_storage(&mut lines, state, units_of(version, key), key, storage)?;
@@ -60,15 +69,15 @@ fn units_of(version: &Version, key: &Key) -> u64
 }
 
 // The line of a storage of so many units.
-#[tactic(auto, unfolding(crate::specs::Storages::storage_line))]
+#[tactic(auto, unfolding(crate::specs::Storages::storage_line, crate::specs::Layout::row_of))]
 fn put_storage(
-    out: &mut Vec<u8>,
+    out: &mut Sheet,
     state: &State,
     capacity: u64,
     key: &Key,
     storage: Storage,
 ) -> Result<(), AllocError>
-    ensures { (t : Listing) → units_of t key.now ≡ capacity → OnOk result (out.new.items ≡ out.old.items ++
+    ensures { (t : Listing) → units_of t key.now ≡ capacity → OnOk result (out.new ≡ out.old ++
         row_of storage_columns (storage_line t state.now (key.now, storage))) }
 {
     let sum = storage.level().sum_up_to(state.clock_now());

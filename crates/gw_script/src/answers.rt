@@ -6,11 +6,18 @@ use gw_desk::{Answer, Report};
 use gw_nums::put_decimal;
 use std::alloc::{AllocError, Global};
 
+// How many bytes the heading line of a report has at most.
+const HEADING: usize = 91;
+
 /// The bytes of an answer.
 pub fn answer_bytes(alloc: Global, answer: &Answer) -> Result<Vec<u8>, AllocError>
     ensures { IfOk result (λ v. v.items ≡ bytes_of answer.now) }
 {
-    let mut text = Vec::new(alloc);
+    let room = match answer {
+        Answer::Ready(report) => report.text.as_slice().len() + HEADING,
+        _ => 0,
+    };
+    let mut text = Vec::with_capacity(alloc, room)?;
     put_answer(&mut text, answer)?;
     Ok(text)
 }

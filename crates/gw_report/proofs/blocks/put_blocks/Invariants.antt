@@ -5,4 +5,4 @@ use Rattle.gw_report.specs.Blocks.{block_columns, block_lines}
 use Rattle.gw_report.proofs.blocks.put_blocks.Given as goal
 
 abbrev pub invariant-loop-line : goal.invariant-loop-line
-invariant-loop-line l = l.lines.items ≡ flat_map (λ x. rows_of block_columns (block_lines l.version l.state x)) (take l.line-index l.line-items)
+invariant-loop-line l = l.lines ≡ flat_map (λ x. rows_of block_columns (block_lines l.version l.state x)) (take l.line-index l.line-items)

@@ -5,5 +5,5 @@ use Rattle.gw_report.proofs.current.current_lines.Given as goal
 
 abbrev pub invariant-loop-index : goal.invariant-loop-index
 invariant-loop-index l =
-    l.lines.items ++ rows_of current_columns (map (current_line l.version) (drop l.index l.chain.items))
+    l.lines ++ rows_of current_columns (map (current_line l.version) (drop l.index l.chain.items))
     ≡ rows_of current_columns (map (current_line l.version) (option_to_list l.state.active ++ l.state.current))

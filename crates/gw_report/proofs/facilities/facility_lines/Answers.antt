@@ -15,8 +15,8 @@ loop-index-preserved c =
     elim c.match-at.branch [
       | in-Some+in_ok-put_facility w ↦
           let f : Key × Ownership = (w.in-Some.key.now, w.in-Some.facility) in
-          let put : c.match-at.lines.items ≡ c.loop-index.lines.items ++ row_of facility_columns (facility_line s f) = search rules in
-          row_more facility_columns (facility_line s) facilities c.loop-index.index f c.loop-index.lines.items
-          c.match-at.lines.items _ (sym w.in-Some.ensures) put c.loop-index.invariant
+          let put : c.match-at.lines ≡ c.loop-index.lines ++ row_of facility_columns (facility_line s f) = search rules in
+          row_more facility_columns (facility_line s) facilities c.loop-index.index f c.loop-index.lines
+          c.match-at.lines _ (sym w.in-Some.ensures) put c.loop-index.invariant
       | in_default w ↦ absurd (none_left facilities c.loop-index.index (omega arith) (sym w.in_default.ensures))
     ]

@@ -1,5 +1,6 @@
 use Rattle.std.proofs.Common.{◌++◌, map, ap, ◌∙◌}
 use Rattle.std.proofs.lemmas.Result.{on_ok_weaker}
+use Rattle.gw_report.specs.Layout.{rows_of}
 use Rattle.gw_report.specs.Cells.{if_any}
 use Rattle.gw_report.specs.Facilities.{facility_columns, facility_line, facilities_text}
 use Rattle.gw_report.proofs.Sections.{section_shown}
@@ -8,7 +9,9 @@ use Rattle.gw_report.proofs.facilities.put_facilities.Goals as goal
 pub returns : goal.returns
 unfolding facilities_text
 returns c =
-    let lines = c.as_slice.ensures.value ∙ c.in_ok-lines.ensures in
-    let shown = section_shown facility_columns (map (facility_line c.args.state.now) c.args.state.now.entities.facilities) in
-    on_ok_weaker c.put_section.result (λ put. put ∙ ap (λ l. c.args.out.now.items ++ if_any facility_columns l) lines ∙
+    let lines = c.as_slice.ensures ∙ c.in_ok-lines.ensures in
+    let rows = map (facility_line c.args.state.now) c.args.state.now.entities.facilities in
+    let shown = section_shown facility_columns rows in
+    on_ok_weaker c.put_section.result (λ put. put ∙ ap (λ l. c.args.out.now.items ++ if_any c.facility_heading.result.now l) lines ∙
+    ap (λ h. c.args.out.now.items ++ if_any h (rows_of facility_columns rows)) c.facility_heading.ensures ∙
     ap (λ l. c.args.out.now.items ++ l) shown) c.put_section.ensures

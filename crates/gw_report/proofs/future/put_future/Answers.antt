@@ -9,8 +9,11 @@ use Rattle.gw_report.proofs.future.put_future.Goals as goal
 pub returns : goal.returns
 unfolding future_text
 returns c =
-    let lines = c.as_slice.ensures.value ∙ c.in_ok-lines.ensures ∙
+    let lines = c.as_slice.ensures ∙ c.in_ok-lines.ensures ∙
     ap (λ es. rows_of future_columns (map (future_line c.args.version.now) (by_time es))) c.future.ensures in
-    let shown = section_shown future_columns (map (future_line c.args.version.now) (by_time c.args.state.now.future)) in
-    on_ok_weaker c.put_section.result (λ put. put ∙ ap (λ l. c.args.out.now.items ++ if_any future_columns l) lines ∙ ap (λ l. c.args.out.now.items ++ l) shown)
+    let rows = map (future_line c.args.version.now) (by_time c.args.state.now.future) in
+    let shown = section_shown future_columns rows in
+    on_ok_weaker c.put_section.result (λ put. put ∙ ap (λ l. c.args.out.now.items ++ if_any c.future_heading.result.now l) lines ∙
+    ap (λ h. c.args.out.now.items ++ if_any h (rows_of future_columns rows)) c.future_heading.ensures ∙
+    ap (λ l. c.args.out.now.items ++ l) shown)
     c.put_section.ensures

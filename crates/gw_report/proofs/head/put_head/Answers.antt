@@ -7,7 +7,7 @@ use Rattle.gw_report.specs.Report.{head_columns, head_text}
 use Rattle.gw_report.proofs.head.put_head.Goals as goal
 
 pub returns : goal.returns
-unfolding head_text
+unfolding head_text row_of
 returns c =
     let t = c.args.version.now in
     let s = c.args.state.now in
@@ -20,6 +20,7 @@ returns c =
     let cells : row_of head_columns told ≡ row_of head_columns row =
     rw (c.ticks.ensures.value, c.ticks-2.ensures.value, c.since.ensures, c.clock.ensures, c.blocks-2.ensures, facilities, storages) refl in
     let line : c.as_slice.result.now ≡ rows_of head_columns (row ∷ []) =
-    c.as_slice.ensures.value ∙ c.in_ok-put_row.ensures ∙ ap (λ l. l ++ row_of head_columns told)
-    c.new-line.ensures.items ∙ cells ∙ sym (append-nil (row_of head_columns row)) in
-    on_ok_weaker c.put_table.result (λ put. put ∙ ap (λ l. c.args.out.now.items ++ under_heading head_columns l) line) c.put_table.ensures
+    c.as_slice.ensures ∙ c.in_ok-put_row.ensures ∙ ap (λ l. l ++ row_of head_columns told)
+    c.new-line.ensures ∙ cells ∙ sym (append-nil (row_of head_columns row)) in
+    on_ok_weaker c.put_table.result (λ put. put ∙ ap (λ l. c.args.out.now.items ++ under_heading c.head_heading.result.now l) line ∙
+    ap (λ h. c.args.out.now.items ++ under_heading h (rows_of head_columns (row ∷ []))) c.head_heading.ensures) c.put_table.ensures

@@ -13,6 +13,8 @@ unfolding names_text
 returns c =
     let t = c.args.version.now in
     let names = ap names_among (c.as_slice.ensures.keys ∙ c.in_ok-names.ensures) ∙ among_keys (names_in t) in
-    let lines = c.as_slice-2.ensures.value ∙ c.in_ok-lines.ensures ∙ ap (λ ns. rows_of name_columns (name_lines t 10000 ns)) names in
-    on_ok_weaker c.put_section.result (λ put. put ∙ ap (λ l. c.args.out.now.items ++ if_any name_columns l) lines ∙
-    ap (λ l. c.args.out.now.items ++ l) (section_shown name_columns (name_lines t 10000 (names_in t)))) c.put_section.ensures
+    let lines = c.as_slice-2.ensures ∙ c.in_ok-lines.ensures ∙ ap (λ ns. rows_of name_columns (name_lines t 10000 ns)) names in
+    let rows = name_lines t 10000 (names_in t) in
+    on_ok_weaker c.put_section.result (λ put. put ∙ ap (λ l. c.args.out.now.items ++ if_any c.name_heading.result.now l) lines ∙
+    ap (λ h. c.args.out.now.items ++ if_any h (rows_of name_columns rows)) c.name_heading.ensures ∙
+    ap (λ l. c.args.out.now.items ++ l) (section_shown name_columns rows)) c.put_section.ensures

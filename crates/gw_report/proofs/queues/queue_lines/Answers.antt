@@ -12,9 +12,9 @@ loop-index-preserved c =
     let queues = c.queues-queues.result.now.entries in
     elim c.match-at.branch [
       | in-Some+in_ok-put_queue w ↦
-          let put : c.match-at.lines.items ≡ c.loop-index.lines.items ++ row_of queue_columns (queue_line s (w.in-Some.key.now, w.in-Some.queue)) =
+          let put : c.match-at.lines ≡ c.loop-index.lines ++ row_of queue_columns (queue_line s (w.in-Some.key.now, w.in-Some.queue)) =
           search rules in
-          row_more queue_columns (queue_line s) queues c.loop-index.index (w.in-Some.key.now, w.in-Some.queue) c.loop-index.lines.items c.match-at.lines.items
+          row_more queue_columns (queue_line s) queues c.loop-index.index (w.in-Some.key.now, w.in-Some.queue) c.loop-index.lines c.match-at.lines
           _ (sym w.in-Some.ensures) put c.loop-index.invariant
       | in_default w ↦ absurd (none_left queues c.loop-index.index (omega arith) (sym w.in_default.ensures))
     ]

@@ -16,8 +16,8 @@ loop-index-preserved c =
     elim c.match-at.branch [
       | in-Some+in_ok-put_storage w ↦
           let f : Key × Store = (w.in-Some.key.now, w.in-Some.storage) in
-          let put : c.match-at.lines.items ≡ c.loop-index.lines.items ++ row_of storage_columns (storage_line t s f) = search rules in
-          row_more storage_columns (storage_line t s) storages c.loop-index.index f c.loop-index.lines.items
-          c.match-at.lines.items _ (sym w.in-Some.ensures) put c.loop-index.invariant
+          let put : c.match-at.lines ≡ c.loop-index.lines ++ row_of storage_columns (storage_line t s f) = search rules in
+          row_more storage_columns (storage_line t s) storages c.loop-index.index f c.loop-index.lines
+          c.match-at.lines _ (sym w.in-Some.ensures) put c.loop-index.invariant
       | in_default w ↦ absurd (none_left storages c.loop-index.index (omega arith) (sym w.in_default.ensures))
     ]

@@ -1,12 +1,12 @@
-use Rattle.std.proofs.Common.{◌≡◌, ◌++◌, ◌⊎◌, List, ℕ, [], map, ap, sym, ◌∙◌, inl, inr, rules}
+use Rattle.std.proofs.Common.{◌≡◌, ◌++◌, ◌⊎◌, [], map, ap, sym, ◌∙◌, inl, inr}
 use Rattle.std.specs.Slice.Iter.{iter_rest}
 use Rattle.std.specs.Iterator.Adapters.{zip_first, zip_second}
 use Rattle.std.proofs.lemmas.Result.{on_ok_weaker}
 use Rattle.std.proofs.lemmas.Slice.Zip.{either_empty_from_Zip}
-use Rattle.gw_report.specs.Layout.{row_of, row_behind}
+use Rattle.gw_report.specs.Layout.{blanks, row_of, row_behind}
 use Rattle.gw_report.specs.Cells.{column_of, text_of_cell}
 use Rattle.gw_report.proofs.Rows.{row_ended}
-use Rattle.gw_report.proofs.column.put_wide_row.Goals as goal
+use Rattle.gw_report.proofs.column.put_row.Goals as goal
 
 pub returns : goal.returns
 unfolding row_of
@@ -18,8 +18,6 @@ returns c =
       | inl e ↦ inl (ap (λ xs. map column_of xs) e)
       | inr e ↦ inr (ap (λ xs. map text_of_cell xs) e)
     ] in
-    let ended = row_ended c.loop-column.before.now columns texts none in
-    let nothing : c.as_slice-before.result.now ≡ [] = search rules in
-    let first =
-    ap (λ (before : List ℕ). c.args.out.now.items ++ row_behind before (map column_of c.args.columns.now) (map text_of_cell c.args.cells.now)) nothing in
-    on_ok_weaker c.end_line.result (λ end. end ∙ ap (λ t. c.loop-column.out.items ++ t) (sym ended) ∙ c.loop-column.invariant ∙ first) c.end_line.ensures
+    let ended = row_ended (blanks c.loop-column.gap) columns texts none in
+    on_ok_weaker c.end_row.result (λ end. end ∙ ap (λ t. c.loop-column.sheet ++ t) (sym ended) ∙ c.loop-column.invariant.row ∙
+    ap (λ t. t ++ row_behind [] (map column_of c.args.columns.now) (map text_of_cell c.args.cells.now)) c.make_room.ensures) c.end_row.ensures

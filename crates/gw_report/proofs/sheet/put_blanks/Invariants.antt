@@ -1,6 +1,6 @@
 use Rattle.std.proofs.Common.{◌≡◌, ◌++◌}
 use Rattle.std.specs.Prelude.{replicate}
-use Rattle.gw_report.proofs.column.put_blanks.Given as goal
+use Rattle.gw_report.proofs.sheet.put_blanks.Given as goal
 
 abbrev pub invariant-loop : goal.invariant-loop
 invariant-loop l = l.out.items ≡ l.initial.out.items ++ replicate l.counter 32
