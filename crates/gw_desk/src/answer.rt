@@ -1,4 +1,4 @@
-use gw_meaning::Row;
+use gw_expr::Row;
 
 /// A report that is handed out.
 #[derive(Debug, Drop)]

@@ -24,7 +24,7 @@ use Rattle.gw_edit.specs.declared.touch.Probe.{Probe}
 use Rattle.gw_edit.specs.declared.touch.Probe.TheVariants.{CommandsFrom}
 use Rattle.gw_edit.specs.Touching.{block_before, command_from, given, one_if, label_if, block_places, block_probes, line_probes, change_places, label_places, block_change, is_probed, is_touched, definition_place, definition_probes, rest_probes}
 use Rattle.gw_edit.proofs.SameBlocks.{statement_same, label_same}
-use Rattle.gw_meaning.specs.declared.function.Function.{Function}
+use Rattle.gw_expr.specs.declared.function.Function.{Function}
 use Rattle.gw_meaning.specs.declared.statement.Definition.{Definition}
 use Rattle.gw_meaning.specs.declared.statement.Definition.TheVariants as definitions
 

@@ -21,7 +21,7 @@ use Rattle.std.specs.Str.{bytes_eq}
 use Rattle.std.proofs.lemmas.Slice.Eq.{bytes_eq-Decides}
 use Rattle.gw_uses.specs.Asks.{differs, is_ask, is_other}
 use Rattle.gw_meaning.specs.declared.statement.Body.{Body}
-use Rattle.gw_meaning.specs.declared.function.Function.{Function}
+use Rattle.gw_expr.specs.declared.function.Function.{Function}
 use Rattle.gw_meaning.specs.declared.statement.Definition.{Definition}
 use Rattle.std.specs.Ordering.{int_eq}
 use Rattle.gw_meaning.specs.declared.statement.Definition.TheVariants as definitions

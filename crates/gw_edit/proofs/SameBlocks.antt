@@ -7,10 +7,10 @@ use Rattle.std.proofs.lemmas.Bool.Decides.{Decides-int_eq}
 use Rattle.std.proofs.lemmas.Slice.Eq.{bytes_eq-Decides}
 use Rattle.gw_names.specs.contracts.verb.BlockVerb.{the_type}
 use Rattle.gw_meaning.specs.contracts.sign.Sign.{the_type as sign_type}
-use Rattle.gw_meaning.specs.contracts.function.FunctionType.{the_type as function_type}
-use Rattle.gw_meaning.specs.declared.function.FunctionType.{FunctionType}
-use Rattle.gw_meaning.specs.declared.function.Point.{Point}
-use Rattle.gw_meaning.specs.declared.function.Function.{Function}
+use Rattle.gw_expr.specs.contracts.function.FunctionType.{the_type as function_type}
+use Rattle.gw_expr.specs.declared.function.FunctionType.{FunctionType}
+use Rattle.gw_expr.specs.declared.function.Point.{Point}
+use Rattle.gw_expr.specs.declared.function.Function.{Function}
 use Rattle.gw_meaning.specs.declared.sign.Sign.{Sign}
 use Rattle.gw_names.specs.contracts.class.Class as classes
 use Rattle.gw_names.specs.declared.class.Class.{Class}

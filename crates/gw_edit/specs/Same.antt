@@ -6,11 +6,11 @@ use Rattle.std.specs.Cmp.Lexicographic.{pointwise}
 use denote.Enum.Bare.{sameb}
 use Rattle.gw_names.specs.contracts.verb.BlockVerb.{the_type}
 use Rattle.gw_meaning.specs.contracts.sign.Sign.{the_type as sign_type}
-use Rattle.gw_meaning.specs.contracts.function.FunctionType.{the_type as function_type}
-use Rattle.gw_meaning.specs.contracts.function.PointPartialEq.TheImpl as point_comparison
-use Rattle.gw_meaning.specs.declared.function.FunctionType.{FunctionType}
-use Rattle.gw_meaning.specs.declared.function.Point.{Point}
-use Rattle.gw_meaning.specs.declared.function.Function.{Function}
+use Rattle.gw_expr.specs.contracts.function.FunctionType.{the_type as function_type}
+use Rattle.gw_expr.specs.contracts.function.PointPartialEq.TheImpl as point_comparison
+use Rattle.gw_expr.specs.declared.function.FunctionType.{FunctionType}
+use Rattle.gw_expr.specs.declared.function.Point.{Point}
+use Rattle.gw_expr.specs.declared.function.Function.{Function}
 use Rattle.gw_expr.specs.contracts.atom.AtomPartialEq.TheImpl as atom_comparison
 use Rattle.gw_expr.specs.contracts.token.TokenPartialEq.TheImpl as token_comparison
 use Rattle.gw_expr.specs.declared.atom.Atom.{Atom}

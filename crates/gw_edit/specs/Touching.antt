@@ -7,7 +7,7 @@ use Rattle.gw_meaning.specs.declared.item.Item.TheVariants.{After, Generates, Se
 use Rattle.gw_meaning.specs.declared.item.Item.TheVariants as items
 use Rattle.std.specs.Ordering.{int_eq}
 use Rattle.std.specs.Str.{bytes_eq}
-use Rattle.gw_meaning.specs.declared.function.Function.{Function}
+use Rattle.gw_expr.specs.declared.function.Function.{Function}
 use Rattle.gw_meaning.specs.declared.statement.Definition.{Definition}
 use Rattle.gw_meaning.specs.declared.statement.Definition.TheVariants as definitions
 use Rattle.gw_meaning.specs.declared.statement.Statement.{Statement}

@@ -1,6 +1,6 @@
 ghost use Rattle.std.specs.Prelude.{◌≡◌, IfOk};
 
-use gw_meaning::Row;
+use gw_expr::Row;
 use gw_names::Name;
 use std::alloc::{AllocError, Global};
 

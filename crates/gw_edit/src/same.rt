@@ -2,8 +2,8 @@ ghost use Rattle.std.specs.Prelude.{◌≡◌, option_copied};
 ghost use Rattle.gw_edit.specs.Same.{same_term, same_operand, same_operands, same_verb, same_sign, same_block, same_body, same_statement, same_label, same_atom, same_value, same_part, same_parts, same_type, same_points, same_function, kind_of, atom_of, parts_of, number_of, bytes_of};
 ghost use Rattle.gw_expr.specs.Term.{term_of};
 
-use gw_expr::{Atom, Expr, Node, Token};
-use gw_meaning::{Block, Body, Function, FunctionType, Point, Sign, Statement};
+use gw_expr::{Atom, Expr, Function, FunctionType, Node, Point, Token};
+use gw_meaning::{Block, Body, Sign, Statement};
 use gw_names::{BlockVerb, Name};
 
 /// Whether both are blocks with the same verb, sign and operands. Labels do not count.

@@ -5,8 +5,8 @@ ghost use Rattle.gw_edit.specs.Touching.{touching_of, capacity_probes, definitio
 use crate::edit::Edit;
 use crate::lines::{count_commands, last_block, line_at, lines_before, storage_place};
 use crate::same::{same_function, same_label, same_statement, same_term};
-use gw_expr::Expr;
-use gw_meaning::{Body, Definition, Function, Item, Numbered, Statement, StatementId};
+use gw_expr::{Expr, Function};
+use gw_meaning::{Body, Definition, Item, Numbered, Statement, StatementId};
 use gw_model::Version;
 use gw_names::Name;
 use gw_nums::{Time, Val};

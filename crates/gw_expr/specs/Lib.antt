@@ -2,3 +2,9 @@ pub mod Arithmetic
 pub mod Expressions
 pub mod Term
 pub mod Stops
+pub mod Faults
+pub mod Functions
+pub mod Evaluation
+pub mod Worlds
+pub mod WaitingValues
+pub mod Laws

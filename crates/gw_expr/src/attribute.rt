@@ -1,4 +1,4 @@
-use gw_names::Name;
+use gw_names::{Class, Name};
 
 /// What a numerical attribute is of.
 #[derive(Clone, Debug, Drop, PartialEq, Eq)]
@@ -9,4 +9,13 @@ pub enum Subject {
     Number(u32),
     /// What has this name: an entity, a definition or a block.
     Name(Name),
+}
+
+/// A numerical attribute, as a world is asked for it. (Manual: System Numerical Attributes.)
+#[derive(Clone, Copy, Debug)]
+pub struct Sna<'a> {
+    /// Its class.
+    pub class: Class,
+    /// What it is of.
+    pub of: &'a Subject,
 }

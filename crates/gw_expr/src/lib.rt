@@ -1,17 +1,36 @@
-//! Operands: what an operand says, and the stops that its evaluation or its block may end a run with.
+//! Operands: what an operand says, what it comes to, and the stops that its evaluation or its block may end a run with.
 //!
 //! An [`Expr`] is seen as a [`Term`], so that what stands above names no node. An expression in parentheses is kept in
 //! postfix order, as a list of [`Token`]s: what goes over its values goes over a list.
+//!
+//! What an operand comes to is defined as a program of questions (specs/Evaluation), and [`eval`] evaluates it over any
+//! [`Defs`] and any [`World`], by what these answer.
 #![tactic(auto)]
 
 mod atom;
 mod attribute;
+mod eval_fault;
+mod evaluator;
 mod expr;
+mod few_values;
+mod function;
+mod laws;
+mod many_values;
+mod row;
 mod stop;
 mod token;
+mod world;
 
 pub use atom::Atom;
-pub use attribute::Subject;
+pub use attribute::{Sna, Subject};
+pub use eval_fault::{EvalFault, Fault};
+pub use evaluator::{eval, eval_function, is_of_function, is_of_variable};
 pub use expr::{Expr, Node};
+pub use function::{Function, FunctionType, Point};
+pub use laws::{
+    constants_hang_on_nothing, expressions_have_their_values, points_have_their_values,
+};
+pub use row::Row;
 pub use stop::Stop;
 pub use token::{Operator, Token};
+pub use world::{Defs, World};

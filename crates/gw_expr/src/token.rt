@@ -1,7 +1,10 @@
 ghost use Rattle.std.specs.Prelude.{◌≡◌};
 ghost use Rattle.gw_expr.specs.Arithmetic.{applied};
+ghost use Rattle.gw_expr.specs.Evaluation.{arithmetic};
+ghost use Rattle.gw_expr.specs.Worlds.{Comes};
 
 use crate::atom::Atom;
+use crate::eval_fault::EvalFault;
 use gw_nums::{ArithmeticFault, Val, add, div, mul, rem, sub};
 
 /// An operator between two values.
@@ -41,6 +44,18 @@ impl Operator {
             Operator::Remainder => rem(a, b),
             Operator::Plus => add(a, b),
             Operator::Minus => sub(a, b),
+        }
+    }
+
+    // The same, where no value stops a run.
+    #[inline(always)]
+    pub(crate) fn value(self, a: Val, b: Val) -> Result<Val, EvalFault>
+        ensures { Comes (arithmetic (applied self a b)) result }
+    {
+        match self.apply(a, b) {
+            Ok(value) => Ok(value),
+            Err(ArithmeticFault::Range) => Err(EvalFault::RANGE),
+            Err(ArithmeticFault::ZeroDivisor) => Err(EvalFault::ZERO_DIVISOR),
         }
     }
 }

@@ -1,16 +1,12 @@
 -- Each evaluation reads items that name no ids but those of blocks, and draws with the seed where a stream is set.
-use Rattle.std.proofs.Common.{◌≡◌, ℕ, zero, suc, ◌<◌, nat_le, false, not, ◌&&◌, List, [], ◌∷◌, Result, Ok, Err, Option, Some, None, ℤ, ◌-◌, pos, refl, append-nil, arith}
+use Rattle.std.proofs.Common.{◌≡◌, ℕ, zero, suc, ◌<◌, nat_le, false, not, ◌&&◌, List, Result, Ok, Err, Option, Some, None, ℤ, ◌-◌, pos, refl, append-nil, arith}
 use Rattle.std.specs.List.{AllByRecursion}
 use Rattle.std.proofs.lemmas.Bool.Decides.{nat_tests}
 use Rattle.gw_nums.specs.Range.{is_value, is_negative, is_below, magnitude}
-use Rattle.gw_expr.specs.Term.{Term, Value, Computed, Named}
+use Rattle.gw_expr.specs.Term.{Term, Named}
+use Rattle.gw_expr.specs.Evaluation.{Question, NumberOf, AttributeOf, PartOf, VariableOf, FunctionOf, Evaluation, Yields, Stops, Wants, value_of, function_of}
 use Rattle.gw_nums.specs.declared.val.ArithmeticFault.{ArithmeticFault}
 use Rattle.gw_nums.specs.declared.val.ArithmeticFault.TheVariants as arithmetic_faults
-use Rattle.gw_expr.specs.Arithmetic.{applied}
-use Rattle.gw_expr.specs.declared.atom.Atom.{Atom}
-use Rattle.gw_expr.specs.declared.atom.Atom.TheVariants as atoms
-use Rattle.gw_expr.specs.declared.token.Token.{Token}
-use Rattle.gw_expr.specs.declared.token.Token.TheVariants as tokens
 use Rattle.gw_streams.specs.declared.stream.Stream.{Stream}
 use Rattle.gw_streams.specs.declared.stream.Stream.TheVariants as streams
 use Rattle.gw_streams.specs.Draws.{is_set, stream_at}
@@ -19,16 +15,14 @@ use Rattle.gw_names.specs.declared.class.Class.TheVariants as class
 use Rattle.gw_expr.specs.declared.attribute.Subject.{Subject}
 use Rattle.gw_expr.specs.declared.attribute.Subject.TheVariants as subjects
 use Rattle.gw_nums.specs.Millionths.{times}
-use Rattle.gw_meaning.specs.declared.function.Function.{Function}
-use Rattle.gw_meaning.specs.Functions.{curve}
 use Rattle.gw_meaning.specs.declared.asker.Asker.{Asker}
 use Rattle.gw_meaning.specs.declared.item.Item.TheVariants as items
-use Rattle.gw_meaning.specs.Listing.{Listing, capacity_at, label_at, variable_at, function_at}
+use Rattle.gw_meaning.specs.Listing.{Listing, capacity_at, label_at}
 use Rattle.gw_names.specs.declared.key.Key.{Key}
 use Rattle.gw_meaning.specs.Entities.{facility_at, line_at}
 use Rattle.gw_entities.specs.Parameters.{parameter_at}
 use Rattle.gw_meaning.specs.Machine.{Machine, count_at}
-use Rattle.gw_meaning.specs.Evaluation.{Eval, number_of_draw, draw, amount, numbered, named, subject_prog, storage_prog, counted, block_count, random_prog, random_part, own_value, value_held, parameter_value, entity_value, storage_value, block_value, owned, attribute_prog, number_given, atom_prog, arithmetic, token_prog, tokens_prog, last_value, value_prog, value_there, value_or_zero, entity_prog, units_prog, in_range, spread, sample_within, time_prog, left_prog, Definitions, is_of_variable, of_variable, is_of_function, of_function, value_of_attribute, random_of, argument_by, argument_prog, point_found, function_given, modifier_of, time_by, drawn_prog, term_prog, expression_given, definitions_prog, DEEPEST}
+use Rattle.gw_meaning.specs.Evaluation.{Eval, number_of_draw, draw, amount, numbered, named, subject_prog, storage_prog, counted, block_count, random_prog, random_part, own_value, value_held, parameter_value, entity_value, storage_value, block_value, owned, attribute_prog, arithmetic, value_prog, value_there, value_or_zero, entity_prog, units_prog, in_range, spread, sample_within, time_prog, left_prog, modifier_of, time_by, drawn_prog, reply_prog, evaluated}
 use Rattle.gw_frame.proofs.Seeds.{uses_seed, one_drew}
 use Rattle.gw_frame.proofs.Keeps.{ProgKeeps, Keeps, prog_gives, prog_bind, keeps_gives, keeps_ends, keeps_asks, keeps_cond, keeps_stops, keeps_unless, keeps_bind}
 use Rattle.gw_names.specs.declared.key.Key.TheVariants as keys
@@ -177,100 +171,29 @@ module _ (t : Listing) (seed : ℕ) (s : Machine) where
   attribute_decides q class.Rn of = random_decides of
   attribute_decides q class of = keeps_ends
 
-  -- expressions
-  number_given_decides : (number : Option ℤ) → Decides Whatever (number_given number)
-  number_given_decides None = keeps_ends
-  number_given_decides (Some n) = keeps_gives tt
+  -- what is replied to a question, and so what comes of any evaluation
+  reply_decides : (q : Asker) (question : Question) → Decides Whatever (reply_prog s q question)
+  reply_decides q (NumberOf name) = keeps_asks (items.Name name) refl (λ numbered named. tt) (keeps_gives tt)
+  reply_decides q (AttributeOf class of) = attribute_decides q class of
+  reply_decides q (PartOf of) = random_part_decides of
+  reply_decides q (VariableOf name) = keeps_asks (items.Variable name) refl (λ numbered named. tt) (keeps_gives tt)
+  reply_decides q (FunctionOf name) = keeps_asks (items.Function name) refl (λ numbered named. tt) (keeps_gives tt)
 
-  -- what definitions come to
-  abbrev AreDecided : Definitions → Type 0
-  AreDecided vs = ((name : List ℕ) → Decides Whatever (vs.variable name)) × ((name : List ℕ) → Decides Whatever (vs.function name))
+  evaluation_decides : {A : Type 0} (q : Asker) (p : Evaluation A) → Decides Whatever (evaluated s q p)
+  evaluation_decides q (Yields a) = keeps_gives tt
+  evaluation_decides q (Stops stop) = keeps_ends
+  evaluation_decides q (Wants question k) = keeps_bind (reply_decides q question) (λ reply h. evaluation_decides q (k reply))
 
-  of_variable_decides : (vs : Definitions) → AreDecided vs → (of : Subject) → Decides Whatever (of_variable vs of)
-  of_variable_decides vs each subjects.Own = keeps_ends
-  of_variable_decides vs each (subjects.Number n) = keeps_ends
-  of_variable_decides vs each (subjects.Name name) = each.0 name
-
-  of_function_decides : (vs : Definitions) → AreDecided vs → (of : Subject) → Decides Whatever (of_function vs of)
-  of_function_decides vs each subjects.Own = keeps_ends
-  of_function_decides vs each (subjects.Number n) = keeps_ends
-  of_function_decides vs each (subjects.Name name) = each.1 name
-
-  value_of_decides : (q : Asker) (vs : Definitions) → AreDecided vs → (class : Class) (of : Subject) → Decides Whatever (value_of_attribute s q vs class of)
-  value_of_decides q vs each class of = keeps_cond (is_of_variable class) (of_variable_decides vs each of)
-      (keeps_cond (is_of_function class) (keeps_bind (of_function_decides vs each of) (λ y h. keeps_gives tt)) (attribute_decides q class of))
-
-  atom_decides : (q : Asker) (vs : Definitions) → AreDecided vs → (atom : Atom) → Decides Whatever (atom_prog s q vs atom)
-  unfolding atom_prog
-  atom_decides q vs each (atoms.Constant value) = keeps_gives tt
-  atom_decides q vs each (atoms.Number name) = keeps_asks (items.Name name) refl (λ numbered named. tt) (number_given_decides (number_at t name))
-  atom_decides q vs each (atoms.Attribute class of) = value_of_decides q vs each class of
-
+  -- an operator
   pub arithmetic_decides : (r : Result ℤ ArithmeticFault) → Decides Whatever (arithmetic r)
   arithmetic_decides (Ok z) = keeps_gives tt
   arithmetic_decides (Err arithmetic_faults.Range) = keeps_ends
   arithmetic_decides (Err arithmetic_faults.ZeroDivisor) = keeps_ends
 
-  token_decides : (q : Asker) (vs : Definitions) → AreDecided vs → (token : Token) (values : List ℤ) → Decides Whatever (token_prog s q vs token values)
-  token_decides q vs each (tokens.Value atom) values = keeps_bind (atom_decides q vs each atom) (λ v h. keeps_gives tt)
-  token_decides q vs each tokens.Negated [] = keeps_ends
-  token_decides q vs each tokens.Negated (v ∷ values) = keeps_gives tt
-  token_decides q vs each (tokens.Applied operator) [] = keeps_ends
-  token_decides q vs each (tokens.Applied operator) (b ∷ []) = keeps_ends
-  token_decides q vs each (tokens.Applied operator) (b ∷ a ∷ values) =
-      keeps_bind (arithmetic_decides (applied operator a b)) (λ v h. keeps_gives tt)
-
-  tokens_decide : (q : Asker) (vs : Definitions) → AreDecided vs → (ts : List Token) (values : List ℤ) → Decides Whatever (tokens_prog s q vs ts values)
-  tokens_decide q vs each [] values = keeps_gives tt
-  tokens_decide q vs each (t ∷ ts) values = keeps_bind (token_decides q vs each t values) (λ more h. tokens_decide q vs each ts more)
-
-  last_decides : (values : List ℤ) → Decides Whatever (last_value values)
-  last_decides [] = keeps_ends
-  last_decides (v ∷ values) = keeps_gives tt
-
   -- operands
-  term_decides : (q : Asker) (vs : Definitions) → AreDecided vs → (term : Term) → Decides Whatever (term_prog s q vs term)
-  unfolding term_prog
-  term_decides q vs each (Value atom) = atom_decides q vs each atom
-  term_decides q vs each (Computed ts) = keeps_bind (tokens_decide q vs each ts []) (λ values h. last_decides values)
-  term_decides q vs each term = keeps_ends
-
-  expression_decides : (f : Term → Eval ℤ) → ((term : Term) → Decides Whatever (f term)) → (o : Option Term) → Decides Whatever (expression_given f o)
-  expression_decides f each None = keeps_ends
-  expression_decides f each (Some term) = each term
-
-  argument_by_decides : (q : Asker) (vs : Definitions) → AreDecided vs → (argument : Term) (of : Option Subject) →
-      Decides Whatever (argument_by s q vs argument of)
-  argument_by_decides q vs each argument None = keeps_bind (term_decides q vs each argument) (λ v h. keeps_gives tt)
-  argument_by_decides q vs each argument (Some of) = random_part_decides of
-
-  argument_decides : (q : Asker) (vs : Definitions) → AreDecided vs → (argument : Term) → Decides Whatever (argument_prog s q vs argument)
-  unfolding argument_prog
-  argument_decides q vs each argument = argument_by_decides q vs each argument (random_of argument)
-
-  point_decides : (y : Option ℤ) → Decides Whatever (point_found y)
-  point_decides None = keeps_ends
-  point_decides (Some y) = keeps_gives tt
-
-  function_decides : (f : Term → Eval ℤ) → ((term : Term) → Decides Whatever (f term)) → (o : Option Function) → Decides Whatever (function_given f o)
-  function_decides f each None = keeps_ends
-  function_decides f each (Some function) = keeps_bind (each function.argument) (λ x h. point_decides (curve function x))
-
-  definitions_decide : (depth : ℕ) (q : Asker) → AreDecided (definitions_prog depth s q)
-  unfolding definitions_prog
-  definitions_decide zero q = ((λ name. keeps_ends), (λ name. keeps_ends))
-  definitions_decide (suc depth) q =
-      let vs = definitions_prog depth s q in
-      let each : AreDecided vs = definitions_decide depth q in (
-        (λ name. keeps_asks (items.Variable name) refl (λ numbered named. tt)
-            (expression_decides (term_prog s q vs) (term_decides q vs each) (variable_at t name))),
-        (λ name. keeps_asks (items.Function name) refl (λ numbered named. tt)
-            (function_decides (argument_prog s q vs) (argument_decides q vs each) (function_at t name))),
-      )
-
   pub value_decides : (q : Asker) (term : Term) → Decides Whatever (value_prog s q term)
   unfolding value_prog
-  value_decides q term = term_decides q (definitions_prog DEEPEST s q) (definitions_decide DEEPEST q) term
+  value_decides q term = evaluation_decides q (value_of term)
 
   pub value_there_decides : (q : Asker) (term : Option Term) → Decides Whatever (value_there s q term)
   value_there_decides q None = keeps_ends
@@ -296,7 +219,7 @@ module _ (t : Listing) (seed : ℕ) (s : Machine) where
 
   time_by_decides : (q : Asker) (mean range : Option Term) (of : Option Subject) → Decides Whatever (time_by s q mean range of)
   time_by_decides q mean range (Some of) = keeps_bind (value_or_zero_decides q mean)
-      (λ m h. keeps_bind (of_function_decides (definitions_prog DEEPEST s q) (definitions_decide DEEPEST q) of) (λ y k. in_range_decides (times m y)))
+      (λ m h. keeps_bind (evaluation_decides q (function_of of)) (λ y k. in_range_decides (times m y)))
   time_by_decides q mean range None = keeps_bind (value_or_zero_decides q mean)
       (λ m h. keeps_bind (value_or_zero_decides q range) (λ r k. keeps_cond (is_negative r) (keeps_gives tt) (sample_within_decides m (magnitude r))))
 

@@ -1,14 +1,10 @@
 -- The evaluation in a moved state follows the evaluation in the state: none tells an id.
-use Rattle.std.proofs.Common.{ℕ, zero, suc, nat_le, not, ◌&&◌, List, [], ◌∷◌, ◌-◌, Result, Ok, Err, Option, Some, None, option_map, ℤ, pos, refl}
+use Rattle.std.proofs.Common.{ℕ, zero, suc, nat_le, not, ◌&&◌, List, ◌-◌, Result, Ok, Err, Option, Some, None, option_map, ℤ, pos, refl}
 use Rattle.gw_nums.specs.Range.{is_value, is_negative, is_below, magnitude}
-use Rattle.gw_expr.specs.Term.{Term, Value, Computed, Named}
+use Rattle.gw_expr.specs.Term.{Term, Named}
+use Rattle.gw_expr.specs.Evaluation.{Question, NumberOf, AttributeOf, PartOf, VariableOf, FunctionOf, Evaluation, Yields, Stops, Wants, value_of, function_of}
 use Rattle.gw_nums.specs.declared.val.ArithmeticFault.{ArithmeticFault}
 use Rattle.gw_nums.specs.declared.val.ArithmeticFault.TheVariants as arithmetic_faults
-use Rattle.gw_expr.specs.Arithmetic.{applied}
-use Rattle.gw_expr.specs.declared.atom.Atom.{Atom}
-use Rattle.gw_expr.specs.declared.atom.Atom.TheVariants as atoms
-use Rattle.gw_expr.specs.declared.token.Token.{Token}
-use Rattle.gw_expr.specs.declared.token.Token.TheVariants as tokens
 use Rattle.gw_streams.specs.declared.stream.Stream.{Stream}
 use Rattle.gw_streams.specs.declared.stream.Stream.TheVariants as streams
 use Rattle.gw_streams.specs.Draws.{stream_at}
@@ -17,8 +13,6 @@ use Rattle.gw_names.specs.declared.class.Class.TheVariants as class
 use Rattle.gw_expr.specs.declared.attribute.Subject.{Subject}
 use Rattle.gw_expr.specs.declared.attribute.Subject.TheVariants as subjects
 use Rattle.gw_nums.specs.Millionths.{times}
-use Rattle.gw_meaning.specs.declared.function.Function.{Function}
-use Rattle.gw_meaning.specs.Functions.{curve}
 use Rattle.gw_meaning.specs.declared.asker.Asker.{Asker}
 use Rattle.gw_meaning.specs.declared.item.Item.TheVariants as items
 use Rattle.gw_names.specs.declared.key.Key.{Key}
@@ -26,7 +20,7 @@ use Rattle.gw_names.specs.declared.key.Key.TheVariants as keys
 use Rattle.gw_meaning.specs.Entities.{facility_at, line_at, store_at}
 use Rattle.gw_entities.specs.Parameters.{parameter_at}
 use Rattle.gw_meaning.specs.Machine.{Machine, count_at}
-use Rattle.gw_meaning.specs.Evaluation.{Eval, number_of_draw, draw, amount, numbered, named, subject_prog, storage_prog, counted, block_count, random_prog, random_part, own_value, value_held, parameter_value, entity_value, storage_value, block_value, owned, attribute_prog, number_given, atom_prog, arithmetic, token_prog, tokens_prog, last_value, value_prog, value_there, value_or_zero, entity_prog, units_prog, in_range, spread, sample_within, time_prog, left_prog, Definitions, is_of_variable, of_variable, is_of_function, of_function, value_of_attribute, random_of, argument_by, argument_prog, point_found, function_given, modifier_of, time_by, drawn_prog, term_prog, expression_given, definitions_prog, DEEPEST}
+use Rattle.gw_meaning.specs.Evaluation.{Eval, number_of_draw, draw, amount, numbered, named, subject_prog, storage_prog, counted, block_count, random_prog, random_part, own_value, value_held, parameter_value, entity_value, storage_value, block_value, owned, attribute_prog, arithmetic, value_prog, value_there, value_or_zero, entity_prog, units_prog, in_range, spread, sample_within, time_prog, left_prog, modifier_of, time_by, drawn_prog, reply_prog, evaluated}
 use Rattle.gw_frame.specs.Moved.{IsMove, moved_machine}
 use Rattle.gw_frame.proofs.Follows.{ProgFollows, prog_gives, prog_asks, prog_bind, Follows, follows_gives, follows_ends, follows_asks, follows_cond, follows_stops, follows_bind}
 use Rattle.gw_frame.proofs.MovedLists.{count_at_moved}
@@ -161,112 +155,31 @@ module _ (move : ℕ → ℕ) (is : IsMove move) where
   attribute_follows s q class.Rn of = random_follows of
   attribute_follows s q class of = follows_ends
 
-  -- expressions
-  number_given_follows : (number : Option ℤ) → Follows move same (number_given number) (number_given number)
-  number_given_follows None = follows_ends
-  number_given_follows (Some n) = follows_gives refl
+  -- what is replied to a question, and so what comes of any evaluation
+  reply_follows : (s : Machine) (q : Asker) (question : Question) →
+      Follows move same (reply_prog s q question) (reply_prog (moved_machine move s) q question)
+  reply_follows s q (NumberOf name) = follows_asks (items.Name name) (λ number. follows_gives refl)
+  reply_follows s q (AttributeOf class of) = attribute_follows s q class of
+  reply_follows s q (PartOf of) = random_part_follows of
+  reply_follows s q (VariableOf name) = follows_asks (items.Variable name) (λ expression. follows_gives refl)
+  reply_follows s q (FunctionOf name) = follows_asks (items.Function name) (λ function. follows_gives refl)
 
-  -- two ways to evaluate definitions, of which the second follows the first
-  abbrev AreFollowed : Definitions → Definitions → Type 0
-  AreFollowed vs ws =
-      ((name : List ℕ) → Follows move same (vs.variable name) (ws.variable name)) × ((name : List ℕ) → Follows move same (vs.function name) (ws.function name))
+  evaluation_follows : {A : Type 0} (s : Machine) (q : Asker) (p : Evaluation A) →
+      Follows move same (evaluated s q p) (evaluated (moved_machine move s) q p)
+  evaluation_follows s q (Yields a) = follows_gives refl
+  evaluation_follows s q (Stops stop) = follows_ends
+  evaluation_follows s q (Wants question k) = follows_bind _ (reply_follows s q question) (λ reply. evaluation_follows s q (k reply))
 
-  of_variable_follows : (vs ws : Definitions) → AreFollowed vs ws → (of : Subject) → Follows move same (of_variable vs of) (of_variable ws of)
-  of_variable_follows vs ws each subjects.Own = follows_ends
-  of_variable_follows vs ws each (subjects.Number n) = follows_ends
-  of_variable_follows vs ws each (subjects.Name name) = each.0 name
-
-  of_function_follows : (vs ws : Definitions) → AreFollowed vs ws → (of : Subject) → Follows move same (of_function vs of) (of_function ws of)
-  of_function_follows vs ws each subjects.Own = follows_ends
-  of_function_follows vs ws each (subjects.Number n) = follows_ends
-  of_function_follows vs ws each (subjects.Name name) = each.1 name
-
-  module _ (s : Machine) (q : Asker) (vs ws : Definitions) (each : AreFollowed vs ws) where
-    value_of_follows : (class : Class) (of : Subject) →
-        Follows move same (value_of_attribute s q vs class of) (value_of_attribute (moved_machine move s) q ws class of)
-    value_of_follows class of = follows_cond (is_of_variable class) (of_variable_follows vs ws each of)
-        (follows_cond (is_of_function class) (follows_bind _ (of_function_follows vs ws each of) (λ y. follows_gives refl)) (attribute_follows s q class of))
-
-    atom_follows : (atom : Atom) → Follows move same (atom_prog s q vs atom) (atom_prog (moved_machine move s) q ws atom)
-    unfolding atom_prog
-    atom_follows (atoms.Constant value) = follows_gives refl
-    atom_follows (atoms.Number name) = follows_asks (items.Name name) number_given_follows
-    atom_follows (atoms.Attribute class of) = value_of_follows class of
-
+  -- an operator
   pub arithmetic_follows : (r : Result ℤ ArithmeticFault) → Follows move same (arithmetic r) (arithmetic r)
   arithmetic_follows (Ok z) = follows_gives refl
   arithmetic_follows (Err arithmetic_faults.Range) = follows_ends
   arithmetic_follows (Err arithmetic_faults.ZeroDivisor) = follows_ends
 
-  module _ (s : Machine) (q : Asker) (vs ws : Definitions) (each : AreFollowed vs ws) where
-    token_follows : (token : Token) (values : List ℤ) →
-        Follows move same (token_prog s q vs token values) (token_prog (moved_machine move s) q ws token values)
-    token_follows (tokens.Value atom) values = follows_bind _ (atom_follows s q vs ws each atom) (λ v. follows_gives refl)
-    token_follows tokens.Negated [] = follows_ends
-    token_follows tokens.Negated (v ∷ values) = follows_gives refl
-    token_follows (tokens.Applied operator) [] = follows_ends
-    token_follows (tokens.Applied operator) (b ∷ []) = follows_ends
-    token_follows (tokens.Applied operator) (b ∷ a ∷ values) =
-        follows_bind _ (arithmetic_follows (applied operator a b)) (λ v. follows_gives refl)
-
-    tokens_follow : (ts : List Token) (values : List ℤ) →
-        Follows move same (tokens_prog s q vs ts values) (tokens_prog (moved_machine move s) q ws ts values)
-    tokens_follow [] values = follows_gives refl
-    tokens_follow (t ∷ ts) values = follows_bind _ (token_follows t values) (tokens_follow ts)
-
-  last_follows : (values : List ℤ) → Follows move same (last_value values) (last_value values)
-  last_follows [] = follows_ends
-  last_follows (v ∷ values) = follows_gives refl
-
   -- operands
-  term_follows : (s : Machine) (q : Asker) (vs ws : Definitions) → AreFollowed vs ws → (term : Term) →
-      Follows move same (term_prog s q vs term) (term_prog (moved_machine move s) q ws term)
-  unfolding term_prog
-  term_follows s q vs ws each (Value atom) = atom_follows s q vs ws each atom
-  term_follows s q vs ws each (Computed ts) = follows_bind _ (tokens_follow s q vs ws each ts []) last_follows
-  term_follows s q vs ws each term = follows_ends
-
-  expression_follows : (f g : Term → Eval ℤ) → ((term : Term) → Follows move same (f term) (g term)) → (o : Option Term) →
-      Follows move same (expression_given f o) (expression_given g o)
-  expression_follows f g each None = follows_ends
-  expression_follows f g each (Some term) = each term
-
-  argument_by_follows : (s : Machine) (q : Asker) (vs ws : Definitions) → AreFollowed vs ws → (argument : Term) (of : Option Subject) →
-      Follows move same (argument_by s q vs argument of) (argument_by (moved_machine move s) q ws argument of)
-  argument_by_follows s q vs ws each argument None = follows_bind _ (term_follows s q vs ws each argument) (λ v. follows_gives refl)
-  argument_by_follows s q vs ws each argument (Some of) = random_part_follows of
-
-  argument_follows : (s : Machine) (q : Asker) (vs ws : Definitions) → AreFollowed vs ws → (argument : Term) →
-      Follows move same (argument_prog s q vs argument) (argument_prog (moved_machine move s) q ws argument)
-  unfolding argument_prog
-  argument_follows s q vs ws each argument = argument_by_follows s q vs ws each argument (random_of argument)
-
-  point_follows : (y : Option ℤ) → Follows move same (point_found y) (point_found y)
-  point_follows None = follows_ends
-  point_follows (Some y) = follows_gives refl
-
-  function_follows : (f g : Term → Eval ℤ) → ((term : Term) → Follows move same (f term) (g term)) → (o : Option Function) →
-      Follows move same (function_given f o) (function_given g o)
-  function_follows f g each None = follows_ends
-  function_follows f g each (Some function) = follows_bind _ (each function.argument) (λ x. point_follows (curve function x))
-
-  definitions_follow : (depth : ℕ) (s : Machine) (q : Asker) → AreFollowed (definitions_prog depth s q) (definitions_prog depth (moved_machine move s) q)
-  unfolding definitions_prog
-  definitions_follow zero s q = ((λ name. follows_ends), (λ name. follows_ends))
-  definitions_follow (suc depth) s q =
-      let vs = definitions_prog depth s q in
-      let ws = definitions_prog depth (moved_machine move s) q in
-      let each : AreFollowed vs ws = definitions_follow depth s q in (
-        (λ name. follows_asks (items.Variable name)
-            (expression_follows (term_prog s q vs) (term_prog (moved_machine move s) q ws) (term_follows s q vs ws each))),
-        (λ name. follows_asks (items.Function name)
-            (function_follows (argument_prog s q vs) (argument_prog (moved_machine move s) q ws) (argument_follows s q vs ws each))),
-      )
-
   pub value_follows : (s : Machine) (q : Asker) (term : Term) → Follows move same (value_prog s q term) (value_prog (moved_machine move s) q term)
   unfolding value_prog
-  value_follows s q term =
-      term_follows s q (definitions_prog DEEPEST s q) (definitions_prog DEEPEST (moved_machine move s) q) (definitions_follow DEEPEST s q) term
+  value_follows s q term = evaluation_follows s q (value_of term)
 
   pub value_there_follows : (s : Machine) (q : Asker) (term : Option Term) →
       Follows move same (value_there s q term) (value_there (moved_machine move s) q term)
@@ -294,8 +207,7 @@ module _ (move : ℕ → ℕ) (is : IsMove move) where
   time_by_follows : (s : Machine) (q : Asker) (mean range : Option Term) (of : Option Subject) →
       Follows move same (time_by s q mean range of) (time_by (moved_machine move s) q mean range of)
   time_by_follows s q mean range (Some of) = follows_bind _ (value_or_zero_follows s q mean)
-      (λ m. follows_bind _ (of_function_follows (definitions_prog DEEPEST s q) (definitions_prog DEEPEST (moved_machine move s) q)
-      (definitions_follow DEEPEST s q) of) (λ y. in_range_follows (times m y)))
+      (λ m. follows_bind _ (evaluation_follows s q (function_of of)) (λ y. in_range_follows (times m y)))
   time_by_follows s q mean range None = follows_bind _ (value_or_zero_follows s q mean)
       (λ m. follows_bind _ (value_or_zero_follows s q range) (λ r. follows_cond (is_negative r) (follows_gives refl) (sample_within_follows m (magnitude r))))
 

@@ -3,6 +3,7 @@ use Rattle.std.proofs.Common.{[], ◌∷◌, Option, Some, None, pos, false, ref
 use Rattle.gw_names.specs.declared.verb.BlockVerb.TheVariants as blocks
 use Rattle.gw_names.specs.declared.key.Key.TheVariants as keys
 use Rattle.gw_expr.specs.Term.{Term, Value, Named, Defined}
+use Rattle.gw_expr.specs.Evaluation.{value_of, value_by, value_of_atom}
 use Rattle.gw_expr.specs.declared.atom.Atom.TheVariants as atoms
 use Rattle.gw_entities.specs.Records.{never_owned, seized, queued, no_line, never_used, entered}
 use Rattle.gw_meaning.specs.declared.sign.Sign.TheVariants as signs
@@ -14,7 +15,7 @@ use Rattle.gw_meaning.specs.declared.moves.Change.TheVariants as changes
 use Rattle.gw_meaning.specs.declared.transaction_change.TransactionChange.TheVariants as own
 use Rattle.gw_meaning.specs.declared.moves.Fate.TheVariants as fates
 use Rattle.gw_meaning.specs.Listing.{Listing}
-use Rattle.gw_meaning.specs.Evaluation.{value_prog, term_prog, atom_prog}
+use Rattle.gw_meaning.specs.Evaluation.{value_prog}
 use Rattle.gw_meaning.specs.Machine.{Machine, zero_state}
 use Rattle.gw_laws.specs.Verbs.{EachVerbIsEvaluated}
 
@@ -63,7 +64,7 @@ abbrev counting : Machine
 counting = record zero_state { parameters = (1, (keys.Named [], pos 1) ∷ []) ∷ [] }
 
 pub each_verb_is_evaluated : EachVerbIsEvaluated
-unfolding value_prog term_prog atom_prog
+unfolding value_prog value_of value_by value_of_atom
 each_verb_is_evaluated blocks.Generate given forms is = record {
   version = version;
   block = record { verb = blocks.Generate; sign = signs.Absent; operands = [] };

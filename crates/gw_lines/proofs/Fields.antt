@@ -5,8 +5,8 @@ use Rattle.std.proofs.lemmas.Bool.{and_parts}
 use Rattle.gw_expr.specs.declared.atom.Atom.TheVariants as atoms
 use Rattle.gw_expr.specs.Expressions.{postfix}
 use Rattle.gw_expr.specs.Term.{Term, Value, Computed, Defined, Fraction, Label, Named}
-use Rattle.gw_meaning.specs.declared.function.FunctionType.{FunctionType}
-use Rattle.gw_meaning.specs.declared.function.FunctionType.TheVariants as types
+use Rattle.gw_expr.specs.declared.function.FunctionType.{FunctionType}
+use Rattle.gw_expr.specs.declared.function.FunctionType.TheVariants as types
 use Rattle.gw_lines.specs.declared.form.Kind.{Kind}
 use Rattle.gw_lines.specs.declared.form.Kind.TheVariants as kinds
 use Rattle.gw_lines.specs.declared.form.Presence.{Presence}

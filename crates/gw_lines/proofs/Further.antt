@@ -4,8 +4,8 @@ use Rattle.std.specs.Prelude.{nat_lt}
 use Rattle.std.proofs.lemmas.Bool.{both_ways, cases_Bool}
 use Rattle.std.proofs.lemmas.Bool.Decides.{nat_tests}
 use Rattle.gw_names.specs.Words.{upper_of}
-use Rattle.gw_meaning.specs.declared.function.Function.{Function}
-use Rattle.gw_meaning.specs.declared.function.Point.{Point}
+use Rattle.gw_expr.specs.declared.function.Function.{Function}
+use Rattle.gw_expr.specs.declared.function.Point.{Point}
 use Rattle.gw_meaning.specs.declared.statement.Definition.TheVariants as definitions
 use Rattle.gw_meaning.specs.declared.statement.Body.{Body}
 use Rattle.gw_meaning.specs.declared.statement.Body.TheVariants as bodies

@@ -4,7 +4,7 @@ use Rattle.std.proofs.lemmas.Bool.{and_parts}
 use Rattle.std.proofs.lemmas.Bool.Decides.{nat_tests}
 use Rattle.std.specs.List.{list_all}
 use Rattle.gw_names.specs.Names.{is_name_byte}
-use Rattle.gw_meaning.specs.declared.function.Point.{Point}
+use Rattle.gw_expr.specs.declared.function.Point.{Point}
 use Rattle.gw_lines.specs.declared.class.Class.TheVariants as class
 use Rattle.gw_lines.specs.Classes.{is_in}
 use Rattle.gw_lines.specs.Points.{Decimal, without_point, with_point, Coordinate, not_negative, negative, Pair, a_pair, Pairs, last_pair, ended_pair, more_pairs}

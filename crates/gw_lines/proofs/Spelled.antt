@@ -8,8 +8,8 @@ use Rattle.std.proofs.lemmas.Slice.Eq.{bytes_eq-Decides}
 use Rattle.gw_names.specs.Names.{name_of}
 use Rattle.gw_expr.specs.declared.atom.Atom.TheVariants as atoms
 use Rattle.gw_expr.specs.Term.{Term, Defined, Fraction, Label}
-use Rattle.gw_meaning.specs.declared.function.FunctionType.{FunctionType}
-use Rattle.gw_meaning.specs.declared.function.FunctionType.TheVariants as types
+use Rattle.gw_expr.specs.declared.function.FunctionType.{FunctionType}
+use Rattle.gw_expr.specs.declared.function.FunctionType.TheVariants as types
 use Rattle.gw_lines.specs.declared.fault.LineFault.{LineFault}
 use Rattle.gw_lines.specs.declared.fault.LineFault.TheVariants as faults
 use Rattle.gw_lines.specs.declared.form.Kind.{Kind}

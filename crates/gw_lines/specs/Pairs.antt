@@ -2,7 +2,7 @@
 -- ends.)
 use Rattle.std.specs.Prelude.{ℕ, ℤ, ◌-◌, ◌==◌, ◌&&◌, Bool, true, false, List, [], ◌∷◌, ◌++◌, length, Option, Some, None, Result, Ok, Err, if◌then◌else◌, nat_lt, slice_get}
 use Rattle.gw_nums.specs.Range.{is_below}
-use Rattle.gw_meaning.specs.declared.function.Point.{Point}
+use Rattle.gw_expr.specs.declared.function.Point.{Point}
 use Rattle.gw_meaning.specs.declared.statement.Definition.TheVariants as definitions
 use Rattle.gw_meaning.specs.declared.statement.Body.{Body}
 use Rattle.gw_meaning.specs.declared.statement.Body.TheVariants as bodies

@@ -2,8 +2,8 @@
 -- the pairs. Our own: the greatest numbers, where a line ends.)
 use Rattle.std.specs.Prelude.{ℕ, ℤ, pos, neg_ℤ, ◌*◌, ◌<◌, ◌≤◌, ◌≡◌, true, false, List, [], ◌∷◌, ◌++◌, length}
 use Rattle.gw_names.specs.Words.{upper_of}
-use Rattle.gw_meaning.specs.declared.function.Function.{Function}
-use Rattle.gw_meaning.specs.declared.function.Point.{Point}
+use Rattle.gw_expr.specs.declared.function.Function.{Function}
+use Rattle.gw_expr.specs.declared.function.Point.{Point}
 use Rattle.gw_meaning.specs.declared.statement.Definition.TheVariants as definitions
 use Rattle.gw_meaning.specs.declared.statement.Body.TheVariants as bodies
 use Rattle.gw_meaning.specs.declared.statement.Statement.{Statement}

@@ -15,7 +15,7 @@ use Rattle.gw_expr.specs.declared.token.Operator.{Operator}
 use Rattle.gw_expr.specs.declared.token.Operator.TheVariants as operators
 use Rattle.gw_expr.specs.Expressions.{Expression, Single, Opposite, Both, postfix}
 use Rattle.gw_expr.specs.Term as terms
-use Rattle.gw_meaning.specs.declared.function.FunctionType.TheVariants as types
+use Rattle.gw_expr.specs.declared.function.FunctionType.TheVariants as types
 use Rattle.gw_meaning.specs.declared.sign.Sign.{Sign}
 use Rattle.gw_meaning.specs.declared.statement.Body.{Body}
 use Rattle.gw_meaning.specs.declared.statement.Statement.{Statement}

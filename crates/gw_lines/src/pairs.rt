@@ -8,7 +8,8 @@ use crate::line::{LONGEST, code, is_remark};
 use crate::number::coordinate;
 use crate::operand::MOST_POINTS;
 use crate::words::operands;
-use gw_meaning::{Body, Definition, Function, Point, Row, Statement};
+use gw_expr::{Function, Point, Row};
+use gw_meaning::{Body, Definition, Statement};
 use gw_nums::Millionths;
 use std::alloc::Global;
 

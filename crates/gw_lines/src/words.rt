@@ -8,7 +8,8 @@ use crate::class::{Class, are_plain, span};
 use crate::fault::LineFault;
 use crate::form::forms_of_definition;
 use crate::listed::{listed, upper};
-use gw_meaning::{Row, Statement};
+use gw_expr::Row;
+use gw_meaning::Statement;
 use gw_names::{DefinitionVerb, Name, Verb};
 use std::alloc::{AllocError, Global};
 

@@ -4,28 +4,22 @@
 use Rattle.std.specs.Prelude.{ℕ, zero, suc, ◌+◌, ◌-◌, ◌*◌, ◌/◌, Bool, true, false, not, ◌&&◌, nat_le, List, [], ◌∷◌, Option, Some, None, Result, Ok, Err, ℤ, pos, ◌+ℤ◌, ◌-ℤ◌, if◌then◌else◌}
 use Rattle.gw_nums.specs.declared.val.ArithmeticFault.{ArithmeticFault}
 use Rattle.gw_nums.specs.declared.val.ArithmeticFault.TheVariants as arithmetic_faults
-use Rattle.gw_nums.specs.Millionths.{of_value, whole, times}
-use Rattle.gw_nums.specs.Range.{is_value, is_negative, is_below, magnitude, negated}
+use Rattle.gw_nums.specs.Millionths.{times}
+use Rattle.gw_nums.specs.Range.{is_value, is_negative, is_below, magnitude}
 use Rattle.gw_names.specs.declared.key.Key.{Key}
 use Rattle.gw_names.specs.declared.key.Key.TheVariants as keys
-use Rattle.gw_expr.specs.Term.{Term, Value, Computed, Named}
-use Rattle.gw_expr.specs.Arithmetic.{applied}
-use Rattle.gw_expr.specs.Expressions.{Expression, Single, Opposite, Both}
-use Rattle.gw_expr.specs.declared.atom.Atom.{Atom}
+use Rattle.gw_expr.specs.Term.{Term, Value, Named}
 use Rattle.gw_expr.specs.declared.atom.Atom.TheVariants as atoms
-use Rattle.gw_expr.specs.declared.token.Operator.{Operator}
-use Rattle.gw_expr.specs.declared.token.Token.{Token}
-use Rattle.gw_expr.specs.declared.token.Token.TheVariants as tokens
 use Rattle.gw_expr.specs.declared.stop.Stop.{Stop}
 use Rattle.gw_names.specs.declared.class.Class.{Class}
 use Rattle.gw_names.specs.declared.class.Class.TheVariants as class
 use Rattle.gw_expr.specs.declared.attribute.Subject.{Subject}
 use Rattle.gw_expr.specs.declared.attribute.Subject.TheVariants as subjects
-use Rattle.gw_expr.specs.declared.stop.Stop.TheVariants.{Range, BadCount, NoParameter, VariableDepth, ZeroDivisor}
+use Rattle.gw_expr.specs.declared.stop.Stop.TheVariants.{Range, BadCount, NoParameter, ZeroDivisor}
+use Rattle.gw_expr.specs.Evaluation.{Question, NumberOf, AttributeOf, PartOf, VariableOf, FunctionOf, Reply, Evaluation, Yields, Stops, Wants, is_of_function, value_of, function_of}
 use Rattle.gw_streams.specs.declared.stream.Stream.{Stream}
 use Rattle.gw_streams.specs.declared.stream.Stream.TheVariants as streams
 use Rattle.gw_streams.specs.Draws.{next_of, start_of, stream_at, with_stream}
-use Rattle.gw_meaning.specs.declared.function.Function.{Function}
 use Rattle.gw_meaning.specs.declared.item.Item.{Item}
 use Rattle.gw_meaning.specs.declared.item.Item.TheVariants as items
 use Rattle.gw_meaning.specs.declared.item.End.{End}
@@ -34,7 +28,6 @@ use Rattle.gw_meaning.specs.declared.asker.Asker.{Asker}
 use Rattle.gw_entities.specs.Parameters.{parameter_at}
 use Rattle.gw_meaning.specs.Entities.{facility_at, line_at, store_at}
 use Rattle.gw_meaning.specs.Machine.{Machine, count_at}
-use Rattle.gw_meaning.specs.Functions.{curve}
 use Rattle.gw_meaning.specs.Questions.{Answer, Prog, Gives, Ends, Asks, ◌>>=◌}
 
 -- an evaluation
@@ -218,155 +211,31 @@ attribute_prog s q class.W of = block_count of (λ id. block_value s class.W id)
 attribute_prog s q class.Rn of = random_prog of
 attribute_prog s q class of = ends_with (ends.Error Range)
 
--- ---- expressions
-
--- the number that a name stands for, which each version gives to a name that stands for a value
-abbrev pub number_given : Option ℤ → Eval ℤ
-number_given None = ends_with (ends.Error Range)
-number_given (Some n) = gives n
-
--- what definitions come to where an expression evaluates them: the VARIABLE of each name, and the FUNCTION of each name
--- in millionths
-pub record Definitions : Type 0 where
-  pub variable : List ℕ → Eval ℤ
-  pub function : List ℕ → Eval ℤ
-
--- what the attribute of a VARIABLE comes to
-abbrev pub is_of_variable : Class → Bool
-is_of_variable class.V = true
-is_of_variable class = false
-
-abbrev pub of_variable : Definitions → Subject → Eval ℤ
-of_variable defined (subjects.Name name) = defined.variable name
-of_variable defined subject = ends_with (ends.Error Range)
-
--- what the attribute of a FUNCTION comes to: in millionths, and as the greatest value that is not above that
-abbrev pub is_of_function : Class → Bool
-is_of_function class.Fn = true
-is_of_function class = false
-
-abbrev pub of_function : Definitions → Subject → Eval ℤ
-of_function defined (subjects.Name name) = defined.function name
-of_function defined subject = ends_with (ends.Error Range)
-
-abbrev pub whole_of_function : Definitions → Subject → Eval ℤ
-whole_of_function defined of = of_function defined of ~> (λ y. gives (whole y))
-
--- the value of an attribute
-abbrev pub value_of_attribute : Machine → Asker → Definitions → Class → Subject → Eval ℤ
-value_of_attribute s q defined class of =
-    if is_of_variable class then of_variable defined of
-    else (if is_of_function class then whole_of_function defined of else attribute_prog s q class of)
-
--- the value of a constant, of a name that stands for a number, or of an attribute
-unfoldable pub atom_prog : Machine → Asker → Definitions → Atom → Eval ℤ
-atom_prog s q defined (atoms.Constant value) = gives value
-atom_prog s q defined (atoms.Number name) = asks (items.Name name) number_given
-atom_prog s q defined (atoms.Attribute class of) = value_of_attribute s q defined class of
-
 -- what an operator comes to: a value, or the stop that says why there is none
 abbrev pub arithmetic : Result ℤ ArithmeticFault → Eval ℤ
 arithmetic (Ok z) = gives z
 arithmetic (Err arithmetic_faults.Range) = ends_with (ends.Error Range)
 arithmetic (Err arithmetic_faults.ZeroDivisor) = ends_with (ends.Error ZeroDivisor)
 
--- the value of an expression: of two operands the left one comes first
-abbrev pub expression_prog : Machine → Asker → Definitions → Expression → Eval ℤ
-expression_prog s q defined (Single atom) = atom_prog s q defined atom
-expression_prog s q defined (Opposite e) = expression_prog s q defined e ~> (λ v. gives (negated v))
-expression_prog s q defined (Both operator left right) =
-    expression_prog s q defined left
-    ~> (λ a. expression_prog s q defined right ~> (λ b. arithmetic (applied operator a b)))
-
--- An expression is kept in postfix order, and evaluated by the values that wait for their operator, the last one first:
--- this comes to the value of the expression.
-
--- the last value with the other sign, and what an operator makes of the last two; no expression lacks them
-abbrev pub negated_last : List ℤ → Eval (List ℤ)
-negated_last [] = ends_with (ends.Error Range)
-negated_last (v ∷ values) = gives (negated v ∷ values)
-
-abbrev pub applied_last : Operator → List ℤ → Eval (List ℤ)
-applied_last operator [] = ends_with (ends.Error Range)
-applied_last operator (b ∷ []) = ends_with (ends.Error Range)
-applied_last operator (b ∷ a ∷ values) = arithmetic (applied operator a b) ~> (λ v. gives (v ∷ values))
-
--- what a part of an expression makes of the values that wait
-abbrev pub token_prog : Machine → Asker → Definitions → Token → List ℤ → Eval (List ℤ)
-token_prog s q defined (tokens.Value atom) values = atom_prog s q defined atom ~> (λ v. gives (v ∷ values))
-token_prog s q defined tokens.Negated values = negated_last values
-token_prog s q defined (tokens.Applied operator) values = applied_last operator values
-
-abbrev pub tokens_prog : Machine → Asker → Definitions → List Token → List ℤ → Eval (List ℤ)
-tokens_prog s q defined [] values = gives values
-tokens_prog s q defined (t ∷ ts) values =
-    token_prog s q defined t values ~> (λ more. tokens_prog s q defined ts more)
-
--- the value that is left
-abbrev pub last_value : List ℤ → Eval ℤ
-last_value [] = ends_with (ends.Error Range)
-last_value (v ∷ values) = gives v
-
 -- ---- operands
 
--- the value of an operand in a state, by what definitions come to; an entity, a label, a fraction and a definition have
--- none, and no form lets one stand for a value
-unfoldable pub term_prog : Machine → Asker → Definitions → Term → Eval ℤ
-term_prog s q defined (Value atom) = atom_prog s q defined atom
-term_prog s q defined (Computed ts) = tokens_prog s q defined ts [] ~> last_value
-term_prog s q defined term = ends_with (ends.Error Range)
+-- what a state replies to what an evaluation wants, for whoever asks: a version is asked for what it says
+abbrev pub reply_prog : Machine → Asker → (q : Question) → Eval (Reply q)
+reply_prog s q (NumberOf name) = asks (items.Name name) (λ number. gives number)
+reply_prog s q (AttributeOf class of) = attribute_prog s q class of
+reply_prog s q (PartOf of) = random_part of
+reply_prog s q (VariableOf name) = asks (items.Variable name) (λ expression. gives expression)
+reply_prog s q (FunctionOf name) = asks (items.Function name) (λ function. gives function)
 
--- the value of the expression of a VARIABLE, which each version has
-abbrev pub expression_given : (Term → Eval ℤ) → Option Term → Eval ℤ
-expression_given value None = ends_with (ends.Error Range)
-expression_given value (Some expression) = value expression
-
--- the random number that an operand is as it is written, and the stream that it is of
-abbrev pub is_random : Class → Bool
-is_random class.Rn = true
-is_random class = false
-
-abbrev pub random_of : Term → Option Subject
-random_of (Value (atoms.Attribute class of)) = if is_random class then Some of else None
-random_of term = None
-
--- the argument of a FUNCTION, in millionths: such a random number as a part of a million, and else a value
-abbrev pub argument_by : Machine → Asker → Definitions → Term → Option Subject → Eval ℤ
-argument_by s q defined argument None = term_prog s q defined argument ~> (λ v. gives (of_value v))
-argument_by s q defined argument (Some of) = random_part of
-
-unfoldable pub argument_prog : Machine → Asker → Definitions → Term → Eval ℤ
-argument_prog s q defined argument = argument_by s q defined argument (random_of argument)
-
--- what the FUNCTION comes to at its argument, which each version has; one that was read has points
-abbrev pub point_found : Option ℤ → Eval ℤ
-point_found None = ends_with (ends.Error Range)
-point_found (Some y) = gives y
-
-abbrev pub function_given : (Term → Eval ℤ) → Option Function → Eval ℤ
-function_given argument None = ends_with (ends.Error Range)
-function_given argument (Some f) = argument f.argument ~> (λ x. point_found (curve f x))
-
--- what the definition of a name comes to: a VARIABLE's expression or a FUNCTION is asked for and evaluated at that
--- moment, for whoever asks. So many may stand in each other here, this one counted; one more stops before it is asked
--- for
-unfoldable pub definitions_prog : ℕ → Machine → Asker → Definitions
-definitions_prog zero s q = record {
-  variable = λ name. ends_with (ends.Error VariableDepth);
-  function = λ name. ends_with (ends.Error VariableDepth);
-}
-definitions_prog (suc depth) s q = record {
-  variable = λ name. asks (items.Variable name) (expression_given (term_prog s q (definitions_prog depth s q)));
-  function = λ name. asks (items.Function name) (function_given (argument_prog s q (definitions_prog depth s q)));
-}
-
--- how many VARIABLEs and FUNCTIONs may stand in each other
-abbrev pub DEEPEST : ℕ
-DEEPEST = 32
+-- an evaluation in a state
+abbrev pub evaluated : {A : Type 0} → Machine → Asker → Evaluation A → Eval A
+evaluated s q (Yields a) = gives a
+evaluated s q (Stops stop) = ends_with (ends.Error stop)
+evaluated s q (Wants question k) = reply_prog s q question ~> (λ reply. evaluated s q (k reply))
 
 -- the value of an operand in a state
 unfoldable pub value_prog : Machine → Asker → Term → Eval ℤ
-value_prog s q term = term_prog s q (definitions_prog DEEPEST s q) term
+value_prog s q term = evaluated s q (value_of term)
 
 -- the value of an operand that is there: no form leaves it out
 abbrev pub value_there : Machine → Asker → Option Term → Eval ℤ
@@ -411,7 +280,7 @@ abbrev pub time_by : Machine → Asker → Option Term → Option Term → Optio
 time_by s q mean range None =
     value_or_zero s q mean ~> (λ m. value_or_zero s q range ~> (λ r. sample m r))
 time_by s q mean range (Some of) =
-    value_or_zero s q mean ~> (λ m. of_function (definitions_prog DEEPEST s q) of ~> (λ y. in_range (times m y)))
+    value_or_zero s q mean ~> (λ m. evaluated s q (function_of of) ~> (λ y. in_range (times m y)))
 
 -- a time of a mean plus or minus a range, or times a FUNCTION
 abbrev pub time_prog : Machine → Asker → Option Term → Option Term → Eval ℤ

@@ -5,10 +5,8 @@ pub mod Listing
 pub mod Numbers
 pub mod Entities
 pub mod Machine
-pub mod Functions
 pub mod Questions
 pub mod Evaluation
-pub mod Laws
 pub mod Changes
 pub mod Step
 pub mod Reads
@@ -20,5 +18,7 @@ pub use Rattle.gw_expr.specs.Term
 pub use Rattle.gw_expr.specs.Arithmetic
 pub use Rattle.gw_expr.specs.Expressions
 pub use Rattle.gw_expr.specs.Stops
+pub use Rattle.gw_expr.specs.Functions
+pub use Rattle.gw_expr.specs.Evaluation as OperandEvaluation
 pub use Rattle.gw_names.specs.Words
 pub use Rattle.gw_names.specs.Names

@@ -5,7 +5,7 @@ use Rattle.std.specs.Prelude.{ℕ, ℤ, zero, suc, ◌+◌, Bool, true, false, �
 use Rattle.std.specs.List.{filter_map}
 use Rattle.std.specs.Str.{bytes_eq}
 use Rattle.gw_expr.specs.Term.{Term}
-use Rattle.gw_meaning.specs.declared.function.Function.{Function}
+use Rattle.gw_expr.specs.declared.function.Function.{Function}
 use Rattle.gw_meaning.specs.declared.statement.Block.{Block}
 use Rattle.gw_meaning.specs.declared.statement.Definition.{Definition}
 use Rattle.gw_meaning.specs.declared.statement.Definition.TheVariants as definitions

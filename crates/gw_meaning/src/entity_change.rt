@@ -1,4 +1,4 @@
-use crate::row::Row;
+use gw_expr::Row;
 use gw_names::Key;
 use std::marker::Model;
 

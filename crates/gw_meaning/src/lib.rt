@@ -9,12 +9,9 @@
 mod asker;
 mod destination;
 mod entity_change;
-mod function;
 mod item;
-mod laws;
 mod moves;
 pub mod operands;
-mod row;
 mod sign;
 mod statement;
 mod statement_id;
@@ -25,13 +22,8 @@ mod transaction_change;
 pub use asker::Asker;
 pub use destination::Destination;
 pub use entity_change::{Deed, EntityChange};
-pub use function::{Function, FunctionType, Point};
 pub use item::{End, Item, Outcome};
-pub use laws::{
-    constants_hang_on_nothing, expressions_have_their_values, points_have_their_values,
-};
 pub use moves::{Arrival, Change, Fate, Move};
-pub use row::Row;
 pub use sign::Sign;
 pub use statement::{Block, Body, Command, Definition, Numbered, Replication, Statement};
 pub use statement_id::StatementId;

@@ -1,7 +1,7 @@
 use crate::entity_change::EntityChange;
-use crate::row::Row;
 use crate::statement_id::StatementId;
 use crate::transaction_change::TransactionChange;
+use gw_expr::Row;
 use gw_names::Key;
 use gw_nums::{Clock, Time, Val};
 

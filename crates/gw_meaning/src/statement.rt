@@ -2,11 +2,9 @@ ghost use Rattle.std.specs.Prelude.{◌≡◌, IfOk, option_copied};
 ghost use Rattle.gw_meaning.specs.Statements.{operand, is_generate_verb, verb_of_definition, verb_of_command, verb_of_body};
 ghost use Rattle.gw_meaning.specs.Listing.{block_of, definition_of, command_of, is_block, is_command, is_generate};
 
-use crate::function::Function;
-use crate::row::Row;
 use crate::sign::Sign;
 use crate::statement_id::StatementId;
-use gw_expr::Expr;
+use gw_expr::{Expr, Function, Row};
 use gw_names::{BlockVerb, CommandVerb, DefinitionVerb, Name, Verb};
 use gw_nums::Val;
 use std::alloc::{AllocError, Global};

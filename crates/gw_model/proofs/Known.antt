@@ -9,8 +9,8 @@ use Rattle.gw_expr.specs.declared.atom.Atom.TheVariants as atoms
 use Rattle.gw_expr.specs.declared.token.Token.{Token}
 use Rattle.gw_expr.specs.declared.token.Token.TheVariants as tokens
 use Rattle.gw_meaning.specs.Listing.{operand_of, operands_of, defined_in, labelled_in, number_of}
-use Rattle.gw_meaning.specs.declared.function.Function.{Function}
-use Rattle.gw_meaning.specs.Evaluation.{is_of_function}
+use Rattle.gw_expr.specs.declared.function.Function.{Function}
+use Rattle.gw_expr.specs.Evaluation.{is_of_function}
 use Rattle.gw_meaning.specs.declared.statement.Definition.{Definition}
 use Rattle.gw_meaning.specs.declared.statement.Definition.TheVariants as definitions
 use Rattle.gw_meaning.specs.declared.statement.Numbered.{Numbered}

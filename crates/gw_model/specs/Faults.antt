@@ -11,7 +11,7 @@ use Rattle.gw_expr.specs.declared.atom.Atom.{Atom}
 use Rattle.gw_expr.specs.declared.atom.Atom.TheVariants as atoms
 use Rattle.gw_meaning.specs.Listing.{Listing, operands_of, defined_in, expression_of, function_of, units_of, has_label, labelled_in}
 use Rattle.gw_meaning.specs.Listing as listings
-use Rattle.gw_meaning.specs.Evaluation.{is_of_function}
+use Rattle.gw_expr.specs.Evaluation.{is_of_function}
 use Rattle.gw_model.specs.Listed.{counted_label}
 use Rattle.gw_meaning.specs.declared.statement.Definition.{Definition}
 use Rattle.gw_meaning.specs.declared.statement.Numbered.{Numbered}

@@ -9,7 +9,7 @@ use Rattle.gw_expr.specs.declared.attribute.Subject.TheVariants as subjects
 use Rattle.gw_meaning.specs.Listing.{Listing, operand_of, definition_at, label_at}
 use Rattle.gw_model.specs.Listed.{counted_label}
 use Rattle.gw_model.specs.Faults.{is_of_block, is_of_storage}
-use Rattle.gw_meaning.specs.declared.function.Function.{Function}
+use Rattle.gw_expr.specs.declared.function.Function.{Function}
 use Rattle.gw_meaning.specs.declared.statement.Definition.TheVariants as definitions
 use Rattle.gw_meaning.specs.declared.statement.Numbered.{Numbered}
 use Rattle.gw_meaning.specs.declared.statement.Replication.{Replication}

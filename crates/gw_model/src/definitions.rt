@@ -5,10 +5,9 @@ ghost use Rattle.std.specs.Cmp.Lexicographic.{slice_cmp};
 ghost use Rattle.gw_meaning.specs.Listing.{defined_in, number_of, operands_of_definition};
 ghost use Rattle.std.specs.List.{list_any};
 ghost use Rattle.gw_expr.specs.Term.{holds_of_token};
-ghost use Rattle.gw_meaning.specs.Evaluation.{is_of_function};
 ghost use Rattle.gw_model.specs.Faults.{has_no_value, is_of_equ, has_unknown_definition, has_equ_named, holds_in, holds_of, is_undefined, is_equ_named, is_of_storage, is_of_definition, is_storage_or_equ, is_variable_or_equ, is_function_or_equ, is_wanted_or_equ, lacks_name, has_name};
 
-use gw_expr::{Atom, Expr, Node, Subject, Token};
+use gw_expr::{Atom, Expr, Node, Subject, Token, is_of_function};
 use gw_meaning::{Body, Definition, Numbered};
 use gw_names::{Class, Name};
 use std::collections::BTreeMap;
@@ -254,16 +253,6 @@ fn is_of_storage(class: Class) -> bool
 {
     match class {
         Class::S | Class::R | Class::Sc | Class::Sm => true,
-        _ => false,
-    }
-}
-
-// Whether the attributes of a class are of a FUNCTION.
-fn is_of_function(class: Class) -> bool
-    ensures { result ≡ is_of_function class }
-{
-    match class {
-        Class::Fn => true,
         _ => false,
     }
 }

@@ -1,5 +1,5 @@
 ghost use Rattle.std.specs.Prelude.{◌≡◌, ◌≤◌, ◌⊎◌, IfOk, OnOk, IfErr, IfSome, IsTrue, Some, None, option_copied, length, nat_le, if◌then◌else◌};
-ghost use Rattle.gw_meaning.specs.Listing.{block_at, after_at, position_at, label_at, command_at, definition_at, capacity_at, number_at, variable_at, function_at, generates_in, statement_at, starts, replication_at, seed_at};
+ghost use Rattle.gw_meaning.specs.Listing.{block_at, after_at, position_at, label_at, command_at, definition_at, capacity_at, number_at, generates_in, statement_at, starts, replication_at, seed_at};
 
 use crate::fault::ModelFault;
 use crate::lines::{number, spliced};
@@ -8,10 +8,8 @@ use crate::places::{after_of, block_of, position_of};
 use crate::replications::seed_of;
 use crate::settings::checked_horizon;
 use crate::tabled::Tabled;
-use gw_expr::Expr;
-use gw_meaning::{
-    Block, Command, Definition, Function, Numbered, Replication, Statement, StatementId,
-};
+use gw_expr::{Defs, Expr, Function};
+use gw_meaning::{Block, Command, Definition, Numbered, Replication, Statement, StatementId};
 use gw_names::Name;
 use gw_nums::{Clock, Time, Val};
 use std::alloc::{AllocError, Global};
@@ -232,30 +230,6 @@ impl Version {
         }
     }
 
-    /// The expression of the VARIABLE of this name, if there is one.
-    #[tactic(auto, using(crate::proofs::Once::variable_once))]
-    #[inline(always)]
-    pub fn variable(&self, name: &Name) -> Option<&Expr>
-        ensures { option_copied result ≡ variable_at self.now name.now }
-    {
-        match self.tabled.tables.definitions.get(name) {
-            Some(Definition::Variable { expression }) => Some(expression),
-            _ => None,
-        }
-    }
-
-    /// The FUNCTION of this name, if there is one.
-    #[tactic(auto, using(crate::proofs::Once::function_once))]
-    #[inline(always)]
-    pub fn function(&self, name: &Name) -> Option<&Function>
-        ensures { option_copied result ≡ function_at self.now name.now }
-    {
-        match self.tabled.tables.definitions.get(name) {
-            Some(Definition::Function(function)) => Some(function),
-            _ => None,
-        }
-    }
-
     /// How many units the storage of this name has; 0 where there is no such storage.
     #[tactic(auto, using(crate::proofs::Once::capacity_once))]
     #[inline(always)]
@@ -385,5 +359,31 @@ impl Version {
         ensures greatest { result ≤ 1000000 }
     {
         self.limit
+    }
+}
+
+impl Defs for Version {
+    ghost use Rattle.gw_meaning.specs.Listing.{variable_at, function_at};
+
+    ghost variable_of = { λ t name. variable_at t name };
+
+    ghost function_of = { λ t name. function_at t name };
+
+    #[tactic(auto, using(crate::proofs::Once::variable_once))]
+    #[inline(always)]
+    fn variable(&self, name: &Name) -> Option<&Expr> {
+        match self.tabled.tables.definitions.get(name) {
+            Some(Definition::Variable { expression }) => Some(expression),
+            _ => None,
+        }
+    }
+
+    #[tactic(auto, using(crate::proofs::Once::function_once))]
+    #[inline(always)]
+    fn function(&self, name: &Name) -> Option<&Function> {
+        match self.tabled.tables.definitions.get(name) {
+            Some(Definition::Function(function)) => Some(function),
+            _ => None,
+        }
     }
 }

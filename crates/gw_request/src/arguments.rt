@@ -8,7 +8,7 @@ use crate::number::{next_number, number_of};
 use crate::request::Request;
 use crate::words::cut;
 use gw_edit::Edit;
-use gw_meaning::Row;
+use gw_expr::Row;
 use gw_names::Name;
 use std::alloc::{AllocError, Global};
 

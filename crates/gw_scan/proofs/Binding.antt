@@ -24,7 +24,7 @@ reads_none xs = record { now = refl; each = λ q. go (first_in xs.firsts q) } wh
   go None = refl
   go (Some n) = refl
 
-keeps_all : (xs : Noted) → Keeps xs xs
+pub keeps_all : (xs : Noted) → Keeps xs xs
 keeps_all xs = record { now = refl; each = λ q. refl }
 
 -- one item is read

@@ -1,4 +1,6 @@
 pub mod Acting
 pub mod Binding
 pub mod StepLaws
-pub mod Nested
+pub mod Halting
+pub mod Stopping
+pub mod Evaluating

@@ -1,5 +1,6 @@
 -- What a function that asks came to, against the evaluation that it stands for.
 use Rattle.std.specs.Prelude.{◌≡◌, ℕ, ℤ, List, Option, Some, None, Result, Ok, Err}
+use Rattle.gw_expr.specs.declared.eval_fault.Fault.{Fault}
 use Rattle.gw_names.specs.declared.key.Key.{Key}
 use Rattle.gw_meaning.specs.declared.moves.Change.TheVariants as changes
 use Rattle.gw_meaning.specs.declared.moves.Arrival.{Arrival}
@@ -17,6 +18,7 @@ use Rattle.gw_meaning.specs.Step.{for_one, assign_with, left_of, loop_with}
 use Rattle.gw_meaning.specs.declared.statement.Block.{Block}
 use Rattle.gw_meaning.specs.declared.transaction.Transaction.{Transaction}
 use Rattle.gw_entities.specs.Parameters.{parameter_at}
+use Rattle.gw_scan.specs.Halts.{why_of_fault}
 use Rattle.gw_scan.specs.Noted.{Noted, Reads, Keeps}
 use Rattle.gw_scan.specs.declared.halt.Why.{Why}
 use Rattle.gw_scan.specs.declared.halt.Why.TheVariants as whys
@@ -35,6 +37,11 @@ abbrev pub Comes : {A : Type 0} → Eval A → Result A Why → Type 0
 Comes p (Ok a) = p ≡ gives a
 Comes p (Err (whys.End end)) = p ≡ ends_with end
 Comes p (Err whys.Memory) = Unit {0}
+
+-- the result of an evaluation of operands, whose fault halts the run
+abbrev pub halted : {A : Type 0} → Result A Fault → Result A Why
+halted (Ok a) = Ok a
+halted (Err fault) = Err (why_of_fault fault)
 
 -- a block that changes nothing is entered, where it was decided what becomes of its transaction
 abbrev pub entered : ℕ → Result Fate Why → Result Move Why

@@ -1,5 +1,7 @@
 -- Why no step was made, by the number of a halt. (Our own; a stop has the number that a report prints behind an X.)
 use Rattle.std.specs.Prelude.{ℕ, List, [], ◌∷◌, get_or}
+use Rattle.gw_expr.specs.declared.eval_fault.Fault.{Fault}
+use Rattle.gw_expr.specs.declared.eval_fault.Fault.TheVariants as faults
 use Rattle.gw_expr.specs.declared.stop.Stop.TheVariants as stops
 use Rattle.gw_meaning.specs.declared.item.End.TheVariants as ends
 use Rattle.gw_scan.specs.declared.halt.Why.{Why}
@@ -27,3 +29,14 @@ all_whys =
 
 abbrev pub why_of : ℕ → Why
 why_of number = get_or all_whys number whys.Memory
+
+-- what a run makes of a fault of an evaluation, which has the same number
+abbrev pub why_of_fault : Fault → Why
+why_of_fault faults.Memory = whys.Memory
+why_of_fault (faults.Stop stop) = whys.End (ends.Error stop)
+
+-- an evaluation may come to this: want of memory or a stop, and no other end of a run
+abbrev pub IsFault : Why → Type 0
+IsFault whys.Memory = Unit {0}
+IsFault (whys.End (ends.Error stop)) = Unit {0}
+IsFault (whys.End end) = ⊥

@@ -9,6 +9,6 @@ pub mod Halts
 pub mod EntityRef
 pub mod Parts
 pub mod Noted
-pub mod WaitingValues
 pub mod Deciding
+pub mod Seeing
 pub mod Stepping

@@ -8,9 +8,9 @@ use crate::case::{Case, ask_block};
 use crate::halt::Halt;
 use crate::notes::Notes;
 use crate::state::State;
-use gw_expr::Expr;
+use gw_expr::{Expr, Row};
 use gw_meaning::operands::{A, B, C, D, E};
-use gw_meaning::{Arrival, Asker, Block, Row, StatementId};
+use gw_meaning::{Arrival, Asker, Block, StatementId};
 use gw_nums::Val;
 use std::alloc::AllocError;
 

@@ -80,27 +80,19 @@ impl State {
         }
     }
 
-    // Of the transaction that asks: one of its parameters, most of which have a number.
+    // Of the transaction that asks: its parameter with a number.
     #[inline(never)]
-    pub(crate) fn of_parameter(
-        &self,
-        case: Case,
-        asker: &Asker,
-        notes: &mut Notes,
-        of: &Subject,
-    ) -> Result<Val, Halt>
-        ensures { Decides case.entry.version.now case.entry.seed
-            (subject_prog of.now ~> (λ key. parameter_value self.now asker.now key)) result notes.old notes.new }
+    pub(crate) fn numbered_parameter(&self, asker: &Asker, number: u32) -> Result<Val, Halt>
+        ensures { Comes (subject_prog (subjects.Number number) ~> (λ key. parameter_value self.now asker.now key))
+            result }
     {
-        let Subject::Number(number) = of else {
-            return self.of_named_parameter(case, asker, notes, of);
-        };
-        let key = entity_of(*number)?;
+        let key = entity_of(number)?;
         self.parameter(asker, &key)
     }
 
+    // The same of any parameter.
     #[inline(never)]
-    fn of_named_parameter(
+    fn of_parameter(
         &self,
         case: Case,
         asker: &Asker,

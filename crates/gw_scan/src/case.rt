@@ -2,11 +2,10 @@
 ghost use Rattle.std.specs.Prelude.{◌≡◌, IfOk, OnOk, OnErr, Some, None, if◌then◌else◌, option_copied, nat_le};
 ghost use Rattle.gw_meaning.specs.declared.item.Item.TheVariants as items;
 ghost use Rattle.gw_scan.specs.Noted.{Asks, Tries};
-ghost use Rattle.gw_meaning.specs.Listing.{block_at, after_at, label_at, number_at, capacity_at, variable_at, function_at, command_at, generates_in};
+ghost use Rattle.gw_meaning.specs.Listing.{block_at, after_at, label_at, number_at, capacity_at, command_at, generates_in};
 
 use crate::notes::Notes;
-use gw_expr::Expr;
-use gw_meaning::{Block, Command, Function, Item, StatementId, Transaction};
+use gw_meaning::{Block, Command, Item, StatementId, Transaction};
 use gw_model::Version;
 use gw_names::Name;
 use gw_nums::{Clock, Time, Val};
@@ -118,36 +117,6 @@ pub fn ask_capacity(version: &Version, notes: &mut Notes, name: &Name) -> Result
 {
     notes.note_asked(Asked::Storage(name))?;
     Ok(version.capacity(name))
-}
-
-// What is the expression of the VARIABLE of this name, if there is one?
-#[inline(always)]
-pub fn ask_variable<'a>(
-    version: &'a Version,
-    notes: &mut Notes,
-    name: &Name,
-) -> Result<Option<&'a Expr>, AllocError>
-    ensures answer { IfOk result (λ expression. option_copied expression ≡ variable_at version.now name.now) }
-    ensures ok { OnOk result (Asks notes.old (items.Variable name.now) notes.new) }
-    ensures err { OnErr result (notes.new ≡ notes.old) }
-{
-    notes.note_asked(Asked::Variable(name))?;
-    Ok(version.variable(name))
-}
-
-// What are the argument, the type and the points of the FUNCTION of this name, if there is one?
-#[inline(always)]
-pub fn ask_function<'a>(
-    version: &'a Version,
-    notes: &mut Notes,
-    name: &Name,
-) -> Result<Option<&'a Function>, AllocError>
-    ensures answer { IfOk result (λ function. option_copied function ≡ function_at version.now name.now) }
-    ensures ok { OnOk result (Asks notes.old (items.Function name.now) notes.new) }
-    ensures err { OnErr result (notes.new ≡ notes.old) }
-{
-    notes.note_asked(Asked::Function(name))?;
-    Ok(version.function(name))
 }
 
 // Which blocks are GENERATEs?

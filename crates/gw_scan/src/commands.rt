@@ -12,7 +12,8 @@ use crate::halt::Halt;
 use crate::making::make_all;
 use crate::notes::Notes;
 use crate::state::State;
-use gw_meaning::{Arrival, Command, Row};
+use gw_expr::Row;
+use gw_meaning::{Arrival, Command};
 use std::alloc::AllocError;
 
 impl State {

@@ -8,12 +8,11 @@ ghost use Rattle.gw_scan.specs.Deciding.{Decides, Comes};
 ghost use Rattle.gw_scan.specs.Noted.{Asks};
 
 use crate::case::Case;
-use crate::expression::is_of_function;
 use crate::halt::Halt;
 use crate::notes::Notes;
+use crate::seen::Seen;
 use crate::state::State;
-use crate::value::DEEPEST;
-use gw_expr::{Atom, Expr, Node, Subject};
+use gw_expr::{Atom, Expr, Node, Subject, eval_function, is_of_function};
 use gw_meaning::{Asker, Item};
 use gw_nums::{Millionths, Val, times};
 use std::alloc::AllocError;
@@ -85,7 +84,12 @@ impl State {
             result notes.old notes.new }
     {
         let mean = self.value_or_zero(case, asker, notes, mean)?;
-        let by = self.of_function(case, asker, notes, DEEPEST, of)?;
+        let seen = Seen {
+            state: self,
+            asker,
+            case,
+        };
+        let by = eval_function(case.alloc, of, case.version, &seen, notes)?;
         multiplied(mean, by)
     }
 

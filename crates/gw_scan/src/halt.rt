@@ -1,7 +1,8 @@
 // Why no step was made.
-ghost use Rattle.std.specs.Prelude.{◌≡◌};
+ghost use Rattle.std.specs.Prelude.{◌≡◌, ◌<◌};
+ghost use Rattle.gw_scan.specs.Halts.{why_of, why_of_fault, IsFault};
 
-use gw_expr::Stop;
+use gw_expr::{EvalFault, Stop};
 use gw_meaning::End;
 use std::alloc::{AllocError, AllocFailed};
 use std::marker::Model;
@@ -41,12 +42,15 @@ pub struct Halt {
 }
 
 impl Model for Halt {
+    ghost use Rattle.std.specs.Prelude.{◌<◌};
     ghost use Rattle.gw_scan.specs.declared.halt.Why.{Why};
     ghost use Rattle.gw_scan.specs.Halts.{why_of};
 
     ghost Value = { Why };
 
     ghost view = { λ h. why_of h.number };
+
+    ghost invariant = { λ h. h.number < 16 };
 }
 
 impl Halt {
@@ -70,8 +74,6 @@ impl Halt {
 
     pub const TOO_MANY_TRANSACTIONS: Halt = Halt { number: 9 };
 
-    pub const VARIABLE_DEPTH: Halt = Halt { number: 10 };
-
     pub const BAD_COUNT: Halt = Halt { number: 11 };
 
     pub const TOO_MANY_UNITS: Halt = Halt { number: 12 };
@@ -90,6 +92,30 @@ impl Halt {
             Some(why) => *why,
             // No constant has such a number.
             None => Why::Memory,
+        }
+    }
+
+    // The same, of an evaluation that came to want of memory or to a stop.
+    #[inline(always)]
+    #[tactic(auto, using(crate::proofs::Halting::same_halt, crate::proofs::Halting::fault_number))]
+    pub(crate) fn fault(&self) -> EvalFault
+        requires { IsFault self.now }
+        ensures { why_of_fault result ≡ self.now }
+    {
+        EvalFault::numbered(self.number)
+    }
+}
+
+impl From<EvalFault> for Halt {
+    ghost use Rattle.std.specs.Prelude.{◌≡◌};
+    ghost use Rattle.gw_scan.specs.Halts.{why_of_fault};
+
+    ghost from_gives = { λ fault e. e ≡ why_of_fault fault };
+
+    #[tactic(auto, using(crate::proofs::Halting::same_halt))]
+    fn from(fault: EvalFault) -> Halt {
+        Halt {
+            number: fault.number(),
         }
     }
 }

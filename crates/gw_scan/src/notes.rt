@@ -5,7 +5,8 @@ ghost use Rattle.gw_uses.specs.Uses.{nothing_used};
 ghost use Rattle.gw_scan.specs.Noted.{Asks, Forgets};
 
 use crate::state::State;
-use gw_meaning::{Item, Row};
+use gw_expr::Row;
+use gw_meaning::Item;
 use gw_streams::Streams;
 use gw_uses::{Asked, FirstUses};
 use std::alloc::{AllocError, Global};

@@ -3,7 +3,7 @@
 ghost use Rattle.std.specs.Prelude.{◌≡◌, ℕ, ℤ, Some, IsSome, OnOk, OnErr, pos, option_copied};
 ghost use Rattle.gw_entities.specs.Parameters.{parameter_at, IsKnownPlace};
 ghost use Rattle.gw_meaning.specs.Statements.{A, B, operand};
-ghost use Rattle.gw_meaning.specs.Evaluation.{value_held, parameter_value};
+ghost use Rattle.gw_meaning.specs.Evaluation.{arithmetic, value_held, parameter_value};
 ghost use Rattle.gw_meaning.specs.Step.{for_one, by_sign, or_zero, assign_with, assign_prog, left_of, loop_back, loop_to, loop_with, loop_prog};
 ghost use Rattle.gw_meaning.specs.declared.transaction.Transaction.{Transaction};
 ghost use Rattle.gw_meaning.specs.Changes.{moved};
@@ -15,7 +15,6 @@ ghost use Rattle.gw_scan.specs.Deciding.{Decides, Comes, assign_key, loop_key, l
 use crate::case::{Case, ask_label};
 use crate::entering::enter_active;
 use crate::entity_ref::EntityRef;
-use crate::expression::arithmetic;
 use crate::halt::Halt;
 use crate::notes::Notes;
 use crate::state::State;
@@ -356,5 +355,16 @@ fn loop_back(to: Option<StatementId>) -> Result<Destination, Halt>
     match to {
         Some(to) => Ok(Destination::to(to)),
         None => Err(Halt::NO_NEXT_BLOCK),
+    }
+}
+
+// What an operator comes to.
+fn arithmetic(found: Result<Val, ArithmeticFault>) -> Result<Val, Halt>
+    ensures { Comes (arithmetic found) result }
+{
+    match found {
+        Ok(value) => Ok(value),
+        Err(ArithmeticFault::Range) => Err(Halt::RANGE),
+        Err(ArithmeticFault::ZeroDivisor) => Err(Halt::ZERO_DIVISOR),
     }
 }

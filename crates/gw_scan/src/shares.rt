@@ -11,7 +11,7 @@ use crate::halt::Halt;
 use crate::notes::Notes;
 use crate::state::State;
 use gw_chains::PriorityChain;
-use gw_meaning::Row;
+use gw_expr::Row;
 use gw_names::{Key, Name};
 
 impl State {

@@ -11,19 +11,17 @@ use crate::case::{Case, ask_name};
 use crate::entity_ref::{EntityRef, named, numbered};
 use crate::halt::Halt;
 use crate::notes::Notes;
+use crate::seen::Seen;
 use crate::state::State;
-use gw_expr::{Atom, Expr, Node};
+use gw_expr::{Atom, Expr, Node, eval};
 use gw_meaning::operands::{A, B};
 use gw_meaning::{Asker, Block, Transaction};
 use gw_nums::Val;
 
-// How many VARIABLEs and FUNCTIONs may stand in each other.
-pub const DEEPEST: u32 = 32;
-
 impl State {
     // The value of an operand, most of which are constants.
     #[inline(always)]
-    #[tactic(auto, unfolding(gw_meaning::specs::Evaluation::value_prog, gw_meaning::specs::Evaluation::term_prog, gw_meaning::specs::Evaluation::atom_prog))]
+    #[tactic(auto, unfolding(gw_meaning::specs::Evaluation::value_prog, gw_expr::specs::Evaluation::value_of, gw_expr::specs::Evaluation::value_by, gw_expr::specs::Evaluation::value_of_atom))]
     pub(crate) fn value(
         &self,
         case: Case,
@@ -38,6 +36,26 @@ impl State {
             Node::Value(Atom::Constant(value)) => Ok(*value),
             _ => self.evaluated(case, asker, notes, operand),
         }
+    }
+
+    // The value of an operand that is no constant.
+    #[inline(never)]
+    fn evaluated(
+        &self,
+        case: Case,
+        asker: &Asker,
+        notes: &mut Notes,
+        operand: &Expr,
+    ) -> Result<Val, Halt>
+        ensures { Decides case.entry.version.now case.entry.seed (value_prog self.now asker.now operand.now)
+            result notes.old notes.new }
+    {
+        let seen = Seen {
+            state: self,
+            asker,
+            case,
+        };
+        Ok(eval(case.alloc, operand, case.version, &seen, notes)?)
     }
 
     // The value of an operand that is there.
@@ -79,7 +97,7 @@ impl State {
 
     // The entity that an operand names, for a transaction.
     #[inline(always)]
-    #[tactic(auto, unfolding(gw_meaning::specs::Evaluation::value_prog, gw_meaning::specs::Evaluation::term_prog, gw_meaning::specs::Evaluation::atom_prog))]
+    #[tactic(auto, unfolding(gw_meaning::specs::Evaluation::value_prog, gw_expr::specs::Evaluation::value_of, gw_expr::specs::Evaluation::value_by, gw_expr::specs::Evaluation::value_of_atom))]
     pub(crate) fn entity<'a>(
         &self,
         case: Case,

@@ -1,8 +1,11 @@
 use Rattle.std.proofs.Common.{ℤ, option_copied, refl}
 use Rattle.std.proofs.lemmas.Result.{err_from_is_err_and}
 use Rattle.gw_nums.specs.Millionths.{times}
-use Rattle.gw_meaning.specs.Evaluation.{Eval, DEEPEST, value_or_zero, of_function, definitions_prog, in_range, ◌~>◌}
+use Rattle.gw_expr.specs.Evaluation.{function_of}
+use Rattle.gw_meaning.specs.Evaluation.{Eval, value_or_zero, evaluated, in_range, ◌~>◌}
+use Rattle.gw_scan.specs.Halts.{why_of_fault}
 use Rattle.gw_scan.proofs.Binding.{decides_exit, decides_then, decides_comes}
+use Rattle.gw_scan.proofs.Evaluating.{evaluation_decides}
 use Rattle.gw_scan.proofs.state.State.time_by_function.Goals as goal
 
 pub returns-in_err-mean : goal.returns-in_err-mean
@@ -12,7 +15,7 @@ returns-in_err-mean c =
     let seed = c.args.case.seed in
     let s = c.args.self.now in
     let q = c.args.asker.now in
-    let by = of_function (definitions_prog DEEPEST s q) c.args.of.now in
+    let by = evaluated s q (function_of c.args.of.now) in
     let rest : ℤ → Eval ℤ = λ m. by ~> (λ y. in_range (times m y)) in
     decides_exit t seed (value_or_zero s q (option_copied c.args.mean)) rest _ _ _ c.in_err-mean.field-0.0 _ _ refl p.1 p.2 c.in_err-mean.ensures
 
@@ -23,10 +26,11 @@ returns-in_err-by c =
     let seed = c.args.case.seed in
     let s = c.args.self.now in
     let q = c.args.asker.now in
-    let by = of_function (definitions_prog DEEPEST s q) c.args.of.now in
+    let by = evaluated s q (function_of c.args.of.now) in
     let rest : ℤ → Eval ℤ = λ m. by ~> (λ y. in_range (times m y)) in
+    let there = evaluation_decides t seed s q c.in_err-by.ensures in
     decides_then t seed (value_or_zero s q (option_copied c.args.mean)) rest c.in_ok-mean.mean _ _ _ _ c.in_ok-mean.ensures
-    (decides_exit t seed by (λ y. in_range (times c.in_ok-mean.mean y)) _ _ _ c.in_err-by.field-0.0 _ _ refl p.1 p.2 c.in_err-by.ensures)
+    (decides_exit t seed by (λ y. in_range (times c.in_ok-mean.mean y)) _ _ _ (why_of_fault c.in_err-by.field-0.0) _ _ refl p.1 p.2 there)
 
 pub returns : goal.returns
 returns c =
@@ -34,8 +38,9 @@ returns c =
     let seed = c.args.case.seed in
     let s = c.args.self.now in
     let q = c.args.asker.now in
-    let by = of_function (definitions_prog DEEPEST s q) c.args.of.now in
+    let by = evaluated s q (function_of c.args.of.now) in
     let rest : ℤ → Eval ℤ = λ m. by ~> (λ y. in_range (times m y)) in
+    let there = evaluation_decides t seed s q c.in_ok-by.ensures in
     decides_then t seed (value_or_zero s q (option_copied c.args.mean)) rest c.in_ok-mean.mean _ _ _ _ c.in_ok-mean.ensures
-    (decides_then t seed by (λ y. in_range (times c.in_ok-mean.mean y)) c.in_ok-by.by _ _ _ _ c.in_ok-by.ensures
-    (decides_comes t seed (in_range (times c.in_ok-mean.mean c.in_ok-by.by)) c.multiplied.result c.of_function.new.notes c.multiplied.ensures))
+    (decides_then t seed by (λ y. in_range (times c.in_ok-mean.mean y)) c.in_ok-by.by _ _ _ _ there
+    (decides_comes t seed (in_range (times c.in_ok-mean.mean c.in_ok-by.by)) c.multiplied.result c.eval_function.new.notes c.multiplied.ensures))

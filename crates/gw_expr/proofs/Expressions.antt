@@ -1,0 +1,73 @@
+-- An expression in postfix order has the value of the expression.
+use Rattle.std.proofs.Common.{◌≡◌, ℤ, List, [], ◌∷◌, ◌++◌, refl, sym, ap, ◌∙◌, append_assoc, append-nil}
+use Rattle.std.proofs.Math.Path.{fun_ext}
+use Rattle.gw_nums.specs.Range.{negated}
+use Rattle.gw_expr.specs.declared.token.Token.{Token}
+use Rattle.gw_expr.specs.declared.token.Token.TheVariants as tokens
+use Rattle.gw_expr.specs.Arithmetic.{applied}
+use Rattle.gw_expr.specs.Evaluation.{Evaluation, Yields, Stops, Wants, ◌⟫◌, arithmetic, Definitions, after_token, after_tokens, last_value, DEEPEST, value_by, definitions_within, value_of, value_of_expression}
+use Rattle.gw_expr.specs.Expressions.{Expression, Single, Opposite, Both, postfix}
+use Rattle.gw_expr.specs.Term.{Computed}
+
+-- one evaluation, then another, then a third
+pub then_assoc : {A B C : Type 0} (p : Evaluation A) (f : A → Evaluation B) (g : B → Evaluation C) → ((p ⟫ f) ⟫ g) ≡ (p ⟫ (λ a. f a ⟫ g))
+then_assoc (Yields a) f g = refl
+then_assoc (Stops stop) f g = refl
+then_assoc (Wants q k) f g = ap (λ h. Wants q h) (fun_ext (λ x. then_assoc (k x) f g))
+
+-- one evaluation, and then its own result
+then_yields : {A : Type 0} (p : Evaluation A) → (p ⟫ (λ a. Yields a)) ≡ p
+then_yields (Yields a) = refl
+then_yields (Stops stop) = refl
+then_yields (Wants q k) = ap (λ h. Wants q h) (fun_ext (λ x. then_yields (k x)))
+
+module _ (defined : Definitions) where
+  -- parts, and others behind them
+  parts_then : (ts us : List Token) (values : List ℤ) → after_tokens defined (ts ++ us) values ≡
+      (after_tokens defined ts values ⟫ (λ more. after_tokens defined us more))
+  parts_then [] us values = refl
+  parts_then (t ∷ ts) us values =
+      ap (λ k. after_token defined t values ⟫ k) (fun_ext (λ more. parts_then ts us more)) ∙
+      sym (then_assoc (after_token defined t values) (λ more. after_tokens defined ts more) (λ more. after_tokens defined us more))
+
+  -- a value behind what waits, and then the rest
+  rest : List Token → List ℤ → ℤ → Evaluation (List ℤ)
+  rest us values v = after_tokens defined us (v ∷ values)
+
+  -- an operator's value, and then the rest
+  applied_then : (r : Evaluation ℤ) (us : List Token) (values : List ℤ) →
+      ((r ⟫ (λ v. Yields (v ∷ values))) ⟫ (λ more. after_tokens defined us more)) ≡ (r ⟫ (λ v. after_tokens defined us (v ∷ values)))
+  applied_then r us values = then_assoc r (λ v. Yields (v ∷ values)) (λ more. after_tokens defined us more)
+
+  -- an expression in postfix order, and the rest behind it
+  expression_then : (e : Expression) (us : List Token) (values : List ℤ) →
+      after_tokens defined (postfix e ++ us) values ≡ (value_of_expression defined e ⟫ (λ v. after_tokens defined us (v ∷ values)))
+  expression_then (Single atom) us values = applied_then (value_of_expression defined (Single atom)) us values
+  expression_then (Opposite e) us values =
+      ap (λ ts. after_tokens defined ts values) (append_assoc (postfix e) (tokens.Negated ∷ []) us) ∙
+      expression_then e (tokens.Negated ∷ us) values ∙
+      sym (then_assoc (value_of_expression defined e) (λ v. Yields (negated v)) (λ v. after_tokens defined us (v ∷ values)))
+  expression_then (Both operator left right) us values =
+      let behind : List Token = tokens.Applied operator ∷ us in
+      let grouped : postfix (Both operator left right) ++ us ≡ postfix left ++ (postfix right ++ behind) =
+      append_assoc (postfix left) (postfix right ++ tokens.Applied operator ∷ []) us ∙
+      ap (λ ts. postfix left ++ ts) (append_assoc (postfix right) (tokens.Applied operator ∷ []) us) in
+      ap (λ ts. after_tokens defined ts values) grouped ∙
+      expression_then left (postfix right ++ behind) values ∙
+      ap (λ k. value_of_expression defined left ⟫ k) (fun_ext (λ a. expression_then right behind (a ∷ values) ∙
+      ap (λ k. value_of_expression defined right ⟫ k) (fun_ext (λ b. applied_then (arithmetic (applied operator a b)) us values)) ∙
+      sym (then_assoc (value_of_expression defined right) (λ b. arithmetic (applied operator a b)) (λ v. after_tokens defined us (v ∷ values))))) ∙
+      sym (then_assoc (value_of_expression defined left) (λ a. value_of_expression defined right ⟫ (λ b. arithmetic (applied operator a b)))
+      (λ v. after_tokens defined us (v ∷ values)))
+
+  pub nested_value : (e : Expression) → value_by defined (Computed (postfix e)) ≡ value_of_expression defined e
+  unfolding value_by
+  nested_value e =
+      ap (λ ts. after_tokens defined ts [] ⟫ last_value) (sym (append-nil (postfix e))) ∙
+      ap (λ p. p ⟫ last_value) (expression_then e [] []) ∙
+      then_assoc (value_of_expression defined e) (λ v. Yields (v ∷ [])) last_value ∙
+      then_yields (value_of_expression defined e)
+
+pub expression_value : (e : Expression) → value_of (Computed (postfix e)) ≡ value_of_expression (definitions_within DEEPEST) e
+unfolding value_of
+expression_value e = nested_value (definitions_within DEEPEST) e

@@ -1,0 +1,6 @@
+mod Constants
+mod Curves
+mod Distances
+mod Expressions
+mod Parts
+mod Worlds

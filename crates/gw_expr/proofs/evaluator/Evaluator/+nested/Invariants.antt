@@ -1,0 +1,65 @@
+use Rattle.std.proofs.Common.{[], ℤ, ◌+◌, ◌*◌, List, Result, drop}
+use Rattle.gw_expr.specs.declared.eval_fault.Fault.{Fault}
+use Rattle.gw_expr.specs.Evaluation.{after_tokens, last_value, definitions_within, ◌⟫◌}
+use Rattle.gw_expr.specs.Worlds.{Says, Evaluates}
+use Rattle.gw_expr.proofs.evaluator.Evaluator.+nested.Given as goal
+
+abbrev pub decreases-argument : goal.decreases-argument
+decreases-argument g l = l.depth * 20 + 10
+
+abbrev pub decreases-at_argument : goal.decreases-at_argument
+decreases-at_argument g l = l.depth * 20 + 11
+
+abbrev pub decreases-computed : goal.decreases-computed
+decreases-computed g l = l.depth * 20 + 7
+
+abbrev pub decreases-function : goal.decreases-function
+decreases-function g l = l.depth * 20 + 12
+
+abbrev pub decreases-of_function : goal.decreases-of_function
+decreases-of_function g l = l.depth * 20 + 2
+
+abbrev pub decreases-of_variable : goal.decreases-of_variable
+decreases-of_variable g l = l.depth * 20 + 2
+
+abbrev pub decreases-rest : goal.decreases-rest
+decreases-rest g l = l.depth * 20 + 6
+
+abbrev pub decreases-term : goal.decreases-term
+decreases-term g l = l.depth * 20 + 8
+
+abbrev pub decreases-token : goal.decreases-token
+decreases-token g l = l.depth * 20 + 5
+
+abbrev pub decreases-token_of_rest : goal.decreases-token_of_rest
+decreases-token_of_rest g l = l.depth * 20 + 5
+
+abbrev pub decreases-value_of : goal.decreases-value_of
+decreases-value_of g l = l.depth * 20 + 4
+
+abbrev pub decreases-variable : goal.decreases-variable
+decreases-variable g l = l.depth * 20 + 12
+
+abbrev pub decreases-whole_argument : goal.decreases-whole_argument
+decreases-whole_argument g l = l.depth * 20 + 9
+
+abbrev pub decreases-whole_of_function : goal.decreases-whole_of_function
+decreases-whole_of_function g l = l.depth * 20 + 3
+
+-- what the rest comes to is what all come to
+abbrev pub invariant-computed-loop-index : goal.invariant-computed-loop-index
+invariant-computed-loop-index g l =
+    let says = Says (g.D.Defs.variable_of l.self.defs.now) (g.D.Defs.function_of l.self.defs.now) in
+    let replies = g.W.World.replies l.self.world.now in
+    (r : Result ℤ Fault) (all : g.row.W-Notes.Denot) →
+    Evaluates says replies (after_tokens (definitions_within l.depth) (drop l.index l.tokens) l.values ⟫ last_value) r l.notes all →
+    Evaluates says replies (after_tokens (definitions_within l.depth) l.tokens [] ⟫ last_value) r l.fn.notes all
+
+-- what the rest comes to is what all come to
+abbrev pub invariant-rest-loop-token : goal.invariant-rest-loop-token
+invariant-rest-loop-token g l =
+    let says = Says (g.D.Defs.variable_of l.self.defs.now) (g.D.Defs.function_of l.self.defs.now) in
+    let replies = g.W.World.replies l.self.world.now in
+    (r : Result ℤ Fault) (all : g.row.W-Notes.Denot) →
+    Evaluates says replies (after_tokens (definitions_within l.depth) (drop l.token-index l.tokens) l.values ⟫ last_value) r l.notes all →
+    Evaluates says replies (after_tokens (definitions_within l.depth) l.tokens l.fn.few ⟫ last_value) r l.fn.notes all

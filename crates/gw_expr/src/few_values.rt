@@ -1,0 +1,153 @@
+ghost use Rattle.std.specs.Prelude.{◌≡◌, ◌<◌, ◌∷◌, [], IsFalse, IsSome, length, reverse};
+ghost use Rattle.gw_expr.specs.Evaluation.{negated_last, applied_last, last_value};
+ghost use Rattle.gw_expr.specs.Worlds.{Comes, in_place};
+ghost use Rattle.gw_expr.specs.WaitingValues.{HasRoomFor, Pops, last_of, last_two, replaced, joined};
+
+use crate::eval_fault::EvalFault;
+use crate::token::{Operator, Token};
+use gw_nums::Val;
+use std::marker::Model;
+
+// How many values wait in place. More wait only where parentheses nest to the right.
+const FEW: usize = 8;
+
+// The values of an expression that wait for their operator, the last one first, while they are few. No list stands
+// within, so that the count of those who wait stays in a register.
+#[derive(Debug, Drop)]
+pub struct FewValues {
+    few: [Val; FEW],
+    // How many wait.
+    count: usize,
+}
+
+impl Model for FewValues {
+    ghost use Rattle.std.specs.Prelude.{◌≤◌, ℤ, List, reverse, take};
+
+    ghost Value = { List ℤ };
+
+    ghost view = { λ w. reverse (take w.count w.few) };
+
+    // The 8 is FEW.
+    ghost invariant = { λ w. w.count ≤ 8 };
+}
+
+impl FewValues {
+    // No value.
+    #[inline(always)]
+    pub(crate) fn new() -> FewValues
+        ensures { result ≡ [] }
+    {
+        FewValues {
+            few: [Val::ZERO; FEW],
+            count: 0,
+        }
+    }
+
+    // Whether a part of an expression needs a place for one more, and there is none.
+    #[inline(always)]
+    pub(crate) fn is_full_for(&self, token: &Token) -> bool
+        ensures { IsFalse result → HasRoomFor token.now self.now }
+    {
+        match token {
+            Token::Value(_) => self.count >= FEW,
+            Token::Negated | Token::Applied(_) => false,
+        }
+    }
+
+    // The values in the order in which they came.
+    pub(crate) fn as_slice(&self) -> &[Val]
+        ensures { reverse result.now ≡ self.now }
+    {
+        &self.few[..self.count]
+    }
+
+    // One value more waits.
+    #[inline(always)]
+    pub(crate) fn push(&mut self, value: Val)
+        requires { length self.old < 8 }
+        ensures { self.new ≡ value ∷ self.old }
+    {
+        let place = self.count;
+        self.few[place] = value;
+        self.count = place + 1;
+    }
+
+    // Takes the last value, if any waits.
+    #[inline(always)]
+    fn pop(&mut self) -> Option<Val>
+        ensures last { Pops self.old result self.new }
+        ensures room { length self.new < 8 }
+    {
+        if self.count == 0 {
+            return None;
+        }
+        self.count -= 1;
+        Some(self.few[self.count])
+    }
+
+    // The last value with the other sign.
+    #[inline(always)]
+    pub(crate) fn negate_last(&mut self) -> Result<(), EvalFault>
+        ensures { Comes (negated_last self.old) (in_place result self.new) }
+    {
+        let Some(value) = self.pop() else {
+            return Err(EvalFault::RANGE);
+        };
+        self.push(value.negated());
+        Ok(())
+    }
+
+    // What an operator makes of the last two values.
+    #[inline(always)]
+    pub(crate) fn apply_last(&mut self, operator: Operator) -> Result<(), EvalFault>
+        ensures { Comes (applied_last operator self.old) (in_place result self.new) }
+    {
+        let Some((a, b)) = self.last_two() else {
+            return Err(EvalFault::RANGE);
+        };
+        let value = operator.value(a, b)?;
+        self.join_two(value);
+        Ok(())
+    }
+
+    // The last two values, the last one behind, if two wait.
+    #[inline(always)]
+    fn last_two(&self) -> Option<(Val, Val)>
+        ensures { result ≡ last_two self.now }
+    {
+        if self.count < 2 {
+            return None;
+        }
+        Some((self.few[self.count - 2], self.few[self.count - 1]))
+    }
+
+    // One value in place of the last two.
+    #[inline(always)]
+    fn join_two(&mut self, value: Val)
+        requires { IsSome (last_two self.old) }
+        ensures { self.new ≡ joined value self.old }
+    {
+        let _ = self.pop();
+        self.set_last(value);
+    }
+
+    // One value in place of the last one.
+    #[inline(always)]
+    fn set_last(&mut self, value: Val)
+        requires { IsSome (last_of self.old) }
+        ensures { self.new ≡ replaced value self.old }
+    {
+        self.few[self.count - 1] = value;
+    }
+
+    // The value that is left.
+    #[inline(always)]
+    pub(crate) fn last(&self) -> Result<Val, EvalFault>
+        ensures { Comes (last_value self.now) result }
+    {
+        if self.count == 0 {
+            return Err(EvalFault::RANGE);
+        }
+        Ok(self.few[self.count - 1])
+    }
+}

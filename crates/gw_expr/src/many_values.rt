@@ -1,0 +1,91 @@
+ghost use Rattle.std.specs.Prelude.{◌≡◌, ◌∷◌, OnOk, IfOk};
+ghost use Rattle.gw_expr.specs.Evaluation.{negated_last, applied_last, last_value};
+ghost use Rattle.gw_expr.specs.WaitingValues.{Pops};
+ghost use Rattle.gw_expr.specs.Worlds.{Comes, in_place};
+
+use crate::eval_fault::EvalFault;
+use crate::few_values::FewValues;
+use crate::token::Operator;
+use gw_nums::Val;
+use smallvec::SmallVec;
+use std::alloc::{AllocError, Global};
+use std::marker::Model;
+
+// How many values wait in place. An expression on a line of 250 bytes has at most 125.
+const MANY: usize = 128;
+
+// The values of an expression that wait for their operator, the last one first, where they are no longer few.
+#[derive(Drop)]
+pub struct ManyValues {
+    values: SmallVec<Val, MANY>,
+}
+
+impl Model for ManyValues {
+    ghost use Rattle.std.specs.Prelude.{ℤ, List, reverse};
+
+    ghost Value = { List ℤ };
+
+    ghost view = { λ w. reverse w.values.items };
+}
+
+impl ManyValues {
+    // Those that waited while they were few.
+    pub(crate) fn of_few(alloc: Global, few: FewValues) -> Result<ManyValues, AllocError>
+        ensures { IfOk result (λ w. w ≡ few) }
+    {
+        Ok(ManyValues {
+            values: SmallVec::from_slice(alloc, few.as_slice())?,
+        })
+    }
+
+    // One value more waits.
+    pub(crate) fn push(&mut self, value: Val) -> Result<(), AllocError>
+        ensures ok { OnOk result (self.new ≡ value ∷ self.old) }
+    {
+        self.values.push(value)?;
+        Ok(())
+    }
+
+    // Takes the last value, if any waits.
+    pub(crate) fn pop(&mut self) -> Option<Val>
+        ensures { Pops self.old result self.new }
+    {
+        self.values.pop()
+    }
+
+    // The last value with the other sign.
+    pub(crate) fn negate_last(&mut self) -> Result<(), EvalFault>
+        ensures { Comes (negated_last self.old) (in_place result self.new) }
+    {
+        let Some(value) = self.pop() else {
+            return Err(EvalFault::RANGE);
+        };
+        self.push(value.negated())?;
+        Ok(())
+    }
+
+    // What an operator makes of the last two values.
+    pub(crate) fn apply_last(&mut self, operator: Operator) -> Result<(), EvalFault>
+        ensures { Comes (applied_last operator self.old) (in_place result self.new) }
+    {
+        let Some(b) = self.pop() else {
+            return Err(EvalFault::RANGE);
+        };
+        let Some(a) = self.pop() else {
+            return Err(EvalFault::RANGE);
+        };
+        let value = operator.value(a, b)?;
+        self.push(value)?;
+        Ok(())
+    }
+
+    // The value that is left.
+    pub(crate) fn last(&mut self) -> Result<Val, EvalFault>
+        ensures { Comes (last_value self.old) result }
+    {
+        match self.pop() {
+            Some(value) => Ok(value),
+            None => Err(EvalFault::RANGE),
+        }
+    }
+}

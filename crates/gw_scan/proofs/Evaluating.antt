@@ -1,0 +1,77 @@
+-- An evaluation of operands that a state answers is the evaluation in that state.
+use Rattle.std.proofs.Common.{ℕ, ℤ, Option, Result, Ok, Err, refl, subst}
+use Rattle.gw_expr.specs.declared.eval_fault.Fault.{Fault}
+use Rattle.gw_expr.specs.declared.eval_fault.Fault.TheVariants as faults
+use Rattle.gw_expr.specs.declared.function.Function.{Function}
+use Rattle.gw_expr.specs.Evaluation.{Question, NumberOf, AttributeOf, PartOf, VariableOf, FunctionOf, Reply, Evaluation, Wants, value_of}
+use Rattle.gw_expr.specs.Term.{Term}
+use Rattle.gw_expr.specs.Worlds.{Says, Evaluates, yields, stops, refused, replied, failed}
+use Rattle.gw_meaning.specs.declared.asker.Asker.{Asker}
+use Rattle.gw_meaning.specs.declared.item.End.TheVariants as ends
+use Rattle.gw_meaning.specs.declared.item.Item.{Item}
+use Rattle.gw_meaning.specs.declared.item.Item.TheVariants as items
+use Rattle.gw_meaning.specs.Evaluation.{Eval, ends_with, reply_prog, evaluated, value_prog}
+use Rattle.gw_meaning.specs.Listing.{Listing, variable_at, function_at}
+use Rattle.gw_meaning.specs.Machine.{Machine}
+use Rattle.gw_scan.specs.declared.halt.Why.{Why}
+use Rattle.gw_scan.specs.declared.halt.Why.TheVariants as whys
+use Rattle.gw_scan.specs.Halts.{why_of_fault}
+use Rattle.gw_scan.specs.Deciding.{Decides, halted}
+use Rattle.gw_scan.specs.Noted.{Noted}
+use Rattle.gw_scan.specs.Seeing.{Marks, Replied}
+use Rattle.gw_scan.proofs.Binding.{keeps_all, decides_then, decides_halt, decides_asked, decides_gives, decides_comes}
+
+module _ (t : Listing) (seed : ℕ) (s : Machine) (q : Asker) where
+  abbrev says : (question : Question) → Reply question → Type 0
+  says question reply = Says (variable_at t) (function_at t) question reply
+
+  -- a question with its reply, and what comes behind it
+  reply_goes : {A : Type 0} (question : Question) (k : Reply question → Evaluation A) (reply : Reply question) (r : Result A Why) (old between new : Noted) →
+      says question reply → Replied t seed s q question old (Ok reply) between → Decides t seed (evaluated s q (k reply)) r between new →
+      Decides t seed (evaluated s q (Wants question k)) r old new
+  reply_goes (NumberOf name) k reply r old between new said there rest =
+      decides_then t seed (reply_prog s q (NumberOf name)) (λ x. evaluated s q (k x)) reply r old between new there rest
+  reply_goes (AttributeOf class of) k reply r old between new said there rest =
+      decides_then t seed (reply_prog s q (AttributeOf class of)) (λ x. evaluated s q (k x)) reply r old between new there rest
+  reply_goes (PartOf of) k reply r old between new said there rest =
+      decides_then t seed (reply_prog s q (PartOf of)) (λ x. evaluated s q (k x)) reply r old between new there rest
+  reply_goes (VariableOf name) k reply r old between new said there rest =
+      let here = subst (λ (x : Option Term). Decides t seed (evaluated s q (k x)) r between new) said rest in
+      decides_asked t seed (items.Variable name) (λ x. evaluated s q (k x)) r old between new there here
+  reply_goes (FunctionOf name) k reply r old between new said there rest =
+      let here = subst (λ (x : Option Function). Decides t seed (evaluated s q (k x)) r between new) said rest in
+      decides_asked t seed (items.Function name) (λ x. evaluated s q (k x)) r old between new there here
+
+  -- a question that got none; where memory is refused, nothing is noted
+  mark_fails : {A : Type 0} (B : Type 0) (i : Item) (p : Eval A) (fault : Fault) (old new : Noted) → Marks {A = B} i old (Err fault) new →
+      Decides t seed p (Err (why_of_fault fault)) old new
+  mark_fails B i p faults.Memory old new same = rw same (keeps_all old)
+  mark_fails B i p (faults.Stop stop) old new h = absurd h
+
+  reply_fails : {A : Type 0} (question : Question) (k : Reply question → Evaluation A) (fault : Fault) (old new : Noted) →
+      Replied t seed s q question old (Err fault) new → Decides t seed (evaluated s q (Wants question k)) (Err (why_of_fault fault)) old new
+  reply_fails (NumberOf name) k fault old new there =
+      decides_halt t seed (reply_prog s q (NumberOf name)) (λ x. evaluated s q (k x)) (why_of_fault fault) old new there
+  reply_fails (AttributeOf class of) k fault old new there =
+      decides_halt t seed (reply_prog s q (AttributeOf class of)) (λ x. evaluated s q (k x)) (why_of_fault fault) old new there
+  reply_fails (PartOf of) k fault old new there =
+      decides_halt t seed (reply_prog s q (PartOf of)) (λ x. evaluated s q (k x)) (why_of_fault fault) old new there
+  reply_fails (VariableOf name) k fault old new there =
+      mark_fails (Option Term) (items.Variable name) (evaluated s q (Wants (VariableOf name) k)) fault old new there
+  reply_fails (FunctionOf name) k fault old new there =
+      mark_fails (Option Function) (items.Function name) (evaluated s q (Wants (FunctionOf name) k)) fault old new there
+
+  pub evaluation_decides : {A : Type 0} {p : Evaluation A} {r : Result A Fault} {old new : Noted} →
+      Evaluates says (Replied t seed s q) p r old new → Decides t seed (evaluated s q p) (halted r) old new
+  evaluation_decides (yields a notes) = decides_gives t seed a notes
+  evaluation_decides (stops stop notes) = decides_comes t seed (ends_with (ends.Error stop)) (Err (whys.End (ends.Error stop))) notes refl
+  evaluation_decides (refused p notes) = keeps_all notes
+  evaluation_decides (replied question k reply r old between new said there rest) =
+      reply_goes question k reply (halted r) old between new said there (evaluation_decides rest)
+  evaluation_decides (failed question k fault old new there) = reply_fails question k fault old new there
+
+  -- of the value of an operand
+  pub value_decides : (operand : Term) {r : Result ℤ Fault} {old new : Noted} →
+      Evaluates says (Replied t seed s q) (value_of operand) r old new → Decides t seed (value_prog s q operand) (halted r) old new
+  unfolding value_prog
+  value_decides operand h = evaluation_decides h

@@ -1,0 +1,30 @@
+-- What an evaluation of operands is replied to in a state, for whoever asks, and what is then noted. (Our own.)
+use Rattle.std.specs.Prelude.{◌≡◌, ℕ, Result, Ok, Err}
+use Rattle.gw_expr.specs.declared.eval_fault.Fault.{Fault}
+use Rattle.gw_expr.specs.declared.eval_fault.Fault.TheVariants as faults
+use Rattle.gw_expr.specs.Evaluation.{Question, NumberOf, AttributeOf, PartOf, VariableOf, FunctionOf, Reply}
+use Rattle.gw_meaning.specs.declared.asker.Asker.{Asker}
+use Rattle.gw_meaning.specs.declared.item.Item.{Item}
+use Rattle.gw_meaning.specs.declared.item.Item.TheVariants as items
+use Rattle.gw_meaning.specs.Evaluation.{reply_prog}
+use Rattle.gw_meaning.specs.Listing.{Listing}
+use Rattle.gw_meaning.specs.Machine.{Machine}
+use Rattle.gw_scan.specs.Deciding.{Decides, halted}
+use Rattle.gw_scan.specs.Noted.{Noted, Asks}
+
+-- a question that definitions reply to is noted, whatever they reply; where memory is refused, nothing is
+abbrev pub Marks : {A : Type 0} → Item → Noted → Result A Fault → Noted → Type 0
+Marks item old (Ok reply) new = Asks old item new
+Marks item old (Err faults.Memory) new = new ≡ old
+Marks item old (Err (faults.Stop stop)) new = ⊥
+
+-- the reply and the notes are those of the question's meaning; what definitions reply is left open
+abbrev pub Replied : Listing → ℕ → Machine → Asker → (question : Question) → Noted → Result (Reply question) Fault →
+    Noted → Type 0
+Replied t seed s q (NumberOf name) old result new =
+    Decides t seed (reply_prog s q (NumberOf name)) (halted result) old new
+Replied t seed s q (AttributeOf class of) old result new =
+    Decides t seed (reply_prog s q (AttributeOf class of)) (halted result) old new
+Replied t seed s q (PartOf of) old result new = Decides t seed (reply_prog s q (PartOf of)) (halted result) old new
+Replied t seed s q (VariableOf name) old result new = Marks (items.Variable name) old result new
+Replied t seed s q (FunctionOf name) old result new = Marks (items.Function name) old result new
