@@ -30,10 +30,6 @@ module _ (defined : Definitions) where
       ap (λ k. after_token defined t values ⟫ k) (fun_ext (λ more. parts_then ts us more)) ∙
       sym (then_assoc (after_token defined t values) (λ more. after_tokens defined ts more) (λ more. after_tokens defined us more))
 
-  -- a value behind what waits, and then the rest
-  rest : List Token → List ℤ → ℤ → Evaluation (List ℤ)
-  rest us values v = after_tokens defined us (v ∷ values)
-
   -- an operator's value, and then the rest
   applied_then : (r : Evaluation ℤ) (us : List Token) (values : List ℤ) →
       ((r ⟫ (λ v. Yields (v ∷ values))) ⟫ (λ more. after_tokens defined us more)) ≡ (r ⟫ (λ v. after_tokens defined us (v ∷ values)))

@@ -47,12 +47,6 @@ module _ {N : Type 0} (says : (q : Question) → Reply q → Type 0) (replies : 
       subst F (sym is) (stops stop xs)
   goes_comes p (Err faults.Memory) xs is = refused p xs
 
-  -- the exit where memory is refused
-  pub memory_exit : {B : Type 0} (q : Evaluation B) (r : Result B Fault) (e : Fault) (xs : N) → r ≡ Err e → e ≡ faults.Memory → Evaluates says replies q r xs xs
-  memory_exit {B} q r e xs is same =
-      let exit : r ≡ Err faults.Memory = is ∙ ap (λ f. Err f) same in
-      subst (λ (m : Result B Fault). Evaluates says replies q m xs xs) (sym exit) (refused q xs)
-
   -- behind a question that got a reply
   pub goes_replied : {B : Type 0} (q : Question) (k : Reply q → Evaluation B) (reply : Reply q) (r : Result B Fault) (xs ys zs : N) →
       says q reply → replies q xs (Ok reply) ys → Evaluates says replies (k reply) r ys zs → Evaluates says replies (Wants q k) r xs zs

@@ -1,6 +1,6 @@
 -- What an operand comes to: an evaluation does not get definitions and a state, it asks for what it wants of them, and
 -- goes on with the reply. (Manual: operands, VARIABLEs and FUNCTIONs. Our own: whole numbers, the order of questions,
--- and how deep definitions may stand in each other.)
+-- and how deep definitions may nest.)
 use Rattle.std.specs.Prelude.{ℕ, zero, suc, ℤ, Bool, true, false, List, [], ◌∷◌, Option, Some, None, Result, Ok, Err, if◌then◌else◌}
 use Rattle.gw_nums.specs.declared.val.ArithmeticFault.{ArithmeticFault}
 use Rattle.gw_nums.specs.declared.val.ArithmeticFault.TheVariants as arithmetic_faults
@@ -151,7 +151,7 @@ abbrev pub expression_given : (Term → Evaluation ℤ) → Option Term → Eval
 expression_given value None = Stops Range
 expression_given value (Some expression) = value expression
 
--- the random number that an operand is as it is written, and the stream that it is of
+-- the stream of the random number that is the whole operand, if it is one
 abbrev pub is_random : Class → Bool
 is_random class.Rn = true
 is_random class = false
@@ -178,8 +178,7 @@ function_given argument None = Stops Range
 function_given argument (Some f) = argument f.argument ⟫ (λ x. point_found (curve f x))
 
 -- what the definition of a name comes to: a VARIABLE's expression or a FUNCTION is asked for and evaluated at that
--- moment, for whoever asks. So many may stand in each other here, this one counted; one more stops before it is asked
--- for
+-- moment, for whoever asks. So many may nest here, this one counted; one more stops before it is asked for
 unfoldable pub definitions_within : ℕ → Definitions
 definitions_within zero = record {
   variable = λ name. Stops VariableDepth;
@@ -190,7 +189,7 @@ definitions_within (suc depth) = record {
   function = λ name. Wants (FunctionOf name) (function_given (argument_by (definitions_within depth)));
 }
 
--- how many VARIABLEs and FUNCTIONs may stand in each other
+-- how many VARIABLEs and FUNCTIONs may nest
 abbrev pub DEEPEST : ℕ
 DEEPEST = 32
 
@@ -198,6 +197,6 @@ DEEPEST = 32
 unfoldable pub value_of : Term → Evaluation ℤ
 value_of operand = value_by (definitions_within DEEPEST) operand
 
--- what the FUNCTION comes to that an attribute names, in millionths
+-- what the FUNCTION that an attribute names comes to, in millionths
 unfoldable pub function_of : Subject → Evaluation ℤ
 function_of of = of_function (definitions_within DEEPEST) of

@@ -17,14 +17,18 @@ use gw_names::{Class, Name};
 use gw_nums::{Millionths, Val};
 use std::alloc::Global;
 
-// How many VARIABLEs and FUNCTIONs may stand in each other.
+// How many VARIABLEs and FUNCTIONs may nest.
 const DEEPEST: u32 = 32;
 
-/// The value of an operand: its questions go to the definitions and the world in the order in which they stand there.
+// How many parts a short expression has at most. More than eight values wait only in a longer one: nine of them want
+// eight operators.
+const SHORT: usize = 16;
+
+/// The value of an operand: the definitions and the world are asked in the order of specs/Evaluation.
 ///
-/// It stops with X6 at a division by 0, with X7 where a value would be out of range, with X10 where more than 32
-/// VARIABLEs and FUNCTIONs stand in each other, and with whatever the world stops with. What was noted up to there
-/// stays.
+/// It stops with X6 at a division by 0, with X7 where a value would be out of range or an operand has none, with X10
+/// where more than 32 VARIABLEs and FUNCTIONs nest, and with whatever the world stops with. Out of memory is answered
+/// where more than 128 values wait, or where the world runs out of it. What was noted up to there stays.
 #[tactic(auto, unfolding(crate::specs::Evaluation::value_of))]
 pub fn eval<D: Defs, W: World>(
     alloc: Global,
@@ -40,7 +44,7 @@ pub fn eval<D: Defs, W: World>(
     evaluator.term(notes, DEEPEST, operand)
 }
 
-/// What the FUNCTION comes to that an attribute names, in millionths: the modifier of a time takes it so, uncut.
+/// What the FUNCTION that an attribute names comes to, in millionths: the modifier of a time takes it so, uncut.
 ///
 /// It stops as [`eval`] does.
 #[tactic(auto, unfolding(crate::specs::Evaluation::function_of))]
@@ -67,7 +71,8 @@ struct Evaluator<'a, D, W> {
 }
 
 impl<'a, D: Defs, W: World> Evaluator<'a, D, W> {
-    // The value of an operand, in which so many VARIABLEs and FUNCTIONs may stand in each other.
+    // The value of an operand, in which so many VARIABLEs and FUNCTIONs may nest. A long expression is evaluated by
+    // `rest` alone, so that no more than two calls stand in each other for each of them.
     #[inline(always)]
     #[cycle(nested)]
     #[tactic(auto, unfolding(crate::specs::Evaluation::value_by), using(crate::specs::Worlds::stops))]
@@ -77,7 +82,10 @@ impl<'a, D: Defs, W: World> Evaluator<'a, D, W> {
             result notes.old notes.new }
     {
         match operand.node() {
-            Node::Value(atom) => self.value_of(notes, depth, atom),
+            Node::Value(atom) => self.atom(notes, depth, atom),
+            Node::Computed(tokens) if tokens.len() > SHORT => {
+                self.rest(notes, depth, tokens, FewValues::new())
+            }
             Node::Computed(tokens) => self.computed(notes, depth, tokens),
             _ => Err(EvalFault::RANGE),
         }
@@ -87,7 +95,7 @@ impl<'a, D: Defs, W: World> Evaluator<'a, D, W> {
     #[inline(always)]
     #[cycle(nested)]
     #[tactic(auto, unfolding(crate::specs::Evaluation::value_of_atom), using(crate::specs::Worlds::yields))]
-    fn value_of(&self, notes: &mut W::Notes, depth: u32, atom: &Atom) -> Result<Val, EvalFault>
+    fn atom(&self, notes: &mut W::Notes, depth: u32, atom: &Atom) -> Result<Val, EvalFault>
         ensures { Evaluates (Says (D.variable_of self.now.defs.now) (D.function_of self.now.defs.now))
             (W.replies self.now.world.now) (value_of_atom (definitions_within depth) atom.now)
             result notes.old notes.new }
@@ -107,7 +115,7 @@ impl<'a, D: Defs, W: World> Evaluator<'a, D, W> {
         }
     }
 
-    // The value of the VARIABLE that an attribute names, unless too many stand in each other already.
+    // The value of the VARIABLE that an attribute names, unless too many nest already.
     #[inline(always)]
     #[cycle(nested)]
     #[tactic(auto, unfolding(crate::specs::Evaluation::definitions_within), using(crate::specs::Worlds::stops))]
@@ -125,7 +133,7 @@ impl<'a, D: Defs, W: World> Evaluator<'a, D, W> {
         self.variable(notes, depth - 1, name)
     }
 
-    // The value of the VARIABLE of a name, in whose expression so many may stand.
+    // The value of the VARIABLE of a name, in whose expression so many may nest.
     #[inline(never)]
     #[cycle(nested)]
     fn variable(&self, notes: &mut W::Notes, depth: u32, name: &Name) -> Result<Val, EvalFault>
@@ -157,7 +165,7 @@ impl<'a, D: Defs, W: World> Evaluator<'a, D, W> {
         Ok(y.whole())
     }
 
-    // What the FUNCTION comes to that an attribute names, unless too many stand in each other already.
+    // What the FUNCTION that an attribute names comes to, unless too many nest already.
     #[inline(always)]
     #[cycle(nested)]
     #[tactic(auto, unfolding(crate::specs::Evaluation::definitions_within), using(crate::specs::Worlds::stops))]
@@ -180,7 +188,7 @@ impl<'a, D: Defs, W: World> Evaluator<'a, D, W> {
         self.function(notes, depth - 1, name)
     }
 
-    // What the FUNCTION of a name comes to, in whose argument so many may stand.
+    // What the FUNCTION of a name comes to, in whose argument so many may nest.
     #[inline(never)]
     #[cycle(nested)]
     fn function(
@@ -288,7 +296,7 @@ impl<'a, D: Defs, W: World> Evaluator<'a, D, W> {
     {
         match token {
             Token::Value(atom) => {
-                let value = self.value_of(notes, depth, atom)?;
+                let value = self.atom(notes, depth, atom)?;
                 values.push(value);
                 Ok(())
             }
@@ -297,7 +305,7 @@ impl<'a, D: Defs, W: World> Evaluator<'a, D, W> {
         }
     }
 
-    // The value of an expression by the rest of it, from where the values that wait are no longer few.
+    // The value of an expression by the rest of it, where more than a few values may wait.
     #[cold]
     #[inline(never)]
     #[cycle(nested)]
@@ -335,7 +343,7 @@ impl<'a, D: Defs, W: World> Evaluator<'a, D, W> {
     {
         match token {
             Token::Value(atom) => {
-                let found = self.value_of(notes, depth, atom)?;
+                let found = self.atom(notes, depth, atom)?;
                 values.push(found)?;
                 Ok(())
             }
@@ -345,8 +353,8 @@ impl<'a, D: Defs, W: World> Evaluator<'a, D, W> {
     }
 }
 
-/// Whether an attribute is that of a VARIABLE.
-pub fn is_of_variable(class: Class) -> bool
+// Whether an attribute is that of a VARIABLE.
+fn is_of_variable(class: Class) -> bool
     ensures { result ≡ is_of_variable class }
 {
     match class {
@@ -375,7 +383,7 @@ fn is_random(class: Class) -> bool
     }
 }
 
-// The random number that an operand is as it is written, and the stream that it is of.
+// The stream of the random number that is the whole operand, if it is one.
 #[inline(always)]
 fn random_of(operand: &Expr) -> Option<&Subject>
     ensures { option_copied result ≡ random_of operand.now }

@@ -1,12 +1,9 @@
 ghost use Rattle.std.specs.Prelude.{◌≡◌, IfOk};
 ghost use Rattle.gw_expr.specs.Term.{Computed, Defined, Fraction, Label, Named, Value, term_of};
-ghost use Rattle.gw_expr.specs.declared.atom.Atom.TheVariants as atoms;
 
 use crate::atom::Atom;
-use crate::attribute::Subject;
 use crate::token::Token;
-use gw_names::{Class, EntityName, Name, StorageName};
-use gw_nums::Val;
+use gw_names::{EntityName, Name, StorageName};
 use std::alloc::AllocError;
 use std::marker::Model;
 
@@ -42,33 +39,6 @@ impl Model for Expr {
 }
 
 impl Expr {
-    /// The operand that is a whole number.
-    pub fn constant(value: Val) -> Expr
-        ensures { result ≡ Value (atoms.Constant value) }
-    {
-        Expr {
-            node: Node::Value(Atom::Constant(value)),
-        }
-    }
-
-    /// The operand that is the number for which a name stands.
-    pub fn number(name: Name) -> Expr
-        ensures { result ≡ Value (atoms.Number name) }
-    {
-        Expr {
-            node: Node::Value(Atom::Number(name)),
-        }
-    }
-
-    /// The operand that is a numerical attribute.
-    pub fn attribute(class: Class, of: Subject) -> Expr
-        ensures { result ≡ Value (atoms.Attribute class of) }
-    {
-        Expr {
-            node: Node::Value(Atom::Attribute(class, of)),
-        }
-    }
-
     /// The operand that is a value without parentheses.
     pub fn value(atom: Atom) -> Expr
         ensures { result ≡ Value atom }

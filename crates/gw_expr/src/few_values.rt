@@ -12,7 +12,7 @@ use std::marker::Model;
 const FEW: usize = 8;
 
 // The values of an expression that wait for their operator, the last one first, while they are few. No list stands
-// within, so that the count of those who wait stays in a register.
+// within: a pointer that is handed to a cold function would bring in more that may change the count.
 #[derive(Debug, Drop)]
 pub struct FewValues {
     few: [Val; FEW],

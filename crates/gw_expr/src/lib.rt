@@ -24,7 +24,7 @@ mod world;
 pub use atom::Atom;
 pub use attribute::{Sna, Subject};
 pub use eval_fault::{EvalFault, Fault};
-pub use evaluator::{eval, eval_function, is_of_function, is_of_variable};
+pub use evaluator::{eval, eval_function, is_of_function};
 pub use expr::{Expr, Node};
 pub use function::{Function, FunctionType, Point};
 pub use laws::{

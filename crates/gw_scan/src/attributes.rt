@@ -16,7 +16,7 @@ use gw_names::{Class, Key, Name};
 use gw_nums::{Millionths, Time, Val};
 
 impl State {
-    // Operands are evaluated for a transaction.
+    // Who asks: a transaction.
     pub(crate) fn for_one(&self, x: &Transaction) -> Asker
         ensures { result ≡ for_one self.now x.now }
     {
@@ -223,7 +223,7 @@ impl State {
     }
 }
 
-// Operands are evaluated for no transaction.
+// Who asks: no transaction.
 pub fn for_none(remaining: u64) -> Asker
     ensures { result ≡ for_none remaining }
 {
@@ -313,7 +313,7 @@ fn random(case: Case, notes: &mut Notes, of: &Subject) -> Result<Val, Halt>
     Ok(thousandth(number))
 }
 
-// It in millionths.
+// The same random number as a part of a million.
 pub fn random_part(case: Case, notes: &mut Notes, of: &Subject) -> Result<Millionths, Halt>
     ensures { Decides case.entry.version.now case.entry.seed (random_part of.now) result notes.old notes.new }
 {
@@ -331,7 +331,7 @@ fn drawn(case: Case, notes: &mut Notes, of: &Subject) -> Result<u32, Halt>
     }
 }
 
-// A number that was drawn, as a part of 1.
+// A number that was drawn, as a part of a million.
 fn part(number: u32) -> Millionths
     ensures { result ≡ pos (millionths number) }
 {

@@ -68,7 +68,7 @@ impl State {
         }
     }
 
-    // A time of mean times a FUNCTION, for which nothing is drawn.
+    // A time of mean times a FUNCTION: nothing is drawn for a range.
     #[inline(never)]
     fn time_by_function(
         &self,

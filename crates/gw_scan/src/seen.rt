@@ -14,7 +14,7 @@ use gw_names::{Class, Name};
 use gw_nums::{Millionths, Val};
 use gw_uses::Asked;
 
-// What an evaluation sees: a state, and who asks.
+// What an evaluation of operands asks: a state, for whoever asks, and the version and the seed of its run.
 #[derive(Clone, Copy)]
 pub struct Seen<'a> {
     pub state: &'a State,

@@ -37,8 +37,8 @@ token-returns-in_ok-value-in-Value g n c =
     let whole : after_token (definitions_within c.args.depth) c.args.token.now values ≡ (first ⟫ rest) = search rules in
     let more : List ℤ = c.push.new.self in
     let here : rest c.in_ok-value-in-Value.value ≡ Yields more = rw c.push.ensures refl in
-    goes_whole says replies first rest _ c.in_ok-value-in-Value.value (Ok more) c.args.notes.now c.value_of.new.notes c.value_of.new.notes whole
-    c.in_ok-value-in-Value.ensures (goes_comes says replies (rest c.in_ok-value-in-Value.value) (Ok more) c.value_of.new.notes here)
+    goes_whole says replies first rest _ c.in_ok-value-in-Value.value (Ok more) c.args.notes.now c.atom.new.notes c.atom.new.notes whole
+    c.in_ok-value-in-Value.ensures (goes_comes says replies (rest c.in_ok-value-in-Value.value) (Ok more) c.atom.new.notes here)
 
 pub token_of_rest-returns-in_err-found-in-Value : goal.token_of_rest-returns-in_err-found-in-Value
 token_of_rest-returns-in_err-found-in-Value g n c =
@@ -61,8 +61,8 @@ token_of_rest-returns-in_ok-push-in-Value g n c =
     let whole : after_token (definitions_within c.args.depth) c.args.token.now values ≡ (first ⟫ rest) = search rules in
     let more : List ℤ = c.push.new.self in
     let here : rest c.in_ok-found-in-Value.found ≡ Yields more = rw c.in_ok-push-in-Value.ensures.ok refl in
-    goes_whole says replies first rest _ c.in_ok-found-in-Value.found (Ok more) c.args.notes.now c.value_of.new.notes c.value_of.new.notes whole
-    c.in_ok-found-in-Value.ensures (goes_comes says replies (rest c.in_ok-found-in-Value.found) (Ok more) c.value_of.new.notes here)
+    goes_whole says replies first rest _ c.in_ok-found-in-Value.found (Ok more) c.args.notes.now c.atom.new.notes c.atom.new.notes whole
+    c.in_ok-found-in-Value.ensures (goes_comes says replies (rest c.in_ok-found-in-Value.found) (Ok more) c.atom.new.notes here)
 
 pub computed-returns-in_err-token : goal.computed-returns-in_err-token
 computed-returns-in_err-token g n c =
@@ -198,39 +198,46 @@ unfolding value_by
 term-returns-in-Value g n c =
     let says = Says (g.D.Defs.variable_of c.args.self.now.defs.now) (g.D.Defs.function_of c.args.self.now.defs.now) in
     let replies = g.W.World.replies c.args.self.now.world.now in
-    evaluates_as says replies c.value_of.ensures (search rules)
+    evaluates_as says replies c.atom.ensures (search rules)
 
 pub term-returns-in-Computed : goal.term-returns-in-Computed
 unfolding value_by
 term-returns-in-Computed g n c =
     let says = Says (g.D.Defs.variable_of c.args.self.now.defs.now) (g.D.Defs.function_of c.args.self.now.defs.now) in
     let replies = g.W.World.replies c.args.self.now.world.now in
+    evaluates_as says replies c.rest.ensures (search rules)
+
+pub term-returns-in-Computed-2 : goal.term-returns-in-Computed-2
+unfolding value_by
+term-returns-in-Computed-2 g n c =
+    let says = Says (g.D.Defs.variable_of c.args.self.now.defs.now) (g.D.Defs.function_of c.args.self.now.defs.now) in
+    let replies = g.W.World.replies c.args.self.now.world.now in
     evaluates_as says replies c.computed.ensures (search rules)
 
-pub value_of-returns-then-is_of_variable : goal.value_of-returns-then-is_of_variable
+pub atom-returns-then-is_of_variable : goal.atom-returns-then-is_of_variable
 unfolding value_of_atom
-value_of-returns-then-is_of_variable g n c =
+atom-returns-then-is_of_variable g n c =
     let says = Says (g.D.Defs.variable_of c.args.self.now.defs.now) (g.D.Defs.function_of c.args.self.now.defs.now) in
     let replies = g.W.World.replies c.args.self.now.world.now in
     evaluates_as says replies c.of_variable.ensures (search rules)
 
-pub value_of-returns-then-is_of_function : goal.value_of-returns-then-is_of_function
+pub atom-returns-then-is_of_function : goal.atom-returns-then-is_of_function
 unfolding value_of_atom
-value_of-returns-then-is_of_function g n c =
+atom-returns-then-is_of_function g n c =
     let says = Says (g.D.Defs.variable_of c.args.self.now.defs.now) (g.D.Defs.function_of c.args.self.now.defs.now) in
     let replies = g.W.World.replies c.args.self.now.world.now in
     evaluates_as says replies c.whole_of_function.ensures (search rules)
 
-pub value_of-returns-else-is_of_function : goal.value_of-returns-else-is_of_function
+pub atom-returns-else-is_of_function : goal.atom-returns-else-is_of_function
 unfolding value_of_atom
-value_of-returns-else-is_of_function g n c =
+atom-returns-else-is_of_function g n c =
     let says = Says (g.D.Defs.variable_of c.args.self.now.defs.now) (g.D.Defs.function_of c.args.self.now.defs.now) in
     let replies = g.W.World.replies c.args.self.now.world.now in
     evaluates_as says replies (goes_asked says replies (AttributeOf c.in-Attribute.class c.in-Attribute.of) c.attribute.result _ _ (λ v. tt) c.attribute.ensures) (search rules)
 
-pub value_of-returns-in_ok-number-in-Number : goal.value_of-returns-in_ok-number-in-Number
+pub atom-returns-in_ok-number-in-Number : goal.atom-returns-in_ok-number-in-Number
 unfolding value_of_atom
-value_of-returns-in_ok-number-in-Number g n c =
+atom-returns-in_ok-number-in-Number g n c =
     let says = Says (g.D.Defs.variable_of c.args.self.now.defs.now) (g.D.Defs.function_of c.args.self.now.defs.now) in
     let replies = g.W.World.replies c.args.self.now.world.now in
     let found = c.in_ok-number-in-Number.field-0 in
@@ -357,14 +364,14 @@ token_of_rest-returns-in_err-push-in-Value g n c =
     let first = value_of_atom (definitions_within c.args.depth) c.in-Value.atom in
     let rest : ℤ → Evaluation (List ℤ) = λ v. Yields (v ∷ values) in
     let v = c.in_ok-found-in-Value.found in
-    let after = c.value_of.new.notes in
+    let after = c.atom.new.notes in
     let both = goes_whole says replies first rest (first ⟫ rest) v (Err Memory) c.args.notes.now after after refl c.in_ok-found-in-Value.ensures (refused (rest v) after) in
     let whole : after_token (definitions_within c.args.depth) c.args.token.now values ≡ (first ⟫ rest) = search rules in
     fault_exit says replies _ _ (ap (λ r. in_place r c.push.new.self) p.1) p.2 (evaluates_as says replies both whole)
 
-pub value_of-returns-in_err-number-in-Number : goal.value_of-returns-in_err-number-in-Number
+pub atom-returns-in_err-number-in-Number : goal.atom-returns-in_err-number-in-Number
 unfolding value_of_atom
-value_of-returns-in_err-number-in-Number g n c =
+atom-returns-in_err-number-in-Number g n c =
     let says = Says (g.D.Defs.variable_of c.args.self.now.defs.now) (g.D.Defs.function_of c.args.self.now.defs.now) in
     let replies = g.W.World.replies c.args.self.now.world.now in
     let p = err_from_is_err_and c.from_residual.result c.from_residual.ensures.1 in

@@ -34,8 +34,8 @@ decreases-token g l = l.depth * 20 + 5
 abbrev pub decreases-token_of_rest : goal.decreases-token_of_rest
 decreases-token_of_rest g l = l.depth * 20 + 5
 
-abbrev pub decreases-value_of : goal.decreases-value_of
-decreases-value_of g l = l.depth * 20 + 4
+abbrev pub decreases-atom : goal.decreases-atom
+decreases-atom g l = l.depth * 20 + 4
 
 abbrev pub decreases-variable : goal.decreases-variable
 decreases-variable g l = l.depth * 20 + 12
