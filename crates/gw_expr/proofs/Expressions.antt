@@ -16,14 +16,14 @@ then_assoc (Stops stop) f g = refl
 then_assoc (Wants q k) f g = ap (λ h. Wants q h) (fun_ext (λ x. then_assoc (k x) f g))
 
 -- one evaluation, and then its own result
-then_yields : {A : Type 0} (p : Evaluation A) → (p ⟫ (λ a. Yields a)) ≡ p
+pub then_yields : {A : Type 0} (p : Evaluation A) → (p ⟫ (λ a. Yields a)) ≡ p
 then_yields (Yields a) = refl
 then_yields (Stops stop) = refl
 then_yields (Wants q k) = ap (λ h. Wants q h) (fun_ext (λ x. then_yields (k x)))
 
 module _ (defined : Definitions) where
   -- parts, and others behind them
-  parts_then : (ts us : List Token) (values : List ℤ) → after_tokens defined (ts ++ us) values ≡
+  pub parts_then : (ts us : List Token) (values : List ℤ) → after_tokens defined (ts ++ us) values ≡
       (after_tokens defined ts values ⟫ (λ more. after_tokens defined us more))
   parts_then [] us values = refl
   parts_then (t ∷ ts) us values =

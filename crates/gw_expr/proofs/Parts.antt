@@ -1,44 +1,52 @@
 -- What the parts of an expression come to, one behind the other.
-use Rattle.std.proofs.Common.{◌≡◌, ℕ, ◌+◌, ◌<◌, ℤ, List, [], ◌∷◌, drop, get_or, length, Result, Ok, Err, sym, ap, ◌∙◌}
-use Rattle.std.proofs.lemmas.List.{drop_more}
+use Rattle.std.proofs.Common.{◌≡◌, ℕ, ◌+◌, ◌<◌, ◌≤◌, ℤ, List, [], ◌∷◌, take, drop, get_or, length, Result, Ok, Err, sym, ap, ◌∙◌}
+use Rattle.std.proofs.lemmas.List.{take_more, drop_more, take_all, take-append-drop}
+use Rattle.gw_expr.specs.declared.atom.Atom.{Atom}
 use Rattle.gw_expr.specs.declared.eval_fault.Fault.{Fault}
 use Rattle.gw_expr.specs.declared.token.Token.{Token}
-use Rattle.gw_expr.specs.Evaluation.{Question, Reply, Evaluation, Definitions, after_token, after_tokens, last_value, ◌⟫◌}
-use Rattle.gw_expr.specs.Worlds.{Evaluates, Comes}
-use Rattle.gw_expr.proofs.Expressions.{then_assoc}
-use Rattle.gw_expr.proofs.Worlds.{then_goes, then_fails, goes_comes, evaluates_as}
+use Rattle.gw_expr.specs.declared.token.Token.TheVariants as tokens
+use Rattle.gw_expr.specs.Evaluation.{Question, Reply, Yields, Definitions, value_of_atom, after_token, after_tokens, last_value, ◌⟫◌}
+use Rattle.gw_expr.specs.Worlds.{Evaluates, Comes, yields}
+use Rattle.gw_expr.proofs.Expressions.{parts_then, then_assoc, then_yields}
+use Rattle.gw_expr.proofs.Worlds.{then_goes, then_fails, goes_comes}
 
--- a list from one place on begins with the item there
-item_drop : {X : Type 0} (xs : List X) (i : ℕ) (x : X) → i < length xs → x ≡ get_or xs i x → drop i xs ≡ x ∷ drop (i + 1) xs
-item_drop xs i x h is = drop_more xs i x h ∙ ap (λ y. y ∷ drop (i + 1) xs) (sym is)
+module _ {N : Type 0} {says : (q : Question) → Reply q → Type 0} {replies : (q : Question) → N → Result (Reply q) Fault → N → Type 0}
+    (defined : Definitions) (values : List ℤ) where
+  -- a part is a value, which goes in front of those that wait
+  pub value_goes : {t : Token} {atom : Atom} {more : List ℤ} {v : ℤ} {xs ys : N} → t ≡ tokens.Value atom → more ≡ v ∷ values →
+      Evaluates says replies (value_of_atom defined atom) (Ok v) xs ys → Evaluates says replies (after_token defined t values) (Ok more) xs ys
+  value_goes is more h = rw (is, more) (then_goes _ h (yields _ _))
 
-module _ {N : Type 0} (says : (q : Question) → Reply q → Type 0) (replies : (q : Question) → N → Result (Reply q) Fault → N → Type 0)
-    (vs : Definitions) where
-  -- the parts from here on, and the value that is left
-  abbrev from_here : List Token → ℕ → List ℤ → Evaluation ℤ
-  from_here ts i values = after_tokens vs (drop i ts) values ⟫ last_value
+  -- it has no value
+  pub value_fails : {t : Token} {atom : Atom} {fault : Fault} {xs ys : N} → t ≡ tokens.Value atom →
+      Evaluates says replies (value_of_atom defined atom) (Err fault) xs ys → Evaluates says replies (after_token defined t values) (Err fault) xs ys
+  value_fails is h = rw is (then_fails _ h)
 
-  behind : (ts : List Token) (i : ℕ) (t : Token) (values : List ℤ) → i < length ts → t ≡ get_or ts i t →
-      from_here ts i values ≡ (after_token vs t values ⟫ (λ more. from_here ts (i + 1) more))
-  behind ts i t values there is =
-      ap (λ us. after_tokens vs us values ⟫ last_value) (item_drop ts i t there is) ∙
-      then_assoc (after_token vs t values) (λ more. after_tokens vs (drop (i + 1) ts) more) last_value
+-- the parts before this place left these values
+pub record HaveLeft {N : Type 0} (says : (q : Question) → Reply q → Type 0) (replies : (q : Question) → N → Result (Reply q) Fault → N → Type 0)
+    (defined : Definitions) (ts : List Token) (few : List ℤ) (begun : N) (i : ℕ) (values : List ℤ) (now : N) : Type 0 where
+  pub so_far : Evaluates says replies (after_tokens defined (take i ts) few) (Ok values) begun now
 
-  -- the part that stands here fails
-  pub part_fails : (ts : List Token) (i : ℕ) (t : Token) (values : List ℤ) (fault : Fault) {xs ys : N} → i < length ts → t ≡ get_or ts i t →
-      Evaluates says replies (after_token vs t values) (Err fault) xs ys → Evaluates says replies (from_here ts i values) (Err fault) xs ys
-  part_fails ts i t values fault there is h =
-      evaluates_as says replies (then_fails says replies (λ more. from_here ts (i + 1) more) h) (behind ts i t values there is)
+module _ {N : Type 0} {says : (q : Question) → Reply q → Type 0} {replies : (q : Question) → N → Result (Reply q) Fault → N → Type 0}
+    {defined : Definitions} {ts : List Token} {few values : List ℤ} {begun now : N} {i : ℕ} (left : HaveLeft says replies defined ts few begun i values now) where
+  -- what those behind it come to is what all come to
+  pub rest_goes : {r : Result ℤ Fault} {end : N} → Evaluates says replies (after_tokens defined (drop i ts) values ⟫ last_value) r now end →
+      Evaluates says replies (after_tokens defined ts few ⟫ last_value) r begun end
+  rest_goes h =
+      rw (← take-append-drop i ts, parts_then defined (take i ts) (drop i ts) few, then_assoc (after_tokens defined (take i ts) few))
+      (then_goes _ left.so_far h)
 
-  -- it leaves these values to those behind it
-  pub part_goes : (ts : List Token) (i : ℕ) (t : Token) (values more : List ℤ) (r : Result ℤ Fault) {xs ys zs : N} → i < length ts → t ≡ get_or ts i t →
-      Evaluates says replies (after_token vs t values) (Ok more) xs ys → Evaluates says replies (from_here ts (i + 1) more) r ys zs →
-      Evaluates says replies (from_here ts i values) r xs zs
-  part_goes ts i t values more r {xs} {ys} {zs} there is first second =
-      evaluates_as says replies (then_goes says replies (λ more. from_here ts (i + 1) more) r zs first second) (behind ts i t values there is)
+  -- the part at this place fails
+  pub part_fails : {t : Token} {fault : Fault} {end : N} → i < length ts → t ≡ get_or ts i t →
+      Evaluates says replies (after_token defined t values) (Err fault) now end → Evaluates says replies (after_tokens defined ts few ⟫ last_value) (Err fault) begun end
+  part_fails {t} there is h = rest_goes (rw (drop_more ts i t there, ← is) (then_fails _ (then_fails _ h)))
+
+  -- it leaves more values
+  pub part_goes : {t : Token} {more : List ℤ} {end : N} → i < length ts → t ≡ get_or ts i t →
+      Evaluates says replies (after_token defined t values) (Ok more) now end → HaveLeft says replies defined ts few begun (i + 1) more end
+  part_goes {t} there is h =
+      record { so_far = rw (take_more ts i t there, ← is, parts_then defined (take i ts) (t ∷ []) few) (then_goes _ left.so_far (then_goes _ h (yields _ _))) }
 
   -- no part is left
-  pub parts_end : (ts : List Token) (i : ℕ) (values : List ℤ) (r : Result ℤ Fault) (xs : N) → drop i ts ≡ [] → Comes (last_value values) r →
-      Evaluates says replies (from_here ts i values) r xs xs
-  parts_end ts i values r xs done h =
-      evaluates_as says replies (goes_comes says replies (last_value values) r xs h) (ap (λ us. after_tokens vs us values ⟫ last_value) done)
+  pub parts_end : {r : Result ℤ Fault} → length ts ≤ i → Comes (last_value values) r → Evaluates says replies (after_tokens defined ts few ⟫ last_value) r begun now
+  parts_end all is = then_goes _ (rw take_all at left.so_far) (goes_comes _ is)

@@ -1,7 +1,7 @@
-use Rattle.std.proofs.Common.{[], ℤ, ◌+◌, ◌*◌, List, Result, drop}
-use Rattle.gw_expr.specs.declared.eval_fault.Fault.{Fault}
-use Rattle.gw_expr.specs.Evaluation.{after_tokens, last_value, definitions_within, ◌⟫◌}
-use Rattle.gw_expr.specs.Worlds.{Says, Evaluates}
+use Rattle.std.proofs.Common.{[], ◌+◌, ◌*◌}
+use Rattle.gw_expr.specs.Evaluation.{definitions_within}
+use Rattle.gw_expr.specs.Worlds.{Says}
+use Rattle.gw_expr.proofs.Parts.{HaveLeft}
 use Rattle.gw_expr.proofs.evaluator.Evaluator.+nested.Given as goal
 
 abbrev pub decreases-argument : goal.decreases-argument
@@ -46,20 +46,13 @@ decreases-whole_argument g l = l.depth * 20 + 9
 abbrev pub decreases-whole_of_function : goal.decreases-whole_of_function
 decreases-whole_of_function g l = l.depth * 20 + 3
 
--- what the rest comes to is what all come to
+-- the parts before this one left these values
 abbrev pub invariant-computed-loop-index : goal.invariant-computed-loop-index
 invariant-computed-loop-index g l =
-    let says = Says (g.D.Defs.variable_of l.self.defs.now) (g.D.Defs.function_of l.self.defs.now) in
-    let replies = g.W.World.replies l.self.world.now in
-    (r : Result ℤ Fault) (all : g.row.W-Notes.Denot) →
-    Evaluates says replies (after_tokens (definitions_within l.depth) (drop l.index l.tokens) l.values ⟫ last_value) r l.notes all →
-    Evaluates says replies (after_tokens (definitions_within l.depth) l.tokens [] ⟫ last_value) r l.fn.notes all
+    HaveLeft (Says (g.D.Defs.variable_of l.self.defs.now) (g.D.Defs.function_of l.self.defs.now)) (g.W.World.replies l.self.world.now)
+    (definitions_within l.depth) l.tokens [] l.fn.notes l.index l.values l.notes
 
--- what the rest comes to is what all come to
 abbrev pub invariant-rest-loop-token : goal.invariant-rest-loop-token
 invariant-rest-loop-token g l =
-    let says = Says (g.D.Defs.variable_of l.self.defs.now) (g.D.Defs.function_of l.self.defs.now) in
-    let replies = g.W.World.replies l.self.world.now in
-    (r : Result ℤ Fault) (all : g.row.W-Notes.Denot) →
-    Evaluates says replies (after_tokens (definitions_within l.depth) (drop l.token-index l.tokens) l.values ⟫ last_value) r l.notes all →
-    Evaluates says replies (after_tokens (definitions_within l.depth) l.tokens l.fn.few ⟫ last_value) r l.fn.notes all
+    HaveLeft (Says (g.D.Defs.variable_of l.self.defs.now) (g.D.Defs.function_of l.self.defs.now)) (g.W.World.replies l.self.world.now)
+    (definitions_within l.depth) l.tokens l.fn.few l.fn.notes l.token-index l.values l.notes
