@@ -26,43 +26,19 @@ module _ (defined : Definitions) where
   pub parts_then : (ts us : List Token) (values : List ℤ) → after_tokens defined (ts ++ us) values ≡
       (after_tokens defined ts values ⟫ (λ more. after_tokens defined us more))
   parts_then [] us values = refl
-  parts_then (t ∷ ts) us values =
-      ap (λ k. after_token defined t values ⟫ k) (fun_ext (λ more. parts_then ts us more)) ∙
-      sym (then_assoc (after_token defined t values) (λ more. after_tokens defined ts more) (λ more. after_tokens defined us more))
-
-  -- an operator's value, and then the rest
-  applied_then : (r : Evaluation ℤ) (us : List Token) (values : List ℤ) →
-      ((r ⟫ (λ v. Yields (v ∷ values))) ⟫ (λ more. after_tokens defined us more)) ≡ (r ⟫ (λ v. after_tokens defined us (v ∷ values)))
-  applied_then r us values = then_assoc r (λ v. Yields (v ∷ values)) (λ more. after_tokens defined us more)
+  parts_then (t ∷ ts) us values = simp (then_assoc, parts_then ts us)
 
   -- an expression in postfix order, and the rest behind it
   expression_then : (e : Expression) (us : List Token) (values : List ℤ) →
       after_tokens defined (postfix e ++ us) values ≡ (value_of_expression defined e ⟫ (λ v. after_tokens defined us (v ∷ values)))
-  expression_then (Single atom) us values = applied_then (value_of_expression defined (Single atom)) us values
-  expression_then (Opposite e) us values =
-      ap (λ ts. after_tokens defined ts values) (append_assoc (postfix e) (tokens.Negated ∷ []) us) ∙
-      expression_then e (tokens.Negated ∷ us) values ∙
-      sym (then_assoc (value_of_expression defined e) (λ v. Yields (negated v)) (λ v. after_tokens defined us (v ∷ values)))
-  expression_then (Both operator left right) us values =
-      let behind : List Token = tokens.Applied operator ∷ us in
-      let grouped : postfix (Both operator left right) ++ us ≡ postfix left ++ (postfix right ++ behind) =
-      append_assoc (postfix left) (postfix right ++ tokens.Applied operator ∷ []) us ∙
-      ap (λ ts. postfix left ++ ts) (append_assoc (postfix right) (tokens.Applied operator ∷ []) us) in
-      ap (λ ts. after_tokens defined ts values) grouped ∙
-      expression_then left (postfix right ++ behind) values ∙
-      ap (λ k. value_of_expression defined left ⟫ k) (fun_ext (λ a. expression_then right behind (a ∷ values) ∙
-      ap (λ k. value_of_expression defined right ⟫ k) (fun_ext (λ b. applied_then (arithmetic (applied operator a b)) us values)) ∙
-      sym (then_assoc (value_of_expression defined right) (λ b. arithmetic (applied operator a b)) (λ v. after_tokens defined us (v ∷ values))))) ∙
-      sym (then_assoc (value_of_expression defined left) (λ a. value_of_expression defined right ⟫ (λ b. arithmetic (applied operator a b)))
-      (λ v. after_tokens defined us (v ∷ values)))
+  expression_then (Single atom) us values = simp then_assoc
+  expression_then (Opposite e) us values = simp (append_assoc, then_assoc, expression_then e)
+  expression_then (Both operator left right) us values = simp (append_assoc, then_assoc, expression_then left, expression_then right)
 
   pub nested_value : (e : Expression) → value_by defined (Computed (postfix e)) ≡ value_of_expression defined e
   unfolding value_by
   nested_value e =
-      ap (λ ts. after_tokens defined ts [] ⟫ last_value) (sym (append-nil (postfix e))) ∙
-      ap (λ p. p ⟫ last_value) (expression_then e [] []) ∙
-      then_assoc (value_of_expression defined e) (λ v. Yields (v ∷ [])) last_value ∙
-      then_yields (value_of_expression defined e)
+      rw (← append-nil (postfix e), expression_then e [] [], then_assoc (value_of_expression defined e), then_yields (value_of_expression defined e))
 
 pub expression_value : (e : Expression) → value_of (Computed (postfix e)) ≡ value_of_expression (definitions_within DEEPEST) e
 unfolding value_of

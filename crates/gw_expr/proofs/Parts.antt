@@ -22,31 +22,31 @@ module _ {N : Type 0} {says : (q : Question) → Reply q → Type 0} {replies : 
       Evaluates says replies (value_of_atom defined atom) (Err fault) xs ys → Evaluates says replies (after_token defined t values) (Err fault) xs ys
   value_fails is h = rw is (then_fails _ h)
 
--- the parts before this place left these values
+-- the first i parts left these values
 pub record HaveLeft {N : Type 0} (says : (q : Question) → Reply q → Type 0) (replies : (q : Question) → N → Result (Reply q) Fault → N → Type 0)
-    (defined : Definitions) (ts : List Token) (few : List ℤ) (begun : N) (i : ℕ) (values : List ℤ) (now : N) : Type 0 where
-  pub so_far : Evaluates says replies (after_tokens defined (take i ts) few) (Ok values) begun now
+    (defined : Definitions) (ts : List Token) (few : List ℤ) (xs : N) (i : ℕ) (values : List ℤ) (ys : N) : Type 0 where
+  pub so_far : Evaluates says replies (after_tokens defined (take i ts) few) (Ok values) xs ys
 
 module _ {N : Type 0} {says : (q : Question) → Reply q → Type 0} {replies : (q : Question) → N → Result (Reply q) Fault → N → Type 0}
-    {defined : Definitions} {ts : List Token} {few values : List ℤ} {begun now : N} {i : ℕ} (left : HaveLeft says replies defined ts few begun i values now) where
-  -- what those behind it come to is what all come to
-  pub rest_goes : {r : Result ℤ Fault} {end : N} → Evaluates says replies (after_tokens defined (drop i ts) values ⟫ last_value) r now end →
-      Evaluates says replies (after_tokens defined ts few ⟫ last_value) r begun end
+    {defined : Definitions} {ts : List Token} {few values : List ℤ} {xs ys : N} {i : ℕ} (left : HaveLeft says replies defined ts few xs i values ys) where
+  -- what those behind them come to is what all come to
+  pub rest_goes : {r : Result ℤ Fault} {zs : N} → Evaluates says replies (after_tokens defined (drop i ts) values ⟫ last_value) r ys zs →
+      Evaluates says replies (after_tokens defined ts few ⟫ last_value) r xs zs
   rest_goes h =
       rw (← take-append-drop i ts, parts_then defined (take i ts) (drop i ts) few, then_assoc (after_tokens defined (take i ts) few))
       (then_goes _ left.so_far h)
 
-  -- the part at this place fails
-  pub part_fails : {t : Token} {fault : Fault} {end : N} → i < length ts → t ≡ get_or ts i t →
-      Evaluates says replies (after_token defined t values) (Err fault) now end → Evaluates says replies (after_tokens defined ts few ⟫ last_value) (Err fault) begun end
+  -- the next part fails
+  pub part_fails : {t : Token} {fault : Fault} {zs : N} → i < length ts → t ≡ get_or ts i t →
+      Evaluates says replies (after_token defined t values) (Err fault) ys zs → Evaluates says replies (after_tokens defined ts few ⟫ last_value) (Err fault) xs zs
   part_fails {t} there is h = rest_goes (rw (drop_more ts i t there, ← is) (then_fails _ (then_fails _ h)))
 
-  -- it leaves more values
-  pub part_goes : {t : Token} {more : List ℤ} {end : N} → i < length ts → t ≡ get_or ts i t →
-      Evaluates says replies (after_token defined t values) (Ok more) now end → HaveLeft says replies defined ts few begun (i + 1) more end
+  -- it leaves other values
+  pub part_goes : {t : Token} {more : List ℤ} {zs : N} → i < length ts → t ≡ get_or ts i t →
+      Evaluates says replies (after_token defined t values) (Ok more) ys zs → HaveLeft says replies defined ts few xs (i + 1) more zs
   part_goes {t} there is h =
       record { so_far = rw (take_more ts i t there, ← is, parts_then defined (take i ts) (t ∷ []) few) (then_goes _ left.so_far (then_goes _ h (yields _ _))) }
 
-  -- no part is left
-  pub parts_end : {r : Result ℤ Fault} → length ts ≤ i → Comes (last_value values) r → Evaluates says replies (after_tokens defined ts few ⟫ last_value) r begun now
+  -- there is no next part
+  pub parts_end : {r : Result ℤ Fault} → length ts ≤ i → Comes (last_value values) r → Evaluates says replies (after_tokens defined ts few ⟫ last_value) r xs ys
   parts_end all is = then_goes _ (rw take_all at left.so_far) (goes_comes _ is)
