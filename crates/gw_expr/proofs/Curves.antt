@@ -24,18 +24,11 @@ own_side : (ps : List Point) (before : Option Point) (i : ℕ) (p : Point) → s
     ((j : ℕ) (q : Point) → j < i → slice_get ps j ≡ Some q → is_below q.x p.x ≡ true) → IsBelow p.x before →
     (b : Option Point) × (sides before ps p.x ≡ record { before = b; next = Some p }) × IsBelow p.x b
 own_side [] before i p at rise below = absurd cc
-own_side (q ∷ ps) before zero p at rise below =
-    let same : q ≡ p = cc in
-    let not_below : is_below q.x p.x ≡ false = subst (λ (r : Point). is_below r.x p.x ≡ false) (sym same) (not_itself p.x) in (
-      before,
-      ap (λ b. cond b (sides (Some q) ps p.x) (record { before = before; next = Some q })) not_below ∙
-          ap (λ (r : Point). record { before = before; next = Some r }) same,
-      below,
-    )
+own_side (q ∷ ps) before zero p at rise below = let same : q ≡ p = cc in (before, rw (same, not_itself p.x), below)
 own_side (q ∷ ps) before (suc i) p at rise below =
     let under : is_below q.x p.x ≡ true = rise 0 q (omega arith) refl in
     let rest = own_side ps (Some q) i p at (λ j r less there. rise (suc j) r (omega arith) there) under in
-    (rest.0, ap (λ b. cond b (sides (Some q) ps p.x) (record { before = before; next = Some q })) under ∙ rest.1, rest.2)
+    (rest.0, rw under rest.1, rest.2)
 
 -- all of the way
 all_down : (a d k : ℕ) → 0 < d → k ≡ suc a * d → quotient_down (neg_ℤ (pos k)) d ≡ negsuc a

@@ -5,7 +5,7 @@ use Rattle.gw_nums.specs.Range.{negated}
 use Rattle.gw_expr.specs.declared.token.Token.{Token}
 use Rattle.gw_expr.specs.declared.token.Token.TheVariants as tokens
 use Rattle.gw_expr.specs.Arithmetic.{applied}
-use Rattle.gw_expr.specs.Evaluation.{Evaluation, Yields, Stops, Wants, ◌⟫◌, arithmetic, Definitions, after_token, after_tokens, last_value, DEEPEST, value_by, definitions_within, value_of, value_of_expression}
+use Rattle.gw_expr.specs.Evaluation.{Reply, Evaluation, Yields, Stops, Wants, ◌⟫◌, arithmetic, Definitions, after_token, after_tokens, last_value, DEEPEST, value_by, definitions_within, value_of, value_of_expression}
 use Rattle.gw_expr.specs.Expressions.{Expression, Single, Opposite, Both, postfix}
 use Rattle.gw_expr.specs.Term.{Computed}
 
@@ -13,13 +13,13 @@ use Rattle.gw_expr.specs.Term.{Computed}
 pub then_assoc : {A B C : Type 0} (p : Evaluation A) (f : A → Evaluation B) (g : B → Evaluation C) → ((p ⟫ f) ⟫ g) ≡ (p ⟫ (λ a. f a ⟫ g))
 then_assoc (Yields a) f g = refl
 then_assoc (Stops stop) f g = refl
-then_assoc (Wants q k) f g = ap (λ h. Wants q h) (fun_ext (λ x. then_assoc (k x) f g))
+then_assoc (Wants q k) f g = simp (λ (x : Reply q). then_assoc (k x) f g)
 
 -- one evaluation, and then its own result
 pub then_yields : {A : Type 0} (p : Evaluation A) → (p ⟫ (λ a. Yields a)) ≡ p
 then_yields (Yields a) = refl
 then_yields (Stops stop) = refl
-then_yields (Wants q k) = ap (λ h. Wants q h) (fun_ext (λ x. then_yields (k x)))
+then_yields (Wants q k) = simp (λ (x : Reply q). then_yields (k x))
 
 module _ (defined : Definitions) where
   -- parts, and others behind them
@@ -37,9 +37,8 @@ module _ (defined : Definitions) where
 
   pub nested_value : (e : Expression) → value_by defined (Computed (postfix e)) ≡ value_of_expression defined e
   unfolding value_by
-  nested_value e =
-      rw (← append-nil (postfix e), expression_then e [] [], then_assoc (value_of_expression defined e), then_yields (value_of_expression defined e))
+  nested_value e = rw (← append-nil (postfix e), expression_then e, then_assoc, then_yields)
 
 pub expression_value : (e : Expression) → value_of (Computed (postfix e)) ≡ value_of_expression (definitions_within DEEPEST) e
 unfolding value_of
-expression_value e = nested_value (definitions_within DEEPEST) e
+expression_value = nested_value (definitions_within DEEPEST)

@@ -32,9 +32,7 @@ module _ {N : Type 0} {says : (q : Question) → Reply q → Type 0} {replies : 
   -- what those behind them come to is what all come to
   pub rest_goes : {r : Result ℤ Fault} {zs : N} → Evaluates says replies (after_tokens defined (drop i ts) values ⟫ last_value) r ys zs →
       Evaluates says replies (after_tokens defined ts few ⟫ last_value) r xs zs
-  rest_goes h =
-      rw (← take-append-drop i ts, parts_then defined (take i ts) (drop i ts) few, then_assoc (after_tokens defined (take i ts) few))
-      (then_goes _ left.so_far h)
+  rest_goes h = rw (← take-append-drop i ts, parts_then, then_assoc) (then_goes _ left.so_far h)
 
   -- the next part fails
   pub part_fails : {t : Token} {fault : Fault} {zs : N} → i < length ts → t ≡ get_or ts i t →
@@ -45,7 +43,7 @@ module _ {N : Type 0} {says : (q : Question) → Reply q → Type 0} {replies : 
   pub part_goes : {t : Token} {more : List ℤ} {zs : N} → i < length ts → t ≡ get_or ts i t →
       Evaluates says replies (after_token defined t values) (Ok more) ys zs → HaveLeft says replies defined ts few xs (i + 1) more zs
   part_goes {t} there is h =
-      record { so_far = rw (take_more ts i t there, ← is, parts_then defined (take i ts) (t ∷ []) few) (then_goes _ left.so_far (then_goes _ h (yields _ _))) }
+      record { so_far = rw (take_more ts i t there, ← is, parts_then) (then_goes _ left.so_far (then_goes _ h (yields _ _))) }
 
   -- there is no next part
   pub parts_end : {r : Result ℤ Fault} → length ts ≤ i → Comes (last_value values) r → Evaluates says replies (after_tokens defined ts few ⟫ last_value) r xs ys
