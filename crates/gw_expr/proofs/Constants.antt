@@ -1,5 +1,5 @@
 -- An expression of constants comes to one result.
-use Rattle.std.proofs.Common.{◌≡◌, ℤ, Result, Ok, Err, refl, ap, ◌∙◌}
+use Rattle.std.proofs.Common.{◌≡◌, ℤ, Result, Ok, Err, refl}
 use Rattle.gw_nums.specs.declared.val.ArithmeticFault.{ArithmeticFault}
 use Rattle.gw_nums.specs.declared.val.ArithmeticFault.TheVariants as arithmetic_faults
 use Rattle.gw_nums.specs.Range.{negated}
@@ -8,7 +8,7 @@ use Rattle.gw_expr.specs.Expressions.{Single, Opposite, Both}
 use Rattle.gw_expr.specs.declared.atom.Atom.TheVariants as atoms
 use Rattle.gw_expr.specs.declared.stop.Stop.{Stop}
 use Rattle.gw_expr.specs.declared.stop.Stop.TheVariants as stops
-use Rattle.gw_expr.specs.Evaluation.{Evaluation, Yields, ◌⟫◌, Definitions, value_of_atom, arithmetic, value_of_expression}
+use Rattle.gw_expr.specs.Evaluation.{Evaluation, ◌⟫◌, Definitions, value_of_atom, arithmetic}
 use Rattle.gw_expr.specs.Laws.{comes_to, ConstantsHangOnNothing}
 
 -- an evaluation comes to one result, whatever the definitions come to

@@ -1,11 +1,7 @@
 -- An expression in postfix order has the value of the expression.
-use Rattle.std.proofs.Common.{◌≡◌, ℤ, List, [], ◌∷◌, ◌++◌, refl, sym, ap, ◌∙◌, append_assoc, append-nil}
-use Rattle.std.proofs.Math.Path.{fun_ext}
-use Rattle.gw_nums.specs.Range.{negated}
+use Rattle.std.proofs.Common.{◌≡◌, ℤ, List, [], ◌∷◌, ◌++◌, refl, append_assoc, append-nil}
 use Rattle.gw_expr.specs.declared.token.Token.{Token}
-use Rattle.gw_expr.specs.declared.token.Token.TheVariants as tokens
-use Rattle.gw_expr.specs.Arithmetic.{applied}
-use Rattle.gw_expr.specs.Evaluation.{Reply, Evaluation, Yields, Stops, Wants, ◌⟫◌, arithmetic, Definitions, after_token, after_tokens, last_value, DEEPEST, value_by, definitions_within, value_of, value_of_expression}
+use Rattle.gw_expr.specs.Evaluation.{Reply, Evaluation, Yields, Stops, Wants, ◌⟫◌, Definitions, after_tokens, DEEPEST, value_by, definitions_within, value_of, value_of_expression}
 use Rattle.gw_expr.specs.Expressions.{Expression, Single, Opposite, Both, postfix}
 use Rattle.gw_expr.specs.Term.{Computed}
 
@@ -16,7 +12,7 @@ then_assoc (Stops stop) f g = refl
 then_assoc (Wants q k) f g = simp (λ (x : Reply q). then_assoc (k x) f g)
 
 -- one evaluation, and then its own result
-pub then_yields : {A : Type 0} (p : Evaluation A) → (p ⟫ (λ a. Yields a)) ≡ p
+then_yields : {A : Type 0} (p : Evaluation A) → (p ⟫ (λ a. Yields a)) ≡ p
 then_yields (Yields a) = refl
 then_yields (Stops stop) = refl
 then_yields (Wants q k) = simp (λ (x : Reply q). then_yields (k x))

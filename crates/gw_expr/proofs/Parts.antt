@@ -1,13 +1,13 @@
 -- What the parts of an expression come to, one behind the other.
-use Rattle.std.proofs.Common.{◌≡◌, ℕ, ◌+◌, ◌<◌, ◌≤◌, ℤ, List, [], ◌∷◌, take, drop, get_or, length, Result, Ok, Err, sym, ap, ◌∙◌}
+use Rattle.std.proofs.Common.{◌≡◌, ℕ, ◌+◌, ◌<◌, ◌≤◌, ℤ, List, ◌∷◌, take, drop, get_or, length, Result, Ok, Err}
 use Rattle.std.proofs.lemmas.List.{take_more, drop_more, take_all, take-append-drop}
 use Rattle.gw_expr.specs.declared.atom.Atom.{Atom}
 use Rattle.gw_expr.specs.declared.eval_fault.Fault.{Fault}
 use Rattle.gw_expr.specs.declared.token.Token.{Token}
 use Rattle.gw_expr.specs.declared.token.Token.TheVariants as tokens
-use Rattle.gw_expr.specs.Evaluation.{Question, Reply, Yields, Definitions, value_of_atom, after_token, after_tokens, last_value, ◌⟫◌}
+use Rattle.gw_expr.specs.Evaluation.{Question, Reply, Definitions, value_of_atom, after_token, after_tokens, last_value, ◌⟫◌}
 use Rattle.gw_expr.specs.Worlds.{Evaluates, Comes, yields}
-use Rattle.gw_expr.proofs.Expressions.{parts_then, then_assoc, then_yields}
+use Rattle.gw_expr.proofs.Expressions.{parts_then, then_assoc}
 use Rattle.gw_expr.proofs.Worlds.{then_goes, then_fails, goes_comes}
 
 module _ {N : Type 0} {says : (q : Question) → Reply q → Type 0} {replies : (q : Question) → N → Result (Reply q) Fault → N → Type 0}
@@ -15,7 +15,7 @@ module _ {N : Type 0} {says : (q : Question) → Reply q → Type 0} {replies : 
   -- a part is a value, which goes in front of those that wait
   pub value_goes : {t : Token} {atom : Atom} {more : List ℤ} {v : ℤ} {xs ys : N} → t ≡ tokens.Value atom → more ≡ v ∷ values →
       Evaluates says replies (value_of_atom defined atom) (Ok v) xs ys → Evaluates says replies (after_token defined t values) (Ok more) xs ys
-  value_goes is more h = rw (is, more) (then_goes _ h (yields _ _))
+  value_goes is waits h = rw (is, waits) (then_goes _ h (yields _ _))
 
   -- it has no value
   pub value_fails : {t : Token} {atom : Atom} {fault : Fault} {xs ys : N} → t ≡ tokens.Value atom →
@@ -36,7 +36,8 @@ module _ {N : Type 0} {says : (q : Question) → Reply q → Type 0} {replies : 
 
   -- the next part fails
   pub part_fails : {t : Token} {fault : Fault} {zs : N} → i < length ts → t ≡ get_or ts i t →
-      Evaluates says replies (after_token defined t values) (Err fault) ys zs → Evaluates says replies (after_tokens defined ts few ⟫ last_value) (Err fault) xs zs
+      Evaluates says replies (after_token defined t values) (Err fault) ys zs →
+      Evaluates says replies (after_tokens defined ts few ⟫ last_value) (Err fault) xs zs
   part_fails {t} there is h = rest_goes (rw (drop_more ts i t there, ← is) (then_fails _ (then_fails _ h)))
 
   -- it leaves other values
@@ -46,5 +47,6 @@ module _ {N : Type 0} {says : (q : Question) → Reply q → Type 0} {replies : 
       record { so_far = rw (take_more ts i t there, ← is, parts_then) (then_goes _ left.so_far (then_goes _ h (yields _ _))) }
 
   -- there is no next part
-  pub parts_end : {r : Result ℤ Fault} → length ts ≤ i → Comes (last_value values) r → Evaluates says replies (after_tokens defined ts few ⟫ last_value) r xs ys
+  pub parts_end : {r : Result ℤ Fault} → length ts ≤ i → Comes (last_value values) r →
+      Evaluates says replies (after_tokens defined ts few ⟫ last_value) r xs ys
   parts_end all is = then_goes _ (rw take_all at left.so_far) (goes_comes _ is)

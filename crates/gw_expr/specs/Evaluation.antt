@@ -1,6 +1,5 @@
--- What an operand comes to: an evaluation does not get definitions and a state, it asks for what it wants of them, and
--- goes on with the reply. (Manual: operands, VARIABLEs and FUNCTIONs. Our own: whole numbers, the order of questions,
--- and how deep definitions may nest.)
+-- What an operand comes to. An evaluation asks for what it wants, and goes on with the reply. (Manual: operands,
+-- VARIABLEs and FUNCTIONs. Our own: whole numbers, the order of questions, and how deep definitions may nest.)
 use Rattle.std.specs.Prelude.{ℕ, zero, suc, ℤ, Bool, true, false, List, [], ◌∷◌, Option, Some, None, Result, Ok, Err, if◌then◌else◌}
 use Rattle.gw_nums.specs.declared.val.ArithmeticFault.{ArithmeticFault}
 use Rattle.gw_nums.specs.declared.val.ArithmeticFault.TheVariants as arithmetic_faults
@@ -53,7 +52,7 @@ abbrev pub ◌⟫◌ : {A B : Type 0} → Evaluation A → (A → Evaluation B) 
 (Stops stop) ⟫ f = Stops stop
 (Wants q k) ⟫ f = Wants q (λ x. k x ⟫ f)
 
--- the number that a name stands for, which each version gives to a name that stands for a value
+-- the number that a name stands for, where it stands for one
 abbrev pub number_given : Option ℤ → Evaluation ℤ
 number_given None = Stops Range
 number_given (Some n) = Yields n
@@ -146,7 +145,7 @@ value_by defined (Value atom) = value_of_atom defined atom
 value_by defined (Computed ts) = after_tokens defined ts [] ⟫ last_value
 value_by defined term = Stops Range
 
--- the value of the expression of a VARIABLE, which each version has
+-- the value of the expression of a VARIABLE, where there is one
 abbrev pub expression_given : (Term → Evaluation ℤ) → Option Term → Evaluation ℤ
 expression_given value None = Stops Range
 expression_given value (Some expression) = value expression
@@ -168,7 +167,7 @@ argument_with defined argument (Some of) = Wants (PartOf of) (λ x. Yields x)
 unfoldable pub argument_by : Definitions → Term → Evaluation ℤ
 argument_by defined argument = argument_with defined argument (random_of argument)
 
--- what the FUNCTION comes to at its argument, which each version has; one that was read has points
+-- what a FUNCTION comes to at its argument, where there is one and it has a point
 abbrev pub point_found : Option ℤ → Evaluation ℤ
 point_found None = Stops Range
 point_found (Some y) = Yields y

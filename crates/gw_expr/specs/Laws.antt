@@ -34,8 +34,7 @@ abbrev pub comes_to : Result ℤ Stop → Evaluation ℤ
 comes_to (Ok z) = Yields z
 comes_to (Err stop) = Stops stop
 
--- an expression of constants comes to one result, and asks for nothing: so no version, no state and nobody who asks has
--- another value of it
+-- an expression of constants comes to one result, and asks for nothing, whatever the definitions come to
 abbrev pub ConstantsHangOnNothing : Type 0
 ConstantsHangOnNothing = (e : Expression) → IsConstant e →
     (r : Result ℤ Stop) × ((defined : Definitions) → value_of_expression defined e ≡ comes_to r)

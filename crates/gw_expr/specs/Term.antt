@@ -1,5 +1,5 @@
--- What an operand says, without where it lies in memory. (Manual; so far the values, the names of entities, the labels,
--- the fractions and the names of definitions of the profile.)
+-- What an operand says, without where it lies in memory. (Manual; so far the values, the expressions, the names of
+-- entities, the labels, the fractions and the names of definitions of the profile.)
 use Rattle.std.specs.Prelude.{ℕ, ◌≡◌, Bool, false, List, Some}
 use Rattle.std.specs.List.{list_any, slice_get}
 use Rattle.gw_expr.specs.declared.atom.Atom.{Atom}
@@ -8,8 +8,8 @@ use Rattle.gw_expr.specs.declared.token.Token.TheVariants as tokens
 use Rattle.gw_expr.specs.declared.expr.Node.{Node}
 use Rattle.gw_expr.specs.declared.expr.Node.TheVariants as node
 
--- an operand: a value without parentheses, an expression in parentheses, the name of an entity, a block's label, a
--- fraction in millionths, or the name of a storage's definition; names and labels are in upper case
+-- an operand: a single value, an expression, the name of an entity, a block's label, a fraction in millionths, or the
+-- name of a storage's definition; names and labels are in upper case
 pub data Term : Type 0 where
   Value : Atom → Term
   Computed : List Token → Term
@@ -27,7 +27,7 @@ term_of (node.Label name) = Label name
 term_of (node.Fraction millionths) = Fraction millionths
 term_of (node.Defined name) = Defined name
 
--- whether a test holds of a value in an operand, in parentheses or without
+-- whether a test holds of some value in an operand: the single one, or one in the expression
 abbrev pub holds_of_token : (Atom → Bool) → Token → Bool
 holds_of_token test (tokens.Value atom) = test atom
 holds_of_token test token = false
@@ -37,7 +37,7 @@ holds_of_atom test (Value atom) = test atom
 holds_of_atom test (Computed ts) = list_any (holds_of_token test) ts
 holds_of_atom test term = false
 
--- the operand has the value, in parentheses or without
+-- the operand has the value: it is this value, or an expression with it
 abbrev pub HasAtom : Term → Atom → Type 0
 HasAtom (Value other) atom = other ≡ atom
 HasAtom (Computed ts) atom = (i : ℕ) × (slice_get ts i ≡ Some (tokens.Value atom))

@@ -2,7 +2,7 @@ use crate::attribute::Subject;
 use gw_names::{Class, Name};
 use gw_nums::Val;
 
-/// A value without parentheses.
+/// A single value: an operand by itself, or a part of an expression.
 #[derive(Clone, Debug, Drop, PartialEq, Eq)]
 pub enum Atom {
     /// A whole number.

@@ -394,7 +394,7 @@ fn random_of(operand: &Expr) -> Option<&Subject>
     }
 }
 
-// What a FUNCTION comes to, where it has points.
+// What a FUNCTION comes to, where it has a point.
 fn point_found(y: Option<Millionths>) -> Result<Millionths, EvalFault>
     ensures { Comes (point_found y) result }
 {
@@ -404,7 +404,7 @@ fn point_found(y: Option<Millionths>) -> Result<Millionths, EvalFault>
     }
 }
 
-// The number that a name stands for, which it has in each version.
+// The number that a name stands for, where it stands for one.
 fn number_given(number: Option<Val>) -> Result<Val, EvalFault>
     ensures { Comes (number_given number) result }
 {

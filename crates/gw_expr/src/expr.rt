@@ -7,7 +7,7 @@ use gw_names::{EntityName, Name, StorageName};
 use std::alloc::AllocError;
 use std::marker::Model;
 
-/// An operand: one that stands for a value, a name, a block's label, a fraction or the name of a definition.
+/// An operand: a value, an expression, the name of an entity or of a definition, a block's label or a fraction.
 #[derive(Debug, Drop)]
 pub struct Expr {
     node: Node,
@@ -16,9 +16,9 @@ pub struct Expr {
 /// What an operand is.
 #[derive(Debug, Drop)]
 pub enum Node {
-    /// A value without parentheses.
+    /// A single value.
     Value(Atom),
-    /// An expression in parentheses, in postfix order.
+    /// An expression, in postfix order.
     Computed(Vec<Token>),
     /// The name of an entity.
     Named(EntityName),
@@ -39,7 +39,7 @@ impl Model for Expr {
 }
 
 impl Expr {
-    /// The operand that is a value without parentheses.
+    /// The operand that is a single value.
     pub fn value(atom: Atom) -> Expr
         ensures { result ≡ Value atom }
     {
@@ -48,7 +48,7 @@ impl Expr {
         }
     }
 
-    /// The operand that is an expression in parentheses, in postfix order.
+    /// The operand that is an expression, in postfix order.
     pub fn computed(tokens: Vec<Token>) -> Expr
         ensures { result ≡ Computed tokens.items }
     {

@@ -1,6 +1,6 @@
 ghost use Rattle.std.specs.Prelude.{◌≡◌, IfOk, IfSome, true, false, None};
 ghost use Rattle.gw_nums.specs.Range.{is_below};
-ghost use Rattle.gw_expr.specs.Functions.{sides, between, line_at, step_at, by_type, curve};
+ghost use Rattle.gw_expr.specs.Functions.{sides, between, line_at, step_at, curve};
 
 use crate::expr::Expr;
 use crate::row::Row;
@@ -54,6 +54,7 @@ impl Function {
             points: Row::from_vec(Vec::from_slice(alloc, self.points.as_slice())?),
         })
     }
+
     /// What it comes to at an argument, if it has a point: both in millionths.
     pub fn at(&self, x: Millionths) -> Option<Millionths>
         ensures { result ≡ curve self.now x }

@@ -22,7 +22,7 @@ pub enum Operator {
     Minus,
 }
 
-/// A part of an expression behind its operands: an expression is kept in postfix order.
+/// A part of an expression in postfix order: an operator stands behind its operands.
 #[derive(Clone, Debug, Drop, PartialEq, Eq)]
 pub enum Token {
     /// A value.
@@ -47,7 +47,7 @@ impl Operator {
         }
     }
 
-    // The same, where no value stops a run.
+    // The same in an evaluation, which stops where there is no value.
     #[inline(always)]
     pub(crate) fn value(self, a: Val, b: Val) -> Result<Val, EvalFault>
         ensures { Comes (arithmetic (applied self a b)) result }

@@ -28,7 +28,7 @@ pub trait Defs {
         ensures { option_copied result ≡ function_of self.now name.now };
 }
 
-/// What an operand is evaluated in: a state, and who asks. Each question is noted.
+/// What answers the questions of an evaluation, but for the definitions. Each question is noted.
 pub trait World {
     /// What was asked for so far, and what was drawn.
     type Notes;

@@ -1,7 +1,7 @@
-use Rattle.std.proofs.Common.{◌-◌, arith, ◌≡◌, ℕ, suc, Err, Some, None, ap, ◌∙◌, rules}
+use Rattle.std.proofs.Common.{◌-◌, arith, ◌≡◌, ℕ, suc, None, rules}
 use Rattle.std.proofs.lemmas.List.{take_rest}
 use Rattle.gw_expr.specs.declared.stop.Stop.TheVariants.{Range}
-use Rattle.gw_expr.specs.Evaluation.{number_given, value_of_atom, value_by, argument_by, of_variable, of_function, definitions_within}
+use Rattle.gw_expr.specs.Evaluation.{value_of_atom, value_by, argument_by, definitions_within}
 use Rattle.gw_expr.specs.Worlds.{yields, stops, refused, replied, failed}
 use Rattle.gw_expr.proofs.Worlds.{exit_fault, then_goes, then_fails, goes_comes, goes_asked, evaluates_as}
 use Rattle.gw_expr.proofs.Parts.{value_goes, value_fails, part_fails, part_goes, parts_end, rest_goes}
