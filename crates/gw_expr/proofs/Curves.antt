@@ -1,5 +1,5 @@
 -- A FUNCTION comes to the value of each of its points there.
-use Rattle.std.proofs.Common.{◌≡◌, ℕ, zero, suc, ◌+◌, ◌*◌, ◌/◌, ◌<◌, ◌≤◌, ℤ, pos, negsuc, neg_ℤ, ◌+ℤ◌, ◌-ℤ◌, ◌*ℤ◌, true, false, List, [], ◌∷◌, Option, Some, None, IfSome, slice_get, refl, ap, ◌∙◌, arith}
+use Rattle.std.proofs.Common.{◌≡◌, ℕ, zero, suc, ◌+◌, ◌*◌, ◌/◌, ◌<◌, ◌≤◌, ℤ, pos, negsuc, neg_ℤ, ◌-ℤ◌, ◌*ℤ◌, true, false, List, [], ◌∷◌, Option, Some, None, IfSome, slice_get, refl, ap, arith}
 use Rattle.std.proofs.Math.Nat.{div-lt_iff_lt-mul, le-div_iff_mul-le, mul-div_cancel}
 use Rattle.std.proofs.lemmas.Int.{ints}
 use Rattle.gw_nums.specs.Range.{is_below}
@@ -7,8 +7,7 @@ use Rattle.gw_nums.specs.Millionths.{quotient_down, distance}
 use Rattle.gw_expr.specs.declared.function.FunctionType.{FunctionType}
 use Rattle.gw_expr.specs.declared.function.FunctionType.TheVariants.{Continuous, Discrete}
 use Rattle.gw_expr.specs.declared.function.Point.{Point}
-use Rattle.gw_expr.specs.declared.function.Neighbours.{Neighbours}
-use Rattle.gw_expr.specs.Functions.{sides, line_at, step_at, by_type, between}
+use Rattle.gw_expr.specs.Functions.{sides, by_type, between}
 use Rattle.gw_expr.specs.Laws.{PointsHaveTheirValues}
 use Rattle.gw_expr.proofs.Distances.{distance_some}
 
@@ -16,10 +15,11 @@ not_itself : (z : ℤ) → is_below z z ≡ false
 not_itself (pos n) = grind arith
 not_itself (negsuc n) = grind arith
 
--- the points on the two sides of a point's own argument: itself, and one before it
+-- the point before an argument, if there is one, is below it
 abbrev IsBelow : ℤ → Option Point → Type 0
 IsBelow x before = IfSome before (λ q. is_below q.x x ≡ true)
 
+-- the points on the two sides of a point's own argument: itself, and one before it
 own_side : (ps : List Point) (before : Option Point) (i : ℕ) (p : Point) → slice_get ps i ≡ Some p →
     ((j : ℕ) (q : Point) → j < i → slice_get ps j ≡ Some q → is_below q.x p.x ≡ true) → IsBelow p.x before →
     (b : Option Point) × (sides before ps p.x ≡ record { before = b; next = Some p }) × IsBelow p.x b
@@ -45,25 +45,17 @@ all_of (pos a) d some = ap (λ n. pos n) (mul-div_cancel a some)
 all_of (negsuc a) d some = all_down a d (suc a * d) some refl
 
 between_whole : (p q : Point) → is_below p.x q.x ≡ true → between p q q.x ≡ q.y
-between_whole p q below =
-    let way : quotient_down ((q.y -ℤ p.y) *ℤ pos (distance q.x p.x)) (distance q.x p.x) ≡ q.y -ℤ p.y =
-    all_of (q.y -ℤ p.y) (distance q.x p.x) (distance_some p.x q.x q.x below (not_itself q.x)) in
-    ap (λ z. p.y +ℤ z) way ∙ omega (arith, ints)
+between_whole p q below = rw (all_of (q.y -ℤ p.y) (distance q.x p.x) (distance_some p.x q.x q.x below (not_itself q.x))) (omega (arith, ints))
 
-line_there : (b : Option Point) (p : Point) → IsBelow p.x b → line_at b (Some p) p.x ≡ Some p.y
-line_there None p below = refl
-line_there (Some q) p below = ap (λ y. Some y) (between_whole q p below)
-
-step_there : (b : Option Point) (p : Point) → step_at b (Some p) ≡ Some p.y
-step_there None p = refl
-step_there (Some q) p = refl
-
+-- what a FUNCTION of either type comes to at a point
 type_there : (kind : FunctionType) (b : Option Point) (p : Point) → IsBelow p.x b →
     by_type kind (record { before = b; next = Some p }) p.x ≡ Some p.y
-type_there Continuous b p below = line_there b p below
-type_there Discrete b p below = step_there b p
+type_there Continuous None p below = refl
+type_there Continuous (Some q) p below = rw (between_whole q p below)
+type_there Discrete None p below = refl
+type_there Discrete (Some q) p below = refl
 
 pub points_valued : PointsHaveTheirValues
 points_valued f i p rising at =
     let found = own_side f.points None i p at (λ j q less there. rising j i q p less there at) tt in
-    ap (λ (at : Neighbours). by_type f.kind at p.x) found.1 ∙ type_there f.kind found.0 p found.2
+    rw found.1 (type_there f.kind found.0 p found.2)

@@ -22,7 +22,7 @@ module _ {N : Type 0} {says : (q : Question) → Reply q → Type 0} {replies : 
       Evaluates says replies (value_of_atom defined atom) (Err fault) xs ys → Evaluates says replies (after_token defined t values) (Err fault) xs ys
   value_fails is h = rw is (then_fails _ h)
 
--- the first i parts left these values
+-- of the few values that waited, the first i parts made these
 pub record HaveLeft {N : Type 0} (says : (q : Question) → Reply q → Type 0) (replies : (q : Question) → N → Result (Reply q) Fault → N → Type 0)
     (defined : Definitions) (ts : List Token) (few : List ℤ) (xs : N) (i : ℕ) (values : List ℤ) (ys : N) : Type 0 where
   pub so_far : Evaluates says replies (after_tokens defined (take i ts) few) (Ok values) xs ys

@@ -28,7 +28,7 @@ pub trait Defs {
         ensures { option_copied result ≡ function_of self.now name.now };
 }
 
-/// What answers the questions of an evaluation, but for the definitions. Each question is noted.
+/// What replies to every question but those for a definition. All questions are noted.
 pub trait World {
     /// What was asked for so far, and what was drawn.
     type Notes;

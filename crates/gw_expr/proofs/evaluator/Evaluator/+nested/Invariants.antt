@@ -46,7 +46,7 @@ decreases-whole_argument g l = l.depth * 20 + 9
 abbrev pub decreases-whole_of_function : goal.decreases-whole_of_function
 decreases-whole_of_function g l = l.depth * 20 + 3
 
--- the parts before this one left these values
+-- what the parts before this one made of the values that waited
 abbrev pub invariant-computed-loop-index : goal.invariant-computed-loop-index
 invariant-computed-loop-index g l =
     HaveLeft (Says (g.D.Defs.variable_of l.self.defs.now) (g.D.Defs.function_of l.self.defs.now)) (g.W.World.replies l.self.world.now)
