@@ -1,4 +1,4 @@
-ghost use Rattle.std.specs.Prelude.{◌≡◌, ◌≢◌, ◌<◌, ◌≤◌, ℕ, None, IfSome, IfNone, All, length, take, fold, min};
+ghost use Rattle.std.specs.Prelude.{◌≡◌, ◌≢◌, ◌<◌, ◌≤◌, None, IfSome, IfNone, All, length, take, fold, min};
 ghost use Rattle.std.specs.List.{concat};
 ghost use Rattle.gw_lanes.specs.FirstAt.{first_at, IsFirstAt};
 ghost use Rattle.gw_lanes.specs.Least.{least};

@@ -1,4 +1,4 @@
-ghost use Rattle.std.specs.Prelude.{◌≡◌, ◌≤◌, IfSome, IsSome, length};
+ghost use Rattle.std.specs.Prelude.{◌≡◌, ◌≤◌, IfSome};
 ghost use Rattle.gw_lines.specs.Numbers.{number_of, number_after, value_of, from_one, fraction_of, decimal_of, coordinate_of};
 
 use crate::class::{Class, piece};

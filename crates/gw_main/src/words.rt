@@ -1,5 +1,5 @@
 // What the program's words ask for.
-ghost use Rattle.std.specs.Prelude.{◌≡◌, Some, None, option_map, map, codes, IfOk, IfErr, OnErr};
+ghost use Rattle.std.specs.Prelude.{◌≡◌, Some, None, option_map, map, IfOk, OnErr};
 ghost use Rattle.clap.specs.Words.{first_value, found_of, kind_of};
 ghost use Rattle.gw_main.specs.Words.{HasBadNumber, IsModelAt, IsNumberRefusal, IsReadAs, IsRefusalAt, SaysOptions, said};
 

@@ -1,7 +1,7 @@
 -- Values, attributes and draws. An evaluation goes from the streams before it to its result and the streams behind it,
 -- so draws come in the order of evaluation. (Manual: operands, numerical attributes, and a time of A plus or minus B.
 -- Our own: whole numbers, what a draw stands for, and that the seed is asked for at a stream's first draw alone.)
-use Rattle.std.specs.Prelude.{ℕ, zero, suc, ◌+◌, ◌-◌, ◌*◌, ◌/◌, Bool, true, false, not, ◌&&◌, nat_le, List, [], ◌∷◌, Option, Some, None, Result, Ok, Err, ℤ, pos, ◌+ℤ◌, ◌-ℤ◌, if◌then◌else◌}
+use Rattle.std.specs.Prelude.{ℕ, zero, suc, ◌+◌, ◌-◌, ◌*◌, ◌/◌, Bool, true, false, not, ◌&&◌, nat_le, List, Option, Some, None, Result, Ok, Err, ℤ, pos, ◌+ℤ◌, ◌-ℤ◌, if◌then◌else◌}
 use Rattle.gw_nums.specs.declared.val.ArithmeticFault.{ArithmeticFault}
 use Rattle.gw_nums.specs.declared.val.ArithmeticFault.TheVariants as arithmetic_faults
 use Rattle.gw_nums.specs.Millionths.{times}

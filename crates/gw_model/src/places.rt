@@ -1,4 +1,4 @@
-ghost use Rattle.std.specs.Prelude.{◌≡◌, ◌==◌, ◌≤◌, ◌<◌, ℕ, IsSome, IfOk, OnOk, get_or, None, Some, if◌then◌else◌, length, filter, option_copied, option_and_then, slice_get};
+ghost use Rattle.std.specs.Prelude.{◌≡◌, ◌==◌, ◌≤◌, ◌<◌, ℕ, IsSome, IfOk, OnOk, get_or, None, Some, if◌then◌else◌, length, option_copied, option_and_then, slice_get};
 ghost use Rattle.gw_meaning.specs.Listing.{is_block, block_of, line_in};
 ghost use Rattle.gw_model.specs.Tables.{nowhere, place_in, block_found, position_if};
 

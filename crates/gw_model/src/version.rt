@@ -1,4 +1,4 @@
-ghost use Rattle.std.specs.Prelude.{◌≡◌, ◌≤◌, ◌⊎◌, IfOk, OnOk, IfErr, IfSome, IsTrue, Some, None, option_copied, length, nat_le, if◌then◌else◌};
+ghost use Rattle.std.specs.Prelude.{◌≡◌, ◌≤◌, IfOk, OnOk, IfErr, IfSome, IsTrue, Some, None, option_copied, length, nat_le, if◌then◌else◌};
 ghost use Rattle.gw_meaning.specs.Listing.{block_at, after_at, position_at, label_at, command_at, definition_at, capacity_at, number_at, generates_in, statement_at, starts, replication_at, seed_at};
 
 use crate::fault::ModelFault;
@@ -41,7 +41,7 @@ impl Model for Version {
 }
 
 impl Version {
-    ghost use Rattle.std.specs.Prelude.{◌≡◌, ◌⊎◌, ◌≤◌, ◌+◌, length, IsTrue, IfOk, OnOk, IfErr, IsOk, Ok, Err, Some, None};
+    ghost use Rattle.std.specs.Prelude.{◌≡◌, ◌≤◌, ◌+◌, length, IsTrue, IfOk, OnOk, IfErr, Ok, Some, None};
     ghost use Rattle.gw_meaning.specs.Numbers.{AreNumbered};
     ghost use Rattle.gw_model.specs.Faults.{fault_of, IsFault};
     ghost use Rattle.gw_model.specs.Well.{Well};

@@ -1,5 +1,5 @@
 ghost use Rattle.std.specs.Prelude.{◌≡◌};
-ghost use Rattle.gw_names.specs.Words.{word_of, word_of_block, word_of_definition, word_of_command, verb_of, verbs};
+ghost use Rattle.gw_names.specs.Words.{word_of, word_of_block, word_of_definition, word_of_command, verb_of};
 
 /// A verb of the language.
 #[derive(Clone, Copy, Debug, PartialEq, Eq, Hash)]

@@ -1,11 +1,8 @@
 // One step after another, each kept before it is left.
-ghost use Rattle.std.specs.Prelude.{◌≡◌, ◌≢◌, ◌+◌, ◌-◌, ◌≤◌, ◌<◌, ◌++◌, ℕ, Ok, IfOk, OnOk, OnErr, length, IsTrue, IsFalse};
+ghost use Rattle.std.specs.Prelude.{◌≡◌, ◌≢◌, ◌+◌, ◌-◌, ◌≤◌, ◌<◌, ℕ, Ok, IfOk, OnOk, OnErr, length, IsTrue, IsFalse};
 ghost use Rattle.gw_meaning.specs.Listing.{Listing};
-ghost use Rattle.gw_meaning.specs.Changes.{decided};
-ghost use Rattle.gw_meaning.specs.Machine.{raised};
-ghost use Rattle.gw_meaning.specs.Step.{step, step_items};
+ghost use Rattle.gw_meaning.specs.Step.{step};
 ghost use Rattle.gw_scan.specs.Stepping.{Counts};
-ghost use Rattle.gw_uses.specs.Steps.{AreBelow};
 ghost use Rattle.gw_record.specs.Tape.{Records, IsKeptUp, IsWanted, IsThere};
 ghost use Rattle.gw_record.specs.Extending.{Goes, Extends, tallied};
 

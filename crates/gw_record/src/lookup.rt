@@ -1,5 +1,5 @@
 // What a recorded run answers, without a walk over its steps.
-ghost use Rattle.std.specs.Prelude.{◌≡◌, ◌≤◌, ℕ, option_copied};
+ghost use Rattle.std.specs.Prelude.{◌≡◌, ℕ, option_copied};
 ghost use Rattle.gw_meaning.specs.Listing.{Listing};
 ghost use Rattle.gw_meaning.specs.Reads.{first_reading, first_use, is_command_use};
 ghost use Rattle.gw_meaning.specs.declared.item.Item.TheVariants as items;

@@ -1,6 +1,5 @@
-ghost use Rattle.std.specs.Prelude.{◌≡◌, ◌≤◌, ℕ, Ok};
+ghost use Rattle.std.specs.Prelude.{◌≡◌, ◌≤◌, ℕ};
 ghost use Rattle.gw_meaning.specs.Listing.{Listing};
-ghost use Rattle.gw_meaning.specs.Step.{run};
 ghost use Rattle.gw_meaning.specs.Reads.{first_use};
 ghost use Rattle.gw_record.specs.Carrying.{Carries};
 ghost use Rattle.gw_record.specs.Tape.{blank, Records};
@@ -8,7 +7,7 @@ ghost use Rattle.gw_record.specs.Tape.{blank, Records};
 use crate::kept::Kept;
 use gw_meaning::Item;
 use gw_scan::{Notes, State};
-use std::alloc::{AllocError, Global};
+use std::alloc::Global;
 use std::marker::Model;
 
 /// A recorded run: the state at its tip, states kept on the way from its start, at the multiples of a spacing and at

@@ -96,8 +96,3 @@ starting count (Err halt) = Err halt
 abbrev pub clocked : Result ℕ Why → Result Move Why
 clocked (Ok time) = Ok (moves.Clock time)
 clocked (Err halt) = Err halt
-
--- the result of a function that changes a value in place, with the value that stands there behind it
-abbrev pub in_place : {A : Type 0} → Result (Unit {0}) Why → A → Result A Why
-in_place (Ok u) a = Ok a
-in_place (Err halt) a = Err halt

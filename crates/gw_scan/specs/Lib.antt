@@ -8,6 +8,7 @@ pub use Rattle.gw_meaning.specs.Point
 pub mod Halts
 pub mod EntityRef
 pub mod Parts
+pub mod Copies
 pub mod Noted
 pub mod Deciding
 pub mod Seeing

@@ -29,7 +29,8 @@ impl State {
         }
     }
 
-    // The value of an attribute other than that of a VARIABLE or of a FUNCTION.
+    // The value of an attribute other than that of a VARIABLE or of a FUNCTION. Each of C1, AC1 and TG1 has an arm of its
+    // own, in which `own_value` is compiled for it alone.
     #[inline(never)]
     #[tactic(auto, unfolding(gw_meaning::specs::Evaluation::attribute_prog))]
     pub(crate) fn attribute(
@@ -53,7 +54,7 @@ impl State {
             Class::Q | Class::Qc => self.of_entity(case, notes, class, of),
             Class::Qm | Class::Qz => self.of_entity(case, notes, class, of),
             Class::S | Class::Sc | Class::Sm => self.of_storage(class, of),
-            Class::R => self.units_left(case, notes, of),
+            Class::R => self.left(case, notes, of),
             Class::N | Class::W => self.of_block(case, notes, class, of),
             Class::Rn => random(case, notes, of),
             _ => Err(Halt::RANGE),
@@ -86,7 +87,7 @@ impl State {
         ensures { Comes (subject_prog (subjects.Number number) ~> (λ key. parameter_value self.now asker.now key))
             result }
     {
-        let key = entity_of(number)?;
+        let key = key_of_number(number)?;
         self.parameter(asker, &key)
     }
 
@@ -161,21 +162,21 @@ impl State {
 
     // The units of a storage that are left.
     #[inline(never)]
-    fn units_left(&self, case: Case, notes: &mut Notes, of: &Subject) -> Result<Val, Halt>
+    fn left(&self, case: Case, notes: &mut Notes, of: &Subject) -> Result<Val, Halt>
         ensures { Decides case.entry.version.now case.entry.seed (left_prog self.now of.now)
             result notes.old notes.new }
     {
         match of {
             Subject::Name(name) => {
                 let capacity = ask_capacity(case.version, notes, name)?;
-                self.left_of(capacity, &Key::Defined(name.clone()?))
+                self.units_left(capacity, &Key::Defined(name.clone()?))
             }
             _ => Err(Halt::RANGE),
         }
     }
 
     // Of so many units those that are not in use.
-    fn left_of(&self, capacity: u64, key: &Key) -> Result<Val, Halt>
+    fn units_left(&self, capacity: u64, key: &Key) -> Result<Val, Halt>
         ensures { Comes (units_left self.now key.now capacity) result }
     {
         let in_use = self.entities.storage(key).level().content();
@@ -265,7 +266,7 @@ fn subject(case: Case, notes: &mut Notes, of: &Subject) -> Result<Key, Halt>
 {
     match of {
         Subject::Own => Err(Halt::RANGE),
-        Subject::Number(number) => entity_of(*number),
+        Subject::Number(number) => key_of_number(*number),
         Subject::Name(name) => {
             let number = ask_name(case.version, notes, name)?;
             key_named(name, number)
@@ -293,9 +294,9 @@ fn key_numbered(number: Val) -> Result<Key, Halt>
     Ok(Key::Num(number.magnitude() as u32))
 }
 
-// The entity with a number, from 1.
+// The same of a number that an attribute names.
 #[inline(always)]
-fn entity_of(number: u32) -> Result<Key, Halt>
+fn key_of_number(number: u32) -> Result<Key, Halt>
     ensures { Comes (subject_prog (subjects.Number number)) result }
 {
     if number < 1 {

@@ -1,8 +1,29 @@
-// A copy of a state, made of copies of its parts.
+// A copy of a state, made of copies of its parts. The parts that own memory are copied in two groups: what is proved of a
+// function grows fast with the exits at which it lets go of copies.
 ghost use Rattle.std.specs.Prelude.{◌≡◌, IfOk};
+ghost use Rattle.gw_scan.specs.Copies.{ChainsOf, KeptOf};
 
+use crate::entities::Entities;
 use crate::state::State;
+use gw_chains::{Counts, DelayChains, FutureChain, PriorityChain};
+use gw_entities::Parameters;
 use std::alloc::AllocError;
+
+// The chains of a state.
+#[derive(Drop)]
+pub struct Chains {
+    pub current: PriorityChain,
+    pub future: FutureChain,
+    pub delays: DelayChains,
+}
+
+// What a state keeps of blocks, of entities and of transactions.
+#[derive(Drop)]
+pub struct Kept {
+    pub counts: Counts,
+    pub parameters: Parameters,
+    pub entities: Entities,
+}
 
 impl State {
     /// Makes copies of it cheap: they share what seldom changes, the closed segments of the future chain. The state is
@@ -17,24 +38,44 @@ impl State {
     pub fn copy(&self) -> Result<State, AllocError>
         ensures { IfOk result (λ s. s ≡ self.now) }
     {
-        let current = self.current.copy()?;
-        let future = self.future.copy()?;
-        let delays = self.delays.copy()?;
-        let counts = self.counts.copy()?;
-        let entities = self.entities.copy()?;
-        let parameters = self.parameters.copy()?;
+        let chains = self.copy_chains()?;
+        let kept = self.copy_kept()?;
         Ok(State {
             clocks: self.clocks,
             progress: self.progress,
             streams: self.streams,
             next: self.next,
             active: self.active.copy(),
+            current: chains.current,
+            future: chains.future,
+            delays: chains.delays,
+            counts: kept.counts,
+            entities: kept.entities,
+            parameters: kept.parameters,
+        })
+    }
+
+    fn copy_chains(&self) -> Result<Chains, AllocError>
+        ensures { IfOk result (ChainsOf self.now) }
+    {
+        let current = self.current.copy()?;
+        let future = self.future.copy()?;
+        Ok(Chains {
             current,
             future,
-            delays,
+            delays: self.delays.copy()?,
+        })
+    }
+
+    fn copy_kept(&self) -> Result<Kept, AllocError>
+        ensures { IfOk result (KeptOf self.now) }
+    {
+        let counts = self.counts.copy()?;
+        let parameters = self.parameters.copy()?;
+        Ok(Kept {
             counts,
-            entities,
             parameters,
+            entities: self.entities.copy()?,
         })
     }
 }

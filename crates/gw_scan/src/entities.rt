@@ -208,12 +208,11 @@ impl Entities {
         let facilities = self.facilities.copy()?;
         let queues = self.queues.copy()?;
         let storages = self.storages.copy()?;
-        let comings = self.comings.copy()?;
         Ok(Entities {
             facilities,
             queues,
             storages,
-            comings,
+            comings: self.comings.copy()?,
         })
     }
 }

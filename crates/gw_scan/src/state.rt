@@ -1,4 +1,4 @@
-ghost use Rattle.std.specs.Prelude.{◌≡◌, IfOk, option_copied};
+ghost use Rattle.std.specs.Prelude.{◌≡◌, option_copied};
 ghost use Rattle.gw_meaning.specs.Machine.{zero_state, count_at};
 ghost use Rattle.gw_chains.specs.Chains.{delays_of};
 ghost use Rattle.gw_scan.specs.Parts.{entities_of};

@@ -1,5 +1,5 @@
 // One step, and the end that stands in its place.
-ghost use Rattle.std.specs.Prelude.{◌≡◌, IfOk, OnOk, OnErr};
+ghost use Rattle.std.specs.Prelude.{◌≡◌, IfOk, OnErr};
 ghost use Rattle.gw_meaning.specs.Step.{step, step_items};
 ghost use Rattle.gw_scan.specs.Stepping.{Steps, Counts, EndsAs, Follows, Halts};
 ghost use Rattle.gw_scan.specs.Noted.{Forgets};

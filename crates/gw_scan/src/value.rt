@@ -1,5 +1,5 @@
 // What operands stand for: values, entities and units.
-ghost use Rattle.std.specs.Prelude.{◌≡◌, ◌++◌, Some, IsSome, option_copied};
+ghost use Rattle.std.specs.Prelude.{◌≡◌, Some, IsSome, option_copied};
 ghost use Rattle.gw_meaning.specs.declared.transaction.Transaction.{Transaction};
 ghost use Rattle.gw_meaning.specs.Evaluation.{value_prog, value_or_zero, value_there, numbered, entity_prog, units_prog, ◌~>◌};
 ghost use Rattle.gw_meaning.specs.Statements.{A, B, operand};

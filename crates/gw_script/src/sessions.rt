@@ -1,5 +1,5 @@
 // A session: the script's lines, answered one after another.
-ghost use Rattle.std.specs.Prelude.{◌≡◌, ◌≤◌, ◌⊎◌, ℕ, List, Some, true, false, codes, option_copied, IfOk, IfErr, OnOk, OnErr};
+ghost use Rattle.std.specs.Prelude.{◌≡◌, ◌≤◌, ◌⊎◌, ℕ, List, Some, false, codes, option_copied, IfOk, IfErr, OnOk, OnErr};
 ghost use Rattle.gw_io.specs.Failures.{one_more, WritesPart};
 ghost use Rattle.gw_desk.specs.Book.{Book};
 ghost use Rattle.gw_request.specs.Requests.{request_of};
