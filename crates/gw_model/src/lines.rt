@@ -1,7 +1,7 @@
 ghost use Rattle.std.specs.Prelude.{◌≡◌, ◌≤◌, ◌+◌, ◌++◌, if◌then◌else◌, length, IsTrue, IfOk, IfSome, OnOk, None};
 ghost use Rattle.gw_meaning.specs.Listing.{nth};
 ghost use Rattle.gw_model.specs.Listed.{numbered};
-ghost use Rattle.gw_model.specs.Spliced.{greatest_number, number_in, spliced};
+ghost use Rattle.gw_model.specs.Spliced.{come, greatest_number, number_in, spliced};
 
 use crate::lists::nth;
 use gw_meaning::{Numbered, Statement, StatementId};
@@ -37,12 +37,30 @@ pub fn spliced(
     let end = if goes { index + 1 } else { index };
     let mut made = Vec::new(alloc);
     copy_behind(alloc, &mut made, &lines[..index])?;
-    if let Some(statement) = comes {
-        let number = number_in(lines, position, goes).ok_or(AllocError)?;
-        made.push(Numbered { number, statement })?;
-    }
+    put_coming(&mut made, lines, position, goes, comes)?;
     copy_behind(alloc, &mut made, &lines[end..])?;
     Ok(made)
+}
+
+// Puts the statement that comes in, if any, behind those that are made, with its number.
+fn put_coming(
+    made: &mut Vec<Numbered>,
+    lines: &[Numbered],
+    position: u64,
+    goes: bool,
+    comes: Option<Statement>,
+) -> Result<(), AllocError>
+    ensures { OnOk result (made.new.items ≡ made.old.items
+        ++ come (number_in lines.now (if goes then nth lines.now position else None)) comes) }
+{
+    let Some(statement) = comes else {
+        return Ok(());
+    };
+    match number_in(lines, position, goes) {
+        Some(number) => made.push(Numbered { number, statement })?,
+        None => return Err(AllocError),
+    }
+    Ok(())
 }
 
 // The number of the statement that comes in at a position, if there is a number for it.
