@@ -26,7 +26,7 @@ earlier_assoc : (a b c : Option ℕ) → earlier a (earlier b c) ≡ earlier (ea
 earlier_assoc None b c = refl
 earlier_assoc (Some k) None c = refl
 earlier_assoc (Some k) (Some m) None = refl
-earlier_assoc (Some k) (Some m) (Some n) = let same : min k (min m n) ≡ min (min k m) n = grind (arith, nat_tests) in ap (λ i. Some i) same
+earlier_assoc (Some k) (Some m) (Some n) = let same : min k (min m n) ≡ min (min k m) n = omega arith in ap (λ i. Some i) same
 
 earlier_none : (a : Option ℕ) → earlier a None ≡ a
 earlier_none None = refl
