@@ -6,7 +6,7 @@ use Rattle.std.proofs.Math.Seq.{map-set_same}
 use Rattle.std.proofs.lemmas.List.{map-set, take-map}
 use Rattle.std.proofs.lemmas.List.Sorted.{IsPermutation-swap_remove}
 use Rattle.std.proofs.lemmas.Map.Entries.{length-keys_of, lookup_from_place}
-use Rattle.std.proofs.lemmas.Option.{get_or_from_slice_get}
+use Rattle.std.proofs.lemmas.Option.{get_or_from_slice_get, slice_get_within}
 use Rattle.std.specs.Cmp.{IsEquivalence}
 use Rattle.std.specs.List.{IsDistinct, AllByRecursion, slice_get, list_any}
 use Rattle.std.proofs.lemmas.Bool.Decides.{nat_tests}
@@ -179,6 +179,14 @@ module _ {V : Type 0} where
   -- the value of the key at an index
   pub value_there : (es : List (Key × V)) (i : ℕ) (e : Key × V) → AreApart es → slice_get es i ≡ Some e → value_of es e.0 ≡ Some e.1
   value_there es i e apart at = lookup_from_place key_eq_equiv es i e.0 e.1 apart at
+
+  -- what is read where a key lies is its value
+  pub read_at : (es : List (Key × V)) (i : ℕ) (key : Key) (e : Key × V) → IsPlace es key (Some i) → e ≡ get_or es i e → value_of es key ≡ Some e.1
+  read_at es i key e place read =
+      place.2 ∙ ap (λ (p : Key × V). Some p.1) (sym (read ∙ get_or_from_slice_get es i (key, place.0) e place.1))
+
+  pub place_within : (es : List (Key × V)) (i : ℕ) (key : Key) → IsPlace es key (Some i) → i < length es
+  place_within es i key place = slice_get_within es i (key, place.0) place.1
 
   -- a value that is written where a key lies is that of the key, and the keys stay
   pub written :

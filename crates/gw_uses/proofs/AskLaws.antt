@@ -26,7 +26,7 @@ earlier_assoc : (a b c : Option ℕ) → earlier a (earlier b c) ≡ earlier (ea
 earlier_assoc None b c = refl
 earlier_assoc (Some k) None c = refl
 earlier_assoc (Some k) (Some m) None = refl
-earlier_assoc (Some k) (Some m) (Some n) = let same : min k (min m n) ≡ min (min k m) n = grind (arith, nat_tests) in ap (λ i. Some i) same
+earlier_assoc (Some k) (Some m) (Some n) = let same : min k (min m n) ≡ min (min k m) n = omega arith in ap (λ i. Some i) same
 
 earlier_none : (a : Option ℕ) → earlier a None ≡ a
 earlier_none None = refl
@@ -101,34 +101,34 @@ least_is p (e ∷ es) = least_with p e es (p e.0) (least_in p es) refl (least_is
 -- who is one item with a capacity that is asked, is that
 storage_same : (item : Item) (name : List ℕ) → same_item item (items.Storage name) ≡ true → item ≡ items.Storage name
 storage_same (items.Storage other) name h = ap (λ b. items.Storage b) ((bytes_eq-Decides other name).0 h)
-storage_same (items.Fits other n) name h = absurd cc
-storage_same (items.Variable other) name h = absurd cc
-storage_same (items.Function other) name h = absurd cc
-storage_same (items.Block id) name h = absurd cc
-storage_same (items.After id) name h = absurd cc
-storage_same (items.Label other) name h = absurd cc
-storage_same (items.Name other) name h = absurd cc
-storage_same items.Generates name h = absurd cc
-storage_same (items.Cmd i) name h = absurd cc
-storage_same items.Seed name h = absurd cc
-storage_same (items.Within time) name h = absurd cc
+storage_same (items.Fits other n) name h = absurd (true≢false (sym h))
+storage_same (items.Variable other) name h = absurd (true≢false (sym h))
+storage_same (items.Function other) name h = absurd (true≢false (sym h))
+storage_same (items.Block id) name h = absurd (true≢false (sym h))
+storage_same (items.After id) name h = absurd (true≢false (sym h))
+storage_same (items.Label other) name h = absurd (true≢false (sym h))
+storage_same (items.Name other) name h = absurd (true≢false (sym h))
+storage_same items.Generates name h = absurd (true≢false (sym h))
+storage_same (items.Cmd i) name h = absurd (true≢false (sym h))
+storage_same items.Seed name h = absurd (true≢false (sym h))
+storage_same (items.Within time) name h = absurd (true≢false (sym h))
 
 -- who is one item with an amount asked of a storage, is that
 fits_same : (item : Item) (name : List ℕ) (amount : ℕ) → same_item item (items.Fits name amount) ≡ true → item ≡ items.Fits name amount
 fits_same (items.Fits other n) name amount h =
     let parts = and_parts (bytes_eq other name) (nat_eq n amount) h in
     ap₂ (λ b k. items.Fits b k) ((bytes_eq-Decides other name).0 parts.0) (grind (arith, nat_tests, parts.1))
-fits_same (items.Block id) name amount h = absurd cc
-fits_same (items.After id) name amount h = absurd cc
-fits_same (items.Label other) name amount h = absurd cc
-fits_same (items.Name other) name amount h = absurd cc
-fits_same (items.Storage other) name amount h = absurd cc
-fits_same (items.Variable other) name amount h = absurd cc
-fits_same (items.Function other) name amount h = absurd cc
-fits_same items.Generates name amount h = absurd cc
-fits_same (items.Cmd i) name amount h = absurd cc
-fits_same items.Seed name amount h = absurd cc
-fits_same (items.Within time) name amount h = absurd cc
+fits_same (items.Block id) name amount h = absurd (true≢false (sym h))
+fits_same (items.After id) name amount h = absurd (true≢false (sym h))
+fits_same (items.Label other) name amount h = absurd (true≢false (sym h))
+fits_same (items.Name other) name amount h = absurd (true≢false (sym h))
+fits_same (items.Storage other) name amount h = absurd (true≢false (sym h))
+fits_same (items.Variable other) name amount h = absurd (true≢false (sym h))
+fits_same (items.Function other) name amount h = absurd (true≢false (sym h))
+fits_same items.Generates name amount h = absurd (true≢false (sym h))
+fits_same (items.Cmd i) name amount h = absurd (true≢false (sym h))
+fits_same items.Seed name amount h = absurd (true≢false (sym h))
+fits_same (items.Within time) name amount h = absurd (true≢false (sym h))
 
 -- an item that is asked is used just where it is read
 asked_same : (name : List ℕ) (from to : Option ℕ) (q item : Item) → is_ask name from to q ≡ true → same_item item q ≡ true → item ≡ q
