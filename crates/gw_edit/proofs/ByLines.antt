@@ -1,7 +1,7 @@
 -- Items that are answered by lists: the statements say something to the item, each by itself, and its answer is made of what
 -- they say, in order. One that says nothing to it may come in or go out, and one may come for another that says the same.
 -- These are all items but those of a block, which go by its number, and those of a command, which go by how many are in front.
-use Rattle.std.proofs.Common.{◌≡◌, ℕ, zero, suc, Bool, true, false, cond, not, ◌&&◌, slice_get, List, [], ◌∷◌, ◌++◌, Option, Some, None, is_some, ◌||◌, refl, ap, ap₂, sym, subst, ◌∙◌, ⊎_elim, nat_le, option_map, unwrap_or, ℤ}
+use Rattle.std.proofs.Common.{◌≡◌, ℕ, zero, suc, Bool, true, false, cond, not, ◌&&◌, slice_get, List, [], ◌∷◌, ◌++◌, Option, Some, None, is_some, ◌||◌, ◌⊎◌, inl, inr, refl, ap, ap₂, sym, subst, ◌∙◌, ⊎_elim, nat_le, option_map, unwrap_or}
 use mathlib.Core.Bool.{true≢false}
 use Rattle.std.specs.List.{filter_map, cons_option}
 use Rattle.std.specs.Str.{bytes_eq}
@@ -9,7 +9,6 @@ use Rattle.std.proofs.lemmas.Slice.Eq.{bytes_eq-Decides}
 use Rattle.std.proofs.lemmas.Bool.{cases_Bool, or_parts}
 use Rattle.std.proofs.lemmas.List.Elements.{filter_map-append}
 use Rattle.std.proofs.lemmas.List.Folds.{list_any-append}
-use Rattle.gw_expr.specs.Term.{Term}
 use Rattle.gw_meaning.specs.declared.item.Item.{Item}
 use Rattle.gw_meaning.specs.declared.item.Item.TheVariants as items
 use Rattle.gw_meaning.specs.declared.statement.Body.{Body}
@@ -24,7 +23,6 @@ use Rattle.gw_edit.specs.declared.touch.Probe.{Probe}
 use Rattle.gw_edit.specs.declared.touch.Probe.TheVariants.{CommandsFrom}
 use Rattle.gw_edit.specs.Touching.{block_before, command_from, given, one_if, label_if, block_places, block_probes, line_probes, change_places, label_places, block_change, is_probed, is_touched, definition_place, definition_probes, rest_probes}
 use Rattle.gw_edit.proofs.SameBlocks.{statement_same, label_same}
-use Rattle.gw_expr.specs.declared.function.Function.{Function}
 use Rattle.gw_meaning.specs.declared.statement.Definition.{Definition}
 use Rattle.gw_meaning.specs.declared.statement.Definition.TheVariants as definitions
 
@@ -126,20 +124,21 @@ bytes_other a b h = ⊎_elim
     let itself : bytes_eq a a ≡ false = subst (λ x. bytes_eq a x ≡ false) is h in true≢false (sym ((bytes_eq-Decides a a).1 refl) ∙ itself)))
     (λ (other : bytes_eq b a ≡ false). other) (cases_Bool (bytes_eq b a))
 
+-- the first of what was said
+abbrev leading : {X : Type 0} → List X → Option X
+leading [] = None
+leading (x ∷ xs) = Some x
+
 -- the block with a label
 module _ (name : List ℕ) where
   abbrev pub label_of : Numbered → Option ℕ
   label_of line = cond (is_block line && has_label name line.statement.label) (Some line.number) None
 
-  abbrev first : List ℕ → Option ℕ
-  first [] = None
-  first (n ∷ ns) = Some n
-
-  pub label_listed : (lines : List Numbered) → labelled_in name lines ≡ first (filter_map label_of lines)
+  pub label_listed : (lines : List Numbered) → labelled_in name lines ≡ leading (filter_map label_of lines)
   label_listed [] = refl
   label_listed (line ∷ lines) =
       elim (is_block line && has_label name line.statement.label) as (λ b. cond b (Some line.number) (labelled_in name lines) ≡
-      first (cons_option (cond b (Some line.number) None) (filter_map label_of lines)))
+      leading (cons_option (cond b (Some line.number) None) (filter_map label_of lines)))
       [ true ↦ refl | false ↦ label_listed lines ]
 
   -- a label that was wanted and is left untouched is another one
@@ -174,10 +173,6 @@ or_none : {X Y : Type 0} (f : X → Y) (a b : Option X) → option_map f (or_nex
 or_none f None b = refl
 or_none f (Some x) b = refl
 
-abbrev leading : {X : Type 0} → List X → Option X
-leading [] = None
-leading (x ∷ xs) = Some x
-
 leading_of : {X : Type 0} (o : Option X) (xs : List X) → leading (cons_option o xs) ≡ or_next o (leading xs)
 leading_of None xs = refl
 leading_of (Some x) xs = refl
@@ -195,6 +190,38 @@ no_command_definition : (body : Body) → is_some (command_of_body body) ≡ tru
 no_command_definition (bodies.Block block) h = absurd cc
 no_command_definition (bodies.Definition definition) h = absurd cc
 no_command_definition (bodies.Command command) h = refl
+
+-- whether so many units fit
+abbrev pub fitting : ℕ → Option Definition → Option Bool
+fitting units definition = option_map (λ c. nat_le units c) (units_of definition)
+
+-- two definitions under a label say the same of a name by f, or the label is another one
+abbrev pub IsSameOf : {X : Type 0} → (Option Definition → Option X) → List ℕ → List ℕ → Option Definition → Option Definition → Type 0
+IsSameOf f name label d e = (f d ≡ f e) ⊎ (bytes_eq label name ≡ false)
+
+pub said_same : {X : Type 0} (f : Option Definition → Option X) (name label : List ℕ) (d e : Option Definition) → IsSameOf f name label d e →
+    f (definition_if (bytes_eq label name) d) ≡ f (definition_if (bytes_eq label name) e)
+said_same f name label d e (inl same) = elim (bytes_eq label name) as (λ b. f (definition_if b d) ≡ f (definition_if b e)) [ true ↦ same | false ↦ refl ]
+said_same f name label d e (inr other) = rw other refl
+
+-- they say the same to an item
+abbrev pub IsSameTo : Item → List ℕ → Option Definition → Option Definition → Type 0
+IsSameTo (items.Name name) = IsSameOf number_of name
+IsSameTo (items.Fits name units) = IsSameOf (fitting units) name
+IsSameTo (items.Storage name) = IsSameOf units_of name
+IsSameTo (items.Variable name) = IsSameOf expression_of name
+IsSameTo (items.Function name) = IsSameOf function_of name
+IsSameTo item = IsSameOf {X = ℕ} (λ d. None) []
+
+-- a definition that is left untouched says no more than none
+pub untouched_same : (i : Item) (label : List ℕ) (d : Definition) → probed_at (definition_place (Some label) (Some d)) i ≡ false →
+    IsSameTo i label (Some d) None
+untouched_same (items.Name name) label (definitions.Equ value) h = inr (bytes_other name label h)
+untouched_same (items.Fits name units) label (definitions.Storage capacity) h = inr (and_true_parts (bytes_eq label name) h)
+untouched_same (items.Storage name) label (definitions.Storage capacity) h = inr (and_true_parts (bytes_eq label name) h)
+untouched_same (items.Variable name) label (definitions.Variable expression) h = inr (bytes_other name label h)
+untouched_same (items.Function name) label (definitions.Function function) h = inr (bytes_other name label h)
+untouched_same item label d h = inl refl
 
 module _ (name : List ℕ) where
   -- the definition that a label with a definition gives the name
@@ -219,6 +246,12 @@ module _ (name : List ℕ) where
     IsSilent i = (label : Option (List ℕ)) (definition : Option Definition) → probed_at (definition_place label definition) i ≡ false →
         f (said_by label definition) ≡ None
 
+    pub silent_where : (i : Item) →
+        ((label : List ℕ) (d : Definition) → probed_at (definition_place (Some label) (Some d)) i ≡ false → IsSameOf f name label (Some d) None) → IsSilent i
+    silent_where i same None definition h = none
+    silent_where i same (Some label) None h = ap f (nothing_defined (Some label)) ∙ none
+    silent_where i same (Some label) (Some d) h = said_same f name label (Some d) None (same label d h) ∙ (ap f (nothing_defined (Some label)) ∙ none)
+
     pub silent_line : (i : Item) → IsSilent i → (t : Listing) (place : ℕ) (line : Numbered) → is_touched (line_probes t place line) i ≡ false →
         f (defines name line) ≡ None
     silent_line i silent t place line h = by_block (is_block line) refl h where
@@ -236,85 +269,18 @@ module _ (name : List ℕ) where
     pub silent_blocks : (line other : Numbered) → is_block line ≡ true → is_block other ≡ true → f (defines name other) ≡ f (defines name line)
     silent_blocks line other was is = ap f (block_defines other is ∙ sym (block_defines line was))
 
-  -- the number that it stands for
-  other_name : (label : List ℕ) → is_use (items.Name label) (items.Name name) ≡ false → has_label name (Some label) ≡ false
-  other_name label h = bytes_other name label h
-
-  pub no_number : IsSilent number_of refl (items.Name name)
-  no_number None None h = refl
-  no_number None (Some definition) h = refl
-  no_number (Some label) None h = ap number_of (nothing_defined (Some label))
-  no_number (Some label) (Some (definitions.Storage capacity)) h =
-      elim (has_label name (Some label)) as (λ b. number_of (definition_if b (Some (definitions.Storage capacity))) ≡ None) [ true ↦ refl | false ↦ refl ]
-  no_number (Some label) (Some (definitions.Equ value)) h =
-      ap (λ b. number_of (definition_if b (Some (definitions.Equ value)))) (other_name label h)
-  no_number (Some label) (Some (definitions.Variable expression)) h =
-      elim (has_label name (Some label)) as (λ b. number_of (definition_if b (Some (definitions.Variable expression))) ≡ None) [ true ↦ refl | false ↦ refl ]
-  no_number (Some label) (Some (definitions.Function function)) h =
-      elim (has_label name (Some label)) as (λ b. number_of (definition_if b (Some (definitions.Function function))) ≡ None) [ true ↦ refl | false ↦ refl ]
-
-  -- the expression of the VARIABLE
-  pub no_expression : IsSilent expression_of refl (items.Variable name)
-  no_expression None None h = refl
-  no_expression None (Some definition) h = refl
-  no_expression (Some label) None h = ap expression_of (nothing_defined (Some label))
-  no_expression (Some label) (Some (definitions.Storage capacity)) h =
-      elim (has_label name (Some label)) as (λ b. expression_of (definition_if b (Some (definitions.Storage capacity))) ≡ None) [ true ↦ refl | false ↦ refl ]
-  no_expression (Some label) (Some (definitions.Equ value)) h =
-      elim (has_label name (Some label)) as (λ b. expression_of (definition_if b (Some (definitions.Equ value))) ≡ None) [ true ↦ refl | false ↦ refl ]
-  no_expression (Some label) (Some (definitions.Variable expression)) h =
-      ap (λ b. expression_of (definition_if b (Some (definitions.Variable expression)))) (other_name label h)
-  no_expression (Some label) (Some (definitions.Function function)) h =
-      elim (has_label name (Some label)) as (λ b. expression_of (definition_if b (Some (definitions.Function function))) ≡ None) [ true ↦ refl | false ↦ refl ]
-
-  -- the FUNCTION
-  pub no_function : IsSilent function_of refl (items.Function name)
-  no_function None None h = refl
-  no_function None (Some definition) h = refl
-  no_function (Some label) None h = ap function_of (nothing_defined (Some label))
-  no_function (Some label) (Some (definitions.Storage capacity)) h =
-      elim (has_label name (Some label)) as (λ b. function_of (definition_if b (Some (definitions.Storage capacity))) ≡ None) [ true ↦ refl | false ↦ refl ]
-  no_function (Some label) (Some (definitions.Equ value)) h =
-      elim (has_label name (Some label)) as (λ b. function_of (definition_if b (Some (definitions.Equ value))) ≡ None) [ true ↦ refl | false ↦ refl ]
-  no_function (Some label) (Some (definitions.Variable expression)) h =
-      elim (has_label name (Some label)) as (λ b. function_of (definition_if b (Some (definitions.Variable expression))) ≡ None) [ true ↦ refl | false ↦ refl ]
-  no_function (Some label) (Some (definitions.Function function)) h =
-      ap (λ b. function_of (definition_if b (Some (definitions.Function function)))) (other_name label h)
-
-  -- whether so many units fit
-  abbrev pub fitting : ℕ → Option Definition → Option Bool
-  fitting units definition = option_map (λ c. nat_le units c) (units_of definition)
-
-  pub no_units : (units : ℕ) → IsSilent (fitting units) refl (items.Fits name units)
-  no_units units None None h = refl
-  no_units units None (Some definition) h = refl
-  no_units units (Some label) None h = ap (fitting units) (nothing_defined (Some label))
-  no_units units (Some label) (Some (definitions.Storage capacity)) h =
-      ap (λ b. fitting units (definition_if b (Some (definitions.Storage capacity)))) ((and_true_parts (bytes_eq label name) h))
-  no_units units (Some label) (Some (definitions.Equ value)) h =
-      elim (has_label name (Some label)) as (λ b. fitting units (definition_if b (Some (definitions.Equ value))) ≡ None) [ true ↦ refl | false ↦ refl ]
-  no_units units (Some label) (Some (definitions.Variable expression)) h =
-      elim (has_label name (Some label)) as (λ b. fitting units (definition_if b (Some (definitions.Variable expression))) ≡ None)
-      [ true ↦ refl | false ↦ refl ]
-  no_units units (Some label) (Some (definitions.Function function)) h =
-      elim (has_label name (Some label)) as (λ b. fitting units (definition_if b (Some (definitions.Function function))) ≡ None)
-      [ true ↦ refl | false ↦ refl ]
-
-  -- how many units it has
-  pub no_capacity : IsSilent units_of refl (items.Storage name)
-  no_capacity None None h = refl
-  no_capacity None (Some definition) h = refl
-  no_capacity (Some label) None h = ap units_of (nothing_defined (Some label))
-  no_capacity (Some label) (Some (definitions.Storage capacity)) h =
-      ap (λ b. units_of (definition_if b (Some (definitions.Storage capacity)))) ((and_true_parts (bytes_eq label name) h))
-  no_capacity (Some label) (Some (definitions.Equ value)) h =
-      elim (has_label name (Some label)) as (λ b. units_of (definition_if b (Some (definitions.Equ value))) ≡ None) [ true ↦ refl | false ↦ refl ]
-  no_capacity (Some label) (Some (definitions.Variable expression)) h =
-      elim (has_label name (Some label)) as (λ b. units_of (definition_if b (Some (definitions.Variable expression))) ≡ None)
-      [ true ↦ refl | false ↦ refl ]
-  no_capacity (Some label) (Some (definitions.Function function)) h =
-      elim (has_label name (Some label)) as (λ b. units_of (definition_if b (Some (definitions.Function function))) ≡ None)
-      [ true ↦ refl | false ↦ refl ]
+  -- an item that is answered by the first that a definition says of a name, by f
+  abbrev pub by_name : {X : Type 0} (f : Option Definition → Option X) → f None ≡ None → {i : Item} (made : Option X → Answer i) →
+      ((t : Listing) (seed : ℕ) → ask t seed i ≡ made (first_said (λ line. f (defines name line)) t.lines)) →
+      ((label : List ℕ) (d : Definition) → probed_at (definition_place (Some label) (Some d)) i ≡ false → IsSameOf f name label (Some d) None) → IsByLines i
+  by_name {X} f none {i} made is same = record {
+    X = X;
+    says = λ line. f (defines name line);
+    made = λ horizon seed xs. made (leading xs);
+    is = λ t seed. is t seed ∙ ap made (said_listed (λ line. f (defines name line)) t.lines);
+    line = silent_line f none i (silent_where f none i same);
+    change = λ line s was is h. silent_blocks f none line (changed_line line s) was is;
+  }
 
 -- of the storage of a name the first that is defined tells whether so many units fit
 fits_said : (units : ℕ) (o : Option ℕ) → nat_le units (unwrap_or o 0) ≡ unwrap_or (option_map (λ c. nat_le units c) o) (nat_le units 0)
@@ -323,18 +289,16 @@ fits_said units (Some c) = refl
 
 fits_first : (name : List ℕ) (units : ℕ) (lines : List Numbered) →
     option_map (λ c. nat_le units c) (first_said (λ line. units_of (defines name line)) lines) ≡
-    first_said (λ line. fitting name units (defines name line)) lines
+    first_said (λ line. fitting units (defines name line)) lines
 fits_first name units [] = refl
 fits_first name units (line ∷ lines) =
     or_none (λ c. nat_le units c) (units_of (defines name line)) (first_said (λ line. units_of (defines name line)) lines) ∙
-    ap (or_next (fitting name units (defines name line))) (fits_first name units lines)
+    ap (or_next (fitting units (defines name line))) (fits_first name units lines)
 
 pub fits_listed : (name : List ℕ) (units : ℕ) (lines : List Numbered) →
     nat_le units (unwrap_or (capacity_in name lines) 0) ≡
-    unwrap_or (leading (filter_map (λ line. fitting name units (defines name line)) lines)) (nat_le units 0)
-fits_listed name units lines =
-    fits_said units (capacity_in name lines) ∙
-    ap (λ o. unwrap_or o (nat_le units 0)) (fits_first name units lines ∙ said_listed (λ line. fitting name units (defines name line)) lines)
+    unwrap_or (first_said (λ line. fitting units (defines name line)) lines) (nat_le units 0)
+fits_listed name units lines = fits_said units (capacity_in name lines) ∙ ap (λ o. unwrap_or o (nat_le units 0)) (fits_first name units lines)
 
 -- the items of a block and those of a command are the others
 abbrev pub IsListed : Item → Type 0
@@ -359,51 +323,17 @@ by_lines items.Generates listed = record {
 by_lines (items.Label name) listed = record {
   X = ℕ;
   says = label_of name;
-  made = λ horizon seed ns. first name ns;
+  made = λ horizon seed ns. leading ns;
   is = λ t seed. label_listed name t.lines;
   line = λ t place line h. no_label name t place line (is_block line) refl h;
   change = λ line s was is h. label_changed name line s was is h;
 }
-by_lines (items.Name name) listed = record {
-  X = ℤ;
-  says = λ line. number_of (defines name line);
-  made = λ horizon seed zs. leading zs;
-  is = λ t seed. said_listed (λ line. number_of (defines name line)) t.lines;
-  line = silent_line name number_of refl (items.Name name) (no_number name);
-  change = λ line s was is h. silent_blocks name number_of refl line (changed_line line s) was is;
-}
-by_lines (items.Fits name units) listed = record {
-  X = Bool;
-  says = λ line. fitting name units (defines name line);
-  made = λ horizon seed bs. unwrap_or (leading bs) (nat_le units 0);
-  is = λ t seed. fits_listed name units t.lines;
-  line = silent_line name (fitting name units) refl (items.Fits name units) (no_units name units);
-  change = λ line s was is h. silent_blocks name (fitting name units) refl line (changed_line line s) was is;
-}
-by_lines (items.Storage name) listed = record {
-  X = ℕ;
-  says = λ line. units_of (defines name line);
-  made = λ horizon seed ns. unwrap_or (leading ns) 0;
-  is = λ t seed. ap (λ o. unwrap_or o 0) (said_listed (λ line. units_of (defines name line)) t.lines);
-  line = silent_line name units_of refl (items.Storage name) (no_capacity name);
-  change = λ line s was is h. silent_blocks name units_of refl line (changed_line line s) was is;
-}
-by_lines (items.Variable name) listed = record {
-  X = Term;
-  says = λ line. expression_of (defines name line);
-  made = λ horizon seed es. leading es;
-  is = λ t seed. said_listed (λ line. expression_of (defines name line)) t.lines;
-  line = silent_line name expression_of refl (items.Variable name) (no_expression name);
-  change = λ line s was is h. silent_blocks name expression_of refl line (changed_line line s) was is;
-}
-by_lines (items.Function name) listed = record {
-  X = Function;
-  says = λ line. function_of (defines name line);
-  made = λ horizon seed fs. leading fs;
-  is = λ t seed. said_listed (λ line. function_of (defines name line)) t.lines;
-  line = silent_line name function_of refl (items.Function name) (no_function name);
-  change = λ line s was is h. silent_blocks name function_of refl line (changed_line line s) was is;
-}
+by_lines (items.Name name) listed = by_name name number_of refl (λ z. z) (λ t seed. refl) (untouched_same (items.Name name))
+by_lines (items.Fits name units) listed =
+    by_name name (fitting units) refl (λ b. unwrap_or b (nat_le units 0)) (λ t seed. fits_listed name units t.lines) (untouched_same (items.Fits name units))
+by_lines (items.Storage name) listed = by_name name units_of refl (λ n. unwrap_or n 0) (λ t seed. refl) (untouched_same (items.Storage name))
+by_lines (items.Variable name) listed = by_name name expression_of refl (λ e. e) (λ t seed. refl) (untouched_same (items.Variable name))
+by_lines (items.Function name) listed = by_name name function_of refl (λ f. f) (λ t seed. refl) (untouched_same (items.Function name))
 by_lines item listed = record {
   X = Unit {0};
   says = λ line. None;

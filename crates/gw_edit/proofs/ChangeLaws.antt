@@ -1,7 +1,7 @@
 -- Two versions of which one has another statement for a statement: what is not touched, they answer alike.
-use Rattle.std.proofs.Common.{◌≡◌, ℕ, Bool, true, false, cond, not, List, ◌∷◌, ◌++◌, Some, None, option_and_then, ◌==◌, ◌&&◌, refl, ap, sym, subst, ◌∙◌, ⊎_elim, Option, [], is_some, nat_le, option_map, ℤ}
+use Rattle.std.proofs.Common.{◌≡◌, ℕ, Bool, true, false, cond, not, List, ◌∷◌, ◌++◌, Some, None, option_and_then, ◌==◌, ◌&&◌, refl, ap, sym, subst, ◌∙◌, ◌⊎◌, ⊎_elim, inl, inr, Option, [], is_some, nat_le, ℤ}
 use Rattle.std.specs.List.{filter_map, cons_option}
-use Rattle.std.proofs.lemmas.Bool.{cases_Bool, and_parts, or_parts, eqb-true}
+use Rattle.std.proofs.lemmas.Bool.{cases_Bool, or_parts, eqb-true, not-false}
 use Rattle.gw_expr.specs.Term.{Term}
 use Rattle.gw_meaning.specs.declared.item.Item.{Item}
 use Rattle.gw_meaning.specs.declared.item.Item.TheVariants as items
@@ -9,21 +9,21 @@ use Rattle.gw_meaning.specs.declared.statement.Statement.{Statement}
 use Rattle.gw_meaning.specs.declared.statement.Numbered.{Numbered}
 use Rattle.gw_meaning.specs.Listing.{Listing, line_in, block_of, block_of_body, is_block, command_of, first_block, after_in, nth, command_of_body, defines, definition_if, definition_of, definition_of_body, has_label, is_generate_body, number_of, expression_of, function_of, units_of}
 use Rattle.gw_meaning.specs.Questions.{ask}
+use Rattle.gw_meaning.specs.Reads.{is_use}
 use Rattle.gw_model.proofs.Numbers.{other_way}
-use Rattle.gw_edit.specs.Same.{same_statement, same_term, same_function}
+use Rattle.gw_edit.specs.Same.{same_statement}
 use Rattle.gw_edit.specs.Touching.{lines_before, one_if, line_probes, change_places, block_change, splice_probes, is_touched, one_name, other_change, same_number, same_expression, same_curve}
 use Rattle.gw_edit.proofs.Fronts.{block_in, block_behind, after_behind, commands_behind}
 use Rattle.gw_edit.proofs.SameBlocks.{statement_same, term_same, function_same}
-use Rattle.gw_edit.proofs.ByLines.{untouched_both, probed_at, untouched_at, changed_line, change_parts, by_lines, changed_alike, IsListed, bytes_other, fitting, generate_none, generate_of, label_of}
+use Rattle.gw_edit.proofs.ByLines.{untouched_both, probed_at, untouched_at, changed_line, change_parts, by_lines, changed_alike, IsListed, IsSameOf, IsSameTo, said_same, bytes_other, fitting, generate_none, generate_of, label_of}
 use Rattle.std.proofs.lemmas.Bool.Decides.{Decides-int_eq}
 use Rattle.gw_edit.proofs.LineLaws.{command_none, line_alike}
 use Rattle.std.specs.Str.{bytes_eq}
 use Rattle.std.proofs.lemmas.Slice.Eq.{bytes_eq-Decides}
-use Rattle.gw_uses.specs.Asks.{differs, is_ask, is_other}
+use Rattle.gw_uses.specs.Asks.{is_ask}
 use Rattle.gw_meaning.specs.declared.statement.Body.{Body}
 use Rattle.gw_expr.specs.declared.function.Function.{Function}
 use Rattle.gw_meaning.specs.declared.statement.Definition.{Definition}
-use Rattle.std.specs.Ordering.{int_eq}
 use Rattle.gw_meaning.specs.declared.statement.Definition.TheVariants as definitions
 use Rattle.gw_meaning.specs.declared.statement.Body.TheVariants as bodies
 
@@ -89,229 +89,70 @@ label_said name line other was is =
     ap (λ o. cond (is_some o && has_label name other.statement.label) (Some other.number) None) is ∙
     sym (ap (λ o. cond (is_some o && has_label name line.statement.label) (Some line.number) None) was)
 
--- two capacities of one storage say the same to what they answer alike
-units_alike : (b : Bool) (from to amount : ℕ) → (b && differs (Some from) (Some to) amount) ≡ false →
-    option_map (λ c. nat_le amount c) (units_of (definition_if b (Some (definitions.Storage to)))) ≡
-    option_map (λ c. nat_le amount c) (units_of (definition_if b (Some (definitions.Storage from))))
-units_alike false from to amount h = refl
-units_alike true from to amount h = go (nat_le amount from) (nat_le amount to) h where
-  go : (x y : Bool) → cond x (not y) y ≡ false → Some y ≡ Some x
-  go true true k = refl
-  go true false k = absurd cc
-  go false true k = absurd cc
-  go false false k = refl
+-- two definitions of one name that say the same to an item
+module _ (label : List ℕ) (d e : Definition) (line other : Numbered) (l : line.statement.label ≡ Some label) (m : other.statement.label ≡ Some label)
+    (was : definition_of line ≡ Some d) (is : definition_of other ≡ Some e) where
+  of_name_said : {X : Type 0} (f : Option Definition → Option X) (name : List ℕ) → IsSameOf f name label (Some e) (Some d) →
+      f (defines name other) ≡ f (defines name line)
+  of_name_said f name same = ap f (defines_it other label e name m is) ∙ (said_same f name label _ _ same ∙ sym (ap f (defines_it line label d name l was)))
 
--- what definitions say to which they say nothing, whether they are of the name or not
-numberless : (b : Bool) (c : ℕ) → number_of (definition_if b (Some (definitions.Storage c))) ≡ None
-numberless true c = refl
-numberless false c = refl
+  definition_said : (i : Item) (listed : IsListed i) → IsSameTo i label (Some e) (Some d) → (by_lines i listed).says other ≡ (by_lines i listed).says line
+  unfolding by_lines
+  definition_said (items.Block k) listed same = absurd listed
+  definition_said (items.After k) listed same = absurd listed
+  definition_said (items.Cmd j) listed same = absurd listed
+  definition_said items.Generates listed same = generates_said line other (defined_parts line d was).0 (defined_parts other e is).0
+  definition_said (items.Label name) listed same = label_said name line other (defined_parts line d was).0 (defined_parts other e is).0
+  definition_said (items.Name name) listed same = of_name_said number_of name same
+  definition_said (items.Fits name amount) listed same = of_name_said (fitting amount) name same
+  definition_said (items.Storage name) listed same = of_name_said units_of name same
+  definition_said (items.Variable name) listed same = of_name_said expression_of name same
+  definition_said (items.Function name) listed same = of_name_said function_of name same
+  definition_said item listed same = refl
 
-unitless : (b : Bool) (z : ℤ) → units_of (definition_if b (Some (definitions.Equ z))) ≡ None
-unitless true z = refl
-unitless false z = refl
+-- two capacities that answer an amount alike
+answered_alike : (x y : Bool) → cond x (not y) y ≡ false → Some y ≡ Some x
+answered_alike true true h = refl
+answered_alike true false h = absurd cc
+answered_alike false true h = absurd cc
+answered_alike false false h = refl
 
-storage_unexpressed : (b : Bool) (c : ℕ) → expression_of (definition_if b (Some (definitions.Storage c))) ≡ None
-storage_unexpressed true c = refl
-storage_unexpressed false c = refl
+-- what is not touched is answered alike, or is of another name
+alike_amount : {P : Type 0} (named other : Bool) → (named && other) ≡ false → (other ≡ false → P) → P ⊎ (named ≡ false)
+alike_amount true other h alike = inl (alike h)
+alike_amount false other h alike = inr refl
 
-equ_unexpressed : (b : Bool) (z : ℤ) → expression_of (definition_if b (Some (definitions.Equ z))) ≡ None
-equ_unexpressed true z = refl
-equ_unexpressed false z = refl
+alike_one : {A Q : Type 0} {x y : A} (written read : Bool) (item i : Item) → probed_at (one_if (not (written && read)) item) i ≡ false →
+    (read ≡ true → x ≡ y) → (is_use item i ≡ false → Q) → (Some y ≡ Some x) ⊎ Q
+alike_one true true item i h alike other = inl (ap (λ z. Some z) (sym (alike refl)))
+alike_one true false item i h alike other = inr (other h)
+alike_one false read item i h alike other = inr (other h)
 
-variable_numberless : (b : Bool) (e : Term) → number_of (definition_if b (Some (definitions.Variable e))) ≡ None
-variable_numberless true e = refl
-variable_numberless false e = refl
+-- two definitions of one kind and name
+units_same : (i : Item) (label : List ℕ) (x y : ℕ) → is_ask label (Some x) (Some y) i ≡ false →
+    IsSameTo i label (Some (definitions.Storage y)) (Some (definitions.Storage x))
+units_same (items.Fits name amount) label x y h = alike_amount _ _ h (answered_alike (nat_le amount x) (nat_le amount y))
+units_same (items.Storage name) label x y h = alike_amount _ _ h (λ none. ap (λ n. Some n) (sym (eqb-true x y (not-false (x == y) none))))
+units_same item label x y h = inl refl
 
-variable_unitless : (b : Bool) (e : Term) → units_of (definition_if b (Some (definitions.Variable e))) ≡ None
-variable_unitless true e = refl
-variable_unitless false e = refl
+module _ (label : List ℕ) (old new : Statement) where
+  number_same : (i : Item) (x y : ℤ) → probed_at (one_if (not (same_number old new x y)) (items.Name label)) i ≡ false →
+      IsSameTo i label (Some (definitions.Equ y)) (Some (definitions.Equ x))
+  number_same (items.Name name) x y h =
+      alike_one (bytes_eq old.operands new.operands) _ (items.Name label) (items.Name name) h (Decides-int_eq x y).0 (bytes_other name label)
+  number_same item x y h = inl refl
 
-storage_functionless : (b : Bool) (c : ℕ) → function_of (definition_if b (Some (definitions.Storage c))) ≡ None
-storage_functionless true c = refl
-storage_functionless false c = refl
+  expression_same : (i : Item) (x y : Term) → probed_at (one_if (not (same_expression old new x y)) (items.Variable label)) i ≡ false →
+      IsSameTo i label (Some (definitions.Variable y)) (Some (definitions.Variable x))
+  expression_same (items.Variable name) x y h =
+      alike_one (bytes_eq old.operands new.operands) _ (items.Variable label) (items.Variable name) h (term_same x y) (bytes_other name label)
+  expression_same item x y h = inl refl
 
-equ_functionless : (b : Bool) (z : ℤ) → function_of (definition_if b (Some (definitions.Equ z))) ≡ None
-equ_functionless true z = refl
-equ_functionless false z = refl
-
-variable_functionless : (b : Bool) (e : Term) → function_of (definition_if b (Some (definitions.Variable e))) ≡ None
-variable_functionless true e = refl
-variable_functionless false e = refl
-
-function_numberless : (b : Bool) (f : Function) → number_of (definition_if b (Some (definitions.Function f))) ≡ None
-function_numberless true f = refl
-function_numberless false f = refl
-
-function_unitless : (b : Bool) (f : Function) → units_of (definition_if b (Some (definitions.Function f))) ≡ None
-function_unitless true f = refl
-function_unitless false f = refl
-
-function_unexpressed : (b : Bool) (f : Function) → expression_of (definition_if b (Some (definitions.Function f))) ≡ None
-function_unexpressed true f = refl
-function_unexpressed false f = refl
-
--- two definitions of one name that say nothing of another kind
-nothing_said : {X : Type 0} (f : Option Definition → Option X) (line other : Numbered) (label : List ℕ) (d e : Definition) (name : List ℕ) →
-    line.statement.label ≡ Some label → other.statement.label ≡ Some label → definition_of line ≡ Some d → definition_of other ≡ Some e →
-    ((b : Bool) → f (definition_if b (Some d)) ≡ None) → ((b : Bool) → f (definition_if b (Some e)) ≡ None) → f (defines name other) ≡ f (defines name line)
-nothing_said f line other label d e name l m was is before behind =
-    let b = bytes_eq label name in
-    ap f (defines_it other label e name m is) ∙ (behind b ∙ sym (ap f (defines_it line label d name l was) ∙ before b))
-
--- one capacity, where another one is touched
-capacity_alike : (b : Bool) (from to : ℕ) → (b && is_other (Some from) (Some to)) ≡ false →
-    units_of (definition_if b (Some (definitions.Storage to))) ≡ units_of (definition_if b (Some (definitions.Storage from)))
-capacity_alike false from to h = refl
-capacity_alike true from to h = go (from == to) refl h where
-  go : (same : Bool) → (from == to) ≡ same → not same ≡ false → Some to ≡ Some from
-  go true is k = ap (λ n. Some n) (sym (eqb-true from to is))
-  go false is k = absurd cc
-
-units_said : (i : Item) (label : List ℕ) (from to : ℕ) (line other : Numbered) → line.statement.label ≡ Some label → other.statement.label ≡ Some label →
-    definition_of line ≡ Some (definitions.Storage from) → definition_of other ≡ Some (definitions.Storage to) → block_of line ≡ None →
-    block_of other ≡ None → is_ask label (Some from) (Some to) i ≡ false →
-    (listed : IsListed i) → (by_lines i listed).says other ≡ (by_lines i listed).says line
-unfolding by_lines
-units_said (items.Block k) label from to line other l m was is no_block none h listed = absurd listed
-units_said (items.After k) label from to line other l m was is no_block none h listed = absurd listed
-units_said (items.Cmd j) label from to line other l m was is no_block none h listed = absurd listed
-units_said items.Generates label from to line other l m was is no_block none h listed = generates_said line other no_block none
-units_said (items.Label name) label from to line other l m was is no_block none h listed = label_said name line other no_block none
-units_said (items.Name name) label from to line other l m was is no_block none h listed =
-    nothing_said number_of line other label _ _ name l m was is (λ b. numberless b from) (λ b. numberless b to)
-units_said (items.Fits name amount) label from to line other l m was is no_block none h listed =
-    ap (fitting name amount) (defines_it other label _ name m is) ∙
-    (units_alike (bytes_eq label name) from to amount h ∙ sym (ap (fitting name amount) (defines_it line label _ name l was)))
-units_said (items.Storage name) label from to line other l m was is no_block none h listed =
-    ap units_of (defines_it other label _ name m is) ∙
-    (capacity_alike (bytes_eq label name) from to h ∙ sym (ap units_of (defines_it line label _ name l was)))
-units_said (items.Variable name) label from to line other l m was is no_block none h listed =
-    nothing_said expression_of line other label _ _ name l m was is (λ b. storage_unexpressed b from) (λ b. storage_unexpressed b to)
-units_said (items.Function name) label from to line other l m was is no_block none h listed =
-    nothing_said function_of line other label _ _ name l m was is (λ b. storage_functionless b from) (λ b. storage_functionless b to)
-units_said items.Seed label from to line other l m was is no_block none h listed = refl
-units_said (items.Within time) label from to line other l m was is no_block none h listed = refl
-
--- two numbers of one name, which are touched where they are not the same
-numbers_alike : (same : Bool) (old new : Statement) (x y : ℤ) → same_number old new x y ≡ same → same ≡ true → x ≡ y
-numbers_alike same old new x y is yes' =
-    (Decides-int_eq x y).0 ((and_parts (bytes_eq old.operands new.operands) (int_eq x y) (is ∙ yes')).1)
-
-number_said : (i : Item) (label : List ℕ) (x y : ℤ) (same : Bool) (line other : Numbered) → same_number line.statement other.statement x y ≡ same →
-    line.statement.label ≡ Some label → other.statement.label ≡ Some label →
-    definition_of line ≡ Some (definitions.Equ x) → definition_of other ≡ Some (definitions.Equ y) → block_of line ≡ None →
-    block_of other ≡ None → probed_at (one_if (not same) (items.Name label)) i ≡ false →
-    (listed : IsListed i) → (by_lines i listed).says other ≡ (by_lines i listed).says line
-unfolding by_lines
-number_said (items.Block k) label x y same line other e l m was is no_block none h listed = absurd listed
-number_said (items.After k) label x y same line other e l m was is no_block none h listed = absurd listed
-number_said (items.Cmd j) label x y same line other e l m was is no_block none h listed = absurd listed
-number_said items.Generates label x y same line other e l m was is no_block none h listed = generates_said line other no_block none
-number_said (items.Label name) label x y same line other e l m was is no_block none h listed = label_said name line other no_block none
-number_said (items.Name name) label x y same line other e l m was is no_block none h listed =
-    ap number_of (defines_it other label _ name m is) ∙ (go same e h ∙ sym (ap number_of (defines_it line label _ name l was)))
-  where
-    go : (b : Bool) → same_number line.statement other.statement x y ≡ b → probed_at (one_if (not b) (items.Name label)) (items.Name name) ≡ false →
-        number_of (definition_if (bytes_eq label name) (Some (definitions.Equ y))) ≡ number_of (definition_if (bytes_eq label name) (Some (definitions.Equ x)))
-    go true k untouched =
-        ap (λ z. number_of (definition_if (bytes_eq label name) (Some (definitions.Equ z))))
-        (sym (numbers_alike true line.statement other.statement x y k refl))
-    go false k untouched =
-        let apart : bytes_eq label name ≡ false = bytes_other name label untouched in
-        ap (λ b. number_of (definition_if b (Some (definitions.Equ y)))) apart ∙ sym (ap (λ b. number_of (definition_if b (Some (definitions.Equ x)))) apart)
-number_said (items.Fits name amount) label x y same line other e l m was is no_block none h listed =
-    let nothing : Option ℕ → Option Bool = option_map (λ c. nat_le amount c) in
-    nothing_said (fitting name amount) line other label _ _ name l m was is (λ b. ap nothing (unitless b x)) (λ b. ap nothing (unitless b y))
-number_said (items.Storage name) label x y same line other e l m was is no_block none h listed =
-    nothing_said units_of line other label _ _ name l m was is (λ b. unitless b x) (λ b. unitless b y)
-number_said (items.Variable name) label x y same line other e l m was is no_block none h listed =
-    nothing_said expression_of line other label _ _ name l m was is (λ b. equ_unexpressed b x) (λ b. equ_unexpressed b y)
-number_said (items.Function name) label x y same line other e l m was is no_block none h listed =
-    nothing_said function_of line other label _ _ name l m was is (λ b. equ_functionless b x) (λ b. equ_functionless b y)
-number_said items.Seed label x y same line other e l m was is no_block none h listed = refl
-number_said (items.Within time) label x y same line other e l m was is no_block none h listed = refl
-
--- two expressions of one name, which are touched where they are not the same
-expressions_alike : (same : Bool) (old new : Statement) (x y : Term) → same_expression old new x y ≡ same → same ≡ true → x ≡ y
-expressions_alike same old new x y is yes' = term_same x y ((and_parts (bytes_eq old.operands new.operands) (same_term x y) (is ∙ yes')).1)
-
-expression_said : (i : Item) (label : List ℕ) (x y : Term) (same : Bool) (line other : Numbered) →
-    same_expression line.statement other.statement x y ≡ same → line.statement.label ≡ Some label → other.statement.label ≡ Some label →
-    definition_of line ≡ Some (definitions.Variable x) → definition_of other ≡ Some (definitions.Variable y) → block_of line ≡ None →
-    block_of other ≡ None → probed_at (one_if (not same) (items.Variable label)) i ≡ false →
-    (listed : IsListed i) → (by_lines i listed).says other ≡ (by_lines i listed).says line
-unfolding by_lines
-expression_said (items.Block k) label x y same line other e l m was is no_block none h listed = absurd listed
-expression_said (items.After k) label x y same line other e l m was is no_block none h listed = absurd listed
-expression_said (items.Cmd j) label x y same line other e l m was is no_block none h listed = absurd listed
-expression_said items.Generates label x y same line other e l m was is no_block none h listed = generates_said line other no_block none
-expression_said (items.Label name) label x y same line other e l m was is no_block none h listed = label_said name line other no_block none
-expression_said (items.Name name) label x y same line other e l m was is no_block none h listed =
-    nothing_said number_of line other label _ _ name l m was is (λ b. variable_numberless b x) (λ b. variable_numberless b y)
-expression_said (items.Fits name amount) label x y same line other e l m was is no_block none h listed =
-    let nothing : Option ℕ → Option Bool = option_map (λ c. nat_le amount c) in
-    nothing_said (fitting name amount) line other label _ _ name l m was is (λ b. ap nothing (variable_unitless b x))
-    (λ b. ap nothing (variable_unitless b y))
-expression_said (items.Storage name) label x y same line other e l m was is no_block none h listed =
-    nothing_said units_of line other label _ _ name l m was is (λ b. variable_unitless b x) (λ b. variable_unitless b y)
-expression_said (items.Variable name) label x y same line other e l m was is no_block none h listed =
-    ap expression_of (defines_it other label _ name m is) ∙ (go same e h ∙ sym (ap expression_of (defines_it line label _ name l was)))
-  where
-    go : (b : Bool) → same_expression line.statement other.statement x y ≡ b → probed_at (one_if (not b) (items.Variable label)) (items.Variable name) ≡ false →
-        expression_of (definition_if (bytes_eq label name) (Some (definitions.Variable y))) ≡
-        expression_of (definition_if (bytes_eq label name) (Some (definitions.Variable x)))
-    go true k untouched =
-        ap (λ z. expression_of (definition_if (bytes_eq label name) (Some (definitions.Variable z))))
-        (sym (expressions_alike true line.statement other.statement x y k refl))
-    go false k untouched =
-        let apart : bytes_eq label name ≡ false = bytes_other name label untouched in
-        ap (λ b. expression_of (definition_if b (Some (definitions.Variable y)))) apart ∙
-        sym (ap (λ b. expression_of (definition_if b (Some (definitions.Variable x)))) apart)
-expression_said (items.Function name) label x y same line other e l m was is no_block none h listed =
-    nothing_said function_of line other label _ _ name l m was is (λ b. variable_functionless b x) (λ b. variable_functionless b y)
-expression_said items.Seed label x y same line other e l m was is no_block none h listed = refl
-expression_said (items.Within time) label x y same line other e l m was is no_block none h listed = refl
-
--- two FUNCTIONs of one name, which are touched where they are not the same
-curves_alike : (same : Bool) (old new : Statement) (x y : Function) → same_curve old new x y ≡ same → same ≡ true → x ≡ y
-curves_alike same old new x y is yes' = function_same x y ((and_parts (bytes_eq old.operands new.operands) (same_function x y) (is ∙ yes')).1)
-
-function_said : (i : Item) (label : List ℕ) (x y : Function) (same : Bool) (line other : Numbered) →
-    same_curve line.statement other.statement x y ≡ same → line.statement.label ≡ Some label → other.statement.label ≡ Some label →
-    definition_of line ≡ Some (definitions.Function x) → definition_of other ≡ Some (definitions.Function y) → block_of line ≡ None →
-    block_of other ≡ None → probed_at (one_if (not same) (items.Function label)) i ≡ false →
-    (listed : IsListed i) → (by_lines i listed).says other ≡ (by_lines i listed).says line
-unfolding by_lines
-function_said (items.Block k) label x y same line other e l m was is no_block none h listed = absurd listed
-function_said (items.After k) label x y same line other e l m was is no_block none h listed = absurd listed
-function_said (items.Cmd j) label x y same line other e l m was is no_block none h listed = absurd listed
-function_said items.Generates label x y same line other e l m was is no_block none h listed = generates_said line other no_block none
-function_said (items.Label name) label x y same line other e l m was is no_block none h listed = label_said name line other no_block none
-function_said (items.Name name) label x y same line other e l m was is no_block none h listed =
-    nothing_said number_of line other label _ _ name l m was is (λ b. function_numberless b x) (λ b. function_numberless b y)
-function_said (items.Fits name amount) label x y same line other e l m was is no_block none h listed =
-    let nothing : Option ℕ → Option Bool = option_map (λ c. nat_le amount c) in
-    nothing_said (fitting name amount) line other label _ _ name l m was is (λ b. ap nothing (function_unitless b x))
-    (λ b. ap nothing (function_unitless b y))
-function_said (items.Storage name) label x y same line other e l m was is no_block none h listed =
-    nothing_said units_of line other label _ _ name l m was is (λ b. function_unitless b x) (λ b. function_unitless b y)
-function_said (items.Variable name) label x y same line other e l m was is no_block none h listed =
-    nothing_said expression_of line other label _ _ name l m was is (λ b. function_unexpressed b x) (λ b. function_unexpressed b y)
-function_said (items.Function name) label x y same line other e l m was is no_block none h listed =
-    ap function_of (defines_it other label _ name m is) ∙ (go same e h ∙ sym (ap function_of (defines_it line label _ name l was)))
-  where
-    go : (b : Bool) → same_curve line.statement other.statement x y ≡ b → probed_at (one_if (not b) (items.Function label)) (items.Function name) ≡ false →
-        function_of (definition_if (bytes_eq label name) (Some (definitions.Function y))) ≡
-        function_of (definition_if (bytes_eq label name) (Some (definitions.Function x)))
-    go true k untouched =
-        ap (λ z. function_of (definition_if (bytes_eq label name) (Some (definitions.Function z))))
-        (sym (curves_alike true line.statement other.statement x y k refl))
-    go false k untouched =
-        let apart : bytes_eq label name ≡ false = bytes_other name label untouched in
-        ap (λ b. function_of (definition_if b (Some (definitions.Function y)))) apart ∙
-        sym (ap (λ b. function_of (definition_if b (Some (definitions.Function x)))) apart)
-function_said items.Seed label x y same line other e l m was is no_block none h listed = refl
-function_said (items.Within time) label x y same line other e l m was is no_block none h listed = refl
+  curve_same : (i : Item) (x y : Function) → probed_at (one_if (not (same_curve old new x y)) (items.Function label)) i ≡ false →
+      IsSameTo i label (Some (definitions.Function y)) (Some (definitions.Function x))
+  curve_same (items.Function name) x y h =
+      alike_one (bytes_eq old.operands new.operands) _ (items.Function label) (items.Function name) h (function_same x y) (bytes_other name label)
+  curve_same item x y h = inl refl
 
 -- a version and the version with the other statement
 pub record IsChanged (t u : Listing) (place : ℕ) (line : Numbered) (s : Statement) (back : List Numbered) : Type 0 where
@@ -371,45 +212,34 @@ module _ (t u : Listing) (place : ℕ) (line : Numbered) (s : Statement) (back :
         comes ∙ sym goes
 
     -- a definition for one of the same name: neither is a block, nor a command
-    defined_alike : block_of line ≡ None → block_of (changed_line line s) ≡ None → command_of line ≡ None → command_of (changed_line line s) ≡ None →
-        (i : Item) → ((listed : IsListed i) → (by_lines i listed).says (changed_line line s) ≡ (by_lines i listed).says line) → ask u b i ≡ ask t a i
-    defined_alike was is no_command no_more (items.Block k) says = block_alike k (block_here back line s k (is ∙ sym was))
-    defined_alike was is no_command no_more (items.After k) says = after_alike k (ap is_some (is ∙ sym was))
-    defined_alike was is no_command no_more (items.Cmd j) says = commands_alike j (no_more ∙ sym no_command)
-    defined_alike was is no_command no_more i says =
-        changed_alike i tt (lines_before t place) back t u a b e.horizon seeds line (changed_line line s) e.new e.old (says tt)
+    module _ (name : List ℕ) (named : one_name line.statement.label s.label ≡ Some name) (d d' : Definition) (was : definition_of line ≡ Some d)
+        (is : definition_of (changed_line line s) ≡ Some d') where
+      no_blocks : block_of (changed_line line s) ≡ block_of line
+      no_blocks = (defined_parts (changed_line line s) d' is).0 ∙ sym (defined_parts line d was).0
+
+      no_commands : command_of (changed_line line s) ≡ command_of line
+      no_commands = (defined_parts (changed_line line s) d' is).1 ∙ sym (defined_parts line d was).1
+
+      defined_alike : (i : Item) → IsSameTo i name (Some d') (Some d) → ask u b i ≡ ask t a i
+      defined_alike (items.Block k) same = block_alike k (block_here back line s k no_blocks)
+      defined_alike (items.After k) same = after_alike k (ap is_some no_blocks)
+      defined_alike (items.Cmd j) same = commands_alike j no_commands
+      defined_alike i same =
+          let labels = labels_are line.statement.label s.label name named in
+          changed_alike i tt (lines_before t place) back t u a b e.horizon seeds line (changed_line line s) e.new e.old
+          (definition_said name d d' line (changed_line line s) labels.0 labels.1 was is i tt same)
 
     other_alike : line_in (lines_before t place ++ back) line.number ≡ None → (name : Option (List ℕ)) → one_name line.statement.label s.label ≡ name →
         (before behind : Option Definition) → definition_of line ≡ before → definition_of (changed_line line s) ≡ behind → (i : Item) →
         is_touched (other_change name before behind t place line (changed_line line s)) i ≡ false → ask u b i ≡ ask t a i
-    other_alike absent (Some name) named (Some (definitions.Storage from)) (Some (definitions.Storage to)) was is i h =
-        let none = defined_parts line (definitions.Storage from) was in
-        let no_more = defined_parts (changed_line line s) (definitions.Storage to) is in
-        let labels = labels_are line.statement.label s.label name named in
-        defined_alike none.0 no_more.0 none.1 no_more.1 i
-        (units_said i name from to line (changed_line line s) labels.0 labels.1 was is none.0 no_more.0
-        ((or_parts (is_ask name (Some from) (Some to) i) false h).0))
+    other_alike absent (Some name) named (Some (definitions.Storage x)) (Some (definitions.Storage y)) was is i h =
+        defined_alike name named _ _ was is i (units_same i name x y ((or_parts (is_ask name (Some x) (Some y) i) false h).0))
     other_alike absent (Some name) named (Some (definitions.Equ x)) (Some (definitions.Equ y)) was is i h =
-        let none = defined_parts line (definitions.Equ x) was in
-        let no_more = defined_parts (changed_line line s) (definitions.Equ y) is in
-        let labels = labels_are line.statement.label s.label name named in
-        defined_alike none.0 no_more.0 none.1 no_more.1 i
-        (number_said i name x y (same_number line.statement s x y) line (changed_line line s) refl labels.0 labels.1 was is none.0 no_more.0
-        (untouched_at (one_if (not (same_number line.statement s x y)) (items.Name name) ∷ []) 0 _ i refl h))
+        defined_alike name named _ _ was is i (number_same name line.statement s i x y (untouched_at (_ ∷ []) 0 _ i refl h))
     other_alike absent (Some name) named (Some (definitions.Variable x)) (Some (definitions.Variable y)) was is i h =
-        let none = defined_parts line (definitions.Variable x) was in
-        let no_more = defined_parts (changed_line line s) (definitions.Variable y) is in
-        let labels = labels_are line.statement.label s.label name named in
-        defined_alike none.0 no_more.0 none.1 no_more.1 i
-        (expression_said i name x y (same_expression line.statement s x y) line (changed_line line s) refl labels.0 labels.1 was is none.0 no_more.0
-        (untouched_at (one_if (not (same_expression line.statement s x y)) (items.Variable name) ∷ []) 0 _ i refl h))
+        defined_alike name named _ _ was is i (expression_same name line.statement s i x y (untouched_at (_ ∷ []) 0 _ i refl h))
     other_alike absent (Some name) named (Some (definitions.Function x)) (Some (definitions.Function y)) was is i h =
-        let none = defined_parts line (definitions.Function x) was in
-        let no_more = defined_parts (changed_line line s) (definitions.Function y) is in
-        let labels = labels_are line.statement.label s.label name named in
-        defined_alike none.0 no_more.0 none.1 no_more.1 i
-        (function_said i name x y (same_curve line.statement s x y) line (changed_line line s) refl labels.0 labels.1 was is none.0 no_more.0
-        (untouched_at (one_if (not (same_curve line.statement s x y)) (items.Function name) ∷ []) 0 _ i refl h))
+        defined_alike name named _ _ was is i (curve_same name line.statement s i x y (untouched_at (_ ∷ []) 0 _ i refl h))
     other_alike absent name named before behind was is i h = kind_alike absent i h
 
     by_kinds : line_in (lines_before t place ++ back) line.number ≡ None → (was is : Bool) → is_block line ≡ was → is_block (changed_line line s) ≡ is →

@@ -51,6 +51,7 @@ fn line_text(alloc: Global, faulty: FaultyLine) -> Result<Vec<u8>, AllocError>
     Ok(text)
 }
 
+#[tactic(auto, using(std::proofs::lemmas::Fmt::decimal_digit))]
 fn model_text(fault: ModelFault) -> &'static [u8]
     ensures { result.now ≡ model_part fault }
 {

@@ -1,5 +1,5 @@
 -- Texts that are written into a line of blanks.
-use Rattle.std.proofs.Common.{◌≡◌, ℕ, ◌+◌, ◌-◌, ◌≤◌, List, ◌++◌, length, take, drop, refl, ap, sym, ◌∙◌, subst, arith}
+use Rattle.std.proofs.Common.{◌≡◌, ℕ, ◌+◌, ◌-◌, ◌≤◌, List, ◌++◌, length, take, drop, refl, ap, sym, ◌∙◌, arith}
 use Rattle.std.proofs.Common.{append_assoc, length-take-le, length-drop, take-add, take_at, drop_at, drop-drop}
 use Rattle.std.proofs.lemmas.List.{drop-replicate, take-replicate}
 use Rattle.std.proofs.lemmas.Slice.{take-put_mid, drop-put_mid}
@@ -15,6 +15,10 @@ blank_from line from to order blank =
     let left : length line - from - (to - from) ≡ length line - to = omega arith in
     ap (λ n. drop n line) place ∙ sym (drop-drop (to - from) from line) ∙ ap (drop (to - from)) blank ∙
     drop-replicate (to - from) (length line - from) 32 ∙ ap blanks left
+
+-- behind a gap
+pub gap_blank : {items line : List ℕ} (end gap : ℕ) → line ≡ items → IsBlankFrom end items → IsBlankFrom (end + gap) line
+gap_blank {items} end gap is blank = rw is (blank_from items end (end + gap) (omega arith) blank)
 
 pub blank_to : (line : List ℕ) (from to : ℕ) → from ≤ to → to ≤ length line → IsBlankFrom from line → take to line ≡ take from line ++ blanks (to - from)
 blank_to line from to order within blank =
@@ -96,23 +100,18 @@ laid_more line new cell end gap to within blank laid =
     laid.bytes ∙ ap (λ l. l ++ cell) (blank_to line end (end + gap) (omega arith) within blank ∙ ap (λ n. take end line ++ blanks n) wide) ∙
     append_assoc (take end line) (blanks gap) cell
 
--- what is written into a list whole is what stands there then
-pub written : (items new : List ℕ) (len : ℕ) → length new ≡ len → take len (new ++ drop (length new) items) ≡ new
-written items new len same = take_at new (drop (length new) items) len same
-
--- a cell of a sheet
-pub cell_put : (items line new text : List ℕ) (side : Side) (end gap width : ℕ) → line ≡ items → end + gap + width ≤ length items → IsBlankFrom end items →
+-- a cell of a sheet, behind a gap: the line is the sheet's list whole, and stands there then
+pub cell_laid : {items line new : List ℕ} {len : ℕ} (side : Side) (text : List ℕ) (end gap width : ℕ) → line ≡ items → len ≡ length items →
+    end + gap + width ≤ length items → IsBlankFrom end items →
     Laid line new (end + gap) (fitted side (end + gap + width - (end + gap)) text) (end + gap + width) →
-    take (end + gap + width) new ≡ take end items ++ (blanks gap ++ fitted side width text)
-cell_put items line new text side end gap width is within blank laid =
+    let stands = take len (new ++ drop (length new) items) in
+    ((end + gap + width ≤ length stands) × IsBlankFrom (end + gap + width) stands) ×
+    (take (end + gap + width) stands ≡ take end items ++ (blanks gap ++ fitted side width text))
+cell_laid {items} {new = new} {len = len} side text end gap width is size within blank laid =
+    let long : length new ≡ len = laid.len ∙ ap length is ∙ sym size in
     let wide : end + gap + width - (end + gap) ≡ width = omega arith in
-    let laid' : Laid items new (end + gap) (fitted side width text) (end + gap + width) =
-    subst (λ l. Laid l new (end + gap) (fitted side width text) (end + gap + width)) is
-    (subst (λ w. Laid line new (end + gap) (fitted side w text) (end + gap + width)) wide laid) in
-    laid_more items new (fitted side width text) end gap (end + gap + width) (omega arith) blank laid'
-
-pub cell_blank : (items line new text : List ℕ) (end gap width : ℕ) → line ≡ items → IsBlankFrom end items →
-    Laid line new (end + gap) text (end + gap + width) → IsBlankFrom (end + gap + width) new
-cell_blank items line new text end gap width is blank laid =
-    let laid' = subst (λ l. Laid l new (end + gap) text (end + gap + width)) is laid in
-    laid_blank items new text (end + gap) (end + gap + width) (omega arith) (blank_from items end (end + gap) (omega arith) blank) laid'
+    let laid' : Laid items new (end + gap) (fitted side width text) (end + gap + width) = rw (is, wide) at laid in
+    let behind = laid_blank items new (fitted side width text) (end + gap) (end + gap + width) (omega arith)
+    (blank_from items end (end + gap) (omega arith) blank) laid' in
+    rw (take_at new (drop (length new) items) len long)
+    ((omega (arith, long, size), behind), laid_more items new (fitted side width text) end gap (end + gap + width) (omega arith) blank laid')

@@ -1,29 +1,17 @@
-use Rattle.std.proofs.Common.{◌+◌, ◌∙◌, arith}
-use Rattle.gw_report.proofs.Laying.{blank_from, written, cell_put, cell_blank}
+use Rattle.std.proofs.Common.{arith}
+use Rattle.gw_report.proofs.Laying.{gap_blank, cell_laid}
 use Rattle.gw_report.proofs.sheet.Sheet.put_text.Goals as goal
 
 pub lay_text-requires-clause-blank : goal.lay_text-requires-clause-blank
-lay_text-requires-clause-blank c =
-    let end = c.self.inside.end in
-    rw c.as_mut_slice.ensures.value (blank_from c.self.inside.bytes.items end (end + c.args.gap) (omega arith) c.self.invariant.1)
+lay_text-requires-clause-blank c = gap_blank _ _ c.as_mut_slice.ensures.value c.self.invariant.1
 
 pub invariant_of-self : goal.invariant_of-self
 invariant_of-self c =
-    let items = c.self.inside.bytes.items in
-    let line = c.as_mut_slice.result.now in
-    let new = c.lay_text.new.line in
-    let long = c.lay_text.ensures.len ∙ c.as_mut_slice.ensures.len in
-    let size = c.self.inside.bytes.ok.0 in
-    let blank = cell_blank items line new _ c.self.inside.end c.args.gap c.args.width c.as_mut_slice.ensures.value c.self.invariant.1 c.lay_text.ensures in
-    rw (written items new c.self.inside.bytes.len long) (omega (arith, long, size), blank)
+    (cell_laid c.args.side c.args.text.now _ _ _ c.as_mut_slice.ensures.value c.self.inside.bytes.ok.0 (omega (arith, c.self.inside.bytes.ok.0))
+    c.self.invariant.1 c.lay_text.ensures).0
 
 pub returns-then-width-len : goal.returns-then-width-len
 returns-then-width-len c =
-    let items = c.self.inside.bytes.items in
-    let line = c.as_mut_slice.result.now in
-    let new = c.lay_text.new.line in
-    let long = c.lay_text.ensures.len ∙ c.as_mut_slice.ensures.len in
-    let size = c.self.inside.bytes.ok.0 in
-    rw (← c.self.view_is, written items new c.self.inside.bytes.len long)
-    (cell_put items line new c.args.text.now c.args.side c.self.inside.end c.args.gap c.args.width c.as_mut_slice.ensures.value (omega (arith, size))
-    c.self.invariant.1 c.lay_text.ensures)
+    rw (← c.self.view_is)
+    (cell_laid c.args.side c.args.text.now _ _ _ c.as_mut_slice.ensures.value c.self.inside.bytes.ok.0 (omega (arith, c.self.inside.bytes.ok.0))
+    c.self.invariant.1 c.lay_text.ensures).1
