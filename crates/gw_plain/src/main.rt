@@ -56,7 +56,11 @@ fn last_report(alloc: Global, version: &Version) -> Result<Option<Vec<u8>>, Faul
         return Ok(None);
     };
     match plain_run(alloc, version, seed) {
-        Ok(run) => report_of(alloc, version, &run),
+        Ok(run) => {
+            let report = report_of(alloc, version, &run);
+            drop(run);
+            report
+        }
         Err(_) => Err(Fault::Memory),
     }
 }

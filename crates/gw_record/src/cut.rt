@@ -6,6 +6,7 @@ ghost use Rattle.gw_record.specs.Tape.{Records, IsLastKept};
 
 use crate::kept::{Kept, count_before, count_until};
 use crate::recorded::Recorded;
+use std::mem;
 
 impl Recorded {
     /// Goes back to the last kept moment at or before `moment`, which is never before the start. What came after it is
@@ -38,7 +39,7 @@ impl Recorded {
         self.moment = to.moment;
         self.ahead = steps_ahead(to.moment, self.every);
         self.due = 0;
-        self.tip = to.state;
+        drop(mem::replace(&mut self.tip, to.state));
     }
 }
 

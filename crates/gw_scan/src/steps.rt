@@ -85,7 +85,9 @@ pub fn end_at(
         seed,
     };
     let mut probe = state.copy()?;
-    probe.next_end(case)
+    let end = probe.next_end(case);
+    drop(probe);
+    end
 }
 
 impl State {

@@ -7,5 +7,5 @@ use Rattle.gw_scan.proofs.steps.end_at.Goals as goal
 
 pub returns : goal.returns
 returns c =
-    let F : Machine → Type 0 = λ s. IfOk c.next_end.result (EndsAs (step c.args.version.now c.args.seed s)) in
-    subst F c.in_ok-probe.ensures c.next_end.ensures
+    let F : Machine → Type 0 = λ s. IfOk c.next_end-end.result (EndsAs (step c.args.version.now c.args.seed s)) in
+    subst F c.in_ok-probe.ensures c.next_end-end.ensures

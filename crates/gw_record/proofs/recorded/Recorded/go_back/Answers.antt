@@ -9,7 +9,7 @@ returns c =
       every = refl;
       start = refl;
       moment = refl;
-      tip = refl;
+      tip = c.replace.ensures.after;
       kept = refl;
       count = c.count_before-count.result;
       few = few;
@@ -22,4 +22,4 @@ returns c =
 pub invariant_of-self : goal.invariant_of-self
 invariant_of-self c =
     let ahead = c.steps_ahead-self-inside.ensures in
-    (ahead.within, ahead.multiple, record { few = omega arith; at_start = λ low. inl refl }, c.go_back.ensures.drawn)
+    (ahead.within, ahead.multiple, record { few = omega arith; at_start = λ low. inl refl }, rw c.replace.ensures.after c.go_back.ensures.drawn)
