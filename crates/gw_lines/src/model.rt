@@ -1,4 +1,5 @@
 ghost use Rattle.std.specs.Prelude.{◌≡◌, ◌≢◌, ◌<◌, ◌∷◌, ◌++◌, [], List, length, Ok, IfOk, IfErr, All, false};
+ghost use Rattle.std.specs.Result.{result_and};
 ghost use Rattle.gw_lines.specs.Pairs.{wants_pairs};
 ghost use Rattle.gw_lines.specs.Reading.{GivesModel};
 ghost use Rattle.gw_lines.specs.Whole.{SpellsModel, FirstFaultOf, AnswersAt};
@@ -110,15 +111,25 @@ fn keep(
     }
 }
 
-// The statements, where none of them wants pairs at the end.
+// The statements, where none of them wants pairs at the end. What is under way is let go in `drop`, since a function that
+// lets go of a statement itself has a long proof.
 fn ended(
     under: Option<Unfinished>,
     statements: Vec<Statement>,
 ) -> Result<Vec<Statement>, FaultyLine>
     ensures { GivesModel (λ v. v.items) result (ended under statements.items) }
 {
+    let read = none_left(&under).and(Ok(statements));
+    drop(under);
+    read
+}
+
+// A statement that is under way at the end still wants pairs, which is the fault of its first line.
+fn none_left(under: &Option<Unfinished>) -> Result<(), FaultyLine>
+    ensures { (statements : List Statement) → ended under.now statements ≡ result_and result (Ok statements) }
+{
     match under {
-        None => Ok(statements),
+        None => Ok(()),
         Some(under) => Err(FaultyLine {
             line: under.line,
             fault: LineFault::BadPairs,
