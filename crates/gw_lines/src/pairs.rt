@@ -32,9 +32,9 @@ fn has_room(count: u32, points: &[Point]) -> bool
     (points.len() as u64) < u64::from(count)
 }
 
-/// Adds the pairs of a further line to a statement that wants some; a blank line or a comment has none. Each point stands
-/// behind those before it: an x that is not above the last one, one pair too many, or what is no pair is `BadPairs`.
-/// Behind a fault the statement may lack what it had.
+/// Adds the pairs of a further line to a statement that wants some; a blank line or a comment has none. Each point
+/// stands behind those before it: an x that is not above the last one, one pair too many, or what is no pair is
+/// `BadPairs`. Behind a fault the statement may lack what it had.
 #[tactic(auto, unfolding(crate::specs::Pairs::further_of))]
 pub fn read_further(alloc: Global, statement: &mut Statement, line: &[u8]) -> Result<(), LineFault>
     ensures { Gives (λ u. statement.new) result (further_of statement.old line.now) }
