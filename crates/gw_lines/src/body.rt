@@ -1,4 +1,5 @@
-ghost use Rattle.std.specs.Prelude.{◌≡◌, ◌≤◌, length, IfOk};
+ghost use Rattle.std.specs.Prelude.{◌≡◌, ◌≤◌, length, map, IfOk};
+ghost use Rattle.std.specs.Option.{option_copied};
 ghost use Rattle.gw_lines.specs.Reading.{Gives};
 ghost use Rattle.gw_lines.specs.Forms.{forms_of};
 ghost use Rattle.gw_lines.specs.Parts.{is_given, parts_of, others_of};
@@ -91,31 +92,36 @@ fn definition_with(
 ) -> Option<Body>
     ensures { result ≡ definition_with verb operands.items }
 {
-    let first = first_of(&mut operands);
     match verb {
         DefinitionVerb::Storage => {
-            let capacity = u64::from(whole_in(first)?);
+            let capacity = u64::from(whole_in(first_in(&operands))?);
             Some(Body::Definition(Definition::Storage { capacity }))
         }
         DefinitionVerb::Equ => {
-            let value = constant_in(first)?;
+            let value = constant_in(first_in(&operands))?;
             Some(Body::Definition(Definition::Equ { value }))
         }
         DefinitionVerb::Variable => {
-            let expression = value_in(first)?;
+            let expression = value_in(first_of(&mut operands))?;
             Some(Body::Definition(Definition::Variable { expression }))
         }
-        DefinitionVerb::Function => function_with(alloc, first, first_of(&mut operands)),
+        DefinitionVerb::Function => {
+            let argument = value_in(first_of(&mut operands));
+            function_with(alloc, argument, points_in(first_in(&operands)))
+        }
         _ => None,
     }
 }
 
 // The FUNCTION with this argument, and with this type and number of points, none of which was read.
-fn function_with(alloc: Global, argument: Option<Operand>, points: Option<Operand>) -> Option<Body>
-    ensures { result ≡ function_with (value_in argument) (points_in points) }
+fn function_with(
+    alloc: Global,
+    argument: Option<Expr>,
+    points: Option<(FunctionType, u32)>,
+) -> Option<Body>
+    ensures { result ≡ function_with argument points }
 {
-    let argument = value_in(argument)?;
-    let (kind, count) = points_in(points)?;
+    let (argument, (kind, count)) = argument.zip(points)?;
     Some(Body::Definition(Definition::Function(Function {
         argument,
         kind,
@@ -128,25 +134,35 @@ fn function_with(alloc: Global, argument: Option<Operand>, points: Option<Operan
 fn command_with(
     alloc: Global,
     verb: CommandVerb,
-    mut operands: Vec<Option<Operand>>,
+    operands: Vec<Option<Operand>>,
 ) -> Result<Option<Body>, AllocError>
     ensures { IfOk result (λ o. o ≡ command_with verb operands.items) }
 {
     match verb {
-        CommandVerb::Start => match whole_in(first_of(&mut operands)) {
+        CommandVerb::Start => match whole_in(first_in(&operands)) {
             Some(count) => Ok(Some(Body::Command(Command::Start {
                 count: u64::from(count),
             }))),
             None => Ok(None),
         },
         CommandVerb::Rmult => {
-            let values = operands.into_iter().map(|o| whole_in(o)).collect(alloc)?;
+            let values = stream_values(alloc, &operands)?;
             Ok(Some(Body::Command(Command::Rmult {
                 values: Row::from_vec(values),
             })))
         }
         _ => Ok(None),
     }
+}
+
+// The values that the operands of RMULT give their streams.
+fn stream_values(
+    alloc: Global,
+    operands: &[Option<Operand>],
+) -> Result<Vec<Option<u32>>, AllocError>
+    ensures { IfOk result (λ vs. vs.items ≡ map whole_in operands.now) }
+{
+    operands.iter().map(|o| whole_in(o.as_ref())).collect(alloc)
 }
 
 // Takes the first operand.
@@ -161,6 +177,16 @@ fn first_of(operands: &mut Vec<Option<Operand>>) -> Option<Operand>
     }
 }
 
+// The first operand.
+fn first_in(operands: &[Option<Operand>]) -> Option<&Operand>
+    ensures { option_copied result ≡ first_of operands.now }
+{
+    match operands {
+        [] => None,
+        [first, ..] => first.as_ref(),
+    }
+}
+
 // An operand as a value.
 fn value_in(operand: Option<Operand>) -> Option<Expr>
     ensures { result ≡ value_in operand }
@@ -172,30 +198,33 @@ fn value_in(operand: Option<Operand>) -> Option<Expr>
 }
 
 // An operand as a whole number.
-fn whole_in(operand: Option<Operand>) -> Option<u32>
-    ensures { result ≡ whole_in operand }
+fn whole_in(operand: Option<&Operand>) -> Option<u32>
+    ensures { result ≡ whole_in (option_copied operand.entry) }
 {
     match operand {
-        Some(Operand::Whole(n)) => Some(n),
+        Some(Operand::Whole(n)) => Some(*n),
         Some(Operand::Value(_) | Operand::Points(_, _)) | None => None,
     }
 }
 
 // An operand as a FUNCTION's type and its number of points.
-fn points_in(operand: Option<Operand>) -> Option<(FunctionType, u32)>
-    ensures { result ≡ points_in operand }
+fn points_in(operand: Option<&Operand>) -> Option<(FunctionType, u32)>
+    ensures { result ≡ points_in (option_copied operand.entry) }
 {
     match operand {
-        Some(Operand::Points(kind, count)) => Some((kind, count)),
+        Some(Operand::Points(kind, count)) => Some((*kind, *count)),
         Some(Operand::Value(_) | Operand::Whole(_)) | None => None,
     }
 }
 
 // An operand as a constant.
-fn constant_in(operand: Option<Operand>) -> Option<Val>
-    ensures { result ≡ constant_in operand }
+fn constant_in(operand: Option<&Operand>) -> Option<Val>
+    ensures { result ≡ constant_in (option_copied operand.entry) }
 {
-    constant_of(&value_in(operand)?)
+    match operand {
+        Some(Operand::Value(value)) => constant_of(value),
+        Some(Operand::Whole(_) | Operand::Points(_, _)) | None => None,
+    }
 }
 
 fn constant_of(value: &Expr) -> Option<Val>

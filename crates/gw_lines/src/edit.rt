@@ -54,12 +54,8 @@ pub fn read_statement(alloc: Global, line: &[u8]) -> Result<Statement, LineFault
 fn read_alone(alloc: Global, line: &[u8]) -> Result<Statement, LineFault>
     ensures { Gives (λ s. s) result (first_of (line.now ∷ [])) }
 {
-    let statement = read_first(alloc, line)?;
-    if wants_pairs(&statement) {
-        Err(LineFault::BadPairs)
-    } else {
-        Ok(statement)
-    }
+    let mut statement = read_first(alloc, line)?;
+    complete(alloc, &mut statement, b"").and(Ok(statement))
 }
 
 #[tactic(auto, unfolding(crate::specs::Edits::edit_of))]
@@ -102,9 +98,9 @@ fn plain_lines(alloc: Global, text: &[u8]) -> Result<(), LineFault>
 fn plain_line(alloc: Global, line: &[u8]) -> Result<(), LineFault>
     ensures { Gives (λ u. u) result (byte_fault (line_of line.now)) }
 {
-    match read_line(alloc, line) {
-        Err(LineFault::BadByte) => Err(LineFault::BadByte),
-        Err(LineFault::Memory) => Err(LineFault::Memory),
+    match read_line(alloc, line).err() {
+        Some(LineFault::BadByte) => Err(LineFault::BadByte),
+        Some(LineFault::Memory) => Err(LineFault::Memory),
         _ => Ok(()),
     }
 }
@@ -140,29 +136,28 @@ fn first_statement(alloc: Global, text: &[u8]) -> Result<Statement, LineFault>
     }
     let (line, further) = first_piece(Class::Part, text);
     match read_first(alloc, line) {
-        Ok(statement) => complete(alloc, statement, further),
+        Ok(mut statement) => complete(alloc, &mut statement, further).and(Ok(statement)),
         Err(fault) => Err(followed(alloc, line, further, fault)),
     }
 }
 
-// A statement with the pairs of further lines, each of which it wants, and those alone.
-fn complete(alloc: Global, statement: Statement, text: &[u8]) -> Result<Statement, LineFault>
-    ensures { Gives (λ s. s) result (completed_by statement (edit_lines text.now)) }
+// Adds to a statement the pairs of further lines, each of which it wants, and those alone.
+fn complete(alloc: Global, statement: &mut Statement, text: &[u8]) -> Result<(), LineFault>
+    ensures { Gives (λ u. statement.new) result (completed_by statement.old (edit_lines text.now)) }
 {
-    let mut statement = statement;
     let mut rest = text;
     while !rest.is_empty() {
         let (line, further) = first_piece(Class::Part, rest);
-        if !wants_pairs(&statement) {
+        if !wants_pairs(statement) {
             return Err(LineFault::BadPairs);
         }
-        statement = read_further(alloc, statement, line)?;
+        read_further(alloc, statement, line)?;
         rest = further;
     }
-    if wants_pairs(&statement) {
+    if wants_pairs(statement) {
         Err(LineFault::BadPairs)
     } else {
-        Ok(statement)
+        Ok(())
     }
 }
 

@@ -1,8 +1,9 @@
 ghost use Rattle.std.specs.Prelude.{◌≡◌, ◌≢◌, ◌<◌, ◌∷◌, ◌++◌, [], List, length, Ok, IfOk, IfErr, All, false};
+ghost use Rattle.std.specs.Result.{result_and};
 ghost use Rattle.gw_lines.specs.Pairs.{wants_pairs};
 ghost use Rattle.gw_lines.specs.Reading.{GivesModel};
 ghost use Rattle.gw_lines.specs.Whole.{SpellsModel, FirstFaultOf, AnswersAt};
-ghost use Rattle.gw_lines.specs.Models.{lines_of, model_of, with_line, done_of, under_way, ended, chomped};
+ghost use Rattle.gw_lines.specs.Models.{lines_of, model_of, numbered, with_line, done_of, under_way, ended, chomped};
 
 use crate::class::{Class, piece};
 use crate::fault::{FaultyLine, LineFault};
@@ -64,27 +65,26 @@ fn with_line(
     ensures { GivesModel (λ o. o) result (with_line under number line.now) }
 {
     match under {
-        None => match read_line(alloc, line) {
-            Ok(Some(statement)) => Ok(Some(Unfinished {
+        None => match numbered(number, read_line(alloc, line))? {
+            Some(statement) => Ok(Some(Unfinished {
                 line: number,
                 statement,
             })),
-            Ok(None) => Ok(None),
-            Err(fault) => Err(FaultyLine {
-                line: number,
-                fault,
-            }),
+            None => Ok(None),
         },
-        Some(under) => match read_further(alloc, under.statement, line) {
-            Ok(statement) => Ok(Some(Unfinished {
-                line: under.line,
-                statement,
-            })),
-            Err(fault) => Err(FaultyLine {
-                line: number,
-                fault,
-            }),
-        },
+        Some(mut under) => {
+            numbered(number, read_further(alloc, &mut under.statement, line)).and(Ok(Some(under)))
+        }
+    }
+}
+
+// What reading the line with this number gave, with the number at its fault.
+fn numbered<T>(line: u64, read: Result<T, LineFault>) -> Result<T, FaultyLine>
+    ensures { result ≡ numbered line read }
+{
+    match read {
+        Ok(found) => Ok(found),
+        Err(fault) => Err(FaultyLine { line, fault }),
     }
 }
 
@@ -98,31 +98,38 @@ fn keep(
     ensures done { GivesModel (λ o. statements.new.items) result (Ok (statements.old.items ++ done_of under)) }
 {
     match under {
-        None => Ok(None),
-        Some(under) => {
-            if wants_pairs(&under.statement) {
-                return Ok(Some(under));
-            }
-            match statements.push(under.statement) {
-                Ok(()) => Ok(None),
-                Err(_) => Err(FaultyLine {
+        Some(under) if !wants_pairs(&under.statement) => {
+            match statements.push(under.statement).ok() {
+                Some(()) => Ok(None),
+                None => Err(FaultyLine {
                     line: number,
                     fault: LineFault::Memory,
                 }),
             }
         }
+        waiting => Ok(waiting),
     }
 }
 
-// The statements, where none of them wants pairs at the end.
+// The statements, where none of them wants pairs at the end. What is under way is let go in `drop`, since the proof of a
+// function that lets go of a statement itself is long.
 fn ended(
     under: Option<Unfinished>,
     statements: Vec<Statement>,
 ) -> Result<Vec<Statement>, FaultyLine>
     ensures { GivesModel (λ v. v.items) result (ended under statements.items) }
 {
+    let read = none_left(&under).and(Ok(statements));
+    drop(under);
+    read
+}
+
+// A statement that is under way at the end still wants pairs, which is the fault of its first line.
+fn none_left(under: &Option<Unfinished>) -> Result<(), FaultyLine>
+    ensures { (statements : List Statement) → ended under.now statements ≡ result_and result (Ok statements) }
+{
     match under {
-        None => Ok(statements),
+        None => Ok(()),
         Some(under) => Err(FaultyLine {
             line: under.line,
             fault: LineFault::BadPairs,

@@ -1,4 +1,4 @@
-ghost use Rattle.std.specs.Prelude.{◌≡◌, nat_lt, length, option_map};
+ghost use Rattle.std.specs.Prelude.{◌≡◌, ◌∷◌, ◌++◌, IfOk, nat_lt, length, option_map};
 ghost use Rattle.gw_lines.specs.Reading.{Gives};
 ghost use Rattle.gw_lines.specs.Pairs.{wants_pairs, pair_of, is_above, last_of, may_follow, with_point, points_with, body_with, statement_with, kept_in, kept_of, further_of, open_line};
 
@@ -8,10 +8,11 @@ use crate::line::{LONGEST, code, is_remark};
 use crate::number::coordinate;
 use crate::operand::MOST_POINTS;
 use crate::words::operands;
-use gw_expr::{Function, Point, Row};
+use gw_expr::{Point, Row};
 use gw_meaning::{Body, Definition, Statement};
 use gw_nums::Millionths;
-use std::alloc::Global;
+use std::alloc::{AllocError, Global};
+use std::mem;
 
 /// Whether a statement wants pairs on further lines: it is a FUNCTION that misses points.
 pub fn wants_pairs(statement: &Statement) -> bool
@@ -31,19 +32,16 @@ fn has_room(count: u32, points: &[Point]) -> bool
     (points.len() as u64) < u64::from(count)
 }
 
-/// A statement that wants pairs, with those of a further line; a blank line or a comment has none. Each point stands
-/// behind those before it: an x that is not above the last one, one pair too many, or what is no pair is `BadPairs`.
+/// Adds the pairs of a further line to a statement that wants some; a blank line or a comment has none. Each point
+/// stands behind those before it: an x that is not above the last one, one pair too many, or what is no pair is
+/// `BadPairs`. Behind a fault the statement may lack what it had.
 #[tactic(auto, unfolding(crate::specs::Pairs::further_of))]
-pub fn read_further(
-    alloc: Global,
-    statement: Statement,
-    line: &[u8],
-) -> Result<Statement, LineFault>
-    ensures { Gives (λ s. s) result (further_of statement line.now) }
+pub fn read_further(alloc: Global, statement: &mut Statement, line: &[u8]) -> Result<(), LineFault>
+    ensures { Gives (λ u. statement.new) result (further_of statement.old line.now) }
 {
     match read_kept(alloc, line)? {
-        None => Ok(statement),
-        Some(text) => statement_with(statement, &text),
+        None => Ok(()),
+        Some(text) => add_pairs(alloc, statement, &text),
     }
 }
 
@@ -85,49 +83,38 @@ fn kept_in(alloc: Global, code: &[u8]) -> Result<Option<Vec<u8>>, LineFault>
     Ok(Some(operands(alloc, code)?))
 }
 
-// A statement with the pairs of a text, which is listed behind its operands.
+// Adds the pairs of a text to a statement; the text is listed behind its operands.
 #[tactic(auto, unfolding(crate::specs::Pairs::statement_with))]
-fn statement_with(statement: Statement, text: &[u8]) -> Result<Statement, LineFault>
-    ensures { Gives (λ s. s) result (statement_with statement text.now) }
+fn add_pairs(alloc: Global, statement: &mut Statement, text: &[u8]) -> Result<(), LineFault>
+    ensures { Gives (λ u. statement.new) result (statement_with statement.old text.now) }
 {
-    let Statement {
-        label,
-        body,
-        operands,
-    } = statement;
-    let body = body_with(body, text)?;
-    let mut operands = operands.into_vec();
-    operands.push(b'|')?;
-    operands.extend_from_slice(text)?;
-    Ok(Statement {
-        label,
-        body,
-        operands: Row::from_vec(operands),
-    })
+    add_points(alloc, &mut statement.body, text)?;
+    Ok(list_behind(alloc, &mut statement.operands, text)?)
 }
 
-// A FUNCTION with the points of a text behind its own.
-fn body_with(body: Body, text: &[u8]) -> Result<Body, LineFault>
-    ensures { Gives (λ b. b) result (body_with body text.now) }
+// Adds the points of a text to a FUNCTION's.
+fn add_points(alloc: Global, body: &mut Body, text: &[u8]) -> Result<(), LineFault>
+    ensures { Gives (λ u. body.new) result (body_with body.old text.now) }
 {
     match body {
         Body::Definition(Definition::Function(function)) => {
-            let Function {
-                argument,
-                kind,
-                count,
-                points,
-            } = function;
-            let points = points_with(count, points.into_vec(), text)?;
-            Ok(Body::Definition(Definition::Function(Function {
-                argument,
-                kind,
-                count,
-                points: Row::from_vec(points),
-            })))
+            let points = mem::replace(&mut function.points, Row::from_vec(Vec::new(alloc)));
+            function.points = Row::from_vec(points_with(function.count, points.into_vec(), text)?);
+            Ok(())
         }
         _ => Err(LineFault::BadPairs),
     }
+}
+
+// Lists a text behind operands.
+fn list_behind(alloc: Global, operands: &mut Row<u8>, text: &[u8]) -> Result<(), AllocError>
+    ensures { IfOk result (λ u. operands.new ≡ operands.old ++ 124 ∷ text.now) }
+{
+    let mut listed = mem::replace(operands, Row::from_vec(Vec::new(alloc))).into_vec();
+    listed.push(b'|')?;
+    listed.extend_from_slice(text)?;
+    *operands = Row::from_vec(listed);
+    Ok(())
 }
 
 // Points with those that a text spells behind them.
