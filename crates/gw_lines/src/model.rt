@@ -111,8 +111,8 @@ fn keep(
     }
 }
 
-// The statements, where none of them wants pairs at the end. What is under way is let go in `drop`, since the proof of a
-// function that lets go of a statement itself is long.
+// The statements, where none of them wants pairs at the end. What is under way is let go in `drop`, since the proof of
+// a function that lets go of a statement itself is long.
 fn ended(
     under: Option<Unfinished>,
     statements: Vec<Statement>,

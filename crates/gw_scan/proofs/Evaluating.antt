@@ -1,16 +1,17 @@
 -- An evaluation of operands that a state answers is the evaluation in that state.
-use Rattle.std.proofs.Common.{ℕ, ℤ, Option, Result, Ok, Err, refl, subst}
+use Rattle.std.proofs.Common.{◌≡◌, ℕ, ℤ, Option, Result, Ok, Err, refl, subst}
 use Rattle.gw_expr.specs.declared.eval_fault.Fault.{Fault}
 use Rattle.gw_expr.specs.declared.eval_fault.Fault.TheVariants as faults
 use Rattle.gw_expr.specs.declared.function.Function.{Function}
-use Rattle.gw_expr.specs.Evaluation.{Question, NumberOf, AttributeOf, PartOf, VariableOf, FunctionOf, Reply, Evaluation, Wants, value_of}
-use Rattle.gw_expr.specs.Term.{Term}
+use Rattle.gw_expr.specs.Evaluation.{Question, NumberOf, AttributeOf, PartOf, VariableOf, FunctionOf, Reply, Evaluation, Wants, value_of, value_by, value_of_atom}
+use Rattle.gw_expr.specs.declared.atom.Atom.TheVariants.{Constant}
+use Rattle.gw_expr.specs.Term.{Term, Value}
 use Rattle.gw_expr.specs.Worlds.{Says, Evaluates, yields, stops, refused, replied, failed}
 use Rattle.gw_meaning.specs.declared.asker.Asker.{Asker}
 use Rattle.gw_meaning.specs.declared.item.End.TheVariants as ends
 use Rattle.gw_meaning.specs.declared.item.Item.{Item}
 use Rattle.gw_meaning.specs.declared.item.Item.TheVariants as items
-use Rattle.gw_meaning.specs.Evaluation.{Eval, ends_with, reply_prog, evaluated, value_prog}
+use Rattle.gw_meaning.specs.Evaluation.{Eval, gives, ends_with, reply_prog, evaluated, value_prog}
 use Rattle.gw_meaning.specs.Listing.{Listing, variable_at, function_at}
 use Rattle.gw_meaning.specs.Machine.{Machine}
 use Rattle.gw_scan.specs.declared.halt.Why.{Why}
@@ -75,3 +76,8 @@ module _ (t : Listing) (seed : ℕ) (s : Machine) (q : Asker) where
       Evaluates says (Replied t seed s q) (value_of operand) r old new → Decides t seed (value_prog s q operand) (halted r) old new
   unfolding value_prog
   value_decides operand h = evaluation_decides h
+
+-- the value of a constant
+pub constant_gives : (s : Machine) (q : Asker) (value : ℤ) → value_prog s q (Value (Constant value)) ≡ gives value
+unfolding value_prog value_of value_by value_of_atom
+constant_gives s q value = refl

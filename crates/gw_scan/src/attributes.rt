@@ -29,8 +29,8 @@ impl State {
         }
     }
 
-    // The value of an attribute other than that of a VARIABLE or of a FUNCTION. Each of C1, AC1 and TG1 has an arm of its
-    // own, in which `own_value` is compiled for it alone.
+    // The value of an attribute other than that of a VARIABLE or of a FUNCTION. Each of C1, AC1 and TG1 has an arm of
+    // its own, in which `own_value` is compiled for it alone.
     #[inline(never)]
     #[tactic(auto, unfolding(gw_meaning::specs::Evaluation::attribute_prog))]
     pub(crate) fn attribute(

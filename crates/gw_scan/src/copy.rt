@@ -1,5 +1,5 @@
-// A copy of a state, made of copies of its parts. The parts that own memory are copied in two groups: what is proved of a
-// function grows fast with the exits at which it lets go of copies.
+// A copy of a state, made of copies of its parts. The parts that own memory are copied in two groups: what is proved of
+// a function grows fast with the exits at which it lets go of copies.
 ghost use Rattle.std.specs.Prelude.{◌≡◌, IfOk};
 ghost use Rattle.gw_scan.specs.Copies.{ChainsOf, KeptOf};
 

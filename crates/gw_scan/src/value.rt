@@ -21,7 +21,7 @@ use gw_nums::Val;
 impl State {
     // The value of an operand, most of which are constants.
     #[inline(always)]
-    #[tactic(auto, unfolding(gw_meaning::specs::Evaluation::value_prog, gw_expr::specs::Evaluation::value_of, gw_expr::specs::Evaluation::value_by, gw_expr::specs::Evaluation::value_of_atom))]
+    #[tactic(auto, using(crate::proofs::Evaluating::constant_gives))]
     pub(crate) fn value(
         &self,
         case: Case,
@@ -97,7 +97,7 @@ impl State {
 
     // The entity that an operand names, for a transaction.
     #[inline(always)]
-    #[tactic(auto, unfolding(gw_meaning::specs::Evaluation::value_prog, gw_expr::specs::Evaluation::value_of, gw_expr::specs::Evaluation::value_by, gw_expr::specs::Evaluation::value_of_atom))]
+    #[tactic(auto, using(crate::proofs::Evaluating::constant_gives))]
     pub(crate) fn entity<'a>(
         &self,
         case: Case,
