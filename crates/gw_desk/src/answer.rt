@@ -1,7 +1,7 @@
 use gw_expr::Row;
 
 /// A report that is handed out.
-#[derive(Debug, Drop)]
+#[derive(Drop)]
 pub struct Report {
     /// How many edits its version has behind it.
     pub edits: u64,
@@ -13,7 +13,7 @@ pub struct Report {
 }
 
 /// What a query is answered.
-#[derive(Debug, Drop)]
+#[derive(Drop)]
 pub enum Answer {
     /// The report of the run from zero.
     Ready(Report),

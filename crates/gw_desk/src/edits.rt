@@ -29,11 +29,12 @@ impl Desk {
             Ok(new) => new,
             Err(fault) => return Err(fault),
         };
-        let touch = touch_of(&self.version, &edit, &new)?;
-        self.runs.reserve(new.replications().len())?;
-        self.edits.reserve(1)?;
+        let room = self.runs.reserve(new.replications().len());
+        let room = room.and(self.edits.reserve(1));
+        let touch = room.and(touch_of(&self.version, &edit, &new))?;
         new.numbered();
         rebase_all(&mut self.runs, &self.version, &touch);
+        drop(touch);
         add_missing(&mut self.runs, alloc, new.replications(), self.every);
         keep_those_of(&mut self.runs, &new);
         self.version = new;

@@ -14,7 +14,7 @@ use gw_scan::end_at;
 use std::alloc::{AllocError, Global};
 
 /// Where the report of a START is taken, as far as the recorded steps tell.
-#[derive(Clone, Copy, Debug, PartialEq, Eq)]
+#[derive(Clone, Copy)]
 pub enum Look {
     /// At this moment, with this outcome.
     Point { moment: u64, outcome: Outcome },

@@ -10,7 +10,7 @@ use gw_edit::{Edit, EditFault};
 use std::alloc::{AllocError, Global};
 
 /// What a planner does.
-#[derive(Debug, Drop)]
+#[derive(Drop)]
 pub enum Event {
     Edit(Edit),
     /// A query from the recorded steps alone.
@@ -20,7 +20,7 @@ pub enum Event {
 }
 
 /// What an event is answered.
-#[derive(Debug, Drop)]
+#[derive(Drop)]
 pub enum Reply {
     /// The edit is accepted, as the one with this number.
     Edited(u64),

@@ -6,7 +6,7 @@ use std::alloc::{AllocError, Global};
 
 /// An edit of a version. Places count the statements from 1. An edit after which the version would have a
 /// fault is E3.
-#[derive(Debug, Drop)]
+#[derive(Drop)]
 pub enum Edit {
     /// The statement that `text` spells comes in at `place`, 1 to the number of statements and one; else it is
     /// E1. A text that spells none is E2.

@@ -14,7 +14,7 @@ use std::alloc::AllocError;
 use std::marker::Model;
 
 /// Items that a run may have asked for. Blocks go by their statement ids.
-#[derive(Debug, Drop, PartialEq, Eq)]
+#[derive(Drop)]
 pub enum Probe {
     /// This item.
     One(Item),
@@ -32,7 +32,7 @@ pub enum Probe {
 }
 
 /// What an edit touches: at most ten probes in every replication, and the seed in one of them, if any.
-#[derive(Debug, Drop)]
+#[derive(Drop)]
 pub struct Touch {
     // Those of the statement that goes, or of an edit of no statement.
     pub(crate) first: Probes,
@@ -212,12 +212,13 @@ fn definition_place(line: &Numbered) -> Result<Option<Probe>, AllocError>
 fn block_probes(front: Option<StatementId>, line: &Numbered) -> Result<Probes, AllocError>
     ensures { IfOk result (λ probes. probes ≡ block_places front line.now) }
 {
+    let label = label_if(true, &line.statement.label)?;
     Ok([
         front.map(|id| Probe::One(Item::After(id))),
         Some(Probe::One(Item::Block(line.number))),
         Some(Probe::One(Item::After(line.number))),
         one_if(line.is_generate(), Item::Generates),
-        label_if(true, &line.statement.label)?,
+        label,
     ])
 }
 

@@ -6,7 +6,7 @@ use gw_nums::Clock;
 use std::marker::Model;
 
 /// A facility: who owns it, how often it was taken, and how long it was owned. The count stays at its greatest value.
-#[derive(Clone, Copy, Debug)]
+#[derive(Clone, Copy)]
 pub struct Facility {
     owner: Option<u64>,
     captures: u64,

@@ -6,7 +6,7 @@ use std::marker::Model;
 
 /// A content over time, with the sum of content times the time that it stood. A clock before the last change counts
 /// as that of the change.
-#[derive(Clone, Copy, Debug)]
+#[derive(Clone, Copy)]
 pub struct Level {
     content: u64,
     // Up to the last change.

@@ -45,7 +45,7 @@ impl Model for Parameters {
 
 /// Where a parameter lies that is among the first few of its transaction. It holds until the parameters of a
 /// transaction are forgotten.
-#[derive(Clone, Copy, Debug)]
+#[derive(Clone, Copy)]
 pub struct ParameterPlace {
     /// Which of the transactions that have some.
     pub transaction: usize,

@@ -6,7 +6,7 @@ use gw_nums::Clock;
 use std::marker::Model;
 
 /// A queue: how much is in it, came, and went at once. Each count stays at its greatest value.
-#[derive(Clone, Copy, Debug)]
+#[derive(Clone, Copy)]
 pub struct Queue {
     entries: u64,
     zero_entries: u64,

@@ -7,7 +7,7 @@ use std::marker::Model;
 
 /// A storage: how many units are in use and came into use. Each count stays at its greatest value. How many units it
 /// has is no matter of the run.
-#[derive(Clone, Copy, Debug)]
+#[derive(Clone, Copy)]
 pub struct Storage {
     entries: u64,
     least: u64,

@@ -10,38 +10,38 @@ use Rattle.gw_expr.specs.Worlds.{Evaluates, Comes, yields}
 use Rattle.gw_expr.proofs.Expressions.{parts_then, then_assoc}
 use Rattle.gw_expr.proofs.Worlds.{then_goes, then_fails, goes_comes}
 
-module _ {N : Type 0} {says : (q : Question) → Reply q → Type 0} {replies : (q : Question) → N → Result (Reply q) Fault → N → Type 0}
+module _ {W : Type 0} {says : (q : Question) → Reply q → Type 0} {replies : (q : Question) → W → Result (Reply q) Fault → W → Type 0}
     (defined : Definitions) (values : List ℤ) where
   -- a part is a value, which goes in front of those that wait
-  pub value_goes : {t : Token} {atom : Atom} {more : List ℤ} {v : ℤ} {xs ys : N} → t ≡ tokens.Value atom → more ≡ v ∷ values →
+  pub value_goes : {t : Token} {atom : Atom} {more : List ℤ} {v : ℤ} {xs ys : W} → t ≡ tokens.Value atom → more ≡ v ∷ values →
       Evaluates says replies (value_of_atom defined atom) (Ok v) xs ys → Evaluates says replies (after_token defined t values) (Ok more) xs ys
   value_goes is waits h = rw (is, waits) (then_goes _ h (yields _ _))
 
   -- it has no value
-  pub value_fails : {t : Token} {atom : Atom} {fault : Fault} {xs ys : N} → t ≡ tokens.Value atom →
+  pub value_fails : {t : Token} {atom : Atom} {fault : Fault} {xs ys : W} → t ≡ tokens.Value atom →
       Evaluates says replies (value_of_atom defined atom) (Err fault) xs ys → Evaluates says replies (after_token defined t values) (Err fault) xs ys
   value_fails is h = rw is (then_fails _ h)
 
 -- of the few values that waited, the first i parts made these
-pub record HaveLeft {N : Type 0} (says : (q : Question) → Reply q → Type 0) (replies : (q : Question) → N → Result (Reply q) Fault → N → Type 0)
-    (defined : Definitions) (ts : List Token) (few : List ℤ) (xs : N) (i : ℕ) (values : List ℤ) (ys : N) : Type 0 where
+pub record HaveLeft {W : Type 0} (says : (q : Question) → Reply q → Type 0) (replies : (q : Question) → W → Result (Reply q) Fault → W → Type 0)
+    (defined : Definitions) (ts : List Token) (few : List ℤ) (xs : W) (i : ℕ) (values : List ℤ) (ys : W) : Type 0 where
   pub so_far : Evaluates says replies (after_tokens defined (take i ts) few) (Ok values) xs ys
 
-module _ {N : Type 0} {says : (q : Question) → Reply q → Type 0} {replies : (q : Question) → N → Result (Reply q) Fault → N → Type 0}
-    {defined : Definitions} {ts : List Token} {few values : List ℤ} {xs ys : N} {i : ℕ} (left : HaveLeft says replies defined ts few xs i values ys) where
+module _ {W : Type 0} {says : (q : Question) → Reply q → Type 0} {replies : (q : Question) → W → Result (Reply q) Fault → W → Type 0}
+    {defined : Definitions} {ts : List Token} {few values : List ℤ} {xs ys : W} {i : ℕ} (left : HaveLeft says replies defined ts few xs i values ys) where
   -- what those behind them come to is what all come to
-  pub rest_goes : {r : Result ℤ Fault} {zs : N} → Evaluates says replies (after_tokens defined (drop i ts) values ⟫ last_value) r ys zs →
+  pub rest_goes : {r : Result ℤ Fault} {zs : W} → Evaluates says replies (after_tokens defined (drop i ts) values ⟫ last_value) r ys zs →
       Evaluates says replies (after_tokens defined ts few ⟫ last_value) r xs zs
   rest_goes h = rw (← take-append-drop i ts, parts_then, then_assoc) (then_goes _ left.so_far h)
 
   -- the next part fails
-  pub part_fails : {t : Token} {fault : Fault} {zs : N} → i < length ts → t ≡ get_or ts i t →
+  pub part_fails : {t : Token} {fault : Fault} {zs : W} → i < length ts → t ≡ get_or ts i t →
       Evaluates says replies (after_token defined t values) (Err fault) ys zs →
       Evaluates says replies (after_tokens defined ts few ⟫ last_value) (Err fault) xs zs
   part_fails {t} there is h = rest_goes (rw (drop_more ts i t there, ← is) (then_fails _ (then_fails _ h)))
 
   -- it leaves other values
-  pub part_goes : {t : Token} {more : List ℤ} {zs : N} → i < length ts → t ≡ get_or ts i t →
+  pub part_goes : {t : Token} {more : List ℤ} {zs : W} → i < length ts → t ≡ get_or ts i t →
       Evaluates says replies (after_token defined t values) (Ok more) ys zs → HaveLeft says replies defined ts few xs (i + 1) more zs
   part_goes {t} there is h =
       record { so_far = rw (take_more ts i t there, ← is, parts_then) (then_goes _ left.so_far (then_goes _ h (yields _ _))) }

@@ -15,30 +15,36 @@ Says variable function (PartOf of) reply = Unit {0}
 Says variable function (VariableOf name) reply = reply ≡ variable name
 Says variable function (FunctionOf name) reply = reply ≡ function name
 
--- what is noted of a question whose reply definitions give: it is refused, or may go on with any reply
+-- what the world says to a question whose reply definitions give: it refuses to note it, or may go on with any reply
 abbrev pub with_reply : {A : Type 0} → A → Result (Unit {0}) Fault → Result A Fault
 with_reply reply (Ok noted) = Ok reply
 with_reply reply (Err fault) = Err fault
 
--- an evaluation, with what was noted before and behind it, came to this result: each of its questions got a reply that
--- the definitions say and the world may give, up to the first that got none. Want of memory alone leaves the rest open
-pub data Evaluates {N : Type 0} (says : (q : Question) → Reply q → Type 0)
-    (replies : (q : Question) → N → Result (Reply q) Fault → N → Type 0) {A : Type 0}
-    : Evaluation A → Result A Fault → N → N → Type 0 where
-  yields : (a : A) (notes : N) → Evaluates says replies (Yields a) (Ok a) notes notes
-  stops : (stop : Stop) (notes : N) → Evaluates says replies (Stops stop) (Err (faults.Stop stop)) notes notes
-  refused : (p : Evaluation A) (notes : N) → Evaluates says replies p (Err faults.Memory) notes notes
-  replied : (q : Question) (k : Reply q → Evaluation A) (reply : Reply q) (r : Result A Fault) (old between new : N) →
+-- an evaluation, with the world before and behind it, came to this result: each of its questions got a reply that the
+-- definitions say and the world may give, up to the first that got none. Want of memory alone leaves the rest open
+pub data Evaluates {W : Type 0} (says : (q : Question) → Reply q → Type 0)
+    (replies : (q : Question) → W → Result (Reply q) Fault → W → Type 0) {A : Type 0}
+    : Evaluation A → Result A Fault → W → W → Type 0 where
+  yields : (a : A) (world : W) → Evaluates says replies (Yields a) (Ok a) world world
+  stops : (stop : Stop) (world : W) → Evaluates says replies (Stops stop) (Err (faults.Stop stop)) world world
+  refused : (p : Evaluation A) (world : W) → Evaluates says replies p (Err faults.Memory) world world
+  replied : (q : Question) (k : Reply q → Evaluation A) (reply : Reply q) (r : Result A Fault) (old between new : W) →
       says q reply → replies q old (Ok reply) between → Evaluates says replies (k reply) r between new →
       Evaluates says replies (Wants q k) r old new
-  failed : (q : Question) (k : Reply q → Evaluation A) (fault : Fault) (old new : N) →
+  failed : (q : Question) (k : Reply q → Evaluation A) (fault : Fault) (old new : W) →
       replies q old (Err fault) new → Evaluates says replies (Wants q k) (Err fault) old new
 
--- the same, of an evaluation that asks for nothing
+-- the same, of an evaluation that asks for nothing and wants no memory
 abbrev pub Comes : {A : Type 0} → Evaluation A → Result A Fault → Type 0
 Comes p (Ok a) = p ≡ Yields a
 Comes p (Err (faults.Stop stop)) = p ≡ Stops stop
-Comes p (Err faults.Memory) = Unit {0}
+Comes p (Err faults.Memory) = ⊥
+
+-- the same, where a value may find no place
+abbrev pub ComesInPlaces : {A : Type 0} → Evaluation A → Result A Fault → Type 0
+ComesInPlaces p (Ok a) = p ≡ Yields a
+ComesInPlaces p (Err (faults.Stop stop)) = p ≡ Stops stop
+ComesInPlaces p (Err faults.Memory) = Unit {0}
 
 -- the result of a function that changes a value in place, with the value that stands there behind it
 abbrev pub in_place : {A : Type 0} → Result (Unit {0}) Fault → A → Result A Fault

@@ -3,7 +3,7 @@ use gw_names::{Class, Name};
 use gw_nums::Val;
 
 /// A single value: an operand by itself, or a part of an expression.
-#[derive(Clone, Debug, Drop, PartialEq, Eq)]
+#[derive(Clone, Drop, PartialEq, Eq)]
 pub enum Atom {
     /// A whole number.
     Constant(Val),

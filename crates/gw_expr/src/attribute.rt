@@ -1,7 +1,7 @@
 use gw_names::{Class, Name};
 
 /// What a numerical attribute is of.
-#[derive(Clone, Debug, Drop, PartialEq, Eq)]
+#[derive(Clone, Drop, PartialEq, Eq)]
 pub enum Subject {
     /// The run, or the transaction that evaluates it.
     Own,
@@ -12,7 +12,7 @@ pub enum Subject {
 }
 
 /// A numerical attribute, as a world is asked for it. (Manual: System Numerical Attributes.)
-#[derive(Clone, Copy, Debug)]
+#[derive(Clone, Copy)]
 pub struct Sna<'a> {
     /// Its class.
     pub class: Class,

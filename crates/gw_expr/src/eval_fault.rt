@@ -8,7 +8,7 @@ use std::alloc::{AllocError, AllocFailed};
 use std::marker::Model;
 
 /// Why an operand has no value: a growth was refused, or the run stops here.
-#[derive(Clone, Copy, Debug, PartialEq, Eq)]
+#[derive(Clone, Copy)]
 pub enum Fault {
     Memory,
     Stop(Stop),
@@ -16,7 +16,7 @@ pub enum Fault {
 
 /// A [`Fault`] as one number, so that a result that may be a fault is handed back in registers. A stop has the number
 /// that a report prints behind an X.
-#[derive(Debug, Drop)]
+#[derive(Drop)]
 pub struct EvalFault {
     number: u32,
 }

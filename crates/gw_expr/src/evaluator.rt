@@ -15,7 +15,6 @@ use crate::token::Token;
 use crate::world::{Defs, World};
 use gw_names::{Class, Name};
 use gw_nums::{Millionths, Val};
-use std::alloc::Global;
 
 // How many VARIABLEs and FUNCTIONs may nest.
 const DEEPEST: u32 = 32;
@@ -27,21 +26,18 @@ const SHORT: usize = 16;
 /// The value of an operand: the definitions and the world are asked in the order of specs/Evaluation.
 ///
 /// It stops with X6 at a division by 0, with X7 where a value would be out of range or an operand has none, with X10
-/// where more than 32 VARIABLEs and FUNCTIONs nest, and with whatever the world stops with. Out of memory is answered
-/// where more than 128 values wait, or where the world runs out of it. What was noted up to there stays.
+/// where more than 32 VARIABLEs and FUNCTIONs nest, and with whatever the world stops with. Nothing is allocated: out of
+/// memory is answered where more than 128 values wait, or where the world runs out of it. What the world noted and drew
+/// up to there stays.
 #[tactic(auto, unfolding(crate::specs::Evaluation::value_of))]
-pub fn eval<D: Defs, W: World>(
-    alloc: Global,
-    operand: &Expr,
-    defs: &D,
-    world: &W,
-    notes: &mut W::Notes,
-) -> Result<Val, EvalFault>
-    ensures { Evaluates (Says (D.variable_of defs.now) (D.function_of defs.now)) (W.replies world.now)
-        (value_of operand.now) result notes.old notes.new }
+pub fn eval<D: Defs, W: World>(operand: &Expr, defs: &D, world: &mut W) -> Result<Val, EvalFault>
+    ensures { Evaluates (Says (D.variable_of defs.now) (D.function_of defs.now)) W.replies
+        (value_of operand.now) result world.old world.new }
 {
-    let evaluator = Evaluator { alloc, defs, world };
-    evaluator.term(notes, DEEPEST, operand)
+    match operand.node() {
+        Node::Value(atom) => of_atom(defs, world, DEEPEST, atom),
+        _ => term(defs, world, DEEPEST, operand),
+    }
 }
 
 /// What the FUNCTION that an attribute names comes to, in millionths: the modifier of a time takes it so, uncut.
@@ -49,307 +45,290 @@ pub fn eval<D: Defs, W: World>(
 /// It stops as [`eval`] does.
 #[tactic(auto, unfolding(crate::specs::Evaluation::function_of))]
 pub fn eval_function<D: Defs, W: World>(
-    alloc: Global,
     of: &Subject,
     defs: &D,
-    world: &W,
-    notes: &mut W::Notes,
+    world: &mut W,
 ) -> Result<Millionths, EvalFault>
-    ensures { Evaluates (Says (D.variable_of defs.now) (D.function_of defs.now)) (W.replies world.now)
-        (function_of of.now) result notes.old notes.new }
+    ensures { Evaluates (Says (D.variable_of defs.now) (D.function_of defs.now)) W.replies
+        (function_of of.now) result world.old world.new }
 {
-    let evaluator = Evaluator { alloc, defs, world };
-    evaluator.of_function(notes, DEEPEST, of)
+    of_function(defs, world, DEEPEST, of)
 }
 
-// Whom an evaluation asks, and where it finds memory.
-#[derive(Drop)]
-struct Evaluator<'a, D, W> {
-    alloc: Global,
-    defs: &'a D,
-    world: &'a W,
+// The value of an operand, in which so many VARIABLEs and FUNCTIONs may nest. Its arms alone are calls, one for each of
+// those: all else of this cycle is inlined, so that 32 of them take 32 frames of the stack.
+#[inline(always)]
+#[cycle(nested)]
+#[tactic(auto, unfolding(crate::specs::Evaluation::value_by), using(crate::specs::Worlds::stops))]
+fn term<D: Defs, W: World>(
+    defs: &D,
+    world: &mut W,
+    depth: u32,
+    operand: &Expr,
+) -> Result<Val, EvalFault>
+    ensures { Evaluates (Says (D.variable_of defs.now) (D.function_of defs.now)) W.replies
+        (value_by (definitions_within depth) operand.now) result world.old world.new }
+{
+    match operand.node() {
+        Node::Value(atom) => alone(defs, world, depth, atom),
+        Node::Computed(tokens) if tokens.len() > SHORT => {
+            rest(defs, world, depth, tokens, FewValues::new())
+        }
+        Node::Computed(tokens) => computed(defs, world, depth, tokens),
+        _ => Err(EvalFault::RANGE),
+    }
 }
 
-impl<'a, D: Defs, W: World> Evaluator<'a, D, W> {
-    // The value of an operand, in which so many VARIABLEs and FUNCTIONs may nest. A long expression is evaluated by
-    // `rest` alone, so that no more than two calls stand in each other for each of them.
-    #[inline(always)]
-    #[cycle(nested)]
-    #[tactic(auto, unfolding(crate::specs::Evaluation::value_by), using(crate::specs::Worlds::stops))]
-    fn term(&self, notes: &mut W::Notes, depth: u32, operand: &Expr) -> Result<Val, EvalFault>
-        ensures { Evaluates (Says (D.variable_of self.now.defs.now) (D.function_of self.now.defs.now))
-            (W.replies self.now.world.now) (value_by (definitions_within depth) operand.now)
-            result notes.old notes.new }
-    {
-        match operand.node() {
-            Node::Value(atom) => self.atom(notes, depth, atom),
-            Node::Computed(tokens) if tokens.len() > SHORT => {
-                self.rest(notes, depth, tokens, FewValues::new())
-            }
-            Node::Computed(tokens) => self.computed(notes, depth, tokens),
-            _ => Err(EvalFault::RANGE),
-        }
-    }
-
-    // The value of a constant, of a name that stands for a number, or of an attribute.
-    #[inline(always)]
-    #[cycle(nested)]
-    #[tactic(auto, unfolding(crate::specs::Evaluation::value_of_atom), using(crate::specs::Worlds::yields))]
-    fn atom(&self, notes: &mut W::Notes, depth: u32, atom: &Atom) -> Result<Val, EvalFault>
-        ensures { Evaluates (Says (D.variable_of self.now.defs.now) (D.function_of self.now.defs.now))
-            (W.replies self.now.world.now) (value_of_atom (definitions_within depth) atom.now)
-            result notes.old notes.new }
-    {
-        match atom {
-            Atom::Constant(value) => Ok(*value),
-            Atom::Number(name) => number_given(self.world.number(notes, name)?),
-            Atom::Attribute(class, of) => {
-                if is_of_variable(*class) {
-                    self.of_variable(notes, depth, of)
-                } else if is_of_function(*class) {
-                    self.whole_of_function(notes, depth, of)
-                } else {
-                    self.world.attribute(notes, Sna { class: *class, of })
-                }
+// The value of a constant, of a name that stands for a number, or of an attribute.
+#[inline(always)]
+#[cycle(nested)]
+#[tactic(auto, unfolding(crate::specs::Evaluation::value_of_atom))]
+fn of_atom<D: Defs, W: World>(
+    defs: &D,
+    world: &mut W,
+    depth: u32,
+    atom: &Atom,
+) -> Result<Val, EvalFault>
+    ensures { Evaluates (Says (D.variable_of defs.now) (D.function_of defs.now)) W.replies
+        (value_of_atom (definitions_within depth) atom.now) result world.old world.new }
+{
+    match atom {
+        Atom::Constant(value) => Ok(*value),
+        Atom::Number(name) => number_given(world.number(name)?),
+        Atom::Attribute(class, of) => {
+            if is_of_variable(*class) {
+                of_variable(defs, world, depth, of)
+            } else if is_of_function(*class) {
+                whole_of_function(defs, world, depth, of)
+            } else {
+                world.attribute(Sna { class: *class, of })
             }
         }
     }
+}
 
-    // The value of the VARIABLE that an attribute names, unless too many nest already.
-    #[inline(always)]
-    #[cycle(nested)]
-    #[tactic(auto, unfolding(crate::specs::Evaluation::definitions_within), using(crate::specs::Worlds::stops))]
-    fn of_variable(&self, notes: &mut W::Notes, depth: u32, of: &Subject) -> Result<Val, EvalFault>
-        ensures { Evaluates (Says (D.variable_of self.now.defs.now) (D.function_of self.now.defs.now))
-            (W.replies self.now.world.now) (of_variable (definitions_within depth) of.now)
-            result notes.old notes.new }
-    {
-        let Subject::Name(name) = of else {
-            return Err(EvalFault::RANGE);
-        };
-        if depth == 0 {
-            return Err(EvalFault::VARIABLE_DEPTH);
+// The value of an operand that is no expression, where a VARIABLE or a FUNCTION evaluates it.
+#[inline(never)]
+#[cycle(nested)]
+fn alone<D: Defs, W: World>(
+    defs: &D,
+    world: &mut W,
+    depth: u32,
+    atom: &Atom,
+) -> Result<Val, EvalFault>
+    ensures { Evaluates (Says (D.variable_of defs.now) (D.function_of defs.now)) W.replies
+        (value_of_atom (definitions_within depth) atom.now) result world.old world.new }
+{
+    of_atom(defs, world, depth, atom)
+}
+
+// The value of the VARIABLE that an attribute names, unless too many nest already.
+#[inline(always)]
+#[cycle(nested)]
+#[tactic(auto, unfolding(crate::specs::Evaluation::definitions_within), using(crate::specs::Worlds::stops))]
+fn of_variable<D: Defs, W: World>(
+    defs: &D,
+    world: &mut W,
+    depth: u32,
+    of: &Subject,
+) -> Result<Val, EvalFault>
+    ensures { Evaluates (Says (D.variable_of defs.now) (D.function_of defs.now)) W.replies
+        (of_variable (definitions_within depth) of.now) result world.old world.new }
+{
+    let Subject::Name(name) = of else {
+        return Err(EvalFault::RANGE);
+    };
+    if depth == 0 {
+        return Err(EvalFault::VARIABLE_DEPTH);
+    }
+    world.note_variable(name)?;
+    match defs.variable(name) {
+        Some(expression) => term(defs, world, depth - 1, expression),
+        None => Err(EvalFault::RANGE),
+    }
+}
+
+// The greatest value that is not above what a FUNCTION comes to.
+#[inline(always)]
+#[cycle(nested)]
+fn whole_of_function<D: Defs, W: World>(
+    defs: &D,
+    world: &mut W,
+    depth: u32,
+    of: &Subject,
+) -> Result<Val, EvalFault>
+    ensures { Evaluates (Says (D.variable_of defs.now) (D.function_of defs.now)) W.replies
+        (whole_of_function (definitions_within depth) of.now) result world.old world.new }
+{
+    let y = of_function(defs, world, depth, of)?;
+    Ok(y.whole())
+}
+
+// What the FUNCTION that an attribute names comes to, unless too many nest already.
+#[inline(always)]
+#[cycle(nested)]
+#[tactic(auto, unfolding(crate::specs::Evaluation::definitions_within), using(crate::specs::Worlds::stops))]
+fn of_function<D: Defs, W: World>(
+    defs: &D,
+    world: &mut W,
+    depth: u32,
+    of: &Subject,
+) -> Result<Millionths, EvalFault>
+    ensures { Evaluates (Says (D.variable_of defs.now) (D.function_of defs.now)) W.replies
+        (of_function (definitions_within depth) of.now) result world.old world.new }
+{
+    let Subject::Name(name) = of else {
+        return Err(EvalFault::RANGE);
+    };
+    if depth == 0 {
+        return Err(EvalFault::VARIABLE_DEPTH);
+    }
+    world.note_function(name)?;
+    match defs.function(name) {
+        Some(function) => at_argument(defs, world, depth - 1, function),
+        None => Err(EvalFault::RANGE),
+    }
+}
+
+// What a FUNCTION comes to at its argument.
+#[inline(always)]
+#[cycle(nested)]
+fn at_argument<D: Defs, W: World>(
+    defs: &D,
+    world: &mut W,
+    depth: u32,
+    function: &Function,
+) -> Result<Millionths, EvalFault>
+    ensures { Evaluates (Says (D.variable_of defs.now) (D.function_of defs.now)) W.replies
+        (function_given (argument_by (definitions_within depth)) (Some function.now)) result world.old world.new }
+{
+    let x = argument(defs, world, depth, &function.argument)?;
+    point_found(function.at(x))
+}
+
+// The argument of a FUNCTION.
+#[inline(always)]
+#[cycle(nested)]
+fn argument<D: Defs, W: World>(
+    defs: &D,
+    world: &mut W,
+    depth: u32,
+    argument: &Expr,
+) -> Result<Millionths, EvalFault>
+    ensures { Evaluates (Says (D.variable_of defs.now) (D.function_of defs.now)) W.replies
+        (argument_by (definitions_within depth) argument.now) result world.old world.new }
+{
+    match random_of(argument) {
+        Some(of) => world.part(of),
+        None => whole_argument(defs, world, depth, argument),
+    }
+}
+
+// An argument that is a value.
+#[inline(always)]
+#[cycle(nested)]
+fn whole_argument<D: Defs, W: World>(
+    defs: &D,
+    world: &mut W,
+    depth: u32,
+    argument: &Expr,
+) -> Result<Millionths, EvalFault>
+    ensures { Evaluates (Says (D.variable_of defs.now) (D.function_of defs.now)) W.replies
+        (argument_with (definitions_within depth) argument.now None) result world.old world.new }
+{
+    let value = term(defs, world, depth, argument)?;
+    Ok(Millionths::of_value(value))
+}
+
+// The value of an expression.
+#[inline(never)]
+#[cycle(nested)]
+fn computed<D: Defs, W: World>(
+    defs: &D,
+    world: &mut W,
+    depth: u32,
+    tokens: &[Token],
+) -> Result<Val, EvalFault>
+    ensures { Evaluates (Says (D.variable_of defs.now) (D.function_of defs.now)) W.replies
+        (after_tokens (definitions_within depth) tokens.now [] ⟫ last_value) result world.old world.new }
+{
+    let mut values = FewValues::new();
+    for index in 0..tokens.len() {
+        if values.is_full_for(&tokens[index]) {
+            return rest(defs, world, depth, &tokens[index..], values);
         }
-        self.variable(notes, depth - 1, name)
+        token(defs, world, depth, &tokens[index], &mut values)?;
     }
+    values.last()
+}
 
-    // The value of the VARIABLE of a name, in whose expression so many may nest.
-    #[inline(never)]
-    #[cycle(nested)]
-    fn variable(&self, notes: &mut W::Notes, depth: u32, name: &Name) -> Result<Val, EvalFault>
-        ensures { Evaluates (Says (D.variable_of self.now.defs.now) (D.function_of self.now.defs.now))
-            (W.replies self.now.world.now) ((definitions_within (suc depth)).variable name.now)
-            result notes.old notes.new }
-    {
-        self.world.note_variable(notes, name)?;
-        match self.defs.variable(name) {
-            Some(expression) => self.term(notes, depth, expression),
-            None => Err(EvalFault::RANGE),
+// What one part of an expression makes of the few values that wait.
+#[inline(always)]
+#[cycle(nested)]
+fn token<D: Defs, W: World>(
+    defs: &D,
+    world: &mut W,
+    depth: u32,
+    token: &Token,
+    values: &mut FewValues,
+) -> Result<(), EvalFault>
+    requires { HasRoomFor token.now values.old }
+    ensures { Evaluates (Says (D.variable_of defs.now) (D.function_of defs.now)) W.replies
+        (after_token (definitions_within depth) token.now values.old) (in_place result values.new) world.old world.new }
+{
+    match token {
+        Token::Value(atom) => {
+            let value = of_atom(defs, world, depth, atom)?;
+            values.push(value);
+            Ok(())
         }
+        Token::Negated => values.negate_last(),
+        Token::Applied(operator) => values.apply_last(*operator),
     }
+}
 
-    // The greatest value that is not above what a FUNCTION comes to.
-    #[inline(always)]
-    #[cycle(nested)]
-    fn whole_of_function(
-        &self,
-        notes: &mut W::Notes,
-        depth: u32,
-        of: &Subject,
-    ) -> Result<Val, EvalFault>
-        ensures { Evaluates (Says (D.variable_of self.now.defs.now) (D.function_of self.now.defs.now))
-            (W.replies self.now.world.now) (whole_of_function (definitions_within depth) of.now)
-            result notes.old notes.new }
-    {
-        let y = self.of_function(notes, depth, of)?;
-        Ok(y.whole())
+// The value of an expression by the rest of it, where more than a few values may wait.
+#[cold]
+#[inline(never)]
+#[cycle(nested)]
+fn rest<D: Defs, W: World>(
+    defs: &D,
+    world: &mut W,
+    depth: u32,
+    tokens: &[Token],
+    few: FewValues,
+) -> Result<Val, EvalFault>
+    ensures { Evaluates (Says (D.variable_of defs.now) (D.function_of defs.now)) W.replies
+        (after_tokens (definitions_within depth) tokens.now few ⟫ last_value) result world.old world.new }
+{
+    let mut values = ManyValues::of_few(few)?;
+    for token in tokens {
+        token_of_rest(defs, world, depth, token, &mut values)?;
     }
+    values.last()
+}
 
-    // What the FUNCTION that an attribute names comes to, unless too many nest already.
-    #[inline(always)]
-    #[cycle(nested)]
-    #[tactic(auto, unfolding(crate::specs::Evaluation::definitions_within), using(crate::specs::Worlds::stops))]
-    fn of_function(
-        &self,
-        notes: &mut W::Notes,
-        depth: u32,
-        of: &Subject,
-    ) -> Result<Millionths, EvalFault>
-        ensures { Evaluates (Says (D.variable_of self.now.defs.now) (D.function_of self.now.defs.now))
-            (W.replies self.now.world.now) (of_function (definitions_within depth) of.now)
-            result notes.old notes.new }
-    {
-        let Subject::Name(name) = of else {
-            return Err(EvalFault::RANGE);
-        };
-        if depth == 0 {
-            return Err(EvalFault::VARIABLE_DEPTH);
+// What one part of the rest makes of the values that wait.
+#[inline(always)]
+#[cycle(nested)]
+fn token_of_rest<D: Defs, W: World>(
+    defs: &D,
+    world: &mut W,
+    depth: u32,
+    token: &Token,
+    values: &mut ManyValues,
+) -> Result<(), EvalFault>
+    ensures { Evaluates (Says (D.variable_of defs.now) (D.function_of defs.now)) W.replies
+        (after_token (definitions_within depth) token.now values.old) (in_place result values.new) world.old world.new }
+{
+    match token {
+        Token::Value(atom) => {
+            let found = of_atom(defs, world, depth, atom)?;
+            values.push(found)?;
+            Ok(())
         }
-        self.function(notes, depth - 1, name)
-    }
-
-    // What the FUNCTION of a name comes to, in whose argument so many may nest.
-    #[inline(never)]
-    #[cycle(nested)]
-    fn function(
-        &self,
-        notes: &mut W::Notes,
-        depth: u32,
-        name: &Name,
-    ) -> Result<Millionths, EvalFault>
-        ensures { Evaluates (Says (D.variable_of self.now.defs.now) (D.function_of self.now.defs.now))
-            (W.replies self.now.world.now) ((definitions_within (suc depth)).function name.now)
-            result notes.old notes.new }
-    {
-        self.world.note_function(notes, name)?;
-        match self.defs.function(name) {
-            Some(function) => self.at_argument(notes, depth, function),
-            None => Err(EvalFault::RANGE),
-        }
-    }
-
-    // What a FUNCTION comes to at its argument.
-    #[inline(always)]
-    #[cycle(nested)]
-    fn at_argument(
-        &self,
-        notes: &mut W::Notes,
-        depth: u32,
-        function: &Function,
-    ) -> Result<Millionths, EvalFault>
-        ensures { Evaluates (Says (D.variable_of self.now.defs.now) (D.function_of self.now.defs.now))
-            (W.replies self.now.world.now) (function_given (argument_by (definitions_within depth)) (Some function.now))
-            result notes.old notes.new }
-    {
-        let x = self.argument(notes, depth, &function.argument)?;
-        point_found(function.at(x))
-    }
-
-    // The argument of a FUNCTION.
-    #[inline(always)]
-    #[cycle(nested)]
-    fn argument(
-        &self,
-        notes: &mut W::Notes,
-        depth: u32,
-        argument: &Expr,
-    ) -> Result<Millionths, EvalFault>
-        ensures { Evaluates (Says (D.variable_of self.now.defs.now) (D.function_of self.now.defs.now))
-            (W.replies self.now.world.now) (argument_by (definitions_within depth) argument.now)
-            result notes.old notes.new }
-    {
-        match random_of(argument) {
-            Some(of) => self.world.part(notes, of),
-            None => self.whole_argument(notes, depth, argument),
-        }
-    }
-
-    // An argument that is a value.
-    #[inline(always)]
-    #[cycle(nested)]
-    fn whole_argument(
-        &self,
-        notes: &mut W::Notes,
-        depth: u32,
-        argument: &Expr,
-    ) -> Result<Millionths, EvalFault>
-        ensures { Evaluates (Says (D.variable_of self.now.defs.now) (D.function_of self.now.defs.now))
-            (W.replies self.now.world.now) (argument_with (definitions_within depth) argument.now None)
-            result notes.old notes.new }
-    {
-        let value = self.term(notes, depth, argument)?;
-        Ok(Millionths::of_value(value))
-    }
-
-    // The value of an expression.
-    #[inline(never)]
-    #[cycle(nested)]
-    fn computed(&self, notes: &mut W::Notes, depth: u32, tokens: &[Token]) -> Result<Val, EvalFault>
-        ensures { Evaluates (Says (D.variable_of self.now.defs.now) (D.function_of self.now.defs.now))
-            (W.replies self.now.world.now) (after_tokens (definitions_within depth) tokens.now [] ⟫ last_value)
-            result notes.old notes.new }
-    {
-        let mut values = FewValues::new();
-        for index in 0..tokens.len() {
-            if values.is_full_for(&tokens[index]) {
-                return self.rest(notes, depth, &tokens[index..], values);
-            }
-            self.token(notes, depth, &tokens[index], &mut values)?;
-        }
-        values.last()
-    }
-
-    // What one part of an expression makes of the few values that wait.
-    #[inline(always)]
-    #[cycle(nested)]
-    fn token(
-        &self,
-        notes: &mut W::Notes,
-        depth: u32,
-        token: &Token,
-        values: &mut FewValues,
-    ) -> Result<(), EvalFault>
-        requires { HasRoomFor token.now values.old }
-        ensures { Evaluates (Says (D.variable_of self.now.defs.now) (D.function_of self.now.defs.now))
-            (W.replies self.now.world.now) (after_token (definitions_within depth) token.now values.old)
-            (in_place result values.new) notes.old notes.new }
-    {
-        match token {
-            Token::Value(atom) => {
-                let value = self.atom(notes, depth, atom)?;
-                values.push(value);
-                Ok(())
-            }
-            Token::Negated => values.negate_last(),
-            Token::Applied(operator) => values.apply_last(*operator),
-        }
-    }
-
-    // The value of an expression by the rest of it, where more than a few values may wait.
-    #[cold]
-    #[inline(never)]
-    #[cycle(nested)]
-    #[tactic(auto, using(crate::specs::Worlds::refused))]
-    fn rest(
-        &self,
-        notes: &mut W::Notes,
-        depth: u32,
-        tokens: &[Token],
-        few: FewValues,
-    ) -> Result<Val, EvalFault>
-        ensures { Evaluates (Says (D.variable_of self.now.defs.now) (D.function_of self.now.defs.now))
-            (W.replies self.now.world.now) (after_tokens (definitions_within depth) tokens.now few ⟫ last_value)
-            result notes.old notes.new }
-    {
-        let mut values = ManyValues::of_few(self.alloc, few)?;
-        for token in tokens {
-            self.token_of_rest(notes, depth, token, &mut values)?;
-        }
-        values.last()
-    }
-
-    // What one part of the rest makes of the values that wait.
-    #[cycle(nested)]
-    fn token_of_rest(
-        &self,
-        notes: &mut W::Notes,
-        depth: u32,
-        token: &Token,
-        values: &mut ManyValues,
-    ) -> Result<(), EvalFault>
-        ensures { Evaluates (Says (D.variable_of self.now.defs.now) (D.function_of self.now.defs.now))
-            (W.replies self.now.world.now) (after_token (definitions_within depth) token.now values.old)
-            (in_place result values.new) notes.old notes.new }
-    {
-        match token {
-            Token::Value(atom) => {
-                let found = self.atom(notes, depth, atom)?;
-                values.push(found)?;
-                Ok(())
-            }
-            Token::Negated => values.negate_last(),
-            Token::Applied(operator) => values.apply_last(*operator),
-        }
+        Token::Negated => values.negate_last(),
+        Token::Applied(operator) => values.apply_last(*operator),
     }
 }
 

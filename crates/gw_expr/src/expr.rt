@@ -8,13 +8,13 @@ use std::alloc::AllocError;
 use std::marker::Model;
 
 /// An operand: a value, an expression, the name of an entity or of a definition, a block's label or a fraction.
-#[derive(Debug, Drop)]
+#[derive(Drop)]
 pub struct Expr {
     node: Node,
 }
 
 /// What an operand is.
-#[derive(Debug, Drop)]
+#[derive(Drop)]
 pub enum Node {
     /// A single value.
     Value(Atom),

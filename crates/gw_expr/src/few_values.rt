@@ -13,7 +13,7 @@ const FEW: usize = 8;
 
 // The values of an expression that wait for their operator, the last one first, while they are few. No list stands
 // within: a pointer that is handed to a cold function would bring in more that may change the count.
-#[derive(Debug, Drop)]
+#[derive(Drop)]
 pub struct FewValues {
     few: [Val; FEW],
     // How many wait.

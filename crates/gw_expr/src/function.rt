@@ -8,7 +8,7 @@ use gw_nums::Millionths;
 use std::alloc::{AllocError, Global};
 
 /// How a FUNCTION goes between its points.
-#[derive(Clone, Copy, Debug, PartialEq, Eq)]
+#[derive(Clone, Copy)]
 pub enum FunctionType {
     /// Type C: along the straight lines between them.
     Continuous,
@@ -17,21 +17,21 @@ pub enum FunctionType {
 }
 
 /// A point of a FUNCTION: the argument, and what the FUNCTION comes to there.
-#[derive(Clone, Copy, Debug, PartialEq, Eq)]
+#[derive(Clone, Copy, PartialEq, Eq)]
 pub struct Point {
     pub x: Millionths,
     pub y: Millionths,
 }
 
 // The points on the two sides of an argument: the first one that is not below it, and the one before that.
-#[derive(Clone, Copy, Debug)]
+#[derive(Clone, Copy)]
 struct Neighbours {
     before: Option<Point>,
     next: Option<Point>,
 }
 
 /// A FUNCTION of one argument, by points. (Manual: types C and D.)
-#[derive(Debug, Drop)]
+#[derive(Drop)]
 pub struct Function {
     /// What is evaluated to find the argument. A random number that stands there as written is one in millionths.
     pub argument: Expr,

@@ -1,23 +1,24 @@
 ghost use Rattle.std.specs.Prelude.{◌≡◌, ◌∷◌, OnOk, IfOk};
 ghost use Rattle.gw_expr.specs.Evaluation.{negated_last, applied_last, last_value};
 ghost use Rattle.gw_expr.specs.WaitingValues.{Pops};
-ghost use Rattle.gw_expr.specs.Worlds.{Comes, in_place};
+ghost use Rattle.gw_expr.specs.Worlds.{Comes, ComesInPlaces, in_place};
 
 use crate::eval_fault::EvalFault;
 use crate::few_values::FewValues;
 use crate::token::Operator;
+use arrayvec::ArrayVec;
 use gw_nums::Val;
-use smallvec::SmallVec;
-use std::alloc::{AllocError, Global};
+use std::alloc::AllocError;
 use std::marker::Model;
 
-// How many values wait in place. An expression on a line of 250 bytes has at most 125.
-const MANY: usize = 128;
+// How many values may wait. An expression on a line of 250 bytes has at most 125.
+const MOST: usize = 128;
 
-// The values of an expression that wait for their operator, the last one first, where they are no longer few.
+// The values of an expression that wait for their operator, the last one first, where they are no longer few. They wait
+// in place; where there is none left, that is want of memory.
 #[derive(Drop)]
 pub struct ManyValues {
-    values: SmallVec<Val, MANY>,
+    values: ArrayVec<Val, MOST>,
 }
 
 impl Model for ManyValues {
@@ -30,20 +31,24 @@ impl Model for ManyValues {
 
 impl ManyValues {
     // Those that waited while they were few.
-    pub(crate) fn of_few(alloc: Global, few: FewValues) -> Result<ManyValues, AllocError>
+    pub(crate) fn of_few(few: FewValues) -> Result<ManyValues, AllocError>
         ensures { IfOk result (λ w. w ≡ few) }
     {
-        Ok(ManyValues {
-            values: SmallVec::from_slice(alloc, few.as_slice())?,
-        })
+        let mut values = ArrayVec::new();
+        match values.try_extend_from_slice(few.as_slice()) {
+            Ok(()) => Ok(ManyValues { values }),
+            Err(_) => Err(AllocError),
+        }
     }
 
     // One value more waits.
     pub(crate) fn push(&mut self, value: Val) -> Result<(), AllocError>
         ensures ok { OnOk result (self.new ≡ value ∷ self.old) }
     {
-        self.values.push(value)?;
-        Ok(())
+        match self.values.try_push(value) {
+            Ok(()) => Ok(()),
+            Err(_) => Err(AllocError),
+        }
     }
 
     // Takes the last value, if any waits.
@@ -55,7 +60,7 @@ impl ManyValues {
 
     // The last value with the other sign.
     pub(crate) fn negate_last(&mut self) -> Result<(), EvalFault>
-        ensures { Comes (negated_last self.old) (in_place result self.new) }
+        ensures { ComesInPlaces (negated_last self.old) (in_place result self.new) }
     {
         let Some(value) = self.pop() else {
             return Err(EvalFault::RANGE);
@@ -66,7 +71,7 @@ impl ManyValues {
 
     // What an operator makes of the last two values.
     pub(crate) fn apply_last(&mut self, operator: Operator) -> Result<(), EvalFault>
-        ensures { Comes (applied_last operator self.old) (in_place result self.new) }
+        ensures { ComesInPlaces (applied_last operator self.old) (in_place result self.new) }
     {
         let Some(b) = self.pop() else {
             return Err(EvalFault::RANGE);

@@ -8,7 +8,7 @@ use crate::eval_fault::EvalFault;
 use gw_nums::{ArithmeticFault, Val, add, div, mul, rem, sub};
 
 /// An operator between two values.
-#[derive(Clone, Copy, Debug, PartialEq, Eq)]
+#[derive(Clone, Copy, PartialEq, Eq)]
 pub enum Operator {
     /// `#`
     Times,
@@ -23,7 +23,7 @@ pub enum Operator {
 }
 
 /// A part of an expression in postfix order: an operator stands behind its operands.
-#[derive(Clone, Debug, Drop, PartialEq, Eq)]
+#[derive(Clone, Drop, PartialEq, Eq)]
 pub enum Token {
     /// A value.
     Value(Atom),

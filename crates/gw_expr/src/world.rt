@@ -28,33 +28,30 @@ pub trait Defs {
         ensures { option_copied result ≡ function_of self.now name.now };
 }
 
-/// What replies to every question but those for a definition. All questions are noted.
+/// What replies to every question but those for a definition. It notes all questions, and draws where one asks for it.
 pub trait World {
-    /// What was asked for so far, and what was drawn.
-    type Notes;
-
-    /// What the world may reply to a question, and what is then noted.
-    ghost replies: { Self → (q : Question) → Self.Notes → Result (Reply q) Fault → Self.Notes → Type 0 };
+    /// What the world may reply to a question, and what it then is.
+    ghost replies: { (q : Question) → Self → Result (Reply q) Fault → Self → Type 0 };
 
     /// The number that a name stands for, if any.
-    fn number(&self, notes: &mut Self::Notes, name: &Name) -> Result<Option<Val>, EvalFault>
-        ensures { replies self.now (NumberOf name.now) notes.old result notes.new };
+    fn number(&mut self, name: &Name) -> Result<Option<Val>, EvalFault>
+        ensures { replies (NumberOf name.now) self.old result self.new };
 
     /// The value of an attribute other than that of a VARIABLE or of a FUNCTION.
-    fn attribute(&self, notes: &mut Self::Notes, sna: Sna<'_>) -> Result<Val, EvalFault>
-        ensures { replies self.now (AttributeOf sna.entry.class sna.entry.of.now) notes.old result notes.new };
+    fn attribute(&mut self, sna: Sna<'_>) -> Result<Val, EvalFault>
+        ensures { replies (AttributeOf sna.entry.class sna.entry.of.now) self.old result self.new };
 
     /// A random number from a stream, as a part of a million.
-    fn part(&self, notes: &mut Self::Notes, of: &Subject) -> Result<Millionths, EvalFault>
-        ensures { replies self.now (PartOf of.now) notes.old result notes.new };
+    fn part(&mut self, of: &Subject) -> Result<Millionths, EvalFault>
+        ensures { replies (PartOf of.now) self.old result self.new };
 
     /// Notes that the VARIABLE of this name is asked for.
-    fn note_variable(&self, notes: &mut Self::Notes, name: &Name) -> Result<(), EvalFault>
+    fn note_variable(&mut self, name: &Name) -> Result<(), EvalFault>
         ensures { (reply : Option Term) →
-            replies self.now (VariableOf name.now) notes.old (with_reply reply result) notes.new };
+            replies (VariableOf name.now) self.old (with_reply reply result) self.new };
 
     /// Notes that the FUNCTION of this name is asked for.
-    fn note_function(&self, notes: &mut Self::Notes, name: &Name) -> Result<(), EvalFault>
+    fn note_function(&mut self, name: &Name) -> Result<(), EvalFault>
         ensures { (reply : Option Function) →
-            replies self.now (FunctionOf name.now) notes.old (with_reply reply result) notes.new };
+            replies (FunctionOf name.now) self.old (with_reply reply result) self.new };
 }

@@ -9,7 +9,7 @@ use thiserror::Error;
 pub const READ_LIMIT: u32 = 16_777_216;
 
 /// The calls of [`Source::read`] that are left, at most [`READ_LIMIT`].
-#[derive(Debug, Drop)]
+#[derive(Drop)]
 pub struct Budget {
     calls: u32,
 }

@@ -8,7 +8,7 @@ use crate::source::Source;
 use std::alloc::Global;
 
 /// A line of the input, without its line feed.
-#[derive(Debug, Drop)]
+#[derive(Drop)]
 pub enum Line {
     /// A line feed stood behind these bytes.
     Whole(Vec<u8>),

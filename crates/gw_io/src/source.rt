@@ -2,7 +2,7 @@ ghost use Rattle.std.specs.Prelude.{◌≡◌, ℕ, List, [], ◌++◌, None, If
 ghost use Rattle.gw_io.specs.Failures.{one_more};
 
 /// A reader or a writer failed.
-#[derive(Clone, Copy, Debug, PartialEq, Eq)]
+#[derive(Clone, Copy)]
 pub struct Failed;
 
 impl Failed {

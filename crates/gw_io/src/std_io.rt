@@ -10,7 +10,7 @@ use std::io::{Read, Write};
 ///
 /// It asks the reader for one byte at a time, so give it a [`BufReader`](std::io::BufReader) where a call of
 /// the reader costs much. Each error of the reader is a failure, an interrupted call too.
-#[derive(Debug, Drop)]
+#[derive(Drop)]
 pub struct FromRead<R> {
     /// The reader.
     pub reader: R,
@@ -61,7 +61,7 @@ impl<R: Read> Source for FromRead<R> {
 /// A write does not flush the writer: give it one without a buffer, or call [`ToWrite::flush`] behind each
 /// answer. Each error of the writer is a failure, an interrupted call too, and so is a write that takes none
 /// of some bytes.
-#[derive(Debug, Drop)]
+#[derive(Drop)]
 pub struct ToWrite<W> {
     /// The writer.
     pub writer: W,

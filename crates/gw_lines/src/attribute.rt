@@ -10,7 +10,7 @@ use std::alloc::{AllocError, Global};
 const STREAMS: u32 = 7;
 
 /// What the attributes of a class are of.
-#[derive(Clone, Copy, Debug)]
+#[derive(Clone, Copy)]
 pub enum Scope {
     /// The run, or the transaction that evaluates it.
     Alone,

@@ -94,20 +94,20 @@ fn definition_with(
 {
     match verb {
         DefinitionVerb::Storage => {
-            let capacity = u64::from(whole_in(first_in(&operands))?);
+            let capacity = u64::from(whole_in(first(&operands))?);
             Some(Body::Definition(Definition::Storage { capacity }))
         }
         DefinitionVerb::Equ => {
-            let value = constant_in(first_in(&operands))?;
+            let value = constant_in(first(&operands))?;
             Some(Body::Definition(Definition::Equ { value }))
         }
         DefinitionVerb::Variable => {
-            let expression = value_in(first_of(&mut operands))?;
+            let expression = value_in(take_first(&mut operands))?;
             Some(Body::Definition(Definition::Variable { expression }))
         }
         DefinitionVerb::Function => {
-            let argument = value_in(first_of(&mut operands));
-            function_with(alloc, argument, points_in(first_in(&operands)))
+            let argument = value_in(take_first(&mut operands));
+            function_with(alloc, argument, points_in(first(&operands)))
         }
         _ => None,
     }
@@ -139,7 +139,7 @@ fn command_with(
     ensures { IfOk result (λ o. o ≡ command_with verb operands.items) }
 {
     match verb {
-        CommandVerb::Start => match whole_in(first_in(&operands)) {
+        CommandVerb::Start => match whole_in(first(&operands)) {
             Some(count) => Ok(Some(Body::Command(Command::Start {
                 count: u64::from(count),
             }))),
@@ -166,7 +166,7 @@ fn stream_values(
 }
 
 // Takes the first operand.
-fn first_of(operands: &mut Vec<Option<Operand>>) -> Option<Operand>
+fn take_first(operands: &mut Vec<Option<Operand>>) -> Option<Operand>
     ensures first { result ≡ first_of operands.old.items }
     ensures others { operands.new.items ≡ others_of operands.old.items }
 {
@@ -178,7 +178,7 @@ fn first_of(operands: &mut Vec<Option<Operand>>) -> Option<Operand>
 }
 
 // The first operand.
-fn first_in(operands: &[Option<Operand>]) -> Option<&Operand>
+fn first(operands: &[Option<Operand>]) -> Option<&Operand>
     ensures { option_copied result ≡ first_of operands.now }
 {
     match operands {

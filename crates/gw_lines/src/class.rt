@@ -2,7 +2,7 @@ ghost use Rattle.std.specs.Prelude.{◌≡◌, ◌≢◌, ◌<◌, ◌∷◌, []
 ghost use Rattle.gw_lines.specs.Classes.{is_in, front_of, rest_of, is_blank, is_nothing, tail_of, are_plain, pieces_of};
 
 /// What the bytes of one part of a line have in common.
-#[derive(Clone, Copy, Debug, PartialEq, Eq)]
+#[derive(Clone, Copy)]
 pub enum Class {
     /// Blanks and tabs.
     Blank,

@@ -11,7 +11,7 @@ use std::marker::Model;
 const DEEPEST: usize = 32;
 
 /// A byte that is no part of a word.
-#[derive(Clone, Copy, Debug)]
+#[derive(Clone, Copy)]
 pub enum Symbol {
     Opening,
     Closing,
@@ -22,7 +22,7 @@ pub enum Symbol {
 }
 
 /// What waits for the operand that comes next.
-#[derive(Clone, Copy, Debug)]
+#[derive(Clone, Copy)]
 pub enum Pending {
     /// An open parenthesis, which waits for all up to its closing one.
     Opening,

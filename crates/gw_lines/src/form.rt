@@ -6,7 +6,7 @@ use crate::operand::Operand;
 use gw_names::{BlockVerb, CommandVerb, DefinitionVerb, Verb};
 
 /// What an operand may be.
-#[derive(Clone, Copy, Debug, PartialEq, Eq)]
+#[derive(Clone, Copy)]
 pub enum Kind {
     /// A value: a name that stands for a number, a constant, an attribute or an expression in parentheses.
     Value,
@@ -31,7 +31,7 @@ pub enum Kind {
 }
 
 /// Whether an operand may be absent.
-#[derive(Clone, Copy, Debug, PartialEq, Eq)]
+#[derive(Clone, Copy)]
 pub enum Presence {
     Required,
     Optional,
@@ -40,7 +40,7 @@ pub enum Presence {
 }
 
 /// What one operand of a verb may be.
-#[derive(Clone, Copy, Debug, PartialEq, Eq)]
+#[derive(Clone, Copy)]
 pub struct Form {
     pub kind: Kind,
     pub presence: Presence,

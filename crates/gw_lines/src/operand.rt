@@ -15,7 +15,7 @@ use std::alloc::{AllocError, Global};
 pub const MOST_POINTS: u32 = 1_000;
 
 /// An operand that was read.
-#[derive(Debug, Drop)]
+#[derive(Drop)]
 pub enum Operand {
     Value(Expr),
     Whole(u32),

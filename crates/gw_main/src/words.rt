@@ -12,7 +12,7 @@ use std::alloc::{AllocError, Global};
 use std::convert::AsStr;
 
 /// Where the model stands.
-#[derive(Clone, Copy, Debug, PartialEq, Eq)]
+#[derive(Clone, Copy)]
 pub enum ModelAt<'a> {
     /// On standard input, up to its first line `end`; the script stands behind it.
     Input,
@@ -21,7 +21,7 @@ pub enum ModelAt<'a> {
 }
 
 /// What the words ask for.
-#[derive(Clone, Copy, Debug, PartialEq, Eq)]
+#[derive(Clone, Copy)]
 pub struct Asked<'a> {
     /// Where the model stands.
     pub model: ModelAt<'a>,
@@ -30,7 +30,7 @@ pub struct Asked<'a> {
 }
 
 /// Why the words ask for no run, with the text that says so.
-#[derive(Debug, Drop)]
+#[derive(Drop)]
 pub enum Refusal {
     /// They ask for help, and this is the text.
     Help(String),
@@ -78,7 +78,7 @@ pub fn read_words<'a, W: AsStr>(alloc: Global, words: &'a [W]) -> Result<Asked<'
 }
 
 // A word that is no number of its option.
-#[derive(Clone, Copy, Debug)]
+#[derive(Clone, Copy)]
 struct BadNumber<'a> {
     word: &'a str,
     name: &'a str,

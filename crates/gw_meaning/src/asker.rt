@@ -1,7 +1,7 @@
 use gw_nums::{Time, Val};
 
 /// For whom an operand is evaluated: for a transaction, or for none, as a GENERATE's for the one that it makes next.
-#[derive(Clone, Copy, Debug)]
+#[derive(Clone, Copy)]
 pub struct Asker {
     /// Whether there is a transaction: its number, priority and mark time follow, and are 0 where there is none.
     pub is_transaction: bool,

@@ -8,7 +8,7 @@ const NO_BLOCK: u32 = u32::MAX;
 
 /// The block that a transaction goes to next, where one is set. It is seen as an `Option`, and takes no more room than
 /// an id.
-#[derive(Clone, Copy, Debug)]
+#[derive(Clone, Copy)]
 pub struct Destination {
     id: u32,
 }

@@ -3,7 +3,7 @@ use gw_names::Key;
 use std::marker::Model;
 
 /// What a block makes of the entity that it names.
-#[derive(Debug, Drop)]
+#[derive(Drop)]
 pub enum Deed {
     /// So many units come to a queue.
     Queue {
@@ -34,7 +34,7 @@ pub enum Deed {
 }
 
 /// An entity, and what a block makes of it.
-#[derive(Debug, Drop)]
+#[derive(Drop)]
 pub struct EntityChange {
     pub key: Key,
     pub deed: Deed,

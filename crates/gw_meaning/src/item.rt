@@ -4,7 +4,7 @@ use gw_names::Name;
 use gw_nums::Time;
 
 /// A question that a step may ask of the version and the seed. Blocks go by their statement ids.
-#[derive(Clone, Debug, Drop, PartialEq, Eq, Hash)]
+#[derive(Clone, Drop, PartialEq, Eq, Hash)]
 pub enum Item {
     /// Which block is this?
     Block(StatementId),
@@ -33,7 +33,7 @@ pub enum Item {
 }
 
 /// Why no step follows.
-#[derive(Clone, Copy, Debug, PartialEq, Eq)]
+#[derive(Clone, Copy, PartialEq, Eq)]
 pub enum End {
     /// No command is left.
     CommandsDone,
@@ -46,7 +46,7 @@ pub enum End {
 }
 
 /// How the run of a START stands at the point where its report is taken.
-#[derive(Clone, Copy, Debug, PartialEq, Eq)]
+#[derive(Clone, Copy)]
 pub enum Outcome {
     Complete,
     Horizon,

@@ -6,7 +6,7 @@ use gw_names::Key;
 use gw_nums::{Clock, Time, Val};
 
 /// A transaction that a GENERATE is to make.
-#[derive(Clone, Copy, Debug)]
+#[derive(Clone, Copy)]
 pub struct Arrival {
     /// The GENERATE's statement id.
     pub id: StatementId,
@@ -16,7 +16,7 @@ pub struct Arrival {
 }
 
 /// What a block changes beside the counts of blocks.
-#[derive(Debug, Drop)]
+#[derive(Drop)]
 pub enum Change {
     Nothing,
     /// A GENERATE sets the mark time of its transaction and makes the next one, if any.
@@ -28,7 +28,7 @@ pub enum Change {
 }
 
 /// What becomes of the transaction that entered a block.
-#[derive(Clone, Copy, Debug)]
+#[derive(Clone, Copy)]
 pub enum Fate {
     /// It stays active.
     Active,
@@ -41,7 +41,7 @@ pub enum Fate {
 }
 
 /// What a step does.
-#[derive(Debug, Drop)]
+#[derive(Drop)]
 pub enum Move {
     /// A START of `count` with the first transactions of the GENERATEs, where it is the one that primes them.
     Start {

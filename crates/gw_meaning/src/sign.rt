@@ -1,5 +1,5 @@
 /// The sign behind the first operand of a block.
-#[derive(Clone, Copy, Debug, PartialEq, Eq)]
+#[derive(Clone, Copy)]
 pub enum Sign {
     Absent,
     Plus,

@@ -10,7 +10,7 @@ use gw_nums::Val;
 use std::alloc::{AllocError, Global};
 
 /// A statement of a model.
-#[derive(Debug, Drop)]
+#[derive(Drop)]
 pub struct Statement {
     pub label: Option<Name>,
     pub body: Body,
@@ -19,7 +19,7 @@ pub struct Statement {
 }
 
 /// What a statement is: a block, a definition or a command.
-#[derive(Debug, Drop)]
+#[derive(Drop)]
 pub enum Body {
     Block(Block),
     Definition(Definition),
@@ -27,7 +27,7 @@ pub enum Body {
 }
 
 /// A block: its verb, and its operands from A on, as many as its verb may have. An absent operand is `None`.
-#[derive(Debug, Drop)]
+#[derive(Drop)]
 pub struct Block {
     pub verb: BlockVerb,
     /// Behind A, where the verb takes one there.
@@ -36,7 +36,7 @@ pub struct Block {
 }
 
 /// A definition of its statement's label.
-#[derive(Debug, Drop)]
+#[derive(Drop)]
 pub enum Definition {
     /// A storage of so many units, 1 to 1,000,000,000.
     Storage { capacity: u64 },
@@ -49,7 +49,7 @@ pub enum Definition {
 }
 
 /// A command.
-#[derive(Debug, Drop)]
+#[derive(Drop)]
 pub enum Command {
     /// Runs until `count` (1 to 1,000,000,000) is taken away by TERMINATEs.
     Start { count: u64 },
@@ -58,14 +58,14 @@ pub enum Command {
 }
 
 /// A statement of a version with its id, which edits leave alone.
-#[derive(Debug, Drop)]
+#[derive(Drop)]
 pub struct Numbered {
     pub number: StatementId,
     pub statement: Statement,
 }
 
 /// A replication of a version: its number, 1 to 1,000,000,000, and its seed, 1 to 2,147,483,646.
-#[derive(Clone, Copy, Debug, PartialEq, Eq)]
+#[derive(Clone, Copy)]
 pub struct Replication {
     pub number: u64,
     pub seed: u64,

@@ -4,7 +4,7 @@ use std::marker::Model;
 
 /// The id of a statement of a version: a number of its own, which edits leave alone. 0 is the id of none. Ids lie below
 /// 4,294,967,295.
-#[derive(Clone, Copy, Debug, PartialEq, Eq, Hash)]
+#[derive(Clone, Copy, PartialEq, Eq, Hash)]
 pub struct StatementId {
     number: u32,
 }

@@ -4,7 +4,7 @@ use gw_nums::{Time, Val};
 use std::mem::size_of;
 
 /// A transaction. Blocks are named by their statement ids.
-#[derive(Clone, Copy, Debug)]
+#[derive(Clone, Copy)]
 pub struct Transaction {
     /// From 1, in the order of making.
     pub number: u64,
@@ -20,7 +20,7 @@ pub struct Transaction {
 }
 
 /// A transaction on the future chain, with the time at which it moves on.
-#[derive(Clone, Copy, Debug)]
+#[derive(Clone, Copy)]
 pub struct Event {
     pub time: Time,
     pub transaction: Transaction,
@@ -30,7 +30,7 @@ pub struct Event {
 const _: () = prove!(size_of::<Event>() == 40);
 
 /// What is counted at a block.
-#[derive(Clone, Copy, Debug, PartialEq, Eq)]
+#[derive(Clone, Copy)]
 pub struct Count {
     /// Transactions that entered the block.
     pub entries: u64,

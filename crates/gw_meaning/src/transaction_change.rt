@@ -3,7 +3,7 @@ use gw_names::Key;
 use gw_nums::Val;
 
 /// What a block changes of its transaction.
-#[derive(Debug, Drop)]
+#[derive(Drop)]
 pub enum TransactionChange {
     /// A MARK sets its mark time to the clock.
     Mark,

@@ -13,7 +13,7 @@ use std::collections::BTreeMap;
 const SLOTS: usize = 127;
 
 /// A value for each of some names, to be looked up at each step.
-#[derive(Debug, Drop)]
+#[derive(Drop)]
 pub struct ByName<T> {
     /// At each mark a name that has it, if any has.
     pub slots: Vec<Option<Named<T>>>,
@@ -24,7 +24,7 @@ pub struct ByName<T> {
 }
 
 /// A name and its value.
-#[derive(Debug, Drop)]
+#[derive(Drop)]
 pub struct Named<T> {
     pub name: Name,
     pub value: T,

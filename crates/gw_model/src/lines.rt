@@ -1,4 +1,4 @@
-ghost use Rattle.std.specs.Prelude.{◌≡◌, ◌≤◌, ◌+◌, ◌++◌, if◌then◌else◌, length, IsTrue, IfOk, IfSome, OnOk, None};
+ghost use Rattle.std.specs.Prelude.{◌≡◌, ◌≤◌, ◌+◌, ◌++◌, if◌then◌else◌, length, IsTrue, IfOk, IfSome, OnOk, Some, None, is_some, true};
 ghost use Rattle.gw_meaning.specs.Listing.{nth};
 ghost use Rattle.gw_model.specs.Listed.{numbered};
 ghost use Rattle.gw_model.specs.Spliced.{come, greatest_number, number_in, spliced};
@@ -13,8 +13,8 @@ pub fn number(alloc: Global, statements: Vec<Statement>) -> Result<Vec<Numbered>
 {
     let mut lines = Vec::new(alloc);
     for statement in statements {
-        let number = StatementId::new(lines.len() as u64 + 1).ok_or(AllocError)?;
-        lines.push(Numbered { number, statement })?;
+        let number = StatementId::new(lines.len() as u64 + 1);
+        put(&mut lines, number, statement)?;
     }
     Ok(lines)
 }
@@ -36,7 +36,7 @@ pub fn spliced(
     let index = position as usize - 1;
     let end = if goes { index + 1 } else { index };
     let mut made = Vec::new(alloc);
-    copy_behind(alloc, &mut made, &lines[..index])?;
+    let comes = copy_behind(alloc, &mut made, &lines[..index]).and(Ok(comes))?;
     put_coming(&mut made, lines, position, goes, comes)?;
     copy_behind(alloc, &mut made, &lines[end..])?;
     Ok(made)
@@ -53,14 +53,24 @@ fn put_coming(
     ensures { OnOk result (made.new.items ≡ made.old.items
         ++ come (number_in lines.now (if goes then nth lines.now position else None)) comes) }
 {
-    let Some(statement) = comes else {
-        return Ok(());
-    };
-    match number_in(lines, position, goes) {
-        Some(number) => made.push(Numbered { number, statement })?,
-        None => return Err(AllocError),
+    match comes {
+        Some(statement) => put(made, number_in(lines, position, goes), statement),
+        None => Ok(()),
     }
-    Ok(())
+}
+
+// Puts a statement behind those that are made, with its number, if there is one for it.
+fn put(
+    made: &mut Vec<Numbered>,
+    number: Option<StatementId>,
+    statement: Statement,
+) -> Result<(), AllocError>
+    ensures some { OnOk result (is_some number ≡ true) }
+    ensures behind { IfSome number (λ n. OnOk result (made.new.items ≡ made.old.items ++ come n (Some statement))) }
+{
+    let (number, statement) = number.zip(Some(statement)).ok_or(AllocError)?;
+    made.push(Numbered { number, statement })
+        .or(Err(AllocError))
 }
 
 // The number of the statement that comes in at a position, if there is a number for it.

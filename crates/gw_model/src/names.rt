@@ -17,7 +17,7 @@ use std::alloc::{AllocError, Global};
 use std::collections::BTreeMap;
 
 /// What the labels of blocks and definitions stand for.
-#[derive(Debug, Drop)]
+#[derive(Drop)]
 pub struct Names {
     /// The number of the block with each label.
     pub labels: BTreeMap<Name, StatementId>,

@@ -7,7 +7,7 @@ use gw_meaning::{Block, Body, Destination, Numbered, StatementId};
 use std::alloc::{AllocError, Global};
 
 /// Where a block stands, in eight bytes: it is looked up at each step. An id that no block has stands nowhere.
-#[derive(Clone, Copy, Debug)]
+#[derive(Clone, Copy)]
 pub struct Place {
     /// The id of the next block, if there is one.
     pub after: Destination,

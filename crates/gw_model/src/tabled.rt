@@ -9,7 +9,7 @@ use std::alloc::Global;
 
 /// The statements of a version with the tables that they are looked up in. Only edits of the statements make others:
 /// versions that differ in replications, horizon or step limit share them.
-#[derive(Debug, Drop)]
+#[derive(Drop)]
 pub struct Tabled {
     /// The statements with their numbers, in order.
     pub lines: Vec<Numbered>,

@@ -11,7 +11,7 @@ use gw_meaning::{Command, Definition, Numbered, StatementId};
 use std::alloc::Global;
 
 /// What a version looks its answers up in.
-#[derive(Debug, Drop)]
+#[derive(Drop)]
 pub struct Tables {
     /// For each number the place of its block.
     pub places: Vec<Place>,

@@ -18,7 +18,7 @@ use std::sync::Arc;
 
 /// A version of a model: at most 2,000 statements with the numbers of their own, from 1, of which no two are one; a
 /// horizon; at most 32 replications with their seeds; and a step limit. Each version has no model fault.
-#[derive(Debug, Drop)]
+#[derive(Drop)]
 pub struct Version {
     tabled: Arc<Tabled>,
     horizon: Time,

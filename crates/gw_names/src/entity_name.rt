@@ -6,7 +6,7 @@ use crate::name::Name;
 use std::marker::Model;
 
 /// The name of an entity, kept as the entity's key, so that a look-up borrows the key.
-#[derive(Debug, Drop)]
+#[derive(Drop)]
 pub struct EntityName {
     key: Key,
 }

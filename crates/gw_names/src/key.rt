@@ -6,7 +6,7 @@ use std::alloc::AllocError;
 use std::hash::{Hash, Hasher};
 
 /// What an entity is called: a number from 1, a name, or the name of the definition that it has.
-#[derive(Debug, Drop)]
+#[derive(Drop)]
 pub enum Key {
     Num(u32),
     Named(Name),

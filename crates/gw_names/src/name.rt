@@ -18,7 +18,7 @@ use std::sync::Arc;
 
 /// A name of a label, an entity or a definition, in upper case: 1 to 200 letters, digits and `_`, first a
 /// letter, and neither a verb nor the class of an attribute. Its clones share the spelling.
-#[derive(Debug, Drop)]
+#[derive(Drop)]
 pub struct Name {
     spelling: Arc<Spelling>,
 }

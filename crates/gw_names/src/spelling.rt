@@ -4,7 +4,7 @@ ghost use Rattle.gw_names.specs.Heads.{head_of, mark_of};
 /// How a name is spelled, with its head: the first eight bytes as a big-endian number, with zeros behind a shorter
 /// name. Names whose heads differ are told apart by them alone. The head's remainder is kept, too, since to divide
 /// costs more than to look.
-#[derive(Debug, Drop)]
+#[derive(Drop)]
 pub struct Spelling {
     /// The first eight bytes as a number.
     pub head: u64,

@@ -6,7 +6,7 @@ use crate::name::Name;
 use std::marker::Model;
 
 /// The name of a storage's definition, kept as the storage's key, so that a look-up borrows the key.
-#[derive(Debug, Drop)]
+#[derive(Drop)]
 pub struct StorageName {
     key: Key,
 }

@@ -2,7 +2,7 @@ ghost use Rattle.std.specs.Prelude.{◌≡◌};
 ghost use Rattle.gw_names.specs.Words.{word_of, word_of_block, word_of_definition, word_of_command, verb_of};
 
 /// A verb of the language.
-#[derive(Clone, Copy, Debug, PartialEq, Eq, Hash)]
+#[derive(Clone, Copy)]
 pub enum Verb {
     Block(BlockVerb),
     Definition(DefinitionVerb),
@@ -10,7 +10,7 @@ pub enum Verb {
 }
 
 /// A verb of a block.
-#[derive(Clone, Copy, Debug, PartialEq, Eq, Hash)]
+#[derive(Clone, Copy)]
 pub enum BlockVerb {
     Generate,
     Advance,
@@ -38,7 +38,7 @@ pub enum BlockVerb {
 }
 
 /// A verb of a definition.
-#[derive(Clone, Copy, Debug, PartialEq, Eq, Hash)]
+#[derive(Clone, Copy)]
 pub enum DefinitionVerb {
     Storage,
     Table,
@@ -48,7 +48,7 @@ pub enum DefinitionVerb {
 }
 
 /// A verb of a command.
-#[derive(Clone, Copy, Debug, PartialEq, Eq, Hash)]
+#[derive(Clone, Copy)]
 pub enum CommandVerb {
     Start,
     Reset,

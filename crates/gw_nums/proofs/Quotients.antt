@@ -1,5 +1,5 @@
 -- Quotients that are divided downwards, and how far they go.
-use Rattle.std.proofs.Common.{◌≡◌, ℕ, zero, suc, ◌+◌, ◌-◌, ◌*◌, ◌/◌, ◌≤◌, ◌<◌, ℤ, pos, negsuc, neg_ℤ, ◌+ℤ◌, ◌-ℤ◌, ◌*ℤ◌, ◌≤ℤ◌, FitsSigned, to_z, of_z, w64, IsTrue, IsSome, IfSome, ◌↔◌, Option, Some, None, if◌then◌else◌, refl, sym, ap, ◌∙◌, subst, arith}
+use Rattle.std.proofs.Common.{◌≡◌, ℕ, zero, suc, ◌*◌, ◌/◌, ◌≤◌, ◌<◌, ℤ, pos, negsuc, neg_ℤ, ◌+ℤ◌, ◌-ℤ◌, ◌*ℤ◌, ◌≤ℤ◌, FitsSigned, to_z, of_z, w64, IsTrue, IsSome, IfSome, ◌↔◌, Option, Some, None, if◌then◌else◌, refl, sym, ap, ◌∙◌, subst, arith}
 use mir.Syntax.{w128}
 use Rattle.std.proofs.Math.Nat.{div-eq_of_lt, mul_comm, div-le_of_le-mul, mul-le-mul_left, mul-le-mul, div-lt_iff_lt-mul}
 use Rattle.std.specs.Int.RustNames.{unsigned_abs}

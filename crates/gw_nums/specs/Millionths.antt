@@ -1,5 +1,5 @@
 -- Numbers in millionths. (Our own: the range is that of values, and each quotient is divided downwards.)
-use Rattle.std.specs.Prelude.{ℕ, ℤ, pos, negsuc, ◌+◌, ◌*◌, ◌/◌, ◌-◌, ◌+ℤ◌, ◌-ℤ◌, ◌*ℤ◌, Bool, nat_le, nat_lt}
+use Rattle.std.specs.Prelude.{ℕ, ℤ, pos, negsuc, ◌/◌, ◌+ℤ◌, ◌-ℤ◌, ◌*ℤ◌, Bool, nat_le, nat_lt}
 use Rattle.gw_nums.specs.Range.{magnitude}
 
 -- from -1,000,000,000 to 1,000,000,000, with six decimals

@@ -9,7 +9,7 @@ use std::marker::Model;
 const MOST: i64 = 1_000_000_000_000_000;
 
 /// A number with six decimals, in millionths: -1,000,000,000 to 1,000,000,000.
-#[derive(Clone, Copy, Debug, PartialEq, Eq, PartialOrd, Ord)]
+#[derive(Clone, Copy, PartialEq, Eq, PartialOrd, Ord)]
 pub struct Millionths {
     value: i64,
 }

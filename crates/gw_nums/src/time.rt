@@ -9,7 +9,7 @@ pub const LAST_CLOCK: u64 = 1_000_000_000_000;
 pub const LAST_TIME: u64 = 1_001_000_000_000;
 
 /// A time of the simulation, in clock ticks from 0 to 1,001,000,000,000.
-#[derive(Clone, Copy, Debug, PartialEq, Eq, PartialOrd, Ord, Hash)]
+#[derive(Clone, Copy, PartialEq, Eq, PartialOrd, Ord, Hash)]
 pub struct Time {
     ticks: u64,
 }
@@ -52,7 +52,7 @@ impl Time {
 }
 
 /// A time at which the clock may stand, in ticks from 0 to 1,000,000,000,000.
-#[derive(Clone, Copy, Debug, PartialEq, Eq, PartialOrd, Ord, Hash)]
+#[derive(Clone, Copy, PartialEq, Eq, PartialOrd, Ord, Hash)]
 pub struct Clock {
     ticks: u64,
 }

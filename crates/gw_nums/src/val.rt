@@ -8,7 +8,7 @@ use thiserror::Error;
 pub const GREATEST: i64 = 1_000_000_000;
 
 /// A value of the language: a whole number in -1,000,000,000 to 1,000,000,000.
-#[derive(Clone, Copy, Debug, Default, PartialEq, Eq, PartialOrd, Ord, Hash)]
+#[derive(Clone, Copy, Default, PartialEq, Eq, PartialOrd, Ord, Hash)]
 pub struct Val {
     value: i32,
 }

@@ -260,6 +260,13 @@ one_is_kept t seed r m n h from before part none =
     let late : nat_le e.moment m ≡ false = rw there at test in
     grind (arith, nat_tests, at, from)
 
+-- where none of the states is of a moment or of one before it, none is kept of that moment
+pub none_among : (kept : List Kept) (m : ℕ) → AreUntil kept m 0 → IsThere kept m → ⊥
+none_among kept m part (i, e, is, at) =
+    let test : nat_le (get_or kept i e).moment m ≡ false = part.1 i e (omega arith) (slice_get_within kept i e is) in
+    let same : (get_or kept i e).moment ≡ m = ap (λ (x : Kept). x.moment) (get_or_from_slice_get kept i e e is) ∙ at in
+    grind (arith, nat_tests)
+
 -- where the last state at or before a moment is of another, none is of it
 pub not_among :
     (kept : List Kept) (m n : ℕ) (d : Kept) → 1 ≤ n → n ≤ length kept → AreInOrder kept → AreUntil kept m n →

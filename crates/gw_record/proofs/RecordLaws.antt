@@ -1,5 +1,5 @@
 -- What stays the record of a run: when a state is kept, when a step is made, when first uses are forgotten.
-use Rattle.std.proofs.Common.{◌≡◌, ◌⊎◌, ℕ, zero, suc, ◌+◌, ◌-◌, ◌<◌, ◌≤◌, Bool, true, false, cond, nat_eq, nat_lt, List, [], ◌∷◌, ◌++◌, length, get_or, slice_get, Option, Some, None, Ok, inl, inr, ⊎_elim, refl, sym, ap, subst, ◌∙◌, arith}
+use Rattle.std.proofs.Common.{◌≡◌, ◌⊎◌, ℕ, zero, suc, ◌+◌, ◌-◌, ◌<◌, ◌≤◌, Bool, true, false, cond, nat_eq, nat_lt, List, [], ◌∷◌, ◌++◌, length, get_or, slice_get, Option, Some, None, Ok, Bor, option_copied, inl, inr, ⊎_elim, refl, sym, ap, subst, ◌∙◌, arith}
 use Rattle.std.specs.List.{list_any}
 use Rattle.std.proofs.lemmas.Bool.Decides.{nat_tests}
 use Rattle.std.proofs.lemmas.List.{length_push}
@@ -24,14 +24,16 @@ use Rattle.gw_meaning.specs.Step.{decide, step, step_items, run}
 use Rattle.gw_meaning.specs.Questions.{result_of}
 use Rattle.gw_meaning.specs.declared.item.End.{End}
 use Rattle.gw_scan.proofs.StepLaws.{step_goes, step_ends}
-use Rattle.std.specs.Prelude.{IfOk, Result, Err}
+use Rattle.std.specs.Prelude.{IfOk, IfSome, IfNone, Result, Err}
 use Rattle.gw_meaning.specs.Reads.{or_later, is_use, read_from, first_use}
 use Rattle.gw_meaning.proofs.Programs.{run_on}
 use Rattle.gw_record.specs.declared.kept.Kept.{Kept}
 use Rattle.gw_uses.specs.declared.first_uses.FirstUses.{FirstUses}
 use Rattle.gw_uses.specs.Steps.{below, AreBelow}
 use Rattle.gw_uses.specs.Uses.{first_in}
-use Rattle.gw_record.specs.Tape.{Tape, blank, from_tip, Records, IsKeptUp, IsStartEnd, IsWanted, IsThere, IsOfRun, IsEndThere}
+use Rattle.gw_record.specs.Tape.{Tape, blank, from_tip, Records, IsKeptUp, IsStartEnd, IsWanted, IsThere, IsOfRun, IsEndThere, IsStateIn}
+use Rattle.gw_record.specs.Parting.{AreInOrder}
+use Rattle.gw_record.specs.Lookups.{IsStateAt}
 use Rattle.gw_uses.proofs.UseLaws.{reading_cut}
 use Rattle.gw_meaning.specs.declared.item.Item.TheVariants as items
 use Rattle.gw_uses.specs.Uses.{nothing_used, first_in, AreFirstUses}
@@ -346,3 +348,22 @@ begun_at_tip t seed r h = record {
   tip_end = h.tip_end;
   firsts = h.firsts;
 }
+
+-- the state of a moment that is not the tip's, where it is kept
+pub state_had :
+    (t : Listing) (seed : ℕ) (r : Tape) (m : ℕ) (o : Option (Bor Machine)) → Records t seed r → (m ≡ r.moment → ⊥) →
+    IfSome o (λ s. IsStateIn r.kept m s.now) → IfNone o (AreInOrder r.kept → IsThere r.kept m → ⊥) → IsStateAt t seed r m (option_copied o)
+state_had t seed r m None h other found none = λ k.
+    let below = k.below in
+    let less : m < r.moment = omega (arith, below, other) in
+    none h.rising (⊎_elim (λ at. absurd (other at)) (λ wanted. h.all_kept m k.from less wanted) k.wanted)
+state_had t seed r m (Some s) h other (i, e, is, at, same) none =
+    let o = h.kept i e is in
+    let there : run t seed m ≡ Ok e.state = subst (λ m. run t seed m ≡ Ok e.state) at o.there in (
+      record {
+        from = subst (λ m. r.start ≤ m) at o.from;
+        below = subst (λ m. m ≤ r.moment) at o.below;
+        wanted = inr (subst (λ m. IsWanted t seed r.every r.start m) at o.wanted);
+      },
+      there ∙ ap (λ s. Ok s) same,
+    )

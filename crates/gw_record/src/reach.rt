@@ -11,7 +11,7 @@ use gw_scan::{Tally, Turn, end_at};
 use std::alloc::{AllocError, Global};
 
 /// What stops a recorded run on its way to the end of a START.
-#[derive(Clone, Copy, Debug, PartialEq, Eq)]
+#[derive(Clone, Copy)]
 pub enum Reach {
     /// So many STARTs are complete.
     Complete,

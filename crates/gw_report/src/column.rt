@@ -8,18 +8,18 @@ use itoa::Buffer;
 use std::alloc::AllocError;
 
 /// The side of its column on which a text stands.
-#[derive(Clone, Copy, Debug, PartialEq, Eq)]
+#[derive(Clone, Copy)]
 pub enum Side {
     Left,
     Right,
 }
 
 /// A column of a section: its width, and the side on which its texts stand. Its title stands in the section's heading.
-#[derive(Clone, Copy, Debug)]
+#[derive(Clone, Copy)]
 pub struct Column(pub usize, pub Side);
 
 /// What a row says in a column.
-#[derive(Clone, Copy, Debug)]
+#[derive(Clone, Copy)]
 pub enum Cell<'a> {
     Text(&'a [u8]),
     Number(u64),

@@ -11,7 +11,7 @@ use std::alloc::{AllocError, Global};
 pub const LINE_LIMIT: usize = 65_536;
 
 /// What a script line asks for.
-#[derive(Debug, Drop)]
+#[derive(Drop)]
 pub enum Request {
     /// A blank line: nothing.
     Nothing,
@@ -32,7 +32,7 @@ pub enum Request {
 }
 
 /// What is wrong with a script line.
-#[derive(Clone, Copy, Debug, PartialEq, Eq)]
+#[derive(Clone, Copy)]
 pub enum Reason {
     /// It is longer than 65,536 bytes.
     Long,

@@ -1,5 +1,5 @@
 -- An evaluation of operands that a state answers is the evaluation in that state.
-use Rattle.std.proofs.Common.{◌≡◌, ℕ, ℤ, Option, Result, Ok, Err, refl, subst}
+use Rattle.std.proofs.Common.{◌≡◌, ℕ, ℤ, Option, Result, Ok, Err, refl, sym, subst}
 use Rattle.gw_expr.specs.declared.eval_fault.Fault.{Fault}
 use Rattle.gw_expr.specs.declared.eval_fault.Fault.TheVariants as faults
 use Rattle.gw_expr.specs.declared.function.Function.{Function}
@@ -19,16 +19,18 @@ use Rattle.gw_scan.specs.declared.halt.Why.TheVariants as whys
 use Rattle.gw_scan.specs.Halts.{why_of_fault}
 use Rattle.gw_scan.specs.Deciding.{Decides, halted}
 use Rattle.gw_scan.specs.Noted.{Noted}
-use Rattle.gw_scan.specs.Seeing.{Marks, Replied}
+use Rattle.gw_scan.specs.Seeing.{Marks, Replied, IsStill, Replies}
+use Rattle.gw_scan.specs.declared.seen.Seen.{Seen}
 use Rattle.gw_scan.proofs.Binding.{keeps_all, decides_then, decides_halt, decides_asked, decides_gives, decides_comes}
 
-module _ (t : Listing) (seed : ℕ) (s : Machine) (q : Asker) where
-  abbrev says : (question : Question) → Reply question → Type 0
-  says question reply = Says (variable_at t) (function_at t) question reply
+-- what the definitions of a version reply
+abbrev Replying : Listing → (question : Question) → Reply question → Type 0
+Replying t question reply = Says (variable_at t) (function_at t) question reply
 
+module _ (t : Listing) (seed : ℕ) (s : Machine) (q : Asker) where
   -- a question with its reply, and what comes behind it
   reply_goes : {A : Type 0} (question : Question) (k : Reply question → Evaluation A) (reply : Reply question) (r : Result A Why) (old between new : Noted) →
-      says question reply → Replied t seed s q question old (Ok reply) between → Decides t seed (evaluated s q (k reply)) r between new →
+      Replying t question reply → Replied t seed s q question old (Ok reply) between → Decides t seed (evaluated s q (k reply)) r between new →
       Decides t seed (evaluated s q (Wants question k)) r old new
   reply_goes (NumberOf name) k reply r old between new said there rest =
       decides_then t seed (reply_prog s q (NumberOf name)) (λ x. evaluated s q (k x)) reply r old between new there rest
@@ -62,8 +64,8 @@ module _ (t : Listing) (seed : ℕ) (s : Machine) (q : Asker) where
   reply_fails (FunctionOf name) k fault old new there =
       mark_fails (Option Function) (items.Function name) (evaluated s q (Wants (FunctionOf name) k)) fault old new there
 
-  pub evaluation_decides : {A : Type 0} {p : Evaluation A} {r : Result A Fault} {old new : Noted} →
-      Evaluates says (Replied t seed s q) p r old new → Decides t seed (evaluated s q p) (halted r) old new
+  evaluation_decides : {A : Type 0} {p : Evaluation A} {r : Result A Fault} {old new : Noted} →
+      Evaluates (Replying t) (Replied t seed s q) p r old new → Decides t seed (evaluated s q p) (halted r) old new
   evaluation_decides (yields a notes) = decides_gives t seed a notes
   evaluation_decides (stops stop notes) = decides_comes t seed (ends_with (ends.Error stop)) (Err (whys.End (ends.Error stop))) notes refl
   evaluation_decides (refused p notes) = keeps_all notes
@@ -71,11 +73,36 @@ module _ (t : Listing) (seed : ℕ) (s : Machine) (q : Asker) where
       reply_goes question k reply (halted r) old between new said there (evaluation_decides rest)
   evaluation_decides (failed question k fault old new there) = reply_fails question k fault old new there
 
-  -- of the value of an operand
-  pub value_decides : (operand : Term) {r : Result ℤ Fault} {old new : Noted} →
-      Evaluates says (Replied t seed s q) (value_of operand) r old new → Decides t seed (value_prog s q operand) (halted r) old new
-  unfolding value_prog
-  value_decides operand h = evaluation_decides h
+module _ {says : (question : Question) → Reply question → Type 0} where
+  -- what is seen stays over an evaluation, and its notes are those of the replies
+  noted : {A : Type 0} {p : Evaluation A} {r : Result A Fault} {old new : Seen} → Evaluates says Replies p r old new →
+      Evaluates says (Replied old.case.version.now old.case.seed old.state.now old.asker.now) p r old.notes.now new.notes.now × IsStill old new
+  noted (yields a w) = (yields a _, (refl, refl, refl, refl))
+  noted (stops stop w) = (stops stop _, (refl, refl, refl, refl))
+  noted (refused p w) = (refused p _, (refl, refl, refl, refl))
+  noted (replied question k reply r old between new said (there, (state, asker, of_case, name)) rest) =
+      let (h, (state2, asker2, case2, name2)) = noted rest in (
+        replied question k reply r _ _ _ said there (rw (state, asker, of_case) at h),
+        (rw state2 state, rw asker2 asker, rw case2 of_case, rw name2 name),
+      )
+  noted (failed question k fault old new (there, still)) = (failed question k fault _ _ there, still)
+
+-- what an evaluation over what is seen came to, where the notes are lent to it up to here
+pub seen_decides : {A : Type 0} {p : Evaluation A} {r : Result A Fault} {old new : Seen} {notes : Noted} →
+    Evaluates (Replying old.case.version.now) Replies p r old new →
+    (old.notes.ghost_name ≡ new.notes.ghost_name → notes ≡ new.notes.now) →
+    Decides old.case.version.now old.case.seed (evaluated old.state.now old.asker.now p) (halted r) old.notes.now notes
+seen_decides {old} h ends =
+    let (of_notes, (state, asker, of_case, name)) = noted h in
+    rw (ends (sym name)) (evaluation_decides old.case.version.now old.case.seed old.state.now old.asker.now of_notes)
+
+-- of the value of an operand
+pub value_decides : (operand : Term) {r : Result ℤ Fault} {old new : Seen} {notes : Noted} →
+    Evaluates (Replying old.case.version.now) Replies (value_of operand) r old new →
+    (old.notes.ghost_name ≡ new.notes.ghost_name → notes ≡ new.notes.now) →
+    Decides old.case.version.now old.case.seed (value_prog old.state.now old.asker.now operand) (halted r) old.notes.now notes
+unfolding value_prog
+value_decides operand h ends = seen_decides h ends
 
 -- the value of a constant
 pub constant_gives : (s : Machine) (q : Asker) (value : ℤ) → value_prog s q (Value (Constant value)) ≡ gives value

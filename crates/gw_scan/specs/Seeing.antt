@@ -11,6 +11,7 @@ use Rattle.gw_meaning.specs.Listing.{Listing}
 use Rattle.gw_meaning.specs.Machine.{Machine}
 use Rattle.gw_scan.specs.Deciding.{Decides, halted}
 use Rattle.gw_scan.specs.Noted.{Noted, Asks}
+use Rattle.gw_scan.specs.declared.seen.Seen.{Seen}
 
 -- a question that definitions reply to is noted, whatever they reply; where memory is refused, nothing is
 abbrev pub Marks : {A : Type 0} → Item → Noted → Result A Fault → Noted → Type 0
@@ -28,3 +29,15 @@ Replied t seed s q (AttributeOf class of) old result new =
 Replied t seed s q (PartOf of) old result new = Decides t seed (reply_prog s q (PartOf of)) (halted result) old new
 Replied t seed s q (VariableOf name) old result new = Marks (items.Variable name) old result new
 Replied t seed s q (FunctionOf name) old result new = Marks (items.Function name) old result new
+
+-- the state, who asks, the version and the seed, and where it is noted, are the same
+abbrev pub IsStill : Seen → Seen → Type 0
+IsStill old new =
+    (new.state ≡ old.state) × (new.asker ≡ old.asker) × (new.case ≡ old.case)
+    × (new.notes.ghost_name ≡ old.notes.ghost_name)
+
+-- what a question is replied to, of what is seen
+abbrev pub Replies : (question : Question) → Seen → Result (Reply question) Fault → Seen → Type 0
+Replies question old result new =
+    Replied old.case.version.now old.case.seed old.state.now old.asker.now question old.notes.now result new.notes.now
+    × IsStill old new

@@ -4,7 +4,7 @@ use gw_nums::Clock;
 use std::marker::Model;
 
 /// The clocks of a run: the absolute one, and where it stood when the relative one began.
-#[derive(Clone, Copy, Debug)]
+#[derive(Clone, Copy)]
 pub struct Clocks {
     clock: Clock,
     since: Clock,

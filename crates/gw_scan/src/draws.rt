@@ -84,12 +84,13 @@ impl State {
             result notes.old notes.new }
     {
         let mean = self.value_or_zero(case, asker, notes, mean)?;
-        let seen = Seen {
+        let mut seen = Seen {
             state: self,
             asker,
             case,
+            notes,
         };
-        let by = eval_function(case.alloc, of, case.version, &seen, notes)?;
+        let by = eval_function(of, case.version, &mut seen)?;
         multiplied(mean, by)
     }
 

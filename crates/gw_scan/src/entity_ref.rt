@@ -8,7 +8,7 @@ use gw_names::{EntityName, Key};
 use gw_nums::Val;
 
 /// An entity that an operand names: by a name, whose key it lends, or by a number, from 1.
-#[derive(Clone, Copy, Debug)]
+#[derive(Clone, Copy)]
 pub enum EntityRef<'a> {
     Named(&'a Key),
     Numbered(u32),

@@ -8,7 +8,7 @@ use std::alloc::{AllocError, AllocFailed};
 use std::marker::Model;
 
 /// The run ends here, or a growth was refused, on the way to the move or to make it.
-#[derive(Clone, Copy, Debug, PartialEq, Eq)]
+#[derive(Clone, Copy)]
 pub enum Why {
     Memory,
     End(End),
@@ -36,7 +36,7 @@ const WHYS: [Why; 16] = [
 
 /// A [`Why`] as one number, so that a result that may be a halt is handed back in registers. A stop has the number that
 /// a report prints behind an X.
-#[derive(Debug, Drop)]
+#[derive(Drop)]
 pub struct Halt {
     number: u32,
 }

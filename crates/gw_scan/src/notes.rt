@@ -17,7 +17,7 @@ use std::mem;
 const LAST: u64 = u64::MAX - 1;
 
 /// What steps note on their way: for each item the first step that read it, and the streams behind their draws.
-#[derive(Debug, Drop)]
+#[derive(Drop)]
 pub struct Notes {
     firsts: FirstUses,
     step: u64,

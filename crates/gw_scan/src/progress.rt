@@ -4,7 +4,7 @@ ghost use Rattle.gw_meaning.specs.Machine.{raised};
 use std::marker::Model;
 
 /// How far the commands of a run are.
-#[derive(Clone, Copy, Debug)]
+#[derive(Clone, Copy)]
 pub struct Progress {
     remaining: u64,
     commands: u64,

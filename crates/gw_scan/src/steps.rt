@@ -14,7 +14,7 @@ use gw_model::Version;
 use std::alloc::{AllocError, Global};
 
 /// What a step came to.
-#[derive(Clone, Copy, Debug, PartialEq, Eq)]
+#[derive(Clone, Copy)]
 pub enum Turn {
     /// The state moved on.
     Moved,
@@ -96,7 +96,9 @@ impl State {
         ensures { IfOk result (EndsAs (step case.entry.version.now case.entry.seed self.old)) }
     {
         let mut notes = Notes::new(case.alloc, self);
-        match self.act(case, &mut notes) {
+        let made = self.act(case, &mut notes);
+        drop(notes);
+        match made {
             Ok(()) => Ok(None),
             Err(halt) => match halt.why() {
                 Why::End(end) => Ok(Some(end)),

@@ -4,7 +4,7 @@ ghost use Rattle.gw_meaning.specs.Machine.{raised};
 use std::marker::Model;
 
 /// How many steps were made. It stays once it is at its greatest value, 2^64 - 1.
-#[derive(Debug, Drop)]
+#[derive(Drop)]
 pub struct Tally {
     steps: u64,
 }

@@ -50,12 +50,13 @@ impl State {
         ensures { Decides case.entry.version.now case.entry.seed (value_prog self.now asker.now operand.now)
             result notes.old notes.new }
     {
-        let seen = Seen {
+        let mut seen = Seen {
             state: self,
             asker,
             case,
+            notes,
         };
-        Ok(eval(case.alloc, operand, case.version, &seen, notes)?)
+        Ok(eval(operand, case.version, &mut seen)?)
     }
 
     // The value of an operand that is there.

@@ -4,7 +4,7 @@ use gw_model::ModelFault;
 use thiserror::Error;
 
 /// How a session came to its end.
-#[derive(Clone, Copy, Debug, PartialEq, Eq)]
+#[derive(Clone, Copy)]
 pub enum Over {
     /// By the line `quit`.
     Quit,

@@ -10,7 +10,7 @@ use gw_model::{ModelFault, Version};
 use std::alloc::Global;
 
 /// What a model is opened with.
-#[derive(Clone, Copy, Debug, PartialEq, Eq)]
+#[derive(Clone, Copy)]
 pub struct Options {
     /// The seed of replication 1, from 1 to 2,147,483,646.
     pub seed: u64,

@@ -1,5 +1,5 @@
 /// How a random stream stands.
-#[derive(Clone, Copy, Debug, PartialEq, Eq)]
+#[derive(Clone, Copy)]
 pub enum Stream {
     /// No number was drawn since it was set to this value. At the beginning each stream is set to its own number.
     Set(u32),

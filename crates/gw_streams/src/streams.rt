@@ -6,7 +6,7 @@ use std::marker::Model;
 
 /// Seven random streams, told by their numbers, 1 to 7. A stream of another number is never kept: it stands at each
 /// draw as it does at the beginning, set to its number.
-#[derive(Clone, Copy, Debug)]
+#[derive(Clone, Copy)]
 pub struct Streams {
     streams: [Stream; 7],
 }

@@ -7,7 +7,7 @@ use gw_names::Name;
 use std::alloc::AllocError;
 
 /// A question with a name, which it borrows: its [`Item`] is made only where its reader did not find it last.
-#[derive(Clone, Copy, Debug)]
+#[derive(Clone, Copy)]
 pub enum Asked<'a> {
     /// Which block has this label?
     Label(&'a Name),

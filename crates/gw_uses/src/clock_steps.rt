@@ -10,14 +10,14 @@ use std::alloc::{AllocError, Global};
 use std::marker::Model;
 
 /// A Clock step: its number in the run, and the time to which it set the clock.
-#[derive(Clone, Copy, Debug)]
+#[derive(Clone, Copy)]
 pub struct ClockStep {
     pub step: u64,
     pub time: Time,
 }
 
 /// The Clock steps of a run that set the clock later than all before them, in order.
-#[derive(Debug, Drop)]
+#[derive(Drop)]
 pub struct ClockSteps {
     steps: Vec<ClockStep>,
 }

@@ -10,7 +10,7 @@ use std::marker::Model;
 const NEVER: u64 = u64::MAX;
 
 /// For each of the numbers from 0 on the first step that used it, if any did.
-#[derive(Debug, Drop)]
+#[derive(Drop)]
 pub struct FirstSteps {
     steps: Vec<u64>,
 }

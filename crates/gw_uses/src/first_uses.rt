@@ -13,7 +13,7 @@ use gw_meaning::Item;
 use std::alloc::{AllocError, Global};
 
 /// For each item the first step of a run that used it, if any did.
-#[derive(Debug, Drop)]
+#[derive(Drop)]
 pub struct FirstUses {
     /// By statement id.
     pub blocks: FirstSteps,

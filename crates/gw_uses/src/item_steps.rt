@@ -18,7 +18,7 @@ use std::marker::Model;
 const NEAR: usize = 128;
 
 /// For each item of any kind the first step that used it, if any did, in the order in which they were noted.
-#[derive(Debug, Drop)]
+#[derive(Drop)]
 pub struct ItemSteps {
     steps: IndexMap<Item, u64>,
     // Where an item was found last, by what read it and by what was asked: it is looked for there first.

@@ -26,6 +26,30 @@ loop-i-init c =
       taken = omega (arith, fewer);
     }
 
+pub index_mut-requires : goal.index_mut-requires
+index_mut-requires c =
+    let count = same_long c.loop-i.leasts.items c.loop-i.segments.items c.loop-i.invariant.leasts in
+    omega (arith, count)
+
+pub take_due-requires-clause-ready : goal.take_due-requires-clause-ready
+take_due-requires-clause-ready c =
+    let S = c.args.segments.now.items in
+    let segments = c.loop-i.segments.items in
+    let i = c.loop-i.i in
+    let s = c.index_mut.result.now in
+    let taking = c.loop-i.invariant.taking in
+    let kept = taking.long in
+    let count = same_long c.loop-i.leasts.items segments c.loop-i.invariant.leasts in
+    let test : i < length c.loop-i.leasts.items = omega arith in
+    let h : i < length S = omega (arith, test, count, kept) in
+    let next = next_segment S segments i s h taking.long taking.rest c.index_mut.ensures.value in
+    ready_next c.args.time S i s h next c.requires.ready
+
+pub loop-i-smaller : goal.loop-i-smaller
+loop-i-smaller c =
+    let count = length-set c.loop-i.leasts.items c.loop-i.i c.ticks_of.result in
+    omega (arith, count, c.next_due-i-in-loop-i.ensures.from)
+
 pub loop-i-preserved : goal.loop-i-preserved
 loop-i-preserved c =
     let t = c.args.time in
@@ -70,16 +94,5 @@ loop-i-preserved c =
       taken = omega (arith, taken, long, fewer, c.take_due.ensures.room);
     }
 
-pub take_due-requires-clause-ready : goal.take_due-requires-clause-ready
-take_due-requires-clause-ready c =
-    let S = c.args.segments.now.items in
-    let segments = c.loop-i.segments.items in
-    let i = c.loop-i.i in
-    let s = c.index_mut.result.now in
-    let taking = c.loop-i.invariant.taking in
-    let kept = taking.long in
-    let count = same_long c.loop-i.leasts.items segments c.loop-i.invariant.leasts in
-    let test : i < length c.loop-i.leasts.items = omega arith in
-    let h : i < length S = omega (arith, test, count, kept) in
-    let next = next_segment S segments i s h taking.long taking.rest c.index_mut.ensures.value in
-    ready_next c.args.time S i s h next c.requires.ready
+pub returns-clause-leasts : goal.returns-clause-leasts
+returns-clause-leasts c = c.loop-i.invariant.leasts

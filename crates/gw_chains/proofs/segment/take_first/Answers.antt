@@ -1,4 +1,5 @@
-use Rattle.std.proofs.Common.{◌≡◌, ◌++◌, ◌+◌, ◌-◌, length, take, drop, rules, sym, ap, ◌∙◌}
+use Rattle.std.proofs.Common.{◌≡◌, ◌++◌, ◌+◌, ◌-◌, length, take, drop, rules, sym, ap, ◌∙◌, arith}
+use Rattle.std.proofs.lemmas.Grind.{common_steps}
 use Rattle.std.specs.Vec.{vec_len}
 use Rattle.gw_meaning.specs.Changes.{all_lined_up}
 use Rattle.gw_chains.proofs.ClosingUp.{written_back}
@@ -20,6 +21,9 @@ left c =
     c.truncate.ensures.items ∙ (ap (take (c.len-last.result - 1)) (written_back new events.items (vec_len events) long) ∙
     (ap (λ n. take n new) last ∙ closed))
 
+pub close_up-requires-clause-front : goal.close_up-requires-clause-front
+close_up-requires-clause-front c = grind (arith, common_steps)
+
 pub returns-clause-current : goal.returns-clause-current
 returns-clause-current c =
     let t = c.args.earliest.now.least.ticks in
@@ -37,3 +41,12 @@ returns-clause-stay c =
     let e = c.index.result.now in
     let there = first_there events t i c.requires.some c.requires.earliest.least in
     rw (left c) (same_stay t i events e there c.index.ensures)
+
+pub returns-clause-earliest : goal.returns-clause-earliest
+returns-clause-earliest c = grind (arith, common_steps)
+
+pub returns-clause-len : goal.returns-clause-len
+returns-clause-len c = grind (arith, common_steps)
+
+pub returns-clause-room : goal.returns-clause-room
+returns-clause-room c = grind (arith, common_steps)

@@ -1,4 +1,4 @@
-use Rattle.std.proofs.Common.{rules, ◌≡◌, ℤ, ◌*ℤ◌, FitsSigned, to_z, of_z, w64, arith, IsTrue, ◌∙◌, ap, subst, sym}
+use Rattle.std.proofs.Common.{rules, ◌≡◌, ◌*ℤ◌, FitsSigned, to_z, of_z, w64, arith, IsTrue, ◌∙◌, ap, subst, sym}
 use mir.Syntax.{w128}
 use Rattle.std.proofs.lemmas.Int.{ints}
 use Rattle.gw_nums.specs.Millionths.{quotient_down, times, is_millionths}

@@ -1,6 +1,7 @@
 use Rattle.std.proofs.Common.{◌≡◌, ◌+◌, ◌<◌, ◌++◌, ◌∷◌, [], length, take, drop, get_or, ap, sym, ◌∙◌, arith}
 use Rattle.std.specs.Prelude.{codes}
 use Rattle.std.proofs.lemmas.List.{take_more, take-append-drop}
+use Rattle.std.proofs.lemmas.Grind.{common_steps}
 use Rattle.gw_script.specs.Answers.{MakesSome}
 use Rattle.gw_script.proofs.Reporting.{puts_none, puts_more, makes_more, on_err}
 use Rattle.gw_script.proofs.queries.put_reports.Goals as goal
@@ -27,3 +28,6 @@ loop-number-preserved g c =
     puts_more g.D.Keeper.does c.args.k c.args.keeper.now c.loop-number.keeper c.put_one.new.keeper (take i numbers) (take (i + 1) numbers) (get_or numbers i 0)
     c.args.text.now.items c.loop-number.text.items c.put_one.new.text.items (take_more numbers i 0 within)
     c.loop-number.invariant c.in_ok-put_one.ensures.ok
+
+pub returns-clause-ok : goal.returns-clause-ok
+returns-clause-ok g c = grind (arith, common_steps)

@@ -1,9 +1,40 @@
 use Rattle.std.proofs.Common.{◌∙◌, length-set, arith}
+use Rattle.std.proofs.lemmas.Grind.{common_steps}
 use Rattle.std.proofs.lemmas.Result.{on_ok_weaker}
 use Rattle.std.specs.List.{zip}
 use Rattle.gw_chains.proofs.Beside.{read_beside, set_beside, still_beside, within_beside}
 use Rattle.gw_chains.proofs.DelayLaws.{place_there, rewritten_is, has_place}
 use Rattle.gw_chains.proofs.delays.DelayChains.reserve_at.Goals as goal
+
+pub invariant_of-self : goal.invariant_of-self
+invariant_of-self c = grind (arith, common_steps)
+
+pub returns-in_err-reserve-clause-delays : goal.returns-in_err-reserve-clause-delays
+returns-in_err-reserve-clause-delays c = grind (arith, common_steps)
+
+pub returns-in_err-reserve-clause-place : goal.returns-in_err-reserve-clause-place
+returns-in_err-reserve-clause-place c = grind (arith, common_steps)
+
+pub invariant_of-self-in_err-reserve-2 : goal.invariant_of-self-in_err-reserve-2
+invariant_of-self-in_err-reserve-2 c = grind (arith, common_steps)
+
+pub returns-in_err-reserve-2-clause-delays : goal.returns-in_err-reserve-2-clause-delays
+returns-in_err-reserve-2-clause-delays c = grind (arith, common_steps)
+
+pub returns-in_err-reserve-2-clause-place : goal.returns-in_err-reserve-2-clause-place
+returns-in_err-reserve-2-clause-place c = grind (arith, common_steps)
+
+pub invariant_of-self-in_default : goal.invariant_of-self-in_default
+invariant_of-self-in_default c = grind (arith, common_steps)
+
+pub returns-in_default-clause-ok : goal.returns-in_default-clause-ok
+returns-in_default-clause-ok c = grind (arith, common_steps)
+
+pub returns-in_default-clause-delays : goal.returns-in_default-clause-delays
+returns-in_default-clause-delays c = grind (arith, common_steps)
+
+pub returns-in_default-clause-place : goal.returns-in_default-clause-place
+returns-in_default-clause-place c = grind (arith, common_steps)
 
 pub index_mut-chain-requires : goal.index_mut-chain-requires
 index_mut-chain-requires c =

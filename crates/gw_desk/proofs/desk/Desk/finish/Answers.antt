@@ -1,10 +1,44 @@
 use Rattle.std.proofs.Common.{◌≡◌, ◌≤◌, ℕ, Some, sym, ◌∙◌, ap, subst, arith}
+use Rattle.std.proofs.lemmas.Grind.{common_steps}
 use Rattle.gw_meaning.specs.Listing.{Listing, seed_at}
 use Rattle.gw_desk.specs.Book.{Book}
 use Rattle.gw_desk.specs.Peeking.{IsUnfinished}
 use Rattle.gw_desk.proofs.FinishLaws.{stopped_shuts}
 use Rattle.gw_desk.proofs.PeekLaws.{peeks_answer}
 use Rattle.gw_desk.proofs.desk.Desk.finish.Goals as goal
+
+pub returns-in_default-clause-answer : goal.returns-in_default-clause-answer
+returns-in_default-clause-answer c = grind (arith, common_steps)
+
+pub returns-in_default-clause-steps : goal.returns-in_default-clause-steps
+returns-in_default-clause-steps c = grind (arith, common_steps)
+
+pub returns-in_default-clause-decided : goal.returns-in_default-clause-decided
+returns-in_default-clause-decided c = grind (arith, common_steps)
+
+pub returns-then-k-eq0-clause-answer : goal.returns-then-k-eq0-clause-answer
+returns-then-k-eq0-clause-answer c = grind (arith, common_steps)
+
+pub returns-then-k-eq0-clause-decided : goal.returns-then-k-eq0-clause-decided
+returns-then-k-eq0-clause-decided c = grind (arith, common_steps)
+
+pub make_steps-requires-clause-seed : goal.make_steps-requires-clause-seed
+make_steps-requires-clause-seed c = grind (arith, common_steps)
+
+pub make_steps-requires-clause-some : goal.make_steps-requires-clause-some
+make_steps-requires-clause-some c = grind (arith, common_steps)
+
+pub told_by-requires-clause-some : goal.told_by-requires-clause-some
+told_by-requires-clause-some c = grind (arith, common_steps)
+
+pub told_by-requires-clause-there : goal.told_by-requires-clause-there
+told_by-requires-clause-there c = grind (arith, common_steps)
+
+pub told_by-requires-clause-seed : goal.told_by-requires-clause-seed
+told_by-requires-clause-seed c = grind (arith, common_steps)
+
+pub told_by-requires-clause-reached : goal.told_by-requires-clause-reached
+told_by-requires-clause-reached c = grind (arith, common_steps)
 
 -- what stopped the steps decides
 shut : (c : goal.After-told_by) (n : ℕ) → IsUnfinished c.make_steps.new.self c.args.rep c.args.k n → ⊥

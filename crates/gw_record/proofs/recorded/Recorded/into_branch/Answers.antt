@@ -1,5 +1,15 @@
+use Rattle.std.proofs.Common.{inl, refl, arith}
+use Rattle.std.proofs.lemmas.Grind.{common_steps}
 use Rattle.gw_record.proofs.RecordLaws.{begun_at_tip}
 use Rattle.gw_record.proofs.recorded.Recorded.into_branch.Goals as goal
+
+pub invariant_of-self : goal.invariant_of-self
+invariant_of-self c =
+    let (within, multiple, due, streams) = c.self.invariant in
+    (within, multiple, record { few = omega arith; at_start = λ low. inl refl }, streams)
+
+pub returns-clause-value : goal.returns-clause-value
+returns-clause-value c = grind (arith, common_steps)
 
 pub returns-clause-records : goal.returns-clause-records
 returns-clause-records c = λ t seed h. rw c.clear.ensures.items (begun_at_tip t seed _ (rw (← c.self.view_is) at h))

@@ -9,6 +9,15 @@ use Rattle.gw_meaning.specs.Entities.{done}
 use Rattle.gw_chains.specs.Chains.{delays_of}
 use Rattle.gw_scan.proofs.state.State.leave_for.Goals as goal
 
+pub reserve_some-requires : goal.reserve_some-requires
+reserve_some-requires c = c.waiting_place-waiting.ensures
+
+pub set_storage-requires-clause-room : goal.set_storage-requires-clause-room
+set_storage-requires-clause-room c = c.in_ok-reserve_storage.ensures.ok
+
+pub let_some_in-requires-clause-place : goal.let_some_in-requires-clause-place
+let_some_in-requires-clause-place c = c.waiting_place-waiting.ensures
+
 pub returns : goal.returns
 returns c x is =
     let s = c.args.self.now in

@@ -11,7 +11,7 @@ returns-in-Ok c =
     let seed = c.args.case.seed in
     let s = c.args.self.now in
     let same = ap (λ (n : Noted). n.streams) c.new-notes.ensures in
-    goes_on (step t seed s) c.act.new.self (acted t seed s c.act.new.self c.new-notes.result c.act.new.notes same c.in-Ok.ensures)
+    goes_on (step t seed s) c.act-made.new.self (acted t seed s c.act-made.new.self c.new-notes.result c.act-made.new.notes same c.in-Ok.ensures)
 
 pub returns-in-End : goal.returns-in-End
 returns-in-End c =
@@ -22,4 +22,4 @@ returns-in-End c =
     let end = c.in-End.end in
     let halt : c.in-Err.halt ≡ whys.End end = search rules in
     ends_as (step t seed s) end
-    (foretold t seed s (Err (whys.End end)) c.new-notes.result c.act.new.notes same (rw halt at c.in-Err.ensures).0)
+    (foretold t seed s (Err (whys.End end)) c.new-notes.result c.act-made.new.notes same (rw halt at c.in-Err.ensures).0)

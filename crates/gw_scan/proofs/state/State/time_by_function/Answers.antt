@@ -1,11 +1,11 @@
-use Rattle.std.proofs.Common.{ℤ, option_copied, refl}
+use Rattle.std.proofs.Common.{ℤ, option_copied, refl, rules}
 use Rattle.std.proofs.lemmas.Result.{err_from_is_err_and}
 use Rattle.gw_nums.specs.Millionths.{times}
 use Rattle.gw_expr.specs.Evaluation.{function_of}
 use Rattle.gw_meaning.specs.Evaluation.{Eval, value_or_zero, evaluated, in_range, ◌~>◌}
 use Rattle.gw_scan.specs.Halts.{why_of_fault}
 use Rattle.gw_scan.proofs.Binding.{decides_exit, decides_then, decides_comes}
-use Rattle.gw_scan.proofs.Evaluating.{evaluation_decides}
+use Rattle.gw_scan.proofs.Evaluating.{seen_decides}
 use Rattle.gw_scan.proofs.state.State.time_by_function.Goals as goal
 
 pub returns-in_err-mean : goal.returns-in_err-mean
@@ -28,7 +28,7 @@ returns-in_err-by c =
     let q = c.args.asker.now in
     let by = evaluated s q (function_of c.args.of.now) in
     let rest : ℤ → Eval ℤ = λ m. by ~> (λ y. in_range (times m y)) in
-    let there = evaluation_decides t seed s q c.in_err-by.ensures in
+    let there = seen_decides c.in_err-by.ensures (search rules) in
     decides_then t seed (value_or_zero s q (option_copied c.args.mean)) rest c.in_ok-mean.mean _ _ _ _ c.in_ok-mean.ensures
     (decides_exit t seed by (λ y. in_range (times c.in_ok-mean.mean y)) _ _ _ (why_of_fault c.in_err-by.field-0.0) _ _ refl p.1 p.2 there)
 
@@ -40,7 +40,7 @@ returns c =
     let q = c.args.asker.now in
     let by = evaluated s q (function_of c.args.of.now) in
     let rest : ℤ → Eval ℤ = λ m. by ~> (λ y. in_range (times m y)) in
-    let there = evaluation_decides t seed s q c.in_ok-by.ensures in
+    let there = seen_decides c.in_ok-by.ensures (search rules) in
     decides_then t seed (value_or_zero s q (option_copied c.args.mean)) rest c.in_ok-mean.mean _ _ _ _ c.in_ok-mean.ensures
     (decides_then t seed by (λ y. in_range (times c.in_ok-mean.mean y)) c.in_ok-by.by _ _ _ _ there
-    (decides_comes t seed (in_range (times c.in_ok-mean.mean c.in_ok-by.by)) c.multiplied.result c.eval_function.new.notes c.multiplied.ensures))
+    (decides_comes t seed (in_range (times c.in_ok-mean.mean c.in_ok-by.by)) c.multiplied.result _ c.multiplied.ensures))

@@ -1,18 +1,18 @@
 use Rattle.std.proofs.Common.{◌-◌, arith, ◌≡◌, ℕ, suc, None, rules}
 use Rattle.std.proofs.lemmas.List.{take_rest}
-use Rattle.gw_expr.specs.declared.stop.Stop.TheVariants.{Range}
+use Rattle.gw_expr.specs.declared.stop.Stop.TheVariants.{Range, VariableDepth}
 use Rattle.gw_expr.specs.Evaluation.{value_of_atom, value_by, argument_by, definitions_within}
 use Rattle.gw_expr.specs.Worlds.{yields, stops, refused, replied, failed}
-use Rattle.gw_expr.proofs.Worlds.{exit_fault, then_goes, then_fails, goes_comes, goes_asked, evaluates_as}
+use Rattle.gw_expr.proofs.Worlds.{exit_fault, then_goes, then_fails, goes_comes, goes_placed, goes_asked, evaluates_as}
 use Rattle.gw_expr.proofs.Parts.{value_goes, value_fails, part_fails, part_goes, parts_end, rest_goes}
-use Rattle.gw_expr.proofs.evaluator.Evaluator.+nested.Goals as goal
+use Rattle.gw_expr.proofs.evaluator.+nested.Goals as goal
 
 one_less : (depth : ℕ) → (depth ≡ 0 → ⊥) → depth ≡ suc (depth - 1)
 one_less depth some = omega (arith, some)
 
 pub term-returns-in-Value : goal.term-returns-in-Value
 unfolding value_by
-term-returns-in-Value g n c = evaluates_as (search rules) c.atom.ensures
+term-returns-in-Value g n c = evaluates_as (search rules) c.alone.ensures
 
 pub term-returns-in-Computed : goal.term-returns-in-Computed
 unfolding value_by
@@ -22,57 +22,78 @@ pub term-returns-in-Computed-2 : goal.term-returns-in-Computed-2
 unfolding value_by
 term-returns-in-Computed-2 g n c = evaluates_as (search rules) c.computed.ensures
 
-pub atom-returns-in_err-number-in-Number : goal.atom-returns-in_err-number-in-Number
+pub of_atom-returns-in-Constant : goal.of_atom-returns-in-Constant
 unfolding value_of_atom
-atom-returns-in_err-number-in-Number g n c =
+of_atom-returns-in-Constant g n c = rw c.in-Constant.is (yields _ _)
+
+pub of_atom-returns-in_err-number-in-Number : goal.of_atom-returns-in_err-number-in-Number
+unfolding value_of_atom
+of_atom-returns-in_err-number-in-Number g n c =
     rw (c.in-Number.is, exit_fault c.from_residual.ensures.1) (failed _ _ _ _ _ c.in_err-number-in-Number.ensures)
 
-pub atom-returns-in_ok-number-in-Number : goal.atom-returns-in_ok-number-in-Number
+pub of_atom-returns-in_ok-number-in-Number : goal.of_atom-returns-in_ok-number-in-Number
 unfolding value_of_atom
-atom-returns-in_ok-number-in-Number g n c =
+of_atom-returns-in_ok-number-in-Number g n c =
     rw c.in-Number.is (replied _ _ _ _ _ _ _ tt c.in_ok-number-in-Number.ensures (goes_comes _ c.number_given.ensures))
 
-pub atom-returns-then-is_of_variable : goal.atom-returns-then-is_of_variable
+pub of_atom-returns-then-is_of_variable : goal.of_atom-returns-then-is_of_variable
 unfolding value_of_atom
-atom-returns-then-is_of_variable g n c = evaluates_as (search rules) c.of_variable.ensures
+of_atom-returns-then-is_of_variable g n c = evaluates_as (search rules) c.of_variable.ensures
 
-pub atom-returns-then-is_of_function : goal.atom-returns-then-is_of_function
+pub of_atom-returns-then-is_of_function : goal.of_atom-returns-then-is_of_function
 unfolding value_of_atom
-atom-returns-then-is_of_function g n c = evaluates_as (search rules) c.whole_of_function.ensures
+of_atom-returns-then-is_of_function g n c = evaluates_as (search rules) c.whole_of_function.ensures
 
-pub atom-returns-else-is_of_function : goal.atom-returns-else-is_of_function
+pub of_atom-returns-else-is_of_function : goal.of_atom-returns-else-is_of_function
 unfolding value_of_atom
-atom-returns-else-is_of_function g n c = evaluates_as (search rules) (goes_asked _ (λ v. tt) c.attribute.ensures)
+of_atom-returns-else-is_of_function g n c = evaluates_as (search rules) (goes_asked _ (λ v. tt) c.attribute.ensures)
 
-pub of_variable-returns : goal.of_variable-returns
-of_variable-returns g n c = rw (c.in-Name.is, one_less c.args.depth c.if-depth-eq0.false) c.variable.ensures
+pub alone-returns : goal.alone-returns
+alone-returns g n c = c.of_atom.ensures
 
-pub of_function-returns : goal.of_function-returns
-of_function-returns g n c = rw (c.in-Name.is, one_less c.args.depth c.if-depth-eq0.false) c.function.ensures
-
-pub variable-returns-in_err-note_variable : goal.variable-returns-in_err-note_variable
+pub of_variable-returns-then-depth-eq0 : goal.of_variable-returns-then-depth-eq0
 unfolding definitions_within
-variable-returns-in_err-note_variable g n c = rw (exit_fault c.from_residual.ensures.1) (failed _ _ _ _ _ (c.in_err-note_variable.ensures None))
+of_variable-returns-then-depth-eq0 g n c = rw (c.in-Name.is, c.if-depth-eq0.true) (stops VariableDepth _)
 
-pub variable-returns-in-Some : goal.variable-returns-in-Some
+pub of_variable-returns-in_err-note_variable : goal.of_variable-returns-in_err-note_variable
 unfolding definitions_within
-variable-returns-in-Some g n c = replied _ _ _ _ _ _ _ c.in-Some.ensures (c.in_ok-note_variable.ensures _) c.term.ensures
+of_variable-returns-in_err-note_variable g n c =
+    rw (c.in-Name.is, one_less c.args.depth c.if-depth-eq0.false, exit_fault c.from_residual.ensures.1)
+    (failed _ _ _ _ _ (c.in_err-note_variable.ensures None))
 
-pub variable-returns-in-None : goal.variable-returns-in-None
+pub of_variable-returns-in-Some : goal.of_variable-returns-in-Some
 unfolding definitions_within
-variable-returns-in-None g n c = replied _ _ _ _ _ _ _ c.in-None.ensures (c.in_ok-note_variable.ensures _) (stops Range _)
+of_variable-returns-in-Some g n c =
+    rw (c.in-Name.is, one_less c.args.depth c.if-depth-eq0.false)
+    (replied _ _ _ _ _ _ _ c.in-Some.ensures (c.in_ok-note_variable.ensures _) c.term.ensures)
 
-pub function-returns-in_err-note_function : goal.function-returns-in_err-note_function
+pub of_variable-returns-in-None : goal.of_variable-returns-in-None
 unfolding definitions_within
-function-returns-in_err-note_function g n c = rw (exit_fault c.from_residual.ensures.1) (failed _ _ _ _ _ (c.in_err-note_function.ensures None))
+of_variable-returns-in-None g n c =
+    rw (c.in-Name.is, one_less c.args.depth c.if-depth-eq0.false)
+    (replied _ _ _ _ _ _ _ c.in-None.ensures (c.in_ok-note_variable.ensures _) (stops Range _))
 
-pub function-returns-in-Some : goal.function-returns-in-Some
+pub of_function-returns-then-depth-eq0 : goal.of_function-returns-then-depth-eq0
 unfolding definitions_within
-function-returns-in-Some g n c = replied _ _ _ _ _ _ _ c.in-Some.ensures (c.in_ok-note_function.ensures _) c.at_argument.ensures
+of_function-returns-then-depth-eq0 g n c = rw (c.in-Name.is, c.if-depth-eq0.true) (stops VariableDepth _)
 
-pub function-returns-in-None : goal.function-returns-in-None
+pub of_function-returns-in_err-note_function : goal.of_function-returns-in_err-note_function
 unfolding definitions_within
-function-returns-in-None g n c = replied _ _ _ _ _ _ _ c.in-None.ensures (c.in_ok-note_function.ensures _) (stops Range _)
+of_function-returns-in_err-note_function g n c =
+    rw (c.in-Name.is, one_less c.args.depth c.if-depth-eq0.false, exit_fault c.from_residual.ensures.1)
+    (failed _ _ _ _ _ (c.in_err-note_function.ensures None))
+
+pub of_function-returns-in-Some : goal.of_function-returns-in-Some
+unfolding definitions_within
+of_function-returns-in-Some g n c =
+    rw (c.in-Name.is, one_less c.args.depth c.if-depth-eq0.false)
+    (replied _ _ _ _ _ _ _ c.in-Some.ensures (c.in_ok-note_function.ensures _) c.at_argument.ensures)
+
+pub of_function-returns-in-None : goal.of_function-returns-in-None
+unfolding definitions_within
+of_function-returns-in-None g n c =
+    rw (c.in-Name.is, one_less c.args.depth c.if-depth-eq0.false)
+    (replied _ _ _ _ _ _ _ c.in-None.ensures (c.in_ok-note_function.ensures _) (stops Range _))
 
 pub whole_of_function-returns-in_err-y : goal.whole_of_function-returns-in_err-y
 whole_of_function-returns-in_err-y g n c = rw (exit_fault c.from_residual.ensures.1) (then_fails _ c.in_err-y.ensures)
@@ -117,6 +138,9 @@ computed-returns-then-is_full_for g n c = rest_goes c.loop-index.invariant (rw t
 pub computed-returns : goal.computed-returns
 computed-returns g n c = parts_end c.loop-index.invariant c.loop-index-test.false c.last.ensures
 
+pub rest-returns-in_err-values : goal.rest-returns-in_err-values
+rest-returns-in_err-values g n c = rw (exit_fault c.from_residual.ensures.1) (refused _ _)
+
 pub rest-loop-token-init : goal.rest-loop-token-init
 rest-loop-token-init g n c = record { so_far = rw c.in_ok-values.ensures (yields _ _) }
 
@@ -154,7 +178,7 @@ pub token_of_rest-returns-in_ok-push-in-Value : goal.token_of_rest-returns-in_ok
 token_of_rest-returns-in_ok-push-in-Value g n c = value_goes _ _ c.in-Value.is c.in_ok-push-in-Value.ensures.ok c.in_ok-found-in-Value.ensures
 
 pub token_of_rest-returns-in-Negated : goal.token_of_rest-returns-in-Negated
-token_of_rest-returns-in-Negated g n c = rw c.in-Negated.is (goes_comes _ c.negate_last.ensures)
+token_of_rest-returns-in-Negated g n c = rw c.in-Negated.is (goes_placed _ c.negate_last.ensures)
 
 pub token_of_rest-returns-in-Applied : goal.token_of_rest-returns-in-Applied
-token_of_rest-returns-in-Applied g n c = rw c.in-Applied.is (goes_comes _ c.apply_last.ensures)
+token_of_rest-returns-in-Applied g n c = rw c.in-Applied.is (goes_placed _ c.apply_last.ensures)

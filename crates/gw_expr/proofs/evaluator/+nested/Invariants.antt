@@ -2,7 +2,7 @@ use Rattle.std.proofs.Common.{[], ◌+◌, ◌*◌}
 use Rattle.gw_expr.specs.Evaluation.{definitions_within}
 use Rattle.gw_expr.specs.Worlds.{Says}
 use Rattle.gw_expr.proofs.Parts.{HaveLeft}
-use Rattle.gw_expr.proofs.evaluator.Evaluator.+nested.Given as goal
+use Rattle.gw_expr.proofs.evaluator.+nested.Given as goal
 
 abbrev pub decreases-argument : goal.decreases-argument
 decreases-argument g l = l.depth * 20 + 10
@@ -12,9 +12,6 @@ decreases-at_argument g l = l.depth * 20 + 11
 
 abbrev pub decreases-computed : goal.decreases-computed
 decreases-computed g l = l.depth * 20 + 7
-
-abbrev pub decreases-function : goal.decreases-function
-decreases-function g l = l.depth * 20 + 12
 
 abbrev pub decreases-of_function : goal.decreases-of_function
 decreases-of_function g l = l.depth * 20 + 2
@@ -34,11 +31,11 @@ decreases-token g l = l.depth * 20 + 5
 abbrev pub decreases-token_of_rest : goal.decreases-token_of_rest
 decreases-token_of_rest g l = l.depth * 20 + 5
 
-abbrev pub decreases-atom : goal.decreases-atom
-decreases-atom g l = l.depth * 20 + 4
+abbrev pub decreases-of_atom : goal.decreases-of_atom
+decreases-of_atom g l = l.depth * 20 + 4
 
-abbrev pub decreases-variable : goal.decreases-variable
-decreases-variable g l = l.depth * 20 + 12
+abbrev pub decreases-alone : goal.decreases-alone
+decreases-alone g l = l.depth * 20 + 5
 
 abbrev pub decreases-whole_argument : goal.decreases-whole_argument
 decreases-whole_argument g l = l.depth * 20 + 9
@@ -49,10 +46,10 @@ decreases-whole_of_function g l = l.depth * 20 + 3
 -- what the parts before this one made of the values that waited
 abbrev pub invariant-computed-loop-index : goal.invariant-computed-loop-index
 invariant-computed-loop-index g l =
-    HaveLeft (Says (g.D.Defs.variable_of l.self.defs.now) (g.D.Defs.function_of l.self.defs.now)) (g.W.World.replies l.self.world.now)
-    (definitions_within l.depth) l.tokens [] l.fn.notes l.index l.values l.notes
+    HaveLeft (Says (g.D.Defs.variable_of l.defs) (g.D.Defs.function_of l.defs)) g.W.World.replies
+    (definitions_within l.depth) l.tokens [] l.fn.world l.index l.values l.world
 
 abbrev pub invariant-rest-loop-token : goal.invariant-rest-loop-token
 invariant-rest-loop-token g l =
-    HaveLeft (Says (g.D.Defs.variable_of l.self.defs.now) (g.D.Defs.function_of l.self.defs.now)) (g.W.World.replies l.self.world.now)
-    (definitions_within l.depth) l.tokens l.fn.few l.fn.notes l.token-index l.values l.notes
+    HaveLeft (Says (g.D.Defs.variable_of l.defs) (g.D.Defs.function_of l.defs)) g.W.World.replies
+    (definitions_within l.depth) l.tokens l.fn.few l.fn.world l.token-index l.values l.world

@@ -1,0 +1,73 @@
+//! The report of a model's last START by plain steps from zero, which keep no run: what recording is measured against.
+//!
+//! The model stands on standard input up to the line `end`; what stands behind it is left alone. The report is the
+//! one that the workbench gives of that START with its usual options. `bench/unproved` builds it, as a crate beside the
+//! others; nothing of it is proved.
+#![tactic(auto)]
+
+use gw_io::{Budget, FromRead, Sink, Source, ToWrite, split_model, write_all};
+use gw_meaning::{End, Outcome};
+use gw_model::Version;
+use gw_report::print;
+use gw_scan::{Notes, State, Tally, Turn, end_at, step};
+use gw_script::{Fault, Options, open_version};
+use std::alloc::{AllocError, Global};
+use std::io::BufReader;
+use std::process::ExitCode;
+
+fn main(rt: HostRuntime) -> ExitCode {
+    let alloc = rt.alloc();
+    let Ok(input) = BufReader::new(alloc, rt.stdin()) else {
+        return ExitCode::FAILURE;
+    };
+    let mut reader = FromRead::new(input);
+    let mut writer = ToWrite::new(rt.stdout());
+    match report_plainly(alloc, &mut reader, &mut writer) {
+        Ok(()) => ExitCode::SUCCESS,
+        Err(_) => ExitCode::FAILURE,
+    }
+}
+
+// Writes the report of the last START of replication 1, where the run completes it.
+fn report_plainly<S: Source, K: Sink>(
+    alloc: Global,
+    reader: &mut S,
+    writer: &mut K,
+) -> Result<(), Fault> {
+    let mut budget = Budget::new();
+    let model = split_model(alloc, reader, &mut budget)?;
+    let version = open_version(alloc, &model, Options::USUAL)?;
+    let Some(seed) = version.seed(1) else {
+        return Ok(());
+    };
+    let mut state = State::zero(alloc);
+    let Ok(Some(End::CommandsDone)) = run(alloc, &version, seed, &mut state) else {
+        return Ok(());
+    };
+    let complete = state.complete();
+    let Ok(text) = print(alloc, &version, 1, complete, &state, Outcome::Complete) else {
+        return Err(Fault::Memory);
+    };
+    match write_all(writer, &text) {
+        Ok(()) => Ok(()),
+        Err(_) => Err(Fault::Write),
+    }
+}
+
+// Makes the steps of a run until it ends, or up to the step limit, and keeps the last state alone.
+fn run(
+    alloc: Global,
+    version: &Version,
+    seed: u64,
+    state: &mut State,
+) -> Result<Option<End>, AllocError> {
+    let mut notes = Notes::new(alloc, state);
+    let mut tally = Tally::new();
+    for _moment in 0..version.limit() {
+        match step(alloc, version, seed, state, &mut notes, &mut tally)? {
+            Turn::Moved => (),
+            Turn::Ended(end) => return Ok(Some(end)),
+        }
+    }
+    end_at(alloc, version, seed, state)
+}
