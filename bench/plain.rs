@@ -1,8 +1,10 @@
 //! The report of a model's last START by plain steps from zero, which keep no run: what recording is measured against.
 //!
 //! The model stands on standard input up to the line `end`; what stands behind it is left alone. The report is the
-//! one that the workbench gives of that START with its usual options. `bench/unproved` builds it, as a crate beside the
-//! others; nothing of it is proved.
+//! one that the workbench gives of that START with its usual options; none where the run does not complete it.
+//!
+//! It is Rattle, as the crates are. A `.rt` file stands in none but a crate that is proved, so this one is called `.rs`:
+//! `bench/unproved` builds it, as a crate beside the others.
 #![tactic(auto)]
 
 use gw_io::{Budget, FromRead, Sink, Source, ToWrite, split_model, write_all};
@@ -41,9 +43,11 @@ fn report_plainly<S: Source, K: Sink>(
         return Ok(());
     };
     let mut state = State::zero(alloc);
-    let Ok(Some(End::CommandsDone)) = run(alloc, &version, seed, &mut state) else {
-        return Ok(());
-    };
+    match run(alloc, &version, seed, &mut state) {
+        Ok(Some(End::CommandsDone)) => (),
+        Ok(_) => return Ok(()),
+        Err(_) => return Err(Fault::Memory),
+    }
     let complete = state.complete();
     let Ok(text) = print(alloc, &version, 1, complete, &state, Outcome::Complete) else {
         return Err(Fault::Memory);
