@@ -1,6 +1,6 @@
-// A copy of a state, made of copies of its parts. The parts that own memory are copied in two groups, one by one: what
-// is proved of a function grows fast with the exits at which it lets go of copies (`both`).
-ghost use Rattle.std.specs.Prelude.{◌≡◌, IfOk, Ok};
+// A copy of a state, made of copies of its parts. The parts that own memory are copied in two groups: what is proved of
+// a function grows fast with the exits at which it lets go of copies.
+ghost use Rattle.std.specs.Prelude.{◌≡◌, IfOk};
 ghost use Rattle.gw_scan.specs.Copies.{ChainsOf, KeptOf};
 
 use crate::entities::Entities;
@@ -38,7 +38,8 @@ impl State {
     pub fn copy(&self) -> Result<State, AllocError>
         ensures { IfOk result (λ s. s ≡ self.now) }
     {
-        let (chains, kept) = both(self.copy_chains()?, self.copy_kept())?;
+        let chains = self.copy_chains()?;
+        let kept = self.copy_kept()?;
         Ok(State {
             clocks: self.clocks,
             progress: self.progress,
@@ -57,33 +58,24 @@ impl State {
     fn copy_chains(&self) -> Result<Chains, AllocError>
         ensures { IfOk result (ChainsOf self.now) }
     {
-        let chains = both(self.current.copy()?, self.future.copy())?;
-        let ((current, future), delays) = both(chains, self.delays.copy())?;
+        let current = self.current.copy()?;
+        let future = self.future.copy()?;
         Ok(Chains {
             current,
             future,
-            delays,
+            delays: self.delays.copy()?,
         })
     }
 
     fn copy_kept(&self) -> Result<Kept, AllocError>
         ensures { IfOk result (KeptOf self.now) }
     {
-        let kept = both(self.counts.copy()?, self.parameters.copy())?;
-        let ((counts, parameters), entities) = both(kept, self.entities.copy())?;
+        let counts = self.counts.copy()?;
+        let parameters = self.parameters.copy()?;
         Ok(Kept {
             counts,
             parameters,
-            entities,
+            entities: self.entities.copy()?,
         })
     }
-}
-
-// What was copied first, beside the next copy; it is let go where there is none.
-#[inline(always)]
-pub fn both<A: Drop, B>(first: A, second: Result<B, AllocError>) -> Result<(A, B), AllocError>
-    ensures { IfOk result (λ both. (both.0 ≡ first) × (second ≡ Ok both.1)) }
-{
-    let second = second?;
-    Ok((first, second))
 }

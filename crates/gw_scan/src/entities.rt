@@ -4,7 +4,6 @@ ghost use Rattle.gw_entities.specs.Tables.{with_value, HasRoom, IsPlace};
 ghost use Rattle.gw_meaning.specs.Entities.{no_entities, facility_at, line_at, store_at, all_entered, given_back, later};
 ghost use Rattle.gw_scan.specs.Parts.{entities_of};
 
-use crate::copy::both;
 use gw_entities::{ByKey, Comings, Facility, Queue, Storage};
 use gw_names::Key;
 use gw_nums::Clock;
@@ -206,14 +205,14 @@ impl Entities {
     pub(crate) fn copy(&self) -> Result<Entities, AllocError>
         ensures { IfOk result (λ e. entities_of e ≡ entities_of self.now) }
     {
-        let used = both(self.facilities.copy()?, self.queues.copy())?;
-        let used = both(used, self.storages.copy())?;
-        let (((facilities, queues), storages), comings) = both(used, self.comings.copy())?;
+        let facilities = self.facilities.copy()?;
+        let queues = self.queues.copy()?;
+        let storages = self.storages.copy()?;
         Ok(Entities {
             facilities,
             queues,
             storages,
-            comings,
+            comings: self.comings.copy()?,
         })
     }
 }
