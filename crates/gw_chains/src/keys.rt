@@ -7,8 +7,8 @@ use gw_names::Key;
 use std::alloc::{AllocError, Global};
 use std::marker::Model;
 
-// So many keys are looked through one by one, and those behind them by their hash. Most models have no more delay
-// chains.
+// So many keys are looked through one by one; most models have no more delay chains. Those behind them are found in the
+// slots of their marks, and else by their hash.
 const FEW_KEYS: usize = 8;
 
 /// Keys, none of them twice, in the order of coming: the first few in a list, and those behind them in a set.
@@ -45,12 +45,15 @@ impl Keys {
         }
     }
 
-    // Where a key lies, if it is one of these: the first few are looked through.
+    // Where a key lies, if it is one of these: a slot may tell it, and the first few are looked through.
     #[inline(always)]
     pub fn place(&self, key: &Key) -> Option<usize>
         ensures there { IfSome result (λ i. slice_get self.now.keys i ≡ Some key.now) }
         ensures none { IfNone result (list_any (key_eq key.now) self.now.keys ≡ false) }
     {
+        if let Some(index) = self.behind.near(key) {
+            return Some(FEW_KEYS + index);
+        }
         for index in 0..self.few.len() {
             if *key == self.few[index] {
                 return Some(index);

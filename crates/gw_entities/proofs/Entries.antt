@@ -12,13 +12,15 @@ use Rattle.std.specs.List.{IsDistinct, AllByRecursion, slice_get, list_any}
 use Rattle.std.proofs.lemmas.Bool.Decides.{nat_tests}
 use Rattle.std.proofs.lemmas.Map.Keys.{IsDistinct-head, IsDistinct-tail, IsDistinct-IsPermutation}
 use Rattle.std.specs.Map.{keys_of, lookup}
+use Rattle.std.specs.Option.{option_map}
 use Rattle.indexmap.specs.IndexMap.{insert_entry}
 use Rattle.indexmap.specs.IndexSet.{insert_key}
 use Rattle.gw_names.specs.declared.key.Key.{Key}
 use Rattle.gw_names.specs.Keys.{key_eq}
-use Rattle.gw_entities.specs.Few.{keys_behind}
+use Rattle.gw_entities.specs.Few.{keys_behind, StandsFirst}
 use Rattle.gw_entities.specs.Tables.{value_of, with_value, AreApart, IsPlace}
-use Rattle.gw_entities.proofs.Fewer.{set_behind}
+use Rattle.gw_entities.proofs.Fewer.{set_behind, stands_before, first_value}
+use Rattle.gw_entities.proofs.ComingLaws.{key_same}
 use Rattle.gw_entities.proofs.Lookups.{Some_same, later}
 use Rattle.gw_entities.proofs.TableLaws.{key_eq_equiv, insert_entry_is}
 
@@ -179,6 +181,23 @@ module _ {V : Type 0} where
   -- the value of the key at an index
   pub value_there : (es : List (Key × V)) (i : ℕ) (e : Key × V) → AreApart es → slice_get es i ≡ Some e → value_of es e.0 ≡ Some e.1
   value_there es i e apart at = lookup_from_place key_eq_equiv es i e.0 e.1 apart at
+
+  -- where a key lies that is known among those behind the first few
+  pub stands_behind :
+      (es : List (Key × V)) (i : ℕ) (key : Key) → AreApart es → slice_get (keys_of (drop 8 es)) i ≡ Some key →
+      IsPlace es key (Some (8 + i))
+  stands_behind es i key apart stored =
+      let there = entry_behind 8 es i (8 + i) key refl stored in
+      (there.0, there.1, value_there es (8 + i) (key, there.0) apart there.1)
+
+  -- where a key lies that stands first among the first few
+  pub stands_among :
+      (es fs : List (Key × V)) (i : ℕ) (key : Key) → StandsFirst (key_eq key) es i → IsPlace (es ++ fs) key (Some i)
+  stands_among es fs i key own =
+      let first = stands_before (key_eq key) es fs i own in
+      let same = key_same key first.entry.0 first.passes in
+      let value = first_value (key_eq key) (es ++ fs) i (Some first.entry.1) first (ap (λ o. option_map (λ (p : Key × V). p.1) o) first.there) in
+      (first.entry.1, first.there ∙ ap (λ (k : Key). Some (k, first.entry.1)) (sym same), value)
 
   -- what is read where a key lies is its value
   pub read_at : (es : List (Key × V)) (i : ℕ) (key : Key) (e : Key × V) → IsPlace es key (Some i) → e ≡ get_or es i e → value_of es key ≡ Some e.1

@@ -4,20 +4,21 @@ ghost use Rattle.gw_names.specs.Keys.{key_eq};
 ghost use Rattle.gw_entities.specs.Few.{keys_behind};
 ghost use Rattle.gw_entities.specs.Tables.{value_of, with_value, HasRoom, IsPlace, AreApart};
 
+use crate::few::place_among;
 use crate::key_set::KeySet;
 use gw_names::Key;
 use std::alloc::{AllocError, Global};
 use std::marker::Model;
 
-// So many entities are looked through one by one, and those behind them by their hash. Most models have no more of a
-// kind.
+// So many entities are looked through one by one; most models have no more of a kind. Those behind them are found in the
+// slots of their marks, and else by their hash.
 const FEW_ENTITIES: usize = 8;
 
 /// A value for each entity, in order of first touch.
 #[derive(Drop)]
 pub struct ByKey<V: Copy> {
     entries: Vec<(Key, V)>,
-    // The keys of those behind the first few, looked for by their hash.
+    // The keys of those behind the first few.
     behind: KeySet,
     // Two copies of the key that room was made for, if it has no value yet: one for the entry, and one for the set,
     // which the first few do not need.
@@ -132,20 +133,44 @@ impl<V: Copy> ByKey<V> {
         Ok(())
     }
 
-    // Where an entity lies, if it has a value: the first few are looked through.
+    // Where an entity lies, if it has a value.
     #[inline(always)]
     fn place(&self, key: &Key) -> Option<usize>
         ensures { IsPlace self.now.entries key.now result }
     {
+        if self.entries.len() > FEW_ENTITIES {
+            return self.place_among_many(key);
+        }
+        // A loop of its own: over a slice that is lent to `place_among` a step takes two instructions more.
         for index in 0..self.entries.len() {
-            if index >= FEW_ENTITIES {
-                return self.place_behind(key);
-            }
             if *key == self.entries[index].0 {
                 return Some(index);
             }
         }
         None
+    }
+
+    // The same, where there are many: the slots tell of most of those behind the first few.
+    #[inline(never)]
+    fn place_among_many(&self, key: &Key) -> Option<usize>
+        requires { 8 < length self.now.entries }
+        ensures { IsPlace self.now.entries key.now result }
+    {
+        match self.behind.near(key) {
+            Some(index) => Some(FEW_ENTITIES + index),
+            None => self.place_among_all(key),
+        }
+    }
+
+    // The same, where no slot tells.
+    fn place_among_all(&self, key: &Key) -> Option<usize>
+        requires { 8 < length self.now.entries }
+        ensures { IsPlace self.now.entries key.now result }
+    {
+        match place_among(&self.entries[..FEW_ENTITIES], key) {
+            Some(index) => Some(index),
+            None => self.place_behind(key),
+        }
     }
 
     // The same, by the hash of its key, where it is none of the first few.

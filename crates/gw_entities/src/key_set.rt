@@ -3,30 +3,29 @@ ghost use Rattle.std.specs.List.{list_any};
 ghost use Rattle.indexmap.specs.IndexSet.{insert_key};
 ghost use Rattle.gw_names.specs.Keys.{key_eq};
 
+use crate::spread_keys::SpreadKeys;
 use gw_names::Key;
-use indexmap::IndexSet;
 use std::alloc::{AllocError, Global};
 use std::marker::Model;
 
-/// Keys in the order of coming, looked for by their hash. Most states have several such sets that hold nothing: one
-/// without room takes two words of a state, where an `IndexSet` takes fourteen.
+/// Keys in the order of coming, looked for in the slots of their marks, and else by their hash. Most states have several
+/// such sets that hold nothing: one without room takes two words of a state, where an `IndexSet` takes fourteen.
 #[derive(Drop)]
 pub struct KeySet {
-    set: Option<Box<IndexSet<Key>>>,
+    set: Option<Box<SpreadKeys>>,
     alloc: Global,
 }
 
 impl Model for KeySet {
     ghost use Rattle.std.specs.Prelude.{[], unwrap_or};
     ghost use Rattle.std.specs.Option.{option_map};
-    ghost use Rattle.indexmap.specs.IndexSet.{spare};
     ghost use Rattle.gw_entities.specs.Few.{KeyList};
 
     ghost Value = { KeyList };
 
     ghost view = { λ s. record {
       keys = unwrap_or (option_map (λ b. b.value.keys) s.set) [];
-      room = unwrap_or (option_map (λ b. spare b.value) s.set) 0;
+      room = unwrap_or (option_map (λ b. b.value.room) s.set) 0;
     } };
 }
 
@@ -38,6 +37,18 @@ impl KeySet {
         KeySet { set: None, alloc }
     }
 
+    /// Where a key lies, if the slot of its mark tells. Two keys may have one slot, which tells of one of them.
+    #[inline(always)]
+    pub fn near(&self, key: &Key) -> Option<usize>
+        ensures there { IfSome result (λ i. slice_get self.now.keys i ≡ Some key.now) }
+        ensures bound { IfSome result (λ i. i < 2 ^ 63) }
+    {
+        match &self.set {
+            Some(set) => set.near(key),
+            None => None,
+        }
+    }
+
     /// Where a key lies, if it is there.
     #[cold]
     #[inline(never)]
@@ -47,7 +58,7 @@ impl KeySet {
         ensures none { IfNone result (list_any (key_eq key.now) self.now.keys ≡ false) }
     {
         match &self.set {
-            Some(set) => place_in(set, key),
+            Some(set) => set.place(key),
             None => None,
         }
     }
@@ -59,9 +70,9 @@ impl KeySet {
         ensures room { self.old.room ≤ self.new.room }
     {
         if let Some(set) = &mut self.set {
-            return set.reserve(1);
+            return set.reserve();
         }
-        let set = IndexSet::with_capacity(self.alloc, 1)?;
+        let set = SpreadKeys::with_room(self.alloc)?;
         self.set = Some(boxed(self.alloc, set)?);
         Ok(())
     }
@@ -74,10 +85,7 @@ impl KeySet {
         let Some(set) = &mut self.set else {
             unreachable!()
         };
-        match set.insert(key) {
-            Ok(_) => (),
-            Err(_) => unreachable!(),
-        }
+        set.insert(key);
     }
 
     /// The same keys.
@@ -87,7 +95,7 @@ impl KeySet {
         let Some(set) = &self.set else {
             return Ok(KeySet::new(self.alloc));
         };
-        let copy = IndexSet::clone(set)?;
+        let copy = set.copy()?;
         Ok(KeySet {
             set: Some(boxed(self.alloc, copy)?),
             alloc: self.alloc,
@@ -95,22 +103,8 @@ impl KeySet {
     }
 }
 
-// Where a key lies in a set, if it is there.
-fn place_in(set: &IndexSet<Key>, key: &Key) -> Option<usize>
-    ensures there { IfSome result (λ i. slice_get set.now.keys i ≡ Some key.now) }
-    ensures bound { IfSome result (λ i. i < 2 ^ 63) }
-    ensures none { IfNone result (list_any (key_eq key.now) set.now.keys ≡ false) }
-{
-    // The length, which is below 2^63, bounds the index.
-    let _bound = set.len();
-    match set.get_full(key) {
-        Some((index, _)) => Some(index),
-        None => None,
-    }
-}
-
 // A set in memory of its own.
-fn boxed(alloc: Global, set: IndexSet<Key>) -> Result<Box<IndexSet<Key>>, AllocError>
+fn boxed(alloc: Global, set: SpreadKeys) -> Result<Box<SpreadKeys>, AllocError>
     ensures { IfOk result (λ b. b.value ≡ set) }
 {
     match Box::new(alloc, set) {

@@ -7,6 +7,7 @@ ghost use Rattle.gw_entities.specs.Few.{StandsFirst};
 ghost use Rattle.gw_entities.specs.Tables.{value_of, with_value};
 
 use crate::behind::Behind;
+use crate::few::place_among;
 use gw_names::Key;
 use gw_nums::Val;
 use std::alloc::{AllocError, Global};
@@ -198,12 +199,7 @@ fn place_of_name(few: &[(Key, Val)], key: &Key) -> Option<usize>
     ensures there { IfSome result (λ i. StandsFirst (key_eq key.now) few.now i) }
     ensures none { IfNone result (value_of few.now key.now ≡ None) }
 {
-    for (index, held) in few.iter().enumerate() {
-        if *key == held.0 {
-            return Some(index);
-        }
-    }
-    None
+    place_among(few, key)
 }
 
 // Whether a key is a number.

@@ -4,3 +4,4 @@ mod Distances
 mod Expressions
 mod Parts
 mod Worlds
+pub mod Waiting

@@ -3,7 +3,7 @@ use Rattle.std.proofs.Common.{◌≡◌, Result, Ok, Err, IsErrAnd, ap}
 use Rattle.gw_expr.specs.declared.eval_fault.Fault.{Fault}
 use Rattle.gw_expr.specs.declared.eval_fault.Fault.TheVariants as faults
 use Rattle.gw_expr.specs.Evaluation.{Question, Reply, Evaluation, Yields, Wants, ◌⟫◌}
-use Rattle.gw_expr.specs.Worlds.{Evaluates, yields, stops, refused, replied, failed, Comes, ComesInPlaces}
+use Rattle.gw_expr.specs.Worlds.{Evaluates, yields, stops, refused, replied, failed, Comes}
 
 -- the exit by `?` with a fault
 pub exit_fault : {A : Type 0} {r : Result A Fault} {fault : Fault} → IsErrAnd r (λ e. e ≡ fault) → r ≡ Err fault
@@ -31,14 +31,9 @@ module _ {W : Type 0} {says : (q : Question) → Reply q → Type 0} {replies : 
   then_fails k (failed q f fault old new there) = failed q _ fault old new there
 
   -- what asks for nothing
-  pub goes_placed : {A : Type 0} {p : Evaluation A} (r : Result A Fault) {xs : W} → ComesInPlaces p r → Evaluates says replies p r xs xs
-  goes_placed (Ok a) is = evaluates_as is (yields a _)
-  goes_placed (Err (faults.Stop stop)) is = evaluates_as is (stops stop _)
-  goes_placed (Err faults.Memory) is = refused _ _
-
   pub goes_comes : {A : Type 0} {p : Evaluation A} (r : Result A Fault) {xs : W} → Comes p r → Evaluates says replies p r xs xs
-  goes_comes (Ok a) is = goes_placed (Ok a) is
-  goes_comes (Err (faults.Stop stop)) is = goes_placed (Err (faults.Stop stop)) is
+  goes_comes (Ok a) is = evaluates_as is (yields a _)
+  goes_comes (Err (faults.Stop stop)) is = evaluates_as is (stops stop _)
   goes_comes (Err faults.Memory) is = absurd is
 
   -- what a question got is all that is wanted

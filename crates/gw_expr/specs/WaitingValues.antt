@@ -1,12 +1,5 @@
 -- The values of an expression that wait for their operator. (Our own.)
-use Rattle.std.specs.Prelude.{◌≡◌, ◌<◌, ℤ, List, [], ◌∷◌, length, Option, Some, None}
-use Rattle.gw_expr.specs.declared.token.Token.{Token}
-use Rattle.gw_expr.specs.declared.token.Token.TheVariants as tokens
-
--- there is a place for what a part of an expression adds (8 is FEW)
-abbrev pub HasRoomFor : Token → List ℤ → Type 0
-HasRoomFor (tokens.Value atom) values = length values < 8
-HasRoomFor token values = Unit {0}
+use Rattle.std.specs.Prelude.{◌≡◌, ℤ, List, [], ◌∷◌, Option, Some, None}
 
 -- of the old values the last one, which stands first, is taken, where there is one, and the new ones are left
 abbrev pub Pops : List ℤ → Option ℤ → List ℤ → Type 0

@@ -40,12 +40,6 @@ Comes p (Ok a) = p ≡ Yields a
 Comes p (Err (faults.Stop stop)) = p ≡ Stops stop
 Comes p (Err faults.Memory) = ⊥
 
--- the same, where a value may find no place
-abbrev pub ComesInPlaces : {A : Type 0} → Evaluation A → Result A Fault → Type 0
-ComesInPlaces p (Ok a) = p ≡ Yields a
-ComesInPlaces p (Err (faults.Stop stop)) = p ≡ Stops stop
-ComesInPlaces p (Err faults.Memory) = Unit {0}
-
 -- the result of a function that changes a value in place, with the value that stands there behind it
 abbrev pub in_place : {A : Type 0} → Result (Unit {0}) Fault → A → Result A Fault
 in_place (Ok done) a = Ok a

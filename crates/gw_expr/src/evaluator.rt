@@ -1,14 +1,13 @@
 // The value of an operand, part by part, and those of VARIABLEs and FUNCTIONs within it.
-ghost use Rattle.std.specs.Prelude.{◌≡◌, suc, [], Some, None, option_copied};
-ghost use Rattle.gw_expr.specs.Evaluation.{◌⟫◌, value_of, function_of, value_by, value_of_atom, of_variable, whole_of_function, of_function, function_given, argument_by, argument_with, after_tokens, after_token, last_value, definitions_within, is_of_variable, is_of_function, is_random, random_of, point_found, number_given};
+ghost use Rattle.std.specs.Prelude.{◌≡◌, ◌<◌, ◌≤◌, ◌+◌, suc, [], OnOk, Some, None, length, option_copied};
+ghost use Rattle.gw_expr.specs.Evaluation.{◌⟫◌, value_of, function_of, value_by, value_of_atom, of_variable, whole_of_function, of_function, function_given, argument_by, argument_with, after_tokens, after_token, last_value, definitions_within, is_of_variable, is_of_function, is_random, random_of, point_found, number_given, Wants, NumberOf};
 ghost use Rattle.gw_expr.specs.Worlds.{Says, Evaluates, Comes, in_place};
-ghost use Rattle.gw_expr.specs.WaitingValues.{HasRoomFor};
 
 use crate::atom::Atom;
 use crate::attribute::{Sna, Subject};
 use crate::eval_fault::EvalFault;
 use crate::expr::{Expr, Node};
-use crate::few_values::FewValues;
+use crate::few_values::{FEW, FewValues};
 use crate::function::Function;
 use crate::many_values::ManyValues;
 use crate::token::Token;
@@ -18,10 +17,6 @@ use gw_nums::{Millionths, Val};
 
 // How many VARIABLEs and FUNCTIONs may nest.
 const DEEPEST: u32 = 32;
-
-// How many parts a short expression has at most. More than eight values wait only in a longer one: nine of them want
-// eight operators.
-const SHORT: usize = 16;
 
 /// The value of an operand: the definitions and the world are asked in the order of specs/Evaluation.
 ///
@@ -71,9 +66,7 @@ fn term<D: Defs, W: World>(
 {
     match operand.node() {
         Node::Value(atom) => alone(defs, world, depth, atom),
-        Node::Computed(tokens) if tokens.len() > SHORT => {
-            rest(defs, world, depth, tokens, FewValues::new())
-        }
+        Node::Computed(tokens) if tokens.len() > FEW => computed_long(defs, world, depth, tokens),
         Node::Computed(tokens) => computed(defs, world, depth, tokens),
         _ => Err(EvalFault::RANGE),
     }
@@ -94,7 +87,7 @@ fn of_atom<D: Defs, W: World>(
 {
     match atom {
         Atom::Constant(value) => Ok(*value),
-        Atom::Number(name) => number_given(world.number(name)?),
+        Atom::Number(name) => of_number(defs, world, name),
         Atom::Attribute(class, of) => {
             if is_of_variable(*class) {
                 of_variable(defs, world, depth, of)
@@ -240,7 +233,7 @@ fn whole_argument<D: Defs, W: World>(
     Ok(Millionths::of_value(value))
 }
 
-// The value of an expression.
+// The value of an expression of at most so many parts. The 16 here and below is FEW.
 #[inline(never)]
 #[cycle(nested)]
 fn computed<D: Defs, W: World>(
@@ -249,15 +242,13 @@ fn computed<D: Defs, W: World>(
     depth: u32,
     tokens: &[Token],
 ) -> Result<Val, EvalFault>
+    requires { length tokens.now ≤ 16 }
     ensures { Evaluates (Says (D.variable_of defs.now) (D.function_of defs.now)) W.replies
         (after_tokens (definitions_within depth) tokens.now [] ⟫ last_value) result world.old world.new }
 {
     let mut values = FewValues::new();
-    for index in 0..tokens.len() {
-        if values.is_full_for(&tokens[index]) {
-            return rest(defs, world, depth, &tokens[index..], values);
-        }
-        token(defs, world, depth, &tokens[index], &mut values)?;
+    for part in tokens {
+        part_of_few(defs, world, depth, part, &mut values)?;
     }
     values.last()
 }
@@ -265,16 +256,17 @@ fn computed<D: Defs, W: World>(
 // What one part of an expression makes of the few values that wait.
 #[inline(always)]
 #[cycle(nested)]
-fn token<D: Defs, W: World>(
+fn part_of_few<D: Defs, W: World>(
     defs: &D,
     world: &mut W,
     depth: u32,
     token: &Token,
     values: &mut FewValues,
 ) -> Result<(), EvalFault>
-    requires { HasRoomFor token.now values.old }
-    ensures { Evaluates (Says (D.variable_of defs.now) (D.function_of defs.now)) W.replies
+    requires { length values.old < 16 }
+    ensures evaluates { Evaluates (Says (D.variable_of defs.now) (D.function_of defs.now)) W.replies
         (after_token (definitions_within depth) token.now values.old) (in_place result values.new) world.old world.new }
+    ensures more { OnOk result (length values.new ≤ length values.old + 1) }
 {
     match token {
         Token::Value(atom) => {
@@ -287,31 +279,30 @@ fn token<D: Defs, W: World>(
     }
 }
 
-// The value of an expression by the rest of it, where more than a few values may wait.
+// The value of an expression of more parts.
 #[cold]
 #[inline(never)]
 #[cycle(nested)]
-fn rest<D: Defs, W: World>(
+fn computed_long<D: Defs, W: World>(
     defs: &D,
     world: &mut W,
     depth: u32,
     tokens: &[Token],
-    few: FewValues,
 ) -> Result<Val, EvalFault>
     ensures { Evaluates (Says (D.variable_of defs.now) (D.function_of defs.now)) W.replies
-        (after_tokens (definitions_within depth) tokens.now few ⟫ last_value) result world.old world.new }
+        (after_tokens (definitions_within depth) tokens.now [] ⟫ last_value) result world.old world.new }
 {
-    let mut values = ManyValues::of_few(few)?;
-    for token in tokens {
-        token_of_rest(defs, world, depth, token, &mut values)?;
+    let mut values = ManyValues::new();
+    for part in tokens {
+        part_of_many(defs, world, depth, part, &mut values)?;
     }
     values.last()
 }
 
-// What one part of the rest makes of the values that wait.
+// What one part of an expression makes of the many values that may wait.
 #[inline(always)]
 #[cycle(nested)]
-fn token_of_rest<D: Defs, W: World>(
+fn part_of_many<D: Defs, W: World>(
     defs: &D,
     world: &mut W,
     depth: u32,
@@ -383,7 +374,17 @@ fn point_found(y: Option<Millionths>) -> Result<Millionths, EvalFault>
     }
 }
 
-// The number that a name stands for, where it stands for one.
+// The number that a name stands for, where it stands for one. Never inlined, so that the loop over the parts keeps its
+// registers; `defs` stands for the contract alone.
+#[inline(never)]
+fn of_number<D: Defs, W: World>(defs: &D, world: &mut W, name: &Name) -> Result<Val, EvalFault>
+    ensures { Evaluates (Says (D.variable_of defs.now) (D.function_of defs.now)) W.replies
+        (Wants (NumberOf name.now) number_given) result world.old world.new }
+{
+    number_given(world.number(name)?)
+}
+
+// The same, of what the world replied.
 fn number_given(number: Option<Val>) -> Result<Val, EvalFault>
     ensures { Comes (number_given number) result }
 {

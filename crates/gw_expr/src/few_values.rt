@@ -1,18 +1,18 @@
-ghost use Rattle.std.specs.Prelude.{◌≡◌, ◌<◌, ◌∷◌, [], IsFalse, IsSome, length, reverse};
+ghost use Rattle.std.specs.Prelude.{◌≡◌, ◌<◌, ◌≤◌, ◌∷◌, [], IsSome, OnOk, length, reverse};
 ghost use Rattle.gw_expr.specs.Evaluation.{negated_last, applied_last, last_value};
 ghost use Rattle.gw_expr.specs.Worlds.{Comes, in_place};
-ghost use Rattle.gw_expr.specs.WaitingValues.{HasRoomFor, Pops, last_of, last_two, replaced, joined};
+ghost use Rattle.gw_expr.specs.WaitingValues.{Pops, last_of, last_two, replaced, joined};
 
 use crate::eval_fault::EvalFault;
-use crate::token::{Operator, Token};
+use crate::token::Operator;
 use gw_nums::Val;
 use std::marker::Model;
 
-// How many values wait in place. More wait only where parentheses nest to the right.
-const FEW: usize = 8;
+// How many values have a place: one for each part of a short expression.
+pub(crate) const FEW: usize = 16;
 
-// The values of an expression that wait for their operator, the last one first, while they are few. No list stands
-// within: a pointer that is handed to a cold function would bring in more that may change the count.
+// The values of an expression of at most so many parts that wait for their operator, the last one first. It holds no
+// list: with one inside, the compiler reads the count from memory at each part.
 #[derive(Drop)]
 pub struct FewValues {
     few: [Val; FEW],
@@ -27,8 +27,8 @@ impl Model for FewValues {
 
     ghost view = { λ w. reverse (take w.count w.few) };
 
-    // The 8 is FEW.
-    ghost invariant = { λ w. w.count ≤ 8 };
+    // The 16 here and below is FEW.
+    ghost invariant = { λ w. w.count ≤ 16 };
 }
 
 impl FewValues {
@@ -43,28 +43,10 @@ impl FewValues {
         }
     }
 
-    // Whether a part of an expression needs a place for one more, and there is none.
-    #[inline(always)]
-    pub(crate) fn is_full_for(&self, token: &Token) -> bool
-        ensures { IsFalse result → HasRoomFor token.now self.now }
-    {
-        match token {
-            Token::Value(_) => self.count >= FEW,
-            Token::Negated | Token::Applied(_) => false,
-        }
-    }
-
-    // The values in the order in which they came.
-    pub(crate) fn as_slice(&self) -> &[Val]
-        ensures { reverse result.now ≡ self.now }
-    {
-        &self.few[..self.count]
-    }
-
     // One value more waits.
     #[inline(always)]
     pub(crate) fn push(&mut self, value: Val)
-        requires { length self.old < 8 }
+        requires { length self.old < 16 }
         ensures { self.new ≡ value ∷ self.old }
     {
         let place = self.count;
@@ -76,7 +58,7 @@ impl FewValues {
     #[inline(always)]
     fn pop(&mut self) -> Option<Val>
         ensures last { Pops self.old result self.new }
-        ensures room { length self.new < 8 }
+        ensures room { length self.new < 16 }
     {
         if self.count == 0 {
             return None;
@@ -88,7 +70,8 @@ impl FewValues {
     // The last value with the other sign.
     #[inline(always)]
     pub(crate) fn negate_last(&mut self) -> Result<(), EvalFault>
-        ensures { Comes (negated_last self.old) (in_place result self.new) }
+        ensures comes { Comes (negated_last self.old) (in_place result self.new) }
+        ensures as_many { OnOk result (length self.new ≡ length self.old) }
     {
         let Some(value) = self.pop() else {
             return Err(EvalFault::RANGE);
@@ -99,8 +82,10 @@ impl FewValues {
 
     // What an operator makes of the last two values.
     #[inline(always)]
+    #[tactic(auto, using(crate::proofs::Waiting::joined_fewer))]
     pub(crate) fn apply_last(&mut self, operator: Operator) -> Result<(), EvalFault>
-        ensures { Comes (applied_last operator self.old) (in_place result self.new) }
+        ensures comes { Comes (applied_last operator self.old) (in_place result self.new) }
+        ensures fewer { OnOk result (length self.new ≤ length self.old) }
     {
         let Some((a, b)) = self.last_two() else {
             return Err(EvalFault::RANGE);

@@ -1,49 +1,51 @@
-ghost use Rattle.std.specs.Prelude.{◌≡◌, ◌∷◌, OnOk, IfOk};
+ghost use Rattle.std.specs.Prelude.{◌≡◌, ◌<◌, ◌≤◌, ◌∷◌, [], OnOk, OnErr, length};
 ghost use Rattle.gw_expr.specs.Evaluation.{negated_last, applied_last, last_value};
 ghost use Rattle.gw_expr.specs.WaitingValues.{Pops};
-ghost use Rattle.gw_expr.specs.Worlds.{Comes, ComesInPlaces, in_place};
+ghost use Rattle.gw_expr.specs.Worlds.{Comes, in_place};
 
 use crate::eval_fault::EvalFault;
-use crate::few_values::FewValues;
 use crate::token::Operator;
 use arrayvec::ArrayVec;
 use gw_nums::Val;
 use std::alloc::AllocError;
 use std::marker::Model;
 
-// How many values may wait. An expression on a line of 250 bytes has at most 125.
+// How many values may wait. No expression on a line of 250 bytes, with parentheses 32 deep, has more than 67 that do.
 const MOST: usize = 128;
 
-// The values of an expression that wait for their operator, the last one first, where they are no longer few. They wait
-// in place; where there is none left, that is want of memory.
+// The values of an expression that wait for their operator, the last one first, where they may be many. They wait in
+// place; where there is none left, that is want of memory.
 #[derive(Drop)]
 pub struct ManyValues {
     values: ArrayVec<Val, MOST>,
 }
 
 impl Model for ManyValues {
-    ghost use Rattle.std.specs.Prelude.{ℤ, List, reverse};
+    ghost use Rattle.std.specs.Prelude.{◌≤◌, ℤ, List, length, reverse};
 
     ghost Value = { List ℤ };
 
     ghost view = { λ w. reverse w.values.items };
+
+    // The 128 here and below is MOST.
+    ghost invariant = { λ w. length w.values.items ≤ 128 };
 }
 
 impl ManyValues {
-    // Those that waited while they were few.
-    pub(crate) fn of_few(few: FewValues) -> Result<ManyValues, AllocError>
-        ensures { IfOk result (λ w. w ≡ few) }
+    // No value.
+    pub(crate) fn new() -> ManyValues
+        ensures { result ≡ [] }
     {
-        let mut values = ArrayVec::new();
-        match values.try_extend_from_slice(few.as_slice()) {
-            Ok(()) => Ok(ManyValues { values }),
-            Err(_) => Err(AllocError),
+        ManyValues {
+            values: ArrayVec::new(),
         }
     }
 
     // One value more waits.
     pub(crate) fn push(&mut self, value: Val) -> Result<(), AllocError>
         ensures ok { OnOk result (self.new ≡ value ∷ self.old) }
+        ensures full { OnErr result (length self.old ≡ 128) }
+        ensures unchanged { OnErr result (self.new ≡ self.old) }
     {
         match self.values.try_push(value) {
             Ok(()) => Ok(()),
@@ -53,14 +55,15 @@ impl ManyValues {
 
     // Takes the last value, if any waits.
     pub(crate) fn pop(&mut self) -> Option<Val>
-        ensures { Pops self.old result self.new }
+        ensures last { Pops self.old result self.new }
+        ensures room { length self.new < 128 }
     {
         self.values.pop()
     }
 
     // The last value with the other sign.
     pub(crate) fn negate_last(&mut self) -> Result<(), EvalFault>
-        ensures { ComesInPlaces (negated_last self.old) (in_place result self.new) }
+        ensures { Comes (negated_last self.old) (in_place result self.new) }
     {
         let Some(value) = self.pop() else {
             return Err(EvalFault::RANGE);
@@ -71,7 +74,7 @@ impl ManyValues {
 
     // What an operator makes of the last two values.
     pub(crate) fn apply_last(&mut self, operator: Operator) -> Result<(), EvalFault>
-        ensures { ComesInPlaces (applied_last operator self.old) (in_place result self.new) }
+        ensures { Comes (applied_last operator self.old) (in_place result self.new) }
     {
         let Some(b) = self.pop() else {
             return Err(EvalFault::RANGE);

@@ -6,6 +6,7 @@ use Rattle.std.specs.Hash as fed
 use Rattle.std.specs.Hash.{HashWrites}
 use Rattle.gw_names.specs.declared.key.Key.{Key}
 use Rattle.gw_names.specs.declared.key.Key.TheVariants.{Num, Named, Defined}
+use Rattle.gw_names.specs.Heads.{mark_of}
 
 -- what tells a key from the others: a number, or a name's bytes, with what kind of key it is
 abbrev pub told_by : Key → List ℕ
@@ -31,3 +32,9 @@ hashed_of (suc n ∷ bytes) = bytes ∷ []
 
 abbrev pub key_input : Key → HashWrites
 key_input key = hashed_of (told_by key)
+
+-- a number by which keys are spread
+abbrev pub key_mark : Key → ℕ
+key_mark (Num number) = number
+key_mark (Named name) = mark_of name
+key_mark (Defined name) = mark_of name

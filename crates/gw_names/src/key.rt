@@ -1,5 +1,5 @@
 ghost use Rattle.std.specs.Prelude.{◌≡◌};
-ghost use Rattle.gw_names.specs.Keys.{key_eq, key_input};
+ghost use Rattle.gw_names.specs.Keys.{key_eq, key_input, key_mark};
 
 use crate::name::Name;
 use std::alloc::AllocError;
@@ -12,6 +12,19 @@ pub enum Key {
     Named(Name),
     /// A storage: no facility or queue has its key, also where it has the same name.
     Defined(Name),
+}
+
+impl Key {
+    /// Its number, or its name's mark: keys are spread by it over slots.
+    #[inline(always)]
+    pub fn mark(&self) -> u64
+        ensures { result ≡ key_mark self.now }
+    {
+        match self {
+            Key::Num(number) => u64::from(*number),
+            Key::Named(name) | Key::Defined(name) => name.mark(),
+        }
+    }
 }
 
 /// An equal key, as cheap as that of a [`Name`].

@@ -63,7 +63,7 @@ impl Name {
         self.spelling.bytes.as_slice()
     }
 
-    /// The head's remainder by 127, which spreads names over small numbers.
+    /// A number that all its bytes tell, by whose lowest bits names are spread over slots.
     #[inline(always)]
     pub fn mark(&self) -> u64
         ensures { result ≡ mark_of self.now }

@@ -2,13 +2,12 @@ ghost use Rattle.std.specs.Prelude.{◌≡◌, slice_index};
 ghost use Rattle.gw_names.specs.Heads.{head_of, mark_of};
 
 /// How a name is spelled, with its head: the first eight bytes as a big-endian number, with zeros behind a shorter
-/// name. Names whose heads differ are told apart by them alone. The head's remainder is kept, too, since to divide
-/// costs more than to look.
+/// name. Names whose heads differ are told apart by them alone. The mark, which spreads names over slots, is kept, too.
 #[derive(Drop)]
 pub struct Spelling {
     /// The first eight bytes as a number.
     pub head: u64,
-    /// The head's remainder by 127.
+    /// All bytes as the digits of a number to the base 31, in 64 bits.
     pub mark: u64,
     /// Every byte.
     pub bytes: Vec<u8>,
@@ -21,10 +20,9 @@ impl Spelling {
         ensures head { result.head ≡ head_of bytes.items }
         ensures mark { result.mark ≡ mark_of bytes.items }
     {
-        let head = head_of(bytes.as_slice());
         Spelling {
-            head,
-            mark: head % 127,
+            head: head_of(bytes.as_slice()),
+            mark: mark_of(bytes.as_slice()),
             bytes,
         }
     }
@@ -51,4 +49,14 @@ fn byte_or_zero(bytes: &[u8], index: usize) -> u8
     ensures { result ≡ slice_index bytes.now index }
 {
     if index < bytes.len() { bytes[index] } else { 0 }
+}
+
+fn mark_of(bytes: &[u8]) -> u64
+    ensures { result ≡ mark_of bytes.now }
+{
+    let mut mark: u64 = 0;
+    for byte in bytes {
+        mark = mark.wrapping_mul(31).wrapping_add(u64::from(*byte));
+    }
+    mark
 }

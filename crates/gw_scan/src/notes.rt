@@ -21,8 +21,6 @@ const LAST: u64 = u64::MAX - 1;
 pub struct Notes {
     firsts: FirstUses,
     step: u64,
-    // The block that asks, or 0: an item that is not kept by number is looked for first where its block found it.
-    reader: u64,
     pub(crate) streams: Streams,
     // The memory of the last list of shares of a LEAVE, for the next one.
     spare: Vec<Option<u64>>,
@@ -48,7 +46,6 @@ impl Notes {
         Notes {
             firsts: FirstUses::new(alloc),
             step: 0,
-            reader: 0,
             streams: state.streams,
             spare: Vec::new(alloc),
         }
@@ -120,10 +117,7 @@ impl Notes {
         ensures ok { OnOk result (Asks self.old item.now self.new) }
         ensures err { OnErr result (self.new ≡ self.old) }
     {
-        if let Item::Block(id) = item {
-            self.reader = id.number();
-        }
-        self.firsts.note(item, self.step, self.reader)
+        self.firsts.note(item, self.step)
     }
 
     // Notes a question with a name that the step asks.
@@ -132,6 +126,6 @@ impl Notes {
         ensures ok { OnOk result (Asks self.old (asked_item asked.entry) self.new) }
         ensures err { OnErr result (self.new ≡ self.old) }
     {
-        self.firsts.note_asked(asked, self.step, self.reader)
+        self.firsts.note_asked(asked, self.step)
     }
 }

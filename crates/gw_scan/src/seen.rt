@@ -27,7 +27,7 @@ pub struct Seen<'a> {
 impl<'a> World for Seen<'a> {
     ghost replies = { Replies };
 
-    #[inline(never)]
+    #[inline(always)]
     fn number(&mut self, name: &Name) -> Result<Option<Val>, EvalFault> {
         Ok(ask_name(self.case.version, self.notes, name)?)
     }

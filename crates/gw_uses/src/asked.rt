@@ -6,7 +6,10 @@ use gw_meaning::Item;
 use gw_names::Name;
 use std::alloc::AllocError;
 
-/// A question with a name, which it borrows: its [`Item`] is made only where its reader did not find it last.
+// The marks of two amounts of a storage lie so far apart, since those of names that end in numbers are neighbours.
+const APART: u64 = 2_053;
+
+/// A question with a name, which it borrows: its [`Item`] is made only where its slot does not tell it.
 #[derive(Clone, Copy)]
 pub enum Asked<'a> {
     /// Which block has this label?
@@ -41,11 +44,11 @@ impl Asked<'_> {
         }
     }
 
-    // What tells questions of one reader apart: it says where one is looked for first, and no more.
+    // A number by which questions are spread over slots: it says where the item of one is looked for first, and no more.
     #[inline(always)]
     pub(crate) fn mark(self) -> u64 {
         match self {
-            Asked::Fits(name, units) => name.mark().wrapping_add(units),
+            Asked::Fits(name, units) => name.mark().wrapping_add(units.wrapping_mul(APART)),
             Asked::Label(name)
             | Asked::Name(name)
             | Asked::Storage(name)

@@ -52,10 +52,10 @@ impl FirstUses {
         }
     }
 
-    /// Notes that a step, no earlier than those noted, read an item, unless an earlier one did. `reader`, a statement
-    /// id or 0, only says where it is looked for first. Where memory is refused, nothing changes.
+    /// Notes that a step, no earlier than those noted, read an item, unless an earlier one did. Where memory is refused,
+    /// nothing changes.
     #[inline(always)]
-    pub fn note(&mut self, item: &Item, step: u64, reader: u64) -> Result<(), AllocError>
+    pub fn note(&mut self, item: &Item, step: u64) -> Result<(), AllocError>
         requires step { step < 2 ^ 64 - 1 }
         requires clock { AreBelow (step + 1) self.old.clock_steps }
         ensures ok { OnOk result ((q : Item) →
@@ -68,19 +68,19 @@ impl FirstUses {
             Item::After(id) => self.afters.note(id.number(), step),
             Item::Cmd(i) => self.commands.note(*i, step),
             Item::Within(time) => self.clock_steps.note(step, *time),
-            _ => self.others.note(item, step, reader),
+            _ => self.others.note(item, step),
         }
     }
 
     /// Notes that a step asked a question with a name, as [`FirstUses::note`] notes its item.
     #[inline(always)]
-    pub fn note_asked(&mut self, asked: Asked, step: u64, reader: u64) -> Result<(), AllocError>
+    pub fn note_asked(&mut self, asked: Asked, step: u64) -> Result<(), AllocError>
         ensures ok { OnOk result ((q : Item) → first_in self.new q ≡
             or_later (first_in self.old q) (if is_use q (asked_item asked.entry) then Some step else None)) }
         ensures clock { self.new.clock_steps ≡ self.old.clock_steps }
         ensures err { OnErr result (self.new ≡ self.old) }
     {
-        self.others.note_asked(asked, step, reader)
+        self.others.note_asked(asked, step)
     }
 
     /// Forgets the steps from one on, that one too.

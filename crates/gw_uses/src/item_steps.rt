@@ -1,4 +1,4 @@
-ghost use Rattle.std.specs.Prelude.{◌≡◌, ◌<◌, [], Some, None, if◌then◌else◌, OnOk, OnErr, nat_lt, IsTrue, IsSome};
+ghost use Rattle.std.specs.Prelude.{◌≡◌, [], Some, None, if◌then◌else◌, OnOk, OnErr, nat_lt, IsTrue, IsSome};
 ghost use Rattle.gw_meaning.specs.declared.item.Item.{Item};
 ghost use Rattle.gw_meaning.specs.Reads.{same_item, or_later};
 ghost use Rattle.gw_uses.specs.Asks.{differs, earlier, is_ask, is_other, least_in};
@@ -14,15 +14,16 @@ use indexmap::IndexMap;
 use std::alloc::{AllocError, Global};
 use std::marker::Model;
 
-// How many places are kept at which items were found.
-const NEAR: usize = 128;
+// How many slots there are.
+const SLOTS: usize = 8_192;
 
 /// For each item of any kind the first step that used it, if any did, in the order in which they were noted.
 #[derive(Drop)]
 pub struct ItemSteps {
     steps: IndexMap<Item, u64>,
-    // Where an item was found last, by what read it and by what was asked: it is looked for there first.
-    near: [usize; NEAR],
+    // Where an item was found last, by the mark of its question: it is looked for there first. There are no slots before
+    // the first item comes.
+    slots: Vec<u16>,
 }
 
 impl Model for ItemSteps {
@@ -46,7 +47,7 @@ impl ItemSteps {
     {
         ItemSteps {
             steps: IndexMap::new(alloc),
-            near: [0; NEAR],
+            slots: Vec::new(alloc),
         }
     }
 
@@ -79,14 +80,14 @@ impl ItemSteps {
     }
 
     /// Notes that a step used this item, unless one is noted already, which takes no memory. Where memory is refused,
-    /// nothing changes. `reader`, a statement id or 0, only says where it is looked for first.
-    pub fn note(&mut self, item: &Item, step: u64, reader: u64) -> Result<(), AllocError>
+    /// nothing changes.
+    pub fn note(&mut self, item: &Item, step: u64) -> Result<(), AllocError>
         ensures ok { OnOk result ((q : Item) →
             step_of self.new q ≡ or_later (step_of self.old q) (if same_item item.now q then Some step else None)) }
         ensures err { OnErr result (self.new ≡ self.old) }
     {
-        let slot = slot_of(reader);
-        if self.is_at(self.near[slot], item) {
+        let slot = slot_of(mark_without_name(item));
+        if self.is_at(self.index_in(slot), item) {
             return Ok(());
         }
         self.note_at(item, step, slot)
@@ -95,20 +96,28 @@ impl ItemSteps {
     // Notes that a step used this item, which its slot did not tell.
     #[inline(never)]
     fn note_at(&mut self, item: &Item, step: u64, slot: usize) -> Result<(), AllocError>
-        requires { slot < 128 }
         ensures ok { OnOk result ((q : Item) →
             step_of self.new q ≡ or_later (step_of self.old q) (if same_item item.now q then Some step else None)) }
         ensures err { OnErr result (self.new ≡ self.old) }
     {
+        make_slots(&mut self.slots)?;
         match self.steps.get_index_of(item) {
-            Some(index) => self.near[slot] = index,
+            Some(index) => put(&mut self.slots, slot, index),
             None => {
-                let index = self.steps.len();
+                put(&mut self.slots, slot, self.steps.len());
                 self.steps.insert(item.clone()?, step)?;
-                self.near[slot] = index;
             }
         }
         Ok(())
+    }
+
+    // The index that a slot holds, which may be that of another item, and is 0 before the slots are made.
+    #[inline(always)]
+    fn index_in(&self, slot: usize) -> usize {
+        match self.slots.get(slot) {
+            Some(index) => usize::from(*index),
+            None => 0,
+        }
     }
 
     // Whether this item is noted at an index.
@@ -122,15 +131,15 @@ impl ItemSteps {
     }
 
     /// Notes that a step asked a question with a name, as [`ItemSteps::note`] notes its item, which is made only where
-    /// this reader did not find it last.
+    /// its slot does not tell it.
     #[inline(always)]
-    pub fn note_asked(&mut self, asked: Asked, step: u64, reader: u64) -> Result<(), AllocError>
+    pub fn note_asked(&mut self, asked: Asked, step: u64) -> Result<(), AllocError>
         ensures ok { OnOk result ((q : Item) → step_of self.new q ≡
             or_later (step_of self.old q) (if same_item (asked_item asked.entry) q then Some step else None)) }
         ensures err { OnErr result (self.new ≡ self.old) }
     {
-        let slot = slot_of(reader.wrapping_add(asked.mark()));
-        if self.is_asked_at(self.near[slot], asked) {
+        let slot = slot_of(asked.mark());
+        if self.is_asked_at(self.index_in(slot), asked) {
             return Ok(());
         }
         self.note_item_of(asked, step, slot)
@@ -140,7 +149,6 @@ impl ItemSteps {
     #[cold]
     #[inline(never)]
     fn note_item_of(&mut self, asked: Asked, step: u64, slot: usize) -> Result<(), AllocError>
-        requires { slot < 128 }
         ensures ok { OnOk result ((q : Item) → step_of self.new q ≡
             or_later (step_of self.old q) (if same_item (asked_item asked.entry) q then Some step else None)) }
         ensures err { OnErr result (self.new ≡ self.old) }
@@ -171,12 +179,35 @@ impl ItemSteps {
     }
 }
 
-// Where an item that goes by a number is looked for first.
+// The slot of a mark.
 #[inline(always)]
-fn slot_of(number: u64) -> usize
-    ensures { result < 128 }
-{
-    (number % NEAR as u64) as usize
+fn slot_of(mark: u64) -> usize {
+    (mark % SLOTS as u64) as usize
+}
+
+// The mark of an item without a name.
+fn mark_without_name(item: &Item) -> u64 {
+    match item {
+        Item::Seed => 1,
+        _ => 0,
+    }
+}
+
+// Makes the slots, unless they are there.
+fn make_slots(slots: &mut Vec<u16>) -> Result<(), AllocError> {
+    if slots.is_empty() {
+        slots.resize(SLOTS, 0)?;
+    }
+    Ok(())
+}
+
+// Puts an index into a slot, unless it is beyond what one keeps.
+fn put(slots: &mut [u16], slot: usize, index: usize) {
+    if let Some(place) = slots.get_mut(slot) {
+        if let Ok(index) = u16::try_from(index) {
+            *place = index;
+        }
+    }
 }
 
 // The step that noted an item, where that is asked of the storage.

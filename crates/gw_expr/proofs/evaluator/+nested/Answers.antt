@@ -1,10 +1,9 @@
 use Rattle.std.proofs.Common.{◌-◌, arith, ◌≡◌, ℕ, suc, None, rules}
-use Rattle.std.proofs.lemmas.List.{take_rest}
 use Rattle.gw_expr.specs.declared.stop.Stop.TheVariants.{Range, VariableDepth}
 use Rattle.gw_expr.specs.Evaluation.{value_of_atom, value_by, argument_by, definitions_within}
 use Rattle.gw_expr.specs.Worlds.{yields, stops, refused, replied, failed}
-use Rattle.gw_expr.proofs.Worlds.{exit_fault, then_goes, then_fails, goes_comes, goes_placed, goes_asked, evaluates_as}
-use Rattle.gw_expr.proofs.Parts.{value_goes, value_fails, part_fails, part_goes, parts_end, rest_goes}
+use Rattle.gw_expr.proofs.Worlds.{exit_fault, then_goes, then_fails, goes_comes, goes_asked, evaluates_as}
+use Rattle.gw_expr.proofs.Parts.{value_goes, value_fails, part_fails, part_goes, parts_end}
 use Rattle.gw_expr.proofs.evaluator.+nested.Goals as goal
 
 one_less : (depth : ℕ) → (depth ≡ 0 → ⊥) → depth ≡ suc (depth - 1)
@@ -16,7 +15,7 @@ term-returns-in-Value g n c = evaluates_as (search rules) c.alone.ensures
 
 pub term-returns-in-Computed : goal.term-returns-in-Computed
 unfolding value_by
-term-returns-in-Computed g n c = evaluates_as (search rules) c.rest.ensures
+term-returns-in-Computed g n c = evaluates_as (search rules) c.computed_long.ensures
 
 pub term-returns-in-Computed-2 : goal.term-returns-in-Computed-2
 unfolding value_by
@@ -26,15 +25,9 @@ pub of_atom-returns-in-Constant : goal.of_atom-returns-in-Constant
 unfolding value_of_atom
 of_atom-returns-in-Constant g n c = rw c.in-Constant.is (yields _ _)
 
-pub of_atom-returns-in_err-number-in-Number : goal.of_atom-returns-in_err-number-in-Number
+pub of_atom-returns-in-Number : goal.of_atom-returns-in-Number
 unfolding value_of_atom
-of_atom-returns-in_err-number-in-Number g n c =
-    rw (c.in-Number.is, exit_fault c.from_residual.ensures.1) (failed _ _ _ _ _ c.in_err-number-in-Number.ensures)
-
-pub of_atom-returns-in_ok-number-in-Number : goal.of_atom-returns-in_ok-number-in-Number
-unfolding value_of_atom
-of_atom-returns-in_ok-number-in-Number g n c =
-    rw c.in-Number.is (replied _ _ _ _ _ _ _ tt c.in_ok-number-in-Number.ensures (goes_comes _ c.number_given.ensures))
+of_atom-returns-in-Number g n c = rw c.in-Number.is c.of_number.ensures
 
 pub of_atom-returns-then-is_of_variable : goal.of_atom-returns-then-is_of_variable
 unfolding value_of_atom
@@ -121,64 +114,61 @@ whole_argument-returns-in_err-value g n c = rw (exit_fault c.from_residual.ensur
 pub whole_argument-returns : goal.whole_argument-returns
 whole_argument-returns g n c = rw c.of_value.ensures (then_goes _ c.in_ok-value.ensures (yields _ _))
 
-pub computed-loop-index-init : goal.computed-loop-index-init
-computed-loop-index-init g n c = record { so_far = rw c.new-values.ensures (yields _ _) }
+pub computed-loop-part-init : goal.computed-loop-part-init
+computed-loop-part-init g n c = (record { so_far = rw c.new-values.ensures (yields _ _) }, rw c.new-values.ensures (omega arith))
 
-pub computed-returns-in_err-token : goal.computed-returns-in_err-token
-computed-returns-in_err-token g n c =
+pub computed-returns-in_err-part_of_few : goal.computed-returns-in_err-part_of_few
+computed-returns-in_err-part_of_few g n c =
     rw (exit_fault c.from_residual.ensures.1)
-    (part_fails c.loop-index.invariant c.loop-index-test.true c.index-tokens-index-in-loop-index.is c.in_err-token.ensures)
+    (part_fails c.loop-part.invariant.0 c.loop-part-test.true c.part-item.is c.in_err-part_of_few.ensures.evaluates)
 
-pub computed-loop-index-preserved : goal.computed-loop-index-preserved
-computed-loop-index-preserved g n c = part_goes c.loop-index.invariant c.loop-index-test.true c.index-tokens-index-in-loop-index.is c.in_ok-token.ensures
-
-pub computed-returns-then-is_full_for : goal.computed-returns-then-is_full_for
-computed-returns-then-is_full_for g n c = rest_goes c.loop-index.invariant (rw take_rest at c.rest.ensures)
+pub computed-loop-part-preserved : goal.computed-loop-part-preserved
+computed-loop-part-preserved g n c = (
+  part_goes c.loop-part.invariant.0 c.loop-part-test.true c.part-item.is c.in_ok-part_of_few.ensures.evaluates,
+  omega (arith, c.in_ok-part_of_few.ensures.more, c.loop-part.invariant.1),
+)
 
 pub computed-returns : goal.computed-returns
-computed-returns g n c = parts_end c.loop-index.invariant c.loop-index-test.false c.last.ensures
+computed-returns g n c = parts_end c.loop-part.invariant.0 c.loop-part-test.false c.last.ensures
 
-pub rest-returns-in_err-values : goal.rest-returns-in_err-values
-rest-returns-in_err-values g n c = rw (exit_fault c.from_residual.ensures.1) (refused _ _)
+pub computed_long-loop-part-init : goal.computed_long-loop-part-init
+computed_long-loop-part-init g n c = record { so_far = rw c.new-values.ensures (yields _ _) }
 
-pub rest-loop-token-init : goal.rest-loop-token-init
-rest-loop-token-init g n c = record { so_far = rw c.in_ok-values.ensures (yields _ _) }
+pub computed_long-returns-in_err-part_of_many : goal.computed_long-returns-in_err-part_of_many
+computed_long-returns-in_err-part_of_many g n c =
+    rw (exit_fault c.from_residual.ensures.1)
+    (part_fails c.loop-part.invariant c.loop-part-test.true c.part-item.is c.in_err-part_of_many.ensures)
 
-pub rest-returns-in_err-token_of_rest : goal.rest-returns-in_err-token_of_rest
-rest-returns-in_err-token_of_rest g n c =
-    rw (exit_fault c.from_residual-in_err-token_of_rest.ensures.1)
-    (part_fails c.loop-token.invariant c.loop-token-test.true c.token-item.is c.in_err-token_of_rest.ensures)
+pub computed_long-loop-part-preserved : goal.computed_long-loop-part-preserved
+computed_long-loop-part-preserved g n c = part_goes c.loop-part.invariant c.loop-part-test.true c.part-item.is c.in_ok-part_of_many.ensures
 
-pub rest-loop-token-preserved : goal.rest-loop-token-preserved
-rest-loop-token-preserved g n c = part_goes c.loop-token.invariant c.loop-token-test.true c.token-item.is c.in_ok-token_of_rest.ensures
+pub computed_long-returns : goal.computed_long-returns
+computed_long-returns g n c = parts_end c.loop-part.invariant c.loop-part-test.false c.last.ensures
 
-pub rest-returns : goal.rest-returns
-rest-returns g n c = parts_end c.loop-token.invariant c.loop-token-test.false c.last.ensures
+pub part_of_few-returns-in_err-value-in-Value-clause-evaluates : goal.part_of_few-returns-in_err-value-in-Value-clause-evaluates
+part_of_few-returns-in_err-value-in-Value-clause-evaluates g n c = rw (exit_fault c.from_residual.ensures.1) (value_fails _ _ c.in-Value.is c.in_err-value-in-Value.ensures)
 
-pub token-returns-in_err-value-in-Value : goal.token-returns-in_err-value-in-Value
-token-returns-in_err-value-in-Value g n c = rw (exit_fault c.from_residual.ensures.1) (value_fails _ _ c.in-Value.is c.in_err-value-in-Value.ensures)
+pub part_of_few-returns-in_ok-value-in-Value-clause-evaluates : goal.part_of_few-returns-in_ok-value-in-Value-clause-evaluates
+part_of_few-returns-in_ok-value-in-Value-clause-evaluates g n c = value_goes _ _ c.in-Value.is c.push.ensures c.in_ok-value-in-Value.ensures
 
-pub token-returns-in_ok-value-in-Value : goal.token-returns-in_ok-value-in-Value
-token-returns-in_ok-value-in-Value g n c = value_goes _ _ c.in-Value.is c.push.ensures c.in_ok-value-in-Value.ensures
+pub part_of_few-returns-in-Negated-clause-evaluates : goal.part_of_few-returns-in-Negated-clause-evaluates
+part_of_few-returns-in-Negated-clause-evaluates g n c = rw c.in-Negated.is (goes_comes _ c.negate_last.ensures.comes)
 
-pub token-returns-in-Negated : goal.token-returns-in-Negated
-token-returns-in-Negated g n c = rw c.in-Negated.is (goes_comes _ c.negate_last.ensures)
+pub part_of_few-returns-in-Applied-clause-evaluates : goal.part_of_few-returns-in-Applied-clause-evaluates
+part_of_few-returns-in-Applied-clause-evaluates g n c = rw c.in-Applied.is (goes_comes _ c.apply_last.ensures.comes)
 
-pub token-returns-in-Applied : goal.token-returns-in-Applied
-token-returns-in-Applied g n c = rw c.in-Applied.is (goes_comes _ c.apply_last.ensures)
+pub part_of_many-returns-in_err-found-in-Value : goal.part_of_many-returns-in_err-found-in-Value
+part_of_many-returns-in_err-found-in-Value g n c = rw (exit_fault c.from_residual.ensures.1) (value_fails _ _ c.in-Value.is c.in_err-found-in-Value.ensures)
 
-pub token_of_rest-returns-in_err-found-in-Value : goal.token_of_rest-returns-in_err-found-in-Value
-token_of_rest-returns-in_err-found-in-Value g n c = rw (exit_fault c.from_residual.ensures.1) (value_fails _ _ c.in-Value.is c.in_err-found-in-Value.ensures)
-
-pub token_of_rest-returns-in_err-push-in-Value : goal.token_of_rest-returns-in_err-push-in-Value
-token_of_rest-returns-in_err-push-in-Value g n c =
+pub part_of_many-returns-in_err-push-in-Value : goal.part_of_many-returns-in_err-push-in-Value
+part_of_many-returns-in_err-push-in-Value g n c =
     rw (c.in-Value.is, exit_fault c.from_residual-in_err-push-in-Value.ensures.1) (then_goes _ c.in_ok-found-in-Value.ensures (refused _ _))
 
-pub token_of_rest-returns-in_ok-push-in-Value : goal.token_of_rest-returns-in_ok-push-in-Value
-token_of_rest-returns-in_ok-push-in-Value g n c = value_goes _ _ c.in-Value.is c.in_ok-push-in-Value.ensures.ok c.in_ok-found-in-Value.ensures
+pub part_of_many-returns-in_ok-push-in-Value : goal.part_of_many-returns-in_ok-push-in-Value
+part_of_many-returns-in_ok-push-in-Value g n c = value_goes _ _ c.in-Value.is c.in_ok-push-in-Value.ensures.ok c.in_ok-found-in-Value.ensures
 
-pub token_of_rest-returns-in-Negated : goal.token_of_rest-returns-in-Negated
-token_of_rest-returns-in-Negated g n c = rw c.in-Negated.is (goes_placed _ c.negate_last.ensures)
+pub part_of_many-returns-in-Negated : goal.part_of_many-returns-in-Negated
+part_of_many-returns-in-Negated g n c = rw c.in-Negated.is (goes_comes _ c.negate_last.ensures)
 
-pub token_of_rest-returns-in-Applied : goal.token_of_rest-returns-in-Applied
-token_of_rest-returns-in-Applied g n c = rw c.in-Applied.is (goes_placed _ c.apply_last.ensures)
+pub part_of_many-returns-in-Applied : goal.part_of_many-returns-in-Applied
+part_of_many-returns-in-Applied g n c = rw c.in-Applied.is (goes_comes _ c.apply_last.ensures)

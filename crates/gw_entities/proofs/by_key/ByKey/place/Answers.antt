@@ -1,19 +1,10 @@
-use Rattle.std.proofs.Common.{◌≡◌, ◌<◌, None, length, take, refl, sym, subst, ◌∙◌, arith, rules}
-use Rattle.std.proofs.lemmas.Bool.Decides.{nat_tests}
+use Rattle.std.proofs.Common.{◌<◌, length, refl, sym, ◌∙◌, rules}
 use Rattle.std.proofs.lemmas.Option.{slice_get_read}
 use Rattle.gw_names.specs.Keys.{key_eq}
-use Rattle.gw_entities.specs.Tables.{value_of}
 use Rattle.gw_entities.proofs.ComingLaws.{key_same}
 use Rattle.gw_entities.proofs.Entries.{value_there}
 use Rattle.gw_entities.proofs.Fewer.{passed_on}
 use Rattle.gw_entities.proofs.by_key.ByKey.place.Goals as goal
-
-pub place_behind-requires : goal.place_behind-requires
-place_behind-requires g c =
-    let few = c.loop-index.invariant.few in
-    let more = c.if-index-ge-FEW_ENTITIES.true in
-    let same : c.loop-index.index ≡ 8 = grind (arith, nat_tests) in
-    subst (λ n. value_of (take n c.args.self.now.entries) c.args.key.now ≡ None) same c.loop-index.invariant.none
 
 pub returns-then-eq : goal.returns-then-eq
 returns-then-eq g c =
@@ -32,9 +23,5 @@ loop-index-preserved g c =
     let i = c.loop-index.index in
     let e = c.index.result.now in
     let within : i < length es = search rules in
-    let none = rw (← c.self.view_is) at c.loop-index.invariant.none in
-    record {
-      few = grind (arith, nat_tests);
-      none = rw (← c.self.view_is)
-          (passed_on (key_eq c.args.key.now) es i e within c.index.ensures (sym c.eq.ensures ∙ c.if-eq.false) none);
-    }
+    let none = rw (← c.self.view_is) at c.loop-index.invariant in
+    rw (← c.self.view_is) (passed_on (key_eq c.args.key.now) es i e within c.index.ensures (sym c.eq.ensures ∙ c.if-eq.false) none)
