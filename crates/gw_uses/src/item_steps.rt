@@ -1,4 +1,4 @@
-ghost use Rattle.std.specs.Prelude.{◌≡◌, [], Some, None, if◌then◌else◌, OnOk, OnErr, nat_lt, IsTrue, IsSome};
+ghost use Rattle.std.specs.Prelude.{◌≡◌, ◌<◌, [], Some, None, if◌then◌else◌, OnOk, OnErr, nat_lt, IsTrue, IsSome};
 ghost use Rattle.gw_meaning.specs.declared.item.Item.{Item};
 ghost use Rattle.gw_meaning.specs.Reads.{same_item, or_later};
 ghost use Rattle.gw_uses.specs.Asks.{differs, earlier, is_ask, is_other, least_in};
@@ -15,15 +15,14 @@ use std::alloc::{AllocError, Global};
 use std::marker::Model;
 
 // How many slots there are.
-const SLOTS: usize = 8_192;
+const SLOTS: usize = 2_048;
 
 /// For each item of any kind the first step that used it, if any did, in the order in which they were noted.
 #[derive(Drop)]
 pub struct ItemSteps {
     steps: IndexMap<Item, u64>,
-    // Where an item was found last, by the mark of its question: it is looked for there first. There are no slots before
-    // the first item comes.
-    slots: Vec<u16>,
+    // Where an item was found last, by the mark of its question: it is looked for there first.
+    slots: [u16; SLOTS],
 }
 
 impl Model for ItemSteps {
@@ -47,7 +46,7 @@ impl ItemSteps {
     {
         ItemSteps {
             steps: IndexMap::new(alloc),
-            slots: Vec::new(alloc),
+            slots: [0; SLOTS],
         }
     }
 
@@ -87,7 +86,7 @@ impl ItemSteps {
         ensures err { OnErr result (self.new ≡ self.old) }
     {
         let slot = slot_of(mark_without_name(item));
-        if self.is_at(self.index_in(slot), item) {
+        if self.is_at(usize::from(self.slots[slot]), item) {
             return Ok(());
         }
         self.note_at(item, step, slot)
@@ -96,28 +95,20 @@ impl ItemSteps {
     // Notes that a step used this item, which its slot did not tell.
     #[inline(never)]
     fn note_at(&mut self, item: &Item, step: u64, slot: usize) -> Result<(), AllocError>
+        requires { slot < 2048 }
         ensures ok { OnOk result ((q : Item) →
             step_of self.new q ≡ or_later (step_of self.old q) (if same_item item.now q then Some step else None)) }
         ensures err { OnErr result (self.new ≡ self.old) }
     {
-        make_slots(&mut self.slots)?;
         match self.steps.get_index_of(item) {
-            Some(index) => put(&mut self.slots, slot, index),
+            Some(index) => self.slots[slot] = kept(index),
             None => {
-                put(&mut self.slots, slot, self.steps.len());
+                let index = self.steps.len();
                 self.steps.insert(item.clone()?, step)?;
+                self.slots[slot] = kept(index);
             }
         }
         Ok(())
-    }
-
-    // The index that a slot holds, which may be that of another item, and is 0 before the slots are made.
-    #[inline(always)]
-    fn index_in(&self, slot: usize) -> usize {
-        match self.slots.get(slot) {
-            Some(index) => usize::from(*index),
-            None => 0,
-        }
     }
 
     // Whether this item is noted at an index.
@@ -139,7 +130,7 @@ impl ItemSteps {
         ensures err { OnErr result (self.new ≡ self.old) }
     {
         let slot = slot_of(asked.mark());
-        if self.is_asked_at(self.index_in(slot), asked) {
+        if self.is_asked_at(usize::from(self.slots[slot]), asked) {
             return Ok(());
         }
         self.note_item_of(asked, step, slot)
@@ -149,6 +140,7 @@ impl ItemSteps {
     #[cold]
     #[inline(never)]
     fn note_item_of(&mut self, asked: Asked, step: u64, slot: usize) -> Result<(), AllocError>
+        requires { slot < 2048 }
         ensures ok { OnOk result ((q : Item) → step_of self.new q ≡
             or_later (step_of self.old q) (if same_item (asked_item asked.entry) q then Some step else None)) }
         ensures err { OnErr result (self.new ≡ self.old) }
@@ -181,7 +173,9 @@ impl ItemSteps {
 
 // The slot of a mark.
 #[inline(always)]
-fn slot_of(mark: u64) -> usize {
+fn slot_of(mark: u64) -> usize
+    ensures { result < 2048 }
+{
     (mark % SLOTS as u64) as usize
 }
 
@@ -193,20 +187,11 @@ fn mark_without_name(item: &Item) -> u64 {
     }
 }
 
-// Makes the slots, unless they are there.
-fn make_slots(slots: &mut Vec<u16>) -> Result<(), AllocError> {
-    if slots.is_empty() {
-        slots.resize(SLOTS, 0)?;
-    }
-    Ok(())
-}
-
-// Puts an index into a slot, unless it is beyond what one keeps.
-fn put(slots: &mut [u16], slot: usize, index: usize) {
-    if let Some(place) = slots.get_mut(slot) {
-        if let Ok(index) = u16::try_from(index) {
-            *place = index;
-        }
+// An index, as a slot keeps it: one that it cannot hold is not kept.
+fn kept(index: usize) -> u16 {
+    match u16::try_from(index) {
+        Ok(index) => index,
+        Err(_) => 0,
     }
 }
 
