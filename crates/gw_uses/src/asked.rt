@@ -7,7 +7,7 @@ use gw_names::Name;
 use std::alloc::AllocError;
 
 // The marks of two amounts of a storage lie so far apart, since those of names that end in numbers are neighbours.
-const APART: u64 = 2_053;
+const APART: u64 = 1_267;
 
 /// A question with a name, which it borrows: its [`Item`] is made only where its slot does not tell it.
 #[derive(Clone, Copy)]
