@@ -7,15 +7,15 @@ use gw_names::Key;
 use std::alloc::{AllocError, Global};
 use std::marker::Model;
 
-// So many keys are looked through one by one; most models have no more delay chains. Those behind them are found in the
-// slots of their marks, and else by their hash.
+// So many keys are looked through one by one; most models have no more delay chains. Those behind them are found by
+// slots.
 const FEW_KEYS: usize = 8;
 
 /// Keys, none of them twice, in the order of coming: the first few in a list, and those behind them in a set.
 #[derive(Drop)]
 pub struct Keys {
     few: Vec<Key>,
-    // None while there are fewer than a few.
+    // Empty while the list holds fewer than a few.
     behind: KeySet,
 }
 
@@ -45,13 +45,13 @@ impl Keys {
         }
     }
 
-    // Where a key lies, if it is one of these: a slot may tell it, and the first few are looked through.
+    // Where a key lies, if it is one of these.
     #[inline(always)]
     pub fn place(&self, key: &Key) -> Option<usize>
         ensures there { IfSome result (λ i. slice_get self.now.keys i ≡ Some key.now) }
         ensures none { IfNone result (list_any (key_eq key.now) self.now.keys ≡ false) }
     {
-        if let Some(index) = self.behind.near(key) {
+        if let Some(index) = self.behind.place(key) {
             return Some(FEW_KEYS + index);
         }
         for index in 0..self.few.len() {
@@ -59,13 +59,7 @@ impl Keys {
                 return Some(index);
             }
         }
-        if self.few.len() < FEW_KEYS {
-            return None;
-        }
-        match self.behind.place(key) {
-            Some(index) => Some(FEW_KEYS + index),
-            None => None,
-        }
+        None
     }
 
     // Makes room for one more key.

@@ -1,5 +1,5 @@
 -- Entries, and the keys of those behind the first few: what `ByKey` and `Parameters` keep.
-use Rattle.std.proofs.Common.{◌≡◌, ℕ, Bool, true, false, cond, zero, suc, ◌+◌, ◌-◌, ◌<◌, ◌≤◌, List, [], ◌∷◌, ◌++◌, length, take, drop, set, get_or, None, Some, nat_lt, refl, sym, ap, ◌∙◌, ◌||◌, subst, append-nil, arith}
+use Rattle.std.proofs.Common.{◌≡◌, ℕ, Bool, true, false, cond, zero, suc, ◌+◌, ◌-◌, ◌<◌, ◌≤◌, List, [], ◌∷◌, ◌++◌, length, take, drop, set, get_or, Option, None, Some, take-append-drop, nat_lt, refl, sym, ap, ◌∙◌, ◌||◌, subst, append-nil, arith}
 use Rattle.std.specs.Prelude.{swap_remove}
 use Rattle.std.proofs.Math.ListN.{get_or-map}
 use Rattle.std.proofs.Math.Seq.{map-set_same}
@@ -12,14 +12,14 @@ use Rattle.std.specs.List.{IsDistinct, AllByRecursion, slice_get, list_any}
 use Rattle.std.proofs.lemmas.Bool.Decides.{nat_tests}
 use Rattle.std.proofs.lemmas.Map.Keys.{IsDistinct-head, IsDistinct-tail, IsDistinct-IsPermutation}
 use Rattle.std.specs.Map.{keys_of, lookup}
-use Rattle.std.specs.Option.{option_map}
+use Rattle.std.specs.Option.{option_map, IfSome, IfNone}
 use Rattle.indexmap.specs.IndexMap.{insert_entry}
 use Rattle.indexmap.specs.IndexSet.{insert_key}
 use Rattle.gw_names.specs.declared.key.Key.{Key}
 use Rattle.gw_names.specs.Keys.{key_eq}
 use Rattle.gw_entities.specs.Few.{keys_behind, StandsFirst}
 use Rattle.gw_entities.specs.Tables.{value_of, with_value, AreApart, IsPlace}
-use Rattle.gw_entities.proofs.Fewer.{set_behind, stands_before, first_value}
+use Rattle.gw_entities.proofs.Fewer.{set_behind, stands_before, first_value, none_among}
 use Rattle.gw_entities.proofs.ComingLaws.{key_same}
 use Rattle.gw_entities.proofs.Lookups.{Some_same, later}
 use Rattle.gw_entities.proofs.TableLaws.{key_eq_equiv, insert_entry_is}
@@ -198,6 +198,17 @@ module _ {V : Type 0} where
       let same = key_same key first.entry.0 first.passes in
       let value = first_value (key_eq key) (es ++ fs) i (Some first.entry.1) first (ap (λ o. option_map (λ (p : Key × V). p.1) o) first.there) in
       (first.entry.1, first.there ∙ ap (λ (k : Key). Some (k, first.entry.1)) (sym same), value)
+
+  -- where a key lies that is none of those behind the first few
+  pub among_few :
+      (es : List (Key × V)) (key : Key) (place : Option ℕ) → value_of (drop 8 es) key ≡ None →
+      IfSome place (λ i. StandsFirst (key_eq key) (take 8 es) i) → IfNone place (value_of (take 8 es) key ≡ None) →
+      IsPlace es key place
+  among_few es key None others there none =
+      ap (λ l. value_of l key) (sym (take-append-drop 8 es))
+      ∙ (none_among (key_eq key) (take 8 es) (drop 8 es) none ∙ others)
+  among_few es key (Some i) others there none =
+      subst (λ l. IsPlace l key (Some i)) (take-append-drop 8 es) (stands_among (take 8 es) (drop 8 es) i key there)
 
   -- what is read where a key lies is its value
   pub read_at : (es : List (Key × V)) (i : ℕ) (key : Key) (e : Key × V) → IsPlace es key (Some i) → e ≡ get_or es i e → value_of es key ≡ Some e.1

@@ -1,4 +1,5 @@
 pub mod ComingLaws
+pub mod LinkLaws
 pub mod Entries
 pub mod Fewer
 pub mod Finding

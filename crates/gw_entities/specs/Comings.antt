@@ -4,16 +4,12 @@ use Rattle.std.specs.Prelude.{◌≡◌, ℕ, Bool, false, ◌&&◌, ◌||◌, n
 use Rattle.gw_names.specs.declared.key.Key.{Key}
 use Rattle.gw_names.specs.Keys.{key_eq}
 
-pub record Arrivals : Type 0 where
+pub record ReadyArrivals : Type 0 where
   -- the queue, and the number of the transaction
   pub comings : List (Key × ℕ)
   -- for how many more there is room
   pub room : ℕ
-
--- the same, with the key that the next coming takes, if there is one
-pub record ReadyArrivals : Type 0 where
-  pub comings : List (Key × ℕ)
-  pub room : ℕ
+  -- the key that the next coming takes, if there is one
   pub ready : Option Key
 
 -- whether a transaction came to a queue

@@ -1,5 +1,5 @@
 -- The first few entries, which are looked through one by one, and the keys of those behind them. Of public clauses only
--- those of `KeySet` and `Parameters` cite this module. (Our own.)
+-- those of `KeySet` cite this module. (Our own.)
 use Rattle.std.specs.Prelude.{◌≡◌, ◌<◌, ◌≤◌, ◌-◌, ℕ, Bool, true, List, [], ◌∷◌, Option, None, Some, length, take, slice_get, swap_remove, nat_lt, if◌then◌else◌}
 use Rattle.std.specs.Map.{lookup}
 use Rattle.indexmap.specs.IndexSet.{insert_key}

@@ -2,6 +2,6 @@ pub mod Comings
 pub mod Few
 pub mod Levels
 pub mod Parameters
-pub mod Places
+pub mod Links
 pub mod Records
 pub mod Tables

@@ -10,8 +10,8 @@ use gw_names::Key;
 use std::alloc::{AllocError, Global};
 use std::marker::Model;
 
-// So many entities are looked through one by one; most models have no more of a kind. Those behind them are found in the
-// slots of their marks, and else by their hash.
+// So many entities are looked through one by one; most models have no more of a kind. Those behind them are found by
+// slots.
 const FEW_ENTITIES: usize = 8;
 
 /// A value for each entity, in order of first touch.
@@ -124,12 +124,12 @@ impl<V: Copy> ByKey<V> {
         ensures entries { self.new.entries ≡ self.old.entries }
     {
         let listed = key.clone()?;
-        let hashed = key.clone()?;
+        let linked = key.clone()?;
         self.entries.reserve(1)?;
         if self.entries.len() >= FEW_ENTITIES {
             self.behind.reserve()?;
         }
-        self.ready = Some((listed, hashed));
+        self.ready = Some((listed, linked));
         Ok(())
     }
 
@@ -150,39 +150,15 @@ impl<V: Copy> ByKey<V> {
         None
     }
 
-    // The same, where there are many: the slots tell of most of those behind the first few.
+    // The same, where there are many: those behind the first few are found by slots.
     #[inline(never)]
     fn place_among_many(&self, key: &Key) -> Option<usize>
         requires { 8 < length self.now.entries }
         ensures { IsPlace self.now.entries key.now result }
     {
-        match self.behind.near(key) {
-            Some(index) => Some(FEW_ENTITIES + index),
-            None => self.place_among_all(key),
-        }
-    }
-
-    // The same, where no slot tells.
-    fn place_among_all(&self, key: &Key) -> Option<usize>
-        requires { 8 < length self.now.entries }
-        ensures { IsPlace self.now.entries key.now result }
-    {
-        match place_among(&self.entries[..FEW_ENTITIES], key) {
-            Some(index) => Some(index),
-            None => self.place_behind(key),
-        }
-    }
-
-    // The same, by the hash of its key, where it is none of the first few.
-    #[cold]
-    #[inline(never)]
-    fn place_behind(&self, key: &Key) -> Option<usize>
-        requires { value_of (take 8 self.now.entries) key.now ≡ None }
-        ensures { IsPlace self.now.entries key.now result }
-    {
         match self.behind.place(key) {
             Some(index) => Some(FEW_ENTITIES + index),
-            None => None,
+            None => place_among(&self.entries[..FEW_ENTITIES], key),
         }
     }
 
@@ -212,10 +188,10 @@ impl<V: Copy> ByKey<V> {
         requires none { value_of self.old.entries key.now ≡ None }
         ensures { self.new.entries ≡ with_value self.old.entries key.now value }
     {
-        let Some((listed, hashed)) = self.ready.take() else {
+        let Some((listed, linked)) = self.ready.take() else {
             unreachable!()
         };
-        add_behind(&mut self.behind, self.entries.len(), hashed);
+        add_behind(&mut self.behind, self.entries.len(), linked);
         self.entries.push_reserved((listed, value));
     }
 

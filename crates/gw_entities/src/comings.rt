@@ -1,41 +1,41 @@
 ghost use Rattle.std.specs.Prelude.{◌≡◌, ◌<◌, ◌≤◌, ◌==◌, [], Some, length, IfOk, OnOk};
 ghost use Rattle.gw_entities.specs.Comings.{came, with_coming, AreOnce};
 
-use crate::many_comings::ManyComings;
+use crate::linked_pairs::LinkedPairs;
 use gw_names::Key;
 use std::alloc::{AllocError, Global};
 use std::marker::Model;
+use std::mem;
 
-// So many comings are looked through one by one. Most ticks have no more.
-const FEW_COMINGS: usize = 12;
+// About so many comings are looked through one by one. Most ticks have no more.
+const FEW_COMINGS: usize = 4;
 
-/// Which transactions came to which queue, in order of coming: the first few in a list, and those behind them by their
-/// hash.
+/// Which transactions came to which queue since this was last cleared, in order of coming: a few in a list, and where
+/// there are more, all of them by slots. A run clears it when the clock moves on.
 #[derive(Drop)]
 pub struct Comings {
     few: Vec<(Key, u64)>,
-    // None while there are fewer than a few.
-    many: ManyComings,
-    // A key that the next coming takes. One that was forgotten leaves its own, so that who comes to the same queue in
-    // the next tick needs none.
+    // All, where there are more than a few. Then the list of a few has no memory.
+    many: LinkedPairs,
+    // A key that the next coming takes. A coming that is forgotten alone leaves its own: then the next coming to that
+    // queue clones none.
     ready: Option<Key>,
 }
 
 impl Model for Comings {
-    ghost use Rattle.std.specs.Prelude.{◌≡◌, ◌-◌, ◌<◌, ◌++◌, [], length, vec_capacity, if◌then◌else◌, nat_lt};
+    ghost use Rattle.std.specs.Prelude.{◌≡◌, ◌-◌, ◌==◌, ◌<◌, ◌++◌, [], length, vec_capacity, if◌then◌else◌, nat_lt};
     ghost use Rattle.gw_entities.specs.Comings.{ReadyArrivals, AreOnce};
 
     ghost Value = { ReadyArrivals };
 
-    // The 12 here and below is FEW_COMINGS.
     ghost view = { λ c. record {
-      comings = c.few.items ++ c.many.comings;
-      room = if nat_lt (length c.few.items) 12 then vec_capacity c.few - length c.few.items else c.many.room;
+      comings = c.few.items ++ c.many.pairs;
+      room = if nat_lt (length c.few.items) (vec_capacity c.few) then vec_capacity c.few - length c.few.items
+          else if length c.many.pairs == 0 then 0 else c.many.room;
       ready = c.ready;
     } };
 
-    ghost invariant = { λ c. AreOnce (c.few.items ++ c.many.comings) ×
-        (length c.few.items < 12 → c.many.comings ≡ []) };
+    ghost invariant = { λ c. AreOnce (c.few.items ++ c.many.pairs) × (0 < vec_capacity c.few → c.many.pairs ≡ []) };
 }
 
 impl Comings {
@@ -45,7 +45,7 @@ impl Comings {
     {
         Comings {
             few: Vec::new(alloc),
-            many: ManyComings::new(alloc),
+            many: LinkedPairs::new(alloc),
             ready: None,
         }
     }
@@ -55,7 +55,7 @@ impl Comings {
         ensures empty { result ≡ (length self.now.comings == 0) }
         ensures once { AreOnce self.now.comings }
     {
-        self.few.is_empty()
+        self.few.is_empty() && self.many.is_empty()
     }
 
     /// Whether a transaction came to a queue.
@@ -63,18 +63,10 @@ impl Comings {
     pub fn has(&self, key: &Key, number: u64) -> bool
         ensures { result ≡ came self.now.comings key.now number }
     {
-        if self.few.len() < FEW_COMINGS {
+        if !self.few.is_empty() {
             return is_among(&self.few, key, number);
         }
-        self.is_among_many(key, number)
-    }
-
-    // Whether a transaction came to a queue, where there may be some behind the first few.
-    #[inline(never)]
-    fn is_among_many(&self, key: &Key, number: u64) -> bool
-        ensures { result ≡ came self.now.comings key.now number }
-    {
-        is_among(&self.few, key, number) || self.many.has(key, number)
+        !self.many.is_empty() && self.many.has(key, number)
     }
 
     /// Makes room for one more coming to a queue. It changes none, and room that was there stays.
@@ -86,7 +78,7 @@ impl Comings {
         ensures room { self.old.room ≤ self.new.room }
     {
         self.get_ready(key)?;
-        if self.few.len() < FEW_COMINGS && self.few.len() < self.few.capacity() {
+        if self.few.len() < self.few.capacity() {
             return Ok(());
         }
         self.grow()
@@ -108,8 +100,7 @@ impl Comings {
         Ok(())
     }
 
-    // Makes room for one more coming, where the list may have none.
-    #[cold]
+    // Makes room for one more coming, where the list of a few has none.
     #[inline(never)]
     fn grow(&mut self) -> Result<(), AllocError>
         ensures ok { OnOk result (0 < self.new.room) }
@@ -117,10 +108,18 @@ impl Comings {
         ensures comings { self.new.comings ≡ self.old.comings }
         ensures room { self.old.room ≤ self.new.room }
     {
-        if self.few.len() < FEW_COMINGS {
-            return self.few.reserve(1);
+        if !self.many.is_empty() {
+            return self.many.reserve(1);
         }
-        self.many.reserve()
+        if self.few.len() < FEW_COMINGS {
+            return self.few.reserve(FEW_COMINGS - self.few.len());
+        }
+        // From now on all are looked for by slots.
+        self.many.reserve(self.few.capacity().saturating_add(1))?;
+        let none = Vec::new(*self.few.allocator());
+        let few = mem::replace(&mut self.few, none);
+        self.many.append(few);
+        Ok(())
     }
 
     /// A transaction comes to a queue: behind the others, unless it came there already.
@@ -136,14 +135,14 @@ impl Comings {
         let Some(own) = self.ready.take() else {
             unreachable!()
         };
-        if self.few.len() < FEW_COMINGS {
+        if self.few.len() < self.few.capacity() {
             self.few.push_reserved((own, number));
         } else {
             self.many.add(own, number);
         }
     }
 
-    /// Forgets who came. What many comings took is given back, since to clear a set costs what it can hold.
+    /// Forgets who came.
     #[inline(always)]
     pub fn clear(&mut self)
         ensures { self.new.comings ≡ [] }
@@ -163,19 +162,25 @@ impl Comings {
     fn clear_all(&mut self)
         ensures { self.new.comings ≡ [] }
     {
-        if self.few.len() >= FEW_COMINGS {
-            self.many.clear();
-        }
         self.few.clear();
+        self.many.clear();
     }
 
     /// The same comings.
     pub fn copy(&self) -> Result<Comings, AllocError>
         ensures { IfOk result (λ c. c.comings ≡ self.now.comings) }
     {
+        let alloc = *self.few.allocator();
+        if self.few.is_empty() {
+            return Ok(Comings {
+                few: Vec::new(alloc),
+                many: self.many.copy()?,
+                ready: None,
+            });
+        }
         Ok(Comings {
             few: self.few.clone()?,
-            many: self.many.copy()?,
+            many: LinkedPairs::new(alloc),
             ready: None,
         })
     }

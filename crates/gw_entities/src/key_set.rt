@@ -3,30 +3,34 @@ ghost use Rattle.std.specs.List.{list_any};
 ghost use Rattle.indexmap.specs.IndexSet.{insert_key};
 ghost use Rattle.gw_names.specs.Keys.{key_eq};
 
-use crate::spread_keys::SpreadKeys;
+use crate::linked_pairs::LinkedPairs;
 use gw_names::Key;
 use std::alloc::{AllocError, Global};
 use std::marker::Model;
 
-/// Keys in the order of coming, looked for in the slots of their marks, and else by their hash. Most states have several
-/// such sets that hold nothing: one without room takes two words of a state, where an `IndexSet` takes fourteen.
+/// Keys in the order of coming, found by slots. Most states have several such sets that hold nothing: one without room
+/// takes two words of a state.
 #[derive(Drop)]
 pub struct KeySet {
-    set: Option<Box<SpreadKeys>>,
+    // Each key with the number 0.
+    set: Option<Box<LinkedPairs>>,
     alloc: Global,
 }
 
 impl Model for KeySet {
-    ghost use Rattle.std.specs.Prelude.{[], unwrap_or};
+    ghost use Rattle.std.specs.Prelude.{[], unwrap_or, map};
     ghost use Rattle.std.specs.Option.{option_map};
     ghost use Rattle.gw_entities.specs.Few.{KeyList};
+    ghost use Rattle.gw_entities.specs.Links.{AreBare};
 
     ghost Value = { KeyList };
 
     ghost view = { λ s. record {
-      keys = unwrap_or (option_map (λ b. b.value.keys) s.set) [];
+      keys = map (λ p. p.0) (unwrap_or (option_map (λ b. b.value.pairs) s.set) []);
       room = unwrap_or (option_map (λ b. b.value.room) s.set) 0;
     } };
+
+    ghost invariant = { λ s. AreBare (unwrap_or (option_map (λ b. b.value.pairs) s.set) []) };
 }
 
 impl KeySet {
@@ -37,29 +41,26 @@ impl KeySet {
         KeySet { set: None, alloc }
     }
 
-    /// Where a key lies, if the slot of its mark tells. Two keys may have one slot, which tells of one of them.
-    #[inline(always)]
-    pub fn near(&self, key: &Key) -> Option<usize>
-        ensures there { IfSome result (λ i. slice_get self.now.keys i ≡ Some key.now) }
-        ensures bound { IfSome result (λ i. i < 2 ^ 63) }
-    {
-        match &self.set {
-            Some(set) => set.near(key),
-            None => None,
-        }
-    }
-
     /// Where a key lies, if it is there.
-    #[cold]
-    #[inline(never)]
+    #[inline(always)]
     pub fn place(&self, key: &Key) -> Option<usize>
         ensures there { IfSome result (λ i. slice_get self.now.keys i ≡ Some key.now) }
         ensures bound { IfSome result (λ i. i < 2 ^ 63) }
         ensures none { IfNone result (list_any (key_eq key.now) self.now.keys ≡ false) }
     {
         match &self.set {
-            Some(set) => set.place(key),
+            Some(set) => set.place(key, 0),
             None => None,
+        }
+    }
+
+    // Whether a key is there.
+    fn has(&self, key: &Key) -> bool
+        ensures { result ≡ list_any (key_eq key.now) self.now.keys }
+    {
+        match &self.set {
+            Some(set) => set.has(key, 0),
+            None => false,
         }
     }
 
@@ -70,9 +71,10 @@ impl KeySet {
         ensures room { self.old.room ≤ self.new.room }
     {
         if let Some(set) = &mut self.set {
-            return set.reserve();
+            return set.reserve(1);
         }
-        let set = SpreadKeys::with_room(self.alloc)?;
+        let mut set = LinkedPairs::new(self.alloc);
+        set.reserve(1)?;
         self.set = Some(boxed(self.alloc, set)?);
         Ok(())
     }
@@ -82,10 +84,13 @@ impl KeySet {
         requires { 0 < self.old.room }
         ensures { self.new.keys ≡ insert_key key_eq self.old.keys key }
     {
+        if self.has(&key) {
+            return;
+        }
         let Some(set) = &mut self.set else {
             unreachable!()
         };
-        set.insert(key);
+        set.add(key, 0);
     }
 
     /// The same keys.
@@ -103,8 +108,8 @@ impl KeySet {
     }
 }
 
-// A set in memory of its own.
-fn boxed(alloc: Global, set: SpreadKeys) -> Result<Box<SpreadKeys>, AllocError>
+// Pairs in memory of their own.
+fn boxed(alloc: Global, set: LinkedPairs) -> Result<Box<LinkedPairs>, AllocError>
     ensures { IfOk result (λ b. b.value ≡ set) }
 {
     match Box::new(alloc, set) {

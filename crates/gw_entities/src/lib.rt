@@ -2,7 +2,7 @@
 //!
 //! A [`Level`] is a content over time: its sum is exact, tick by tick. [`Facility`], [`Queue`] and [`Storage`] count
 //! what a report tells of them; each takes any change. [`ByKey`] keeps a value for each entity, and [`Comings`] who
-//! came to which queue; all that they grow by is reserved first. [`KeySet`] looks keys up by their marks, and is small
+//! came to which queue; all that they grow by is reserved first. [`KeySet`] looks keys up by slots, and is small
 //! where it holds nothing. [`Parameters`] keeps the parameters of transactions, and a [`ParameterPlace`] says where one
 //! lies.
 #![tactic(auto)]
@@ -15,10 +15,9 @@ mod few;
 mod key_set;
 mod laws;
 mod level;
-mod many_comings;
+mod linked_pairs;
 mod parameters;
 mod queue;
-mod spread_keys;
 mod storage;
 mod values;
 

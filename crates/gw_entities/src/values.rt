@@ -22,7 +22,7 @@ const FEW_PARAMETERS: usize = 8;
 #[derive(Drop)]
 pub struct Values {
     few: Vec<(Key, Val)>,
-    // None while there are fewer than a few.
+    // Empty while the list holds fewer than a few.
     many: Behind,
 }
 

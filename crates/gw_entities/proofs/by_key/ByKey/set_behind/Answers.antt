@@ -29,11 +29,11 @@ invariant_of-self g c =
     let none = rw (← c.self.view_is) at c.requires.none in
     let own : c.in-Some.listed ≡ key = Some_same (ap (λ o. option_map (λ (p : Key × Key). p.0) o) c.in-Some.ensures.value ∙ room none) in
     let copies = subst (λ o. IsReady (length es) (vec_capacity c.self.inside.entries) c.self.inside.behind.room o) (sym c.in-Some.ensures.value) ready in
-    let other : c.in-Some.hashed ≡ key = copies.0 ∙ own in
+    let other : c.in-Some.linked ≡ key = copies.0 ∙ own in
     let items : c.push_reserved.new.self.items ≡ es ++ (key, c.args.value) ∷ [] =
     c.push_reserved.ensures.items ∙ ap (λ k. es ++ (k, c.args.value) ∷ []) own in
     let long : c.len.result ≡ length es = search rules in
-    let keys = c.add_behind.ensures ∙ (ap (λ n. keys_behind key_eq n c.self.inside.behind.keys c.in-Some.hashed) long
+    let keys = c.add_behind.ensures ∙ (ap (λ n. keys_behind key_eq n c.self.inside.behind.keys c.in-Some.linked) long
     ∙ ap (λ k. keys_behind key_eq (length es) c.self.inside.behind.keys k) other) in (
       subst AreApart (sym items) (apart_pushed es key c.args.value apart none),
       keys ∙ (keys_pushed key_eq es c.self.inside.behind.keys key c.args.value behind none ∙ ap (λ l. keys_of (drop 8 l)) (sym items)),
