@@ -85,7 +85,7 @@ module _ {K V : Type 0} (test : K → Bool) where
   found es fs i first e is =
       found_at es fs i first.entry first.there first.passes first.before ∙ ap (λ (p : K × V). Some p.1) (same_entry es i first e is)
 
-take_all : {X : Type 0} (n : ℕ) (xs : List X) → length xs ≤ n → take n xs ≡ xs
+pub take_all : {X : Type 0} (n : ℕ) (xs : List X) → length xs ≤ n → take n xs ≡ xs
 take_all zero [] low = refl
 take_all zero (x ∷ xs) low = absurd (omega (arith, low))
 take_all (suc n) [] low = refl

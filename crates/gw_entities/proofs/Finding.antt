@@ -2,17 +2,13 @@
 use Rattle.std.proofs.Common.{◌≡◌, Bool, true, false, cond, List, [], ◌∷◌, Some, refl, sym, ap, ◌∙◌}
 use Rattle.gw_names.specs.declared.key.Key.{Key}
 use Rattle.gw_names.specs.Keys.{key_eq}
-use Rattle.gw_entities.specs.Tables.{Touched, value_of, with_value, HasRoom}
+use Rattle.gw_entities.specs.Tables.{value_of, with_value}
 use Rattle.gw_entities.proofs.TableLaws.{key_eq_equiv}
 
 clash : (b : Bool) → b ≡ false → b ≡ true → ⊥
 clash b e f = cc
 
 module _ {V : Type 0} where
-  -- no room is wanted where an entity has a value
-  pub HasRoom-found : (t : Touched V) (key : Key) (value : V) → value_of t.entries key ≡ Some value → HasRoom t key
-  HasRoom-found t key value found = λ none. absurd cc
-
   -- a value that was set is found, and the others stay
   pub value_of-with_value :
       (es : List (Key × V)) (key : Key) (value : V) (q : Key) →

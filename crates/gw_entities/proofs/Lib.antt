@@ -8,3 +8,4 @@ pub mod ParameterLaws
 pub mod Sums
 pub mod TableLaws
 pub mod Ticks
+pub mod PieceLaws

@@ -1,10 +1,9 @@
 -- The first few entries, which are looked through one by one, and the keys of those behind them. Of public clauses only
 -- those of `KeySet` cite this module. (Our own.)
-use Rattle.std.specs.Prelude.{◌≡◌, ◌<◌, ◌≤◌, ◌-◌, ℕ, Bool, true, List, [], ◌∷◌, Option, None, Some, length, take, slice_get, swap_remove, nat_lt, if◌then◌else◌}
+use Rattle.std.specs.Prelude.{◌≡◌, ◌-◌, ℕ, Bool, true, List, [], ◌∷◌, None, Some, length, take, slice_get, swap_remove, nat_lt, if◌then◌else◌}
 use Rattle.std.specs.Map.{lookup}
 use Rattle.indexmap.specs.IndexSet.{insert_key}
 use Rattle.gw_names.specs.declared.key.Key.{Key}
-use Rattle.gw_entities.specs.Tables.{Touched}
 
 -- keys in order
 pub record KeyList : Type 0 where
@@ -19,19 +18,12 @@ pub record StandsFirst {K V : Type 0} (test : K → Bool) (es : List (K × V)) (
   pub passes : test entry.0 ≡ true
   pub before : lookup test (take i es) ≡ None
 
--- where a key is ready, there are two equal copies of it, the list of so many entries has room for one more, and so has
--- the set of the keys behind the first few, where the entry would be one of them (8 is FEW_ENTITIES)
-abbrev pub IsReady : ℕ → ℕ → ℕ → Option (Key × Key) → Type 0
-IsReady len capacity spare None = Unit {0}
-IsReady len capacity spare (Some p) = (p.1 ≡ p.0) × (len < capacity) × (8 ≤ len → 0 < spare)
-
 -- the entries of a table, if there is one
-abbrev pub entries_in : {V : Type 0} → List (Touched V) → List (Key × V)
+abbrev pub entries_in : {V : Type 0} → List (List (Key × V)) → List (Key × V)
 entries_in [] = []
-entries_in (t ∷ ts) = t.entries
+entries_in (t ∷ ts) = t
 
--- the keys of those behind the first few, once one with this key is added behind so many (8 is FEW_ENTITIES, or
--- FEW_TRANSACTIONS)
+-- the keys of those behind the first few, once one with this key is added behind so many (8 is FEW_TRANSACTIONS)
 abbrev pub keys_behind : {K : Type 0} → (K → K → Bool) → ℕ → List K → K → List K
 keys_behind eq len keys key = if nat_lt len 8 then keys else insert_key eq keys key
 

@@ -1,15 +1,9 @@
--- What a contract sees of `ByKey`: keys and values in order of first touch, and what there is room for. (Own: the
--- order.)
+-- Keys and values in order of first touch: what a contract sees of `ByKey`. (Our own: the order.)
 use Rattle.std.specs.Prelude.{◌≡◌, ℕ, List, [], ◌∷◌, Option, Some, None, if◌then◌else◌, slice_get}
 use Rattle.std.specs.List.{IsDistinct}
 use Rattle.std.specs.Map.{lookup, keys_of}
 use Rattle.gw_names.specs.declared.key.Key.{Key}
 use Rattle.gw_names.specs.Keys.{key_eq}
-
-pub record Touched (V : Type 0) : Type 0 where
-  pub entries : List (Key × V)
-  -- the key that there is room for, beside those that have a value
-  pub ready : Option Key
 
 module _ {V : Type 0} where
   -- the value of a key
@@ -24,10 +18,6 @@ module _ {V : Type 0} where
   -- no key stands twice
   abbrev pub AreApart : List (Key × V) → Type 0
   AreApart entries = IsDistinct key_eq (keys_of entries)
-
-  -- if it has no value, there is room for one
-  abbrev pub HasRoom : Touched V → Key → Type 0
-  HasRoom t key = value_of t.entries key ≡ None → t.ready ≡ Some key
 
   -- where the value of a key lies, if it has one
   abbrev pub IsPlace : List (Key × V) → Key → Option ℕ → Type 0

@@ -68,6 +68,7 @@ impl Facility {
     }
 
     /// A transaction takes it, whoever owned it before: whether it may is for the caller to decide.
+    #[inline(always)]
     pub fn seize(&mut self, number: u64, clock: Clock)
         ensures { self.new ≡ seized number clock self.old }
     {
@@ -77,6 +78,7 @@ impl Facility {
     }
 
     /// Nobody owns it any more.
+    #[inline(always)]
     pub fn release(&mut self, clock: Clock)
         ensures { self.new ≡ released clock self.old }
     {

@@ -20,8 +20,9 @@ const MOST: usize = u32::MAX as usize;
 // An odd number whose products spread over all 64 bits.
 const MIXER: u64 = 11_400_714_819_323_198_485;
 
-// Pairs of a key and a number, in the order of coming: a queue and who came to it, or a key alone, with the number 0. Those
-// in one slot are linked, each with the last one before it. What is linked is a place, counted from 1, and 0 is none.
+// Pairs of a key and a number, in the order of coming: a queue and who came to it, or a key alone, with the number 0.
+// Those in one slot are linked, each with the last one before it. What is linked is a place, counted from 1, and 0 is
+// none.
 #[derive(Drop)]
 pub struct LinkedPairs {
     list: Vec<(Key, u64)>,
@@ -97,8 +98,8 @@ impl LinkedPairs {
         None
     }
 
-    // Makes room for so many more pairs. It changes none, and room that was there stays. It doubles the slots once at the
-    // most, which is enough where no more come than there are.
+    // Makes room for so many more pairs. It changes none, and room that was there stays. It doubles the slots once at
+    // the most, which is enough where no more come than there are.
     pub fn reserve(&mut self, more: usize) -> Result<(), AllocError>
         ensures ok { OnOk result (more ≤ self.new.room) }
         ensures pairs { self.new.pairs ≡ self.old.pairs }

@@ -80,6 +80,7 @@ impl Queue {
     }
 
     /// So many units come.
+    #[inline(always)]
     pub fn enter(&mut self, units: u64, clock: Clock)
         ensures { self.new ≡ queued units clock self.old }
     {
@@ -90,6 +91,7 @@ impl Queue {
     }
 
     /// So many units go, at most all; `zero` says that the transaction came to the queue at this clock.
+    #[inline(always)]
     pub fn depart(&mut self, units: u64, clock: Clock, zero: bool)
         ensures { self.new ≡ departed units clock zero self.old }
     {

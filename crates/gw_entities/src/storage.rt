@@ -72,6 +72,7 @@ impl Storage {
     }
 
     /// So many units come into use.
+    #[inline(always)]
     pub fn enter(&mut self, units: u64, clock: Clock)
         ensures { self.new ≡ entered units clock self.old }
     {
@@ -82,6 +83,7 @@ impl Storage {
     }
 
     /// So many units are given back, at most all.
+    #[inline(always)]
     pub fn leave(&mut self, units: u64, clock: Clock)
         ensures { self.new ≡ left units clock self.old }
     {

@@ -21,9 +21,9 @@ const DEEPEST: u32 = 32;
 /// The value of an operand: the definitions and the world are asked in the order of specs/Evaluation.
 ///
 /// It stops with X6 at a division by 0, with X7 where a value would be out of range or an operand has none, with X10
-/// where more than 32 VARIABLEs and FUNCTIONs nest, and with whatever the world stops with. Nothing is allocated: out of
-/// memory is answered where more than 128 values wait, or where the world runs out of it. What the world noted and drew
-/// up to there stays.
+/// where more than 32 VARIABLEs and FUNCTIONs nest, and with whatever the world stops with. Nothing is allocated: out
+/// of memory is answered where more than 128 values wait, or where the world runs out of it. What the world noted and
+/// drew up to there stays.
 #[tactic(auto, unfolding(crate::specs::Evaluation::value_of))]
 pub fn eval<D: Defs, W: World>(operand: &Expr, defs: &D, world: &mut W) -> Result<Val, EvalFault>
     ensures { Evaluates (Says (D.variable_of defs.now) (D.function_of defs.now)) W.replies

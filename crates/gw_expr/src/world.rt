@@ -28,8 +28,8 @@ pub trait Defs {
         ensures { option_copied result ≡ function_of self.now name.now };
 }
 
-/// What replies to every question but those for a definition. It notes what a reply rests on, and draws where a question
-/// asks for it.
+/// What replies to every question but those for a definition. It notes what a reply rests on, and draws where a
+/// question asks for it.
 pub trait World {
     /// What the world may reply to a question, and what it then is.
     ghost replies: { (q : Question) → Self → Result (Reply q) Fault → Self → Type 0 };

@@ -1,7 +1,7 @@
 -- What a contract sees of the parts of a state. (Our own.)
-use Rattle.std.specs.Prelude.{ℕ, Bool}
+use Rattle.std.specs.Prelude.{ℕ, Bool, List}
+use Rattle.gw_names.specs.declared.key.Key.{Key}
 use Rattle.gw_entities.specs.Records.{Ownership, Line, Store}
-use Rattle.gw_entities.specs.Tables.{Touched}
 use Rattle.gw_entities.specs.Comings.{ReadyArrivals}
 use Rattle.gw_meaning.specs.Entities.{Entities}
 
@@ -22,18 +22,18 @@ pub record Standing : Type 0 where
   -- whether the GENERATEs have their first transactions
   pub primed : Bool
 
--- the entities, with what there is room for
+-- the entities, with the comings that there is room for
 pub record Stock : Type 0 where
-  pub facilities : Touched Ownership
-  pub queues : Touched Line
-  pub storages : Touched Store
+  pub facilities : List (Key × Ownership)
+  pub queues : List (Key × Line)
+  pub storages : List (Key × Store)
   pub comings : ReadyArrivals
 
 abbrev pub entities_of : Stock → Entities
 entities_of e =
     record {
-      facilities = e.facilities.entries;
-      queues = e.queues.entries;
-      storages = e.storages.entries;
+      facilities = e.facilities;
+      queues = e.queues;
+      storages = e.storages;
       comings = e.comings.comings;
     }

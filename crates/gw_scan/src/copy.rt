@@ -34,6 +34,15 @@ impl State {
         self.future.share()
     }
 
+    /// Gets it ready for many steps: what a copy leaves out, by which entities are found soon, is made anew. The state
+    /// is the same behind it, also where memory is refused.
+    #[inline(never)]
+    pub fn get_ready(&mut self) -> Result<(), AllocError>
+        ensures { self.new ≡ self.old }
+    {
+        self.entities.get_ready()
+    }
+
     /// An equal state.
     pub fn copy(&self) -> Result<State, AllocError>
         ensures { IfOk result (λ s. s ≡ self.now) }

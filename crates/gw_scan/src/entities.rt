@@ -1,10 +1,13 @@
 // The entities of a run.
-ghost use Rattle.std.specs.Prelude.{◌≡◌, IfOk, OnOk};
-ghost use Rattle.gw_entities.specs.Tables.{with_value, HasRoom, IsPlace};
-ghost use Rattle.gw_meaning.specs.Entities.{no_entities, facility_at, line_at, store_at, all_entered, given_back, later};
+ghost use Rattle.std.specs.Prelude.{◌≡◌, IfOk, OnOk, OnErr};
+ghost use Rattle.gw_entities.specs.Comings.{with_coming};
+ghost use Rattle.gw_entities.specs.Records.{queued};
+ghost use Rattle.gw_entities.specs.Tables.{with_value, IsPlace};
+ghost use Rattle.gw_meaning.specs.Entities.{no_entities, facility_at, line_at, store_at, later};
 ghost use Rattle.gw_scan.specs.Parts.{entities_of};
 
-use gw_entities::{ByKey, Comings, Facility, Queue, Storage};
+use crate::deeds::Arrive;
+use gw_entities::{ByKey, Change, Comings, Facility, Queue, Storage};
 use gw_names::Key;
 use gw_nums::Clock;
 use std::alloc::{AllocError, Global};
@@ -102,91 +105,96 @@ impl Entities {
     // Where a facility lies, and the facility.
     #[inline(always)]
     pub(crate) fn look_for_facility(&self, key: &Key) -> (Option<usize>, Facility)
-        ensures place { IsPlace self.now.facilities.entries key.now result.0 }
+        ensures place { IsPlace self.now.facilities key.now result.0 }
         ensures value { result.1 ≡ facility_at (entities_of self.now) key.now }
     {
         self.facilities.look(key, Facility::new())
     }
 
-    // A facility of which it is known where it lies.
-    #[inline(always)]
-    pub(crate) fn facility_there(&self, key: &Key, place: Option<usize>) -> Facility
-        requires { IsPlace self.now.facilities.entries key.now place }
-        ensures { result ≡ facility_at (entities_of self.now) key.now }
-    {
-        self.facilities.value_at(key, place, Facility::new())
-    }
-
-    // Makes room for a facility of which it is known where it lies.
-    #[inline(always)]
-    pub(crate) fn reserve_facility(
-        &mut self,
-        key: &Key,
-        place: Option<usize>,
-    ) -> Result<(), AllocError>
-        requires { IsPlace self.old.facilities.entries key.now place }
-        ensures ok { OnOk result (HasRoom self.new.facilities key.now) }
-        ensures same { self.new.facilities.entries ≡ self.old.facilities.entries }
-        ensures entities { entities_of self.new ≡ entities_of self.old }
-    {
-        self.facilities.reserve_at(key, place)
-    }
-
-    // Sets a facility of which it is known where it lies.
-    #[inline(always)]
-    pub(crate) fn set_facility(&mut self, key: &Key, place: Option<usize>, facility: Facility)
-        requires room { HasRoom self.old.facilities key.now }
-        requires place { IsPlace self.old.facilities.entries key.now place }
-        ensures { entities_of self.new ≡ record (entities_of self.old) {
-          facilities = with_value self.old.facilities.entries key.now facility;
-        } }
-    {
-        self.facilities.set_at(key, place, facility);
-    }
-
     // Where a storage lies, and the storage.
     #[inline(always)]
     pub(crate) fn look_for_storage(&self, key: &Key) -> (Option<usize>, Storage)
-        ensures place { IsPlace self.now.storages.entries key.now result.0 }
+        ensures place { IsPlace self.now.storages key.now result.0 }
         ensures value { result.1 ≡ store_at (entities_of self.now) key.now }
     {
         self.storages.look(key, Storage::new())
     }
 
-    // A storage of which it is known where it lies.
+    // Changes a facility of which it is known where it lies, or nothing where memory is refused.
     #[inline(always)]
-    pub(crate) fn storage_there(&self, key: &Key, place: Option<usize>) -> Storage
-        requires { IsPlace self.now.storages.entries key.now place }
-        ensures { result ≡ store_at (entities_of self.now) key.now }
-    {
-        self.storages.value_at(key, place, Storage::new())
-    }
-
-    // Makes room for a storage of which it is known where it lies.
-    #[inline(always)]
-    pub(crate) fn reserve_storage(
+    pub(crate) fn change_facility<C: Change<Facility> + Copy>(
         &mut self,
         key: &Key,
         place: Option<usize>,
+        change: C,
     ) -> Result<(), AllocError>
-        requires { IsPlace self.old.storages.entries key.now place }
-        ensures ok { OnOk result (HasRoom self.new.storages key.now) }
-        ensures same { self.new.storages.entries ≡ self.old.storages.entries }
-        ensures entities { entities_of self.new ≡ entities_of self.old }
+        requires { IsPlace self.old.facilities key.now place }
+        ensures ok { OnOk result (entities_of self.new ≡ record (entities_of self.old) {
+          facilities = with_value self.old.facilities key.now
+              (C.changed change (facility_at (entities_of self.old) key.now));
+        }) }
+        ensures err { OnErr result (entities_of self.new ≡ entities_of self.old) }
     {
-        self.storages.reserve_at(key, place)
+        self.facilities
+            .change_at(key, place, Facility::new(), change)
     }
 
-    // Sets a storage of which it is known where it lies.
+    // Changes a queue of which it is known where it lies, or nothing where memory is refused.
     #[inline(always)]
-    pub(crate) fn set_storage(&mut self, key: &Key, place: Option<usize>, storage: Storage)
-        requires room { HasRoom self.old.storages key.now }
-        requires place { IsPlace self.old.storages.entries key.now place }
-        ensures { entities_of self.new ≡ record (entities_of self.old) {
-          storages = with_value self.old.storages.entries key.now storage;
-        } }
+    pub(crate) fn change_queue<C: Change<Queue> + Copy>(
+        &mut self,
+        key: &Key,
+        place: Option<usize>,
+        change: C,
+    ) -> Result<(), AllocError>
+        requires { IsPlace self.old.queues key.now place }
+        ensures ok { OnOk result (entities_of self.new ≡ record (entities_of self.old) {
+          queues = with_value self.old.queues key.now (C.changed change (line_at (entities_of self.old) key.now));
+        }) }
+        ensures err { OnErr result (entities_of self.new ≡ entities_of self.old) }
     {
-        self.storages.set_at(key, place, storage);
+        self.queues.change_at(key, place, Queue::new(), change)
+    }
+
+    // Changes a storage of which it is known where it lies, or nothing where memory is refused.
+    #[inline(always)]
+    pub(crate) fn change_storage<C: Change<Storage> + Copy>(
+        &mut self,
+        key: &Key,
+        place: Option<usize>,
+        change: C,
+    ) -> Result<(), AllocError>
+        requires { IsPlace self.old.storages key.now place }
+        ensures ok { OnOk result (entities_of self.new ≡ record (entities_of self.old) {
+          storages = with_value self.old.storages key.now (C.changed change (store_at (entities_of self.old) key.now));
+        }) }
+        ensures err { OnErr result (entities_of self.new ≡ entities_of self.old) }
+    {
+        self.storages.change_at(key, place, Storage::new(), change)
+    }
+
+    // So many units come to a queue of which it is known where it lies, with the transaction with a number. Where
+    // memory is refused, nothing changes.
+    #[inline(always)]
+    pub(crate) fn come(
+        &mut self,
+        key: &Key,
+        place: Option<usize>,
+        number: u64,
+        arrive: Arrive,
+    ) -> Result<(), AllocError>
+        requires { IsPlace self.old.queues key.now place }
+        ensures ok { OnOk result (entities_of self.new ≡ record (entities_of self.old) {
+          queues = with_value self.old.queues key.now
+              (queued arrive.units arrive.clock (line_at (entities_of self.old) key.now));
+          comings = with_coming self.old.comings.comings key.now number;
+        }) }
+        ensures err { OnErr result (entities_of self.new ≡ entities_of self.old) }
+    {
+        self.comings.reserve(key)?;
+        self.queues.change_at(key, place, Queue::new(), arrive)?;
+        self.comings.add(key, number);
+        Ok(())
     }
 
     // The clock goes on.
@@ -199,6 +207,15 @@ impl Entities {
         if before.time() != now.time() {
             self.comings.clear();
         }
+    }
+
+    // Gets ready for the questions of many steps, which are answered sooner then. The entities stay.
+    pub(crate) fn get_ready(&mut self) -> Result<(), AllocError>
+        ensures { entities_of self.new ≡ entities_of self.old }
+    {
+        self.facilities.get_ready()?;
+        self.queues.get_ready()?;
+        self.storages.get_ready()
     }
 
     // Equal entities.
@@ -214,28 +231,5 @@ impl Entities {
             storages,
             comings: self.comings.copy()?,
         })
-    }
-}
-
-// Its owner gives a facility back, and the next transaction takes it, where there is one.
-#[inline(always)]
-pub fn give_back(facility: &mut Facility, next: Option<u64>, clock: Clock)
-    ensures { facility.new ≡ given_back next clock facility.old }
-{
-    facility.release(clock);
-    if let Some(number) = next {
-        facility.seize(number, clock);
-    }
-}
-
-// The units of each share come into use, one by one.
-#[inline(always)]
-pub fn enter_all(storage: &mut Storage, shares: &[Option<u64>], clock: Clock)
-    ensures { storage.new ≡ all_entered shares.now clock storage.old }
-{
-    for share in shares {
-        if let Some(units) = share {
-            storage.enter(*units, clock);
-        }
     }
 }

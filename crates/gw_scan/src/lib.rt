@@ -12,6 +12,7 @@ mod case;
 mod clocks;
 mod commands;
 mod copy;
+mod deeds;
 mod draws;
 mod entering;
 mod entities;

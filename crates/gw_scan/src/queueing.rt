@@ -9,6 +9,7 @@ ghost use Rattle.gw_scan.specs.EntityRef.{key_of};
 ghost use Rattle.gw_scan.specs.Stepping.{Acts, Goes};
 
 use crate::case::Case;
+use crate::deeds::{Arrive, Depart};
 use crate::entering::enter_active;
 use crate::entity_ref::EntityRef;
 use crate::halt::Halt;
@@ -68,13 +69,13 @@ impl State {
             return Err(Halt::TOO_MANY_UNITS);
         }
         self.counts.reserve(id)?;
-        self.entities.queues.reserve_at(key, place)?;
-        self.entities.comings.reserve(key)?;
-        let number = enter_active(&mut self.active, &mut self.counts, id);
-        let mut queue = self.entities.queues.value_at(key, place, Queue::new());
-        queue.enter(units, self.clocks.clock());
-        self.entities.queues.set_at(key, place, queue);
-        self.entities.comings.add(key, number);
+        let number = self.active.get().number;
+        let arrive = Arrive {
+            units,
+            clock: self.clocks.clock(),
+        };
+        self.entities.come(key, place, number, arrive)?;
+        enter_active(&mut self.active, &mut self.counts, id);
         Ok(())
     }
 
@@ -131,11 +132,13 @@ impl State {
             return Err(Halt::DEPART_TOO_MANY);
         }
         self.counts.reserve(id)?;
-        self.entities.queues.reserve_at(key, place)?;
+        let deed = Depart {
+            units,
+            clock: self.clocks.clock(),
+            at_once,
+        };
+        self.entities.change_queue(key, place, deed)?;
         enter_active(&mut self.active, &mut self.counts, id);
-        let mut queue = self.entities.queues.value_at(key, place, Queue::new());
-        queue.depart(units, self.clocks.clock(), at_once);
-        self.entities.queues.set_at(key, place, queue);
         Ok(())
     }
 }

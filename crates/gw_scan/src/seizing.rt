@@ -9,8 +9,8 @@ ghost use Rattle.gw_scan.specs.EntityRef.{key_of};
 ghost use Rattle.gw_scan.specs.Stepping.{Acts, Goes};
 
 use crate::case::Case;
+use crate::deeds::{Release, Seize};
 use crate::entering::enter_active;
-use crate::entities::give_back;
 use crate::entity_ref::EntityRef;
 use crate::halt::Halt;
 use crate::letting_in::{let_first_in, reserve_first};
@@ -68,11 +68,12 @@ impl State {
             return Ok(());
         }
         self.counts.reserve(id)?;
-        self.entities.reserve_facility(key, place)?;
-        let number = enter_active(&mut self.active, &mut self.counts, id);
-        let mut facility = self.entities.facility_there(key, place);
-        facility.seize(number, self.clocks.clock());
-        self.entities.set_facility(key, place, facility);
+        let deed = Seize {
+            number: self.active.get().number,
+            clock: self.clocks.clock(),
+        };
+        self.entities.change_facility(key, place, deed)?;
+        enter_active(&mut self.active, &mut self.counts, id);
         Ok(())
     }
 
@@ -124,7 +125,6 @@ impl State {
             return Err(Halt::NOT_OWNER);
         }
         self.counts.reserve(id)?;
-        self.entities.reserve_facility(key, place)?;
         let waiting = self.delays.waiting_place(key);
         let next = reserve_first(
             &self.delays,
@@ -133,10 +133,12 @@ impl State {
             key,
             waiting,
         )?;
+        let deed = Release {
+            next,
+            clock: self.clocks.clock(),
+        };
+        self.entities.change_facility(key, place, deed)?;
         enter_active(&mut self.active, &mut self.counts, id);
-        let mut facility = self.entities.facility_there(key, place);
-        give_back(&mut facility, next, self.clocks.clock());
-        self.entities.set_facility(key, place, facility);
         let_first_in(
             &mut self.delays,
             &mut self.current,

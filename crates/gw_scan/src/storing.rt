@@ -17,8 +17,8 @@ ghost use Rattle.gw_meaning.specs.Step.{for_one, enter_or_wait, enter_storage, e
 ghost use Rattle.gw_scan.specs.Stepping.{Acts, Goes};
 
 use crate::case::{Case, ask_fits};
+use crate::deeds::{Become, Enter, Leave, enter_all};
 use crate::entering::enter_active;
-use crate::entities::enter_all;
 use crate::halt::Halt;
 use crate::letting_in::{let_some_in, reserve_some};
 use crate::notes::Notes;
@@ -148,23 +148,7 @@ impl State {
         if is_too_many(storage.entries().saturating_add(units)) {
             return Err(Halt::TOO_MANY_UNITS);
         }
-        match place {
-            Some(_) => self.enter_at(id, key, place, units),
-            None => self.enter_new(id, key, units),
-        }
-    }
-
-    // Units of a storage that nobody has entered yet come into use.
-    #[cold]
-    #[inline(never)]
-    fn enter_new(&mut self, id: StatementId, key: &Key, units: u64) -> Result<(), Halt>
-        requires active { IsSome self.old.active }
-        requires place { IsPlace self.old.entities.storages key.now None }
-        ensures { (x : Transaction) → self.old.active ≡ Some x →
-            Goes (gives (moves.Enter id (changes.Entity (key.now, deeds.Enter units)) fates.Active))
-            result self.old self.new }
-    {
-        self.enter_at(id, key, None, units)
+        self.enter_at(id, key, place, units)
     }
 
     // Units of the storage at a place come into use.
@@ -183,11 +167,12 @@ impl State {
             result self.old self.new }
     {
         self.counts.reserve(id)?;
-        self.entities.reserve_storage(key, place)?;
+        let deed = Enter {
+            units,
+            clock: self.clocks.clock(),
+        };
+        self.entities.change_storage(key, place, deed)?;
         enter_active(&mut self.active, &mut self.counts, id);
-        let mut storage = self.entities.storage_there(key, place);
-        storage.enter(units, self.clocks.clock());
-        self.entities.set_storage(key, place, storage);
         Ok(())
     }
 
@@ -285,11 +270,12 @@ impl State {
             return Err(Halt::TOO_MANY_UNITS);
         }
         self.counts.reserve(id)?;
-        self.entities.reserve_storage(key, place)?;
+        let deed = Leave {
+            units,
+            clock: self.clocks.clock(),
+        };
+        self.entities.change_storage(key, place, deed)?;
         enter_active(&mut self.active, &mut self.counts, id);
-        let mut storage = self.entities.storage_there(key, place);
-        storage.leave(units, self.clocks.clock());
-        self.entities.set_storage(key, place, storage);
         Ok(())
     }
 
@@ -314,7 +300,6 @@ impl State {
             return Err(Halt::TOO_MANY_UNITS);
         }
         self.counts.reserve(id)?;
-        self.entities.reserve_storage(key, place)?;
         let waiting = self.delays.waiting_place(key);
         reserve_some(
             &self.delays,
@@ -324,11 +309,12 @@ impl State {
             waiting,
             shares,
         )?;
-        enter_active(&mut self.active, &mut self.counts, id);
-        let mut storage = self.entities.storage_there(key, place);
+        let mut storage = storage;
         storage.leave(units, self.clocks.clock());
         enter_all(&mut storage, shares, self.clocks.clock());
-        self.entities.set_storage(key, place, storage);
+        self.entities
+            .change_storage(key, place, Become { storage })?;
+        enter_active(&mut self.active, &mut self.counts, id);
         let_some_in(
             &mut self.delays,
             &mut self.current,

@@ -44,7 +44,8 @@ impl Asked<'_> {
         }
     }
 
-    // A number by which questions are spread over slots: it says where the item of one is looked for first, and no more.
+    // A number by which questions are spread over slots: it says where the item of one is looked for first, and no
+    // more.
     #[inline(always)]
     pub(crate) fn mark(self) -> u64 {
         match self {

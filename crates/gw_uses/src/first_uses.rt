@@ -52,8 +52,8 @@ impl FirstUses {
         }
     }
 
-    /// Notes that a step, no earlier than those noted, read an item, unless an earlier one did. Where memory is refused,
-    /// nothing changes.
+    /// Notes that a step, no earlier than those noted, read an item, unless an earlier one did. Where memory is
+    /// refused, nothing changes.
     #[inline(always)]
     pub fn note(&mut self, item: &Item, step: u64) -> Result<(), AllocError>
         requires step { step < 2 ^ 64 - 1 }

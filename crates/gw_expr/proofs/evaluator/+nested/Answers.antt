@@ -146,7 +146,8 @@ pub computed_long-returns : goal.computed_long-returns
 computed_long-returns g n c = parts_end c.loop-part.invariant c.loop-part-test.false c.last.ensures
 
 pub part_of_few-returns-in_err-value-in-Value-clause-evaluates : goal.part_of_few-returns-in_err-value-in-Value-clause-evaluates
-part_of_few-returns-in_err-value-in-Value-clause-evaluates g n c = rw (exit_fault c.from_residual.ensures.1) (value_fails _ _ c.in-Value.is c.in_err-value-in-Value.ensures)
+part_of_few-returns-in_err-value-in-Value-clause-evaluates g n c =
+    rw (exit_fault c.from_residual.ensures.1) (value_fails _ _ c.in-Value.is c.in_err-value-in-Value.ensures)
 
 pub part_of_few-returns-in_ok-value-in-Value-clause-evaluates : goal.part_of_few-returns-in_ok-value-in-Value-clause-evaluates
 part_of_few-returns-in_ok-value-in-Value-clause-evaluates g n c = value_goes _ _ c.in-Value.is c.push.ensures c.in_ok-value-in-Value.ensures

@@ -11,7 +11,7 @@ use Rattle.gw_report.proofs.facilities.facility_lines.Goals.{in-Some+in_ok-put_f
 pub loop-index-preserved : goal.loop-index-preserved
 loop-index-preserved c =
     let s = c.args.state.now in
-    let facilities = c.facilities-facilities.result.now.entries in
+    let facilities = c.facilities-facilities.result.now in
     elim c.match-at.branch [
       | in-Some+in_ok-put_facility w ↦
           let f : Key × Ownership = (w.in-Some.key.now, w.in-Some.facility) in

@@ -5,5 +5,5 @@ use Rattle.gw_report.proofs.facilities.facility_lines.Given as goal
 
 abbrev pub invariant-loop-index : goal.invariant-loop-index
 invariant-loop-index l =
-    l.lines ++ rows_of facility_columns (map (facility_line l.state) (drop l.index l.facilities.entries))
-    ≡ rows_of facility_columns (map (facility_line l.state) l.facilities.entries)
+    l.lines ++ rows_of facility_columns (map (facility_line l.state) (drop l.index l.facilities))
+    ≡ rows_of facility_columns (map (facility_line l.state) l.facilities)

@@ -9,7 +9,7 @@ use Rattle.gw_report.proofs.queues.queue_lines.Goals.{in-Some+in_ok-put_queue, i
 pub loop-index-preserved : goal.loop-index-preserved
 loop-index-preserved c =
     let s = c.args.state.now in
-    let queues = c.queues-queues.result.now.entries in
+    let queues = c.queues-queues.result.now in
     elim c.match-at.branch [
       | in-Some+in_ok-put_queue w ↦
           let put : c.match-at.lines ≡ c.loop-index.lines ++ row_of queue_columns (queue_line s (w.in-Some.key.now, w.in-Some.queue)) =

@@ -5,5 +5,5 @@ use Rattle.gw_report.proofs.queues.queue_lines.Given as goal
 
 abbrev pub invariant-loop-index : goal.invariant-loop-index
 invariant-loop-index l =
-    l.lines ++ rows_of queue_columns (map (queue_line l.state) (drop l.index l.queues.entries))
-    ≡ rows_of queue_columns (map (queue_line l.state) l.queues.entries)
+    l.lines ++ rows_of queue_columns (map (queue_line l.state) (drop l.index l.queues))
+    ≡ rows_of queue_columns (map (queue_line l.state) l.queues)

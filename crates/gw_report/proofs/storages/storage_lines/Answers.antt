@@ -12,7 +12,7 @@ pub loop-index-preserved : goal.loop-index-preserved
 loop-index-preserved c =
     let t = c.args.version.now in
     let s = c.args.state.now in
-    let storages = c.storages-storages.result.now.entries in
+    let storages = c.storages-storages.result.now in
     elim c.match-at.branch [
       | in-Some+in_ok-put_storage w ↦
           let f : Key × Store = (w.in-Some.key.now, w.in-Some.storage) in

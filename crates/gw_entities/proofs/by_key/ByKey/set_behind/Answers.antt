@@ -1,41 +1,22 @@
-use Rattle.std.proofs.Common.{◌≡◌, ◌++◌, ◌∷◌, [], drop, length, sym, subst, ap, ◌∙◌, rules}
+use Rattle.std.proofs.Common.{◌≡◌, ◌++◌, ◌-◌, ap, ◌∙◌}
 use Rattle.std.specs.Map.{keys_of}
-use Rattle.std.specs.Option.{option_map}
-use Rattle.std.specs.Vec.{vec_capacity}
-use Rattle.gw_names.specs.declared.key.Key.{Key}
-use Rattle.gw_names.specs.Keys.{key_eq}
-use Rattle.gw_entities.specs.Few.{IsReady, keys_behind}
-use Rattle.gw_entities.specs.Tables.{AreApart}
-use Rattle.gw_entities.proofs.Entries.{pushed_is, apart_pushed, keys_pushed}
-use Rattle.gw_entities.proofs.Lookups.{Some_same}
+use Rattle.gw_entities.proofs.Entries.{written_behind, kept_behind, keys_value_set}
+use Rattle.gw_entities.proofs.PieceLaws.{either, then_ok}
 use Rattle.gw_entities.proofs.by_key.ByKey.set_behind.Goals as goal
-
-pub returns : goal.returns
-returns g c =
-    let es = c.self.inside.entries.items in
-    let key = c.args.key.now in
-    let room = rw (← c.self.view_is) at c.requires.room in
-    let none = rw (← c.self.view_is) at c.requires.none in
-    let own : c.in-Some.listed ≡ key = Some_same (ap (λ o. option_map (λ (p : Key × Key). p.0) o) c.in-Some.ensures.value ∙ room none) in
-    rw (← c.self.view_is)
-    (c.push_reserved.ensures.items ∙ (ap (λ k. es ++ (k, c.args.value) ∷ []) own ∙ sym (pushed_is es key c.args.value none)))
 
 pub invariant_of-self : goal.invariant_of-self
 invariant_of-self g c =
-    let es = c.self.inside.entries.items in
-    let (apart, behind, ready) = c.self.invariant in
-    let key = c.args.key.now in
-    let room = rw (← c.self.view_is) at c.requires.room in
-    let none = rw (← c.self.view_is) at c.requires.none in
-    let own : c.in-Some.listed ≡ key = Some_same (ap (λ o. option_map (λ (p : Key × Key). p.0) o) c.in-Some.ensures.value ∙ room none) in
-    let copies = subst (λ o. IsReady (length es) (vec_capacity c.self.inside.entries) c.self.inside.behind.room o) (sym c.in-Some.ensures.value) ready in
-    let other : c.in-Some.linked ≡ key = copies.0 ∙ own in
-    let items : c.push_reserved.new.self.items ≡ es ++ (key, c.args.value) ∷ [] =
-    c.push_reserved.ensures.items ∙ ap (λ k. es ++ (k, c.args.value) ∷ []) own in
-    let long : c.len.result ≡ length es = search rules in
-    let keys = c.add_behind.ensures ∙ (ap (λ n. keys_behind key_eq n c.self.inside.behind.keys c.in-Some.linked) long
-    ∙ ap (λ k. keys_behind key_eq (length es) c.self.inside.behind.keys k) other) in (
-      subst AreApart (sym items) (apart_pushed es key c.args.value apart none),
-      keys ∙ (keys_pushed key_eq es c.self.inside.behind.keys key c.args.value behind none ∙ ap (λ l. keys_of (drop 8 l)) (sym items)),
-      rw c.in-Some.ensures.after tt,
-    )
+    let fs = c.self.inside.behind in
+    let same : keys_of c.set.new.self ≡ keys_of fs =
+    either c.set.result c.set.ensures.ok c.set.ensures.err
+    (λ is. ap (λ l. keys_of l) is ∙ keys_value_set fs (c.in-Some.index - 8) c.args.value) (λ is. ap (λ l. keys_of l) is) in
+    kept_behind c.self.inside.few.items fs c.set.new.self c.self.inside.keys same c.self.invariant
+
+pub returns-in-Some-clause-ok : goal.returns-in-Some-clause-ok
+returns-in-Some-clause-ok g c =
+    let (apart, most, few, known) = c.self.invariant in
+    let place = rw (← c.self.view_is, c.in-Some.is) at c.requires.place in
+    let low = rw c.in-Some.is at c.requires.behind in
+    then_ok c.set.result c.set.ensures.ok (λ is. rw (← c.self.view_is)
+    (ap (λ l. c.self.inside.few.items ++ l) is
+    ∙ written_behind c.self.inside.few.items c.self.inside.behind c.in-Some.index c.args.key.now c.args.value apart most few place low))

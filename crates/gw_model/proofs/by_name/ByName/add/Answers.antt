@@ -17,4 +17,5 @@ returns-in_ok-insert g c other =
     c.in_ok-insert.ensures.updates.0 other ∙ ap (λ (b : Bool). cond b (Some c.args.value) before) (is_eq-slice_cmp c.args.name other) in
     let none : bytes_eq c.args.name other ≡ true → value_of c.args.self.now other ≡ None =
     λ same. subst (λ (k : List ℕ). value_of c.args.self.now k ≡ None) ((bytes_eq-Decides c.args.name other).0 same) c.requires in
-    in_map (bytes_eq c.args.name other) c.args.value (value_in (get_or c.args.self.now.slots.items (slot_of other c.args.self.now.mask) None) other) before after came none
+    in_map (bytes_eq c.args.name other) c.args.value
+    (value_in (get_or c.args.self.now.slots.items (slot_of other c.args.self.now.mask) None) other) before after came none

@@ -5,15 +5,6 @@ use Rattle.gw_meaning.specs.declared.moves.Fate.TheVariants as fates
 use Rattle.gw_meaning.specs.declared.moves.Move.TheVariants as moves
 use Rattle.gw_scan.proofs.state.State.come.Goals as goal
 
-pub reserve_at-requires : goal.reserve_at-requires
-reserve_at-requires c = c.look-place.ensures.place
-
-pub set_at-requires-clause-room : goal.set_at-requires-clause-room
-set_at-requires-clause-room c = c.in_ok-reserve_at.ensures.ok
-
-pub add-requires-clause-ready : goal.add-requires-clause-ready
-add-requires-clause-ready c = c.in_ok-reserve-2.ensures.ready
-
 pub returns : goal.returns
 returns c x is =
     let m = moves.Enter c.args.id (changes.Entity (c.args.key.now, deeds.Queue c.args.units)) fates.Active in

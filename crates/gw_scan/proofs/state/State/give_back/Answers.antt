@@ -9,14 +9,8 @@ use Rattle.gw_meaning.specs.Entities.{done}
 use Rattle.gw_chains.specs.Chains.{delays_of}
 use Rattle.gw_scan.proofs.state.State.give_back.Goals as goal
 
-pub reserve_facility-requires : goal.reserve_facility-requires
-reserve_facility-requires c = c.look_for_facility-place.ensures.place
-
 pub reserve_first-requires : goal.reserve_first-requires
 reserve_first-requires c = c.waiting_place-waiting.ensures
-
-pub set_facility-requires-clause-room : goal.set_facility-requires-clause-room
-set_facility-requires-clause-room c = c.in_ok-reserve_facility.ensures.ok
 
 pub let_first_in-requires-clause-place : goal.let_first_in-requires-clause-place
 let_first_in-requires-clause-place c = c.waiting_place-waiting.ensures

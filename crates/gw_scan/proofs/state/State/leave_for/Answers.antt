@@ -12,9 +12,6 @@ use Rattle.gw_scan.proofs.state.State.leave_for.Goals as goal
 pub reserve_some-requires : goal.reserve_some-requires
 reserve_some-requires c = c.waiting_place-waiting.ensures
 
-pub set_storage-requires-clause-room : goal.set_storage-requires-clause-room
-set_storage-requires-clause-room c = c.in_ok-reserve_storage.ensures.ok
-
 pub let_some_in-requires-clause-place : goal.let_some_in-requires-clause-place
 let_some_in-requires-clause-place c = c.waiting_place-waiting.ensures
 

@@ -1,6 +1,6 @@
 use Rattle.std.proofs.Common.{arith}
 use Rattle.std.proofs.lemmas.Grind.{common_steps}
-use Rattle.gw_entities.proofs.by_key.copy_entries.Goals as goal
+use Rattle.gw_entities.proofs.pieces.copy_entries.Goals as goal
 
 pub returns : goal.returns
 returns g c = grind (arith, common_steps)

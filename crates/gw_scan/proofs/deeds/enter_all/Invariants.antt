@@ -1,6 +1,6 @@
 use Rattle.std.proofs.Common.{◌≡◌, drop}
 use Rattle.gw_meaning.specs.Entities.{all_entered}
-use Rattle.gw_scan.proofs.entities.enter_all.Given as goal
+use Rattle.gw_scan.proofs.deeds.enter_all.Given as goal
 
 abbrev pub invariant-loop-share : goal.invariant-loop-share
 invariant-loop-share l =

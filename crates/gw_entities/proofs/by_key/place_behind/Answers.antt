@@ -1,0 +1,16 @@
+use Rattle.std.proofs.Common.{Option, None, Some, ap, ◌∙◌, sym}
+use Rattle.std.specs.Prelude.{ℕ, IfNone}
+use Rattle.std.specs.List.{list_any}
+use Rattle.gw_names.specs.Keys.{key_eq}
+use Rattle.gw_entities.proofs.Entries.{none_of_keys}
+use Rattle.gw_entities.proofs.by_key.place_behind.Goals as goal
+
+none_then : {A B : Type 0} (o : Option ℕ) → IfNone o A → (A → B) → IfNone o B
+none_then None h f = f h
+none_then (Some i) h f = tt
+
+pub returns-in-Some-clause-none : goal.returns-in-Some-clause-none
+returns-in-Some-clause-none g c =
+    let same = rw c.in-Some.is at c.requires in
+    none_then c.place.result c.place.ensures.none (λ none.
+    none_of_keys c.args.behind.now c.args.key.now (ap (λ ks. list_any (key_eq c.args.key.now) ks) (sym same) ∙ none))
