@@ -360,25 +360,35 @@ module _ {V : Type 0} where
       value_of (es ++ fs) key ≡ Some e.1
   read_few es fs i key e place within read = read_at (es ++ fs) i key e place (read ∙ sym (get_or_append_left es fs e i within))
 
+  -- a place behind the first few, and what stands there
+  pub far :
+      (es fs : List (Key × V)) (i : ℕ) (key : Key) → length es ≤ 8 → (length es < 8 → fs ≡ []) → IsPlace (es ++ fs) key (Some i) → 8 ≤ i →
+      i ≡ length es + (i - 8)
+  far es fs i key most few place low = let eight = full (nat_lt (length es) 8) refl in omega (arith, eight, low) where
+    within : i < length (es ++ fs)
+    within = place_within (es ++ fs) i key place
+
+    full : (b : Bool) → nat_lt (length es) 8 ≡ b → length es ≡ 8
+    full true e =
+        let short : length es < 8 = grind (arith, nat_tests) in
+        let all = ap length (ap (λ l. es ++ l) (few short) ∙ append-nil es) in
+        absurd (omega (arith, all, within, short, low))
+    full false e = grind (arith, nat_tests)
+
+  pub read_behind :
+      (es fs : List (Key × V)) (i : ℕ) (key : Key) (e : Key × V) → length es ≤ 8 → (length es < 8 → fs ≡ []) →
+      IsPlace (es ++ fs) key (Some i) → 8 ≤ i → slice_get fs (i - 8) ≡ Some e → value_of (es ++ fs) key ≡ Some e.1
+  read_behind es fs i key e most few place low at =
+      let same = sym (get_right es fs (i - 8) i (far es fs i key most few place low) ∙ at) ∙ place.1 in
+      place.2 ∙ ap (λ o. option_map (λ (p : Key × V). p.1) o) (sym same)
+
   -- a value that is written behind the first few, where its key lies
   pub written_behind :
       (es fs : List (Key × V)) (i : ℕ) (key : Key) (v : V) → AreApart (es ++ fs) → length es ≤ 8 → (length es < 8 → fs ≡ []) →
       IsPlace (es ++ fs) key (Some i) → 8 ≤ i → es ++ set_value_at fs (i - 8) v ≡ with_value (es ++ fs) key v
   written_behind es fs i key v apart most few place low =
-      sym (value_right es fs (i - 8) i v far)
-      ∙ (written_at key_eq key_eq_equiv (es ++ fs) i key place.0 v apart place.1 ∙ set_value_is (es ++ fs) key v place.0 place.2) where
-        within : i < length (es ++ fs)
-        within = place_within (es ++ fs) i key place
-
-        full : (b : Bool) → nat_lt (length es) 8 ≡ b → length es ≡ 8
-        full true e =
-            let short : length es < 8 = grind (arith, nat_tests) in
-            let all = ap length (ap (λ l. es ++ l) (few short) ∙ append-nil es) in
-            absurd (omega (arith, all, within, short, low))
-        full false e = grind (arith, nat_tests)
-
-        far : i ≡ length es + (i - 8)
-        far = let eight = full (nat_lt (length es) 8) refl in omega (arith, eight, low)
+      sym (value_right es fs (i - 8) i v (far es fs i key most few place low))
+      ∙ (written_at key_eq key_eq_equiv (es ++ fs) i key place.0 v apart place.1 ∙ set_value_is (es ++ fs) key v place.0 place.2)
 
   none_parts : (es fs : List (Key × V)) (key : Key) → value_of (es ++ fs) key ≡ None → (value_of es key ≡ None) × (value_of fs key ≡ None)
   none_parts [] fs key none = (refl, none)

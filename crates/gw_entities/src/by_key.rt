@@ -82,17 +82,6 @@ impl<V: Copy> ByKey<V> {
         (Some(index), self.entry(index).1)
     }
 
-    // The value of an entity of which it is known where it lies: `fresh` where it has none.
-    fn value_at(&self, key: &Key, place: Option<usize>, fresh: V) -> V
-        requires { IsPlace self.now key.now place }
-        ensures { result ≡ unwrap_or (value_of self.now key.now) fresh }
-    {
-        let Some(index) = place else {
-            return fresh;
-        };
-        self.entry(index).1
-    }
-
     // The entry at an index.
     #[inline(always)]
     fn entry(&self, index: usize) -> &(Key, V)
@@ -107,7 +96,7 @@ impl<V: Copy> ByKey<V> {
     }
 
     // The same, behind the first few.
-    #[inline(never)]
+    #[inline(always)]
     fn entry_behind(&self, index: usize) -> &(Key, V)
         requires behind { 8 ≤ index }
         requires within { index < length self.now }
@@ -186,21 +175,13 @@ impl<V: Copy> ByKey<V> {
             (C.changed change.now (unwrap_or (value_of self.old key.now) fresh))) }
         ensures err { OnErr result (self.new ≡ self.old) }
     {
-        let mut value = self.value_at(key, place, fresh);
-        change.change(&mut value);
-        self.set_behind(key, place, value)
-    }
-
-    // Sets the value of an entity behind the first few, or of one that has none.
-    fn set_behind(&mut self, key: &Key, place: Option<usize>, value: V) -> Result<(), AllocError>
-        requires place { IsPlace self.old key.now place }
-        requires behind { IfSome place (λ i. 8 ≤ i) }
-        ensures ok { OnOk result (self.new ≡ with_value self.old key.now value) }
-        ensures err { OnErr result (self.new ≡ self.old) }
-    {
         match place {
-            Some(index) => self.behind.set(index - FEW_ENTITIES, value),
-            None => self.push(key, value),
+            Some(index) => self.behind.change(index - FEW_ENTITIES, change),
+            None => {
+                let mut value = fresh;
+                change.change(&mut value);
+                self.push(key, value)
+            }
         }
     }
 
@@ -227,13 +208,7 @@ impl<V: Copy> ByKey<V> {
     {
         self.get_ready()?;
         let place = self.place(key);
-        if let Some(index) = place
-            && index < FEW_ENTITIES
-        {
-            self.few[index].1 = value;
-            return Ok(());
-        }
-        self.set_behind(key, place, value)
+        self.change_at(key, place, value, Given { value })
     }
 
     /// The entity at an index, in order of first touch, and its value.
@@ -269,6 +244,21 @@ impl<V: Copy> ByKey<V> {
             behind: self.behind.copy()?,
             keys: None,
         })
+    }
+}
+
+// A value is given, whatever it was.
+#[derive(Clone, Copy)]
+struct Given<V: Copy> {
+    value: V,
+}
+
+impl<V: Copy> Change<V> for Given<V> {
+    ghost changed = { λ g value. g.value };
+
+    #[inline(always)]
+    fn change(&self, entity: &mut V) {
+        *entity = self.value;
     }
 }
 

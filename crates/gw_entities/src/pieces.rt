@@ -2,9 +2,11 @@ ghost use Rattle.std.specs.Prelude.{◌≡◌, ◌<◌, ◌^◌, ◌++◌, ◌�
 ghost use Rattle.std.specs.Prelude.{IfSome, IfNone, IfOk, OnOk, OnErr};
 ghost use Rattle.std.specs.Map.{keys_of};
 ghost use Rattle.indexmap.specs.IndexMap.{set_value_at};
+ghost use Rattle.gw_names.specs.declared.key.Key.{Key};
 ghost use Rattle.gw_entities.specs.Pieces.{ArePieces, joined};
 ghost use Rattle.gw_entities.specs.Tables.{value_of};
 
+use crate::change::Change;
 use gw_names::Key;
 use std::alloc::{AllocError, Global};
 use std::marker::Model;
@@ -79,13 +81,15 @@ impl<V: Copy> Pieces<V> {
         None
     }
 
-    // Sets the value of the entry at an index, or changes nothing where memory is refused.
-    pub fn set(&mut self, index: usize, value: V) -> Result<(), AllocError>
+    // Changes the value of the entry at an index, or nothing where memory is refused.
+    #[inline(always)]
+    pub fn change<C: Change<V>>(&mut self, index: usize, change: &C) -> Result<(), AllocError>
         requires { index < length self.old }
-        ensures ok { OnOk result (self.new ≡ set_value_at self.old index value) }
+        ensures ok { OnOk result ((e : Key × V) × (slice_get self.old index ≡ Some e) ×
+            (self.new ≡ set_value_at self.old index (C.changed change.now e.1))) }
         ensures err { OnErr result (self.new ≡ self.old) }
     {
-        set_in(&mut self.pieces[index / PIECE], index % PIECE, value)
+        change_in(&mut self.pieces[index / PIECE], index % PIECE, change)
     }
 
     // A further entry comes behind the others, or nothing changes where memory is refused.
@@ -185,14 +189,20 @@ fn push_entry<V: Copy>(
     push_in(&mut pieces[last], key, value)
 }
 
-// Sets the value of the entry at an index of a piece.
-fn set_in<V: Copy>(piece: &mut Arc<Piece<V>>, index: usize, value: V) -> Result<(), AllocError>
+// Changes the value of the entry at an index of a piece, or nothing where memory is refused.
+#[inline(always)]
+fn change_in<V: Copy, C: Change<V>>(
+    piece: &mut Arc<Piece<V>>,
+    index: usize,
+    change: &C,
+) -> Result<(), AllocError>
     requires { index < length piece.old.value }
-    ensures ok { OnOk result (piece.new.value ≡ set_value_at piece.old.value index value) }
+    ensures ok { OnOk result ((e : Key × V) × (slice_get piece.old.value index ≡ Some e) ×
+        (piece.new.value ≡ set_value_at piece.old.value index (C.changed change.now e.1))) }
     ensures err { OnErr result (piece.new.value ≡ piece.old.value) }
 {
     let own = Arc::make_mut(piece)?;
-    own.entries[index].1 = value;
+    change.change(&mut own.entries[index].1);
     Ok(())
 }
 
