@@ -1,5 +1,5 @@
 -- The delay chains by key, and how many wait.
-use Rattle.std.proofs.Common.{◌≡◌, ℕ, ◌+◌, ◌≤◌, ◌<◌, ◌^◌, ◌-◌, Bool, true, false, cond, List, [], ◌∷◌, length, Option, Some, None, unwrap_or, option_copied, Bor, refl, sym, ap, subst, ◌∙◌, arith}
+use Rattle.std.proofs.Common.{◌≡◌, ℕ, ◌+◌, ◌≤◌, ◌-◌, Bool, true, false, cond, List, [], ◌∷◌, length, Option, Some, None, unwrap_or, option_copied, Bor, refl, sym, ap, subst, ◌∙◌, arith}
 use Rattle.std.proofs.lemmas.List.{length-append}
 use Rattle.std.proofs.lemmas.Bool.{cond_both}
 use Rattle.std.specs.Slice.{IsItemAt}
@@ -12,7 +12,7 @@ use Rattle.gw_entities.proofs.TableLaws.{set_value_is}
 use Rattle.gw_meaning.specs.declared.transaction.Transaction.{Transaction}
 use Rattle.gw_meaning.specs.Machine.{delay_at, waiting}
 use Rattle.gw_meaning.specs.Changes.{lined_up}
-use Rattle.gw_chains.specs.Chains.{Chain, delays_of, items_of, first_of, HasPlace, IsWaitingPlace}
+use Rattle.gw_chains.specs.Chains.{Chain, delays_of, items_of, first_of, IsWaitingPlace}
 
 abbrev Chains : Type 0
 Chains = List (Key × Chain Transaction)
@@ -44,7 +44,7 @@ queue_of_place cs key None none = delay_is cs key None (sym none)
 queue_of_place cs key (Some i) there = there
 
 -- a chain that is set
-with_delay : (cs : Chains) (key : Key) (chain : Chain Transaction) → delays_of (with_value cs key chain) ≡ with_value (delays_of cs) key chain.items
+pub with_delay : (cs : Chains) (key : Key) (chain : Chain Transaction) → delays_of (with_value cs key chain) ≡ with_value (delays_of cs) key chain.items
 with_delay [] key chain = refl
 with_delay (c ∷ cs) key chain = go (key_eq key c.0) (with_delay cs key chain) where
   go : (b : Bool) → delays_of (with_value cs key chain) ≡ with_value (delays_of cs) key chain.items →
@@ -73,13 +73,6 @@ value_is (c ∷ cs) key was h = go (key_eq key c.0) h (value_is cs key was) wher
       cond b (Some c.1.items) (value_of (delays_of cs) key) ≡ Some was.items
   go true h rest = let same : was ≡ c.1 = cc in ap (λ (d : Chain Transaction). Some d.items) (sym same)
   go false h rest = rest h
-
--- a chain that is written with its own transactions
-pub rewritten_is : (cs fs : Chains) (key : Key) (was chain : Chain Transaction) → Some was ≡ value_of cs key → fs ≡ set_value (key_eq key) cs chain →
-    chain.items ≡ was.items → delays_of fs ≡ delays_of cs
-rewritten_is cs fs key was chain found is same =
-    written_is cs fs key was chain found is ∙
-    (ap (with_value (delays_of cs) key) same ∙ with_same (delays_of cs) key was.items (value_is cs key was found))
 
 -- how many wait, with another chain in the place of one
 pub waiting_with : (ds : Delays) (key : Key) (xs : List Transaction) →
@@ -136,37 +129,3 @@ first_is [] None h = refl
 first_is [] (Some x) h = absurd (true_false h.0)
 first_is (y ∷ ys) None h = absurd (true_false (sym (h.2 (omega arith))))
 first_is (y ∷ ys) (Some x) h = ap (λ (z : Transaction). Some z) h.1
-
--- there is room on the chain that was written, and to count one more
-value_written : (cs : Chains) (key : Key) (was chain : Chain Transaction) → Some was ≡ value_of cs key →
-    value_of (set_value (key_eq key) cs chain) key ≡ Some chain
-value_written [] key was chain h = absurd cc
-value_written (c ∷ cs) key was chain h = go (key_eq key c.0) refl h (value_written cs key was chain) where
-  go : (b : Bool) → key_eq key c.0 ≡ b → Some was ≡ cond b (Some c.1) (value_of cs key) →
-      (Some was ≡ value_of cs key → value_of (set_value (key_eq key) cs chain) key ≡ Some chain) →
-      value_of (cond b ((c.0, chain) ∷ cs) (c ∷ set_value (key_eq key) cs chain)) key ≡ Some chain
-  go true here h rest = rw here refl
-  go false here h rest = rw here (rest h)
-
-pub has_place : (cs fs : Chains) (key : Key) (was chain : Chain Transaction) (n spare : ℕ) → Some was ≡ value_of cs key →
-    fs ≡ set_value (key_eq key) cs chain → chain.items ≡ was.items → 1 ≤ chain.room → n ≡ length (waiting (delays_of cs)) → n < 2 ^ 64 - 1 →
-    HasPlace (record { chains = fs; spare = spare }) key
-has_place cs fs key was chain n spare found is same room all few =
-    let value : value_of fs key ≡ Some chain = ap (λ (gs : Chains). value_of gs key) is ∙ value_written cs key was chain found in
-    let delays = rewritten_is cs fs key was chain found is same in
-    (rw value (omega (arith, room)), rw delays (omega (arith, all, few)))
-
--- one more lines up, on a chain that is there or on a fresh one
-pub lined_up_there : (cs fs : Chains) (key : Key) (was chain : Chain Transaction) (x : Transaction) → Some was ≡ value_of cs key →
-    fs ≡ set_value (key_eq key) cs chain → chain.items ≡ lined_up x was.items →
-    delays_of fs ≡ with_value (delays_of cs) key (lined_up x (delay_at (delays_of cs) key))
-lined_up_there cs fs key was chain x found is longer =
-    written_is cs fs key was chain found is ∙
-    ap (with_value (delays_of cs) key) (longer ∙ ap (lined_up x) (sym (delay_is cs key (Some was) found)))
-
-pub lined_up_fresh : (cs fs : Chains) (key : Key) (chain : Chain Transaction) (fresh : List Transaction) (x : Transaction) → None ≡ value_of cs key →
-    fs ≡ with_value cs key chain → chain.items ≡ lined_up x fresh → fresh ≡ [] →
-    delays_of fs ≡ with_value (delays_of cs) key (lined_up x (delay_at (delays_of cs) key))
-lined_up_fresh cs fs key chain fresh x none is longer empty =
-    ap delays_of is ∙ with_delay cs key chain ∙
-    ap (with_value (delays_of cs) key) (longer ∙ ap (lined_up x) (empty ∙ sym (delay_is cs key None none)))

@@ -151,6 +151,11 @@ some_let_in_is key (Some units ∷ shares) passed (x ∷ xs) s h =
     (ap (λ (u : Machine). record u { delays = with_value ds key kept }) (all_beside (with_share shares xs) t ds) ∙
     ap (λ (es : Delays). record (all_let_in (with_share shares xs) t) { delays = es }) (with_again s.delays key (passed ++ xs) kept)))
 
+-- how many went
+pub gone_is : (gone : ℕ) (chain left without : List Transaction) → gone + length left ≡ length chain → left ≡ without →
+    gone ≡ length chain - length without
+gone_is gone chain left without is same = rw (← same) (omega (arith, is))
+
 -- how many wait, when those with a share are gone
 pub fewer_wait : (ds : Delays) (key : Key) (shares : Shares) (chain : List Transaction) (n : ℕ) → delay_at ds key ≡ chain → n ≡ length (waiting ds) →
     (length chain - length (without_share shares chain) ≤ n) ×

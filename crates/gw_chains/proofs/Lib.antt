@@ -8,3 +8,4 @@ pub mod Leasts
 pub mod Earliest
 pub mod Beside
 pub mod KeyLaws
+pub mod RowLaws

@@ -4,43 +4,40 @@ ghost use Rattle.gw_meaning.specs.Changes.{lined_up, some_let_in};
 ghost use Rattle.gw_meaning.specs.Machine.{Machine, delay_at, waiting};
 ghost use Rattle.gw_chains.specs.Chains.{delays_of, items_of, first_of, without_first, with_share};
 ghost use Rattle.gw_chains.specs.Chains.{IsWaitingPlace, HasPlace, HasRoomToLetAllIn};
-ghost use Rattle.gw_chains.specs.Delays.{queues_of};
 
 use crate::chain::PriorityChain;
 use crate::counts::Counts;
 use crate::keys::Keys;
+use crate::rows::Rows;
 use gw_meaning::Transaction;
 use gw_names::Key;
 use std::alloc::{AllocError, Global};
 use std::marker::Model;
-use std::mem;
 
 /// The delay chain of each facility and storage that somebody waited for, in the order of first waiting.
 #[derive(Drop)]
 pub struct DelayChains {
     keys: Keys,
-    // The chain of each key.
-    chains: Vec<PriorityChain>,
-    // An empty chain, for the next entity that has none.
-    fresh: PriorityChain,
+    // The chain of each key, and further ones, on which nobody waits: the first of them is for the next key.
+    chains: Rows,
     // How many wait on all chains.
     count: usize,
 }
 
 impl Model for DelayChains {
-    ghost use Rattle.std.specs.Prelude.{◌-◌, min, vec_len, vec_capacity};
+    ghost use Rattle.std.specs.Prelude.{length, min};
     ghost use Rattle.std.specs.List.{zip};
     ghost use Rattle.gw_chains.specs.Chains.{Delays};
-    ghost use Rattle.gw_chains.specs.Delays.{AreKept};
+    ghost use Rattle.gw_chains.specs.Delays.{AreKept, room_at};
 
     ghost Value = { Delays };
 
     ghost view = { λ d. record {
-      chains = zip d.keys.keys d.chains.items;
-      spare = min d.keys.room (min (vec_capacity d.chains - vec_len d.chains) d.fresh.room);
+      chains = zip d.keys.keys d.chains;
+      spare = min d.keys.room (room_at d.chains (length d.keys.keys));
     } };
 
-    ghost invariant = { λ d. AreKept d.keys.keys d.chains.items d.fresh.items d.count };
+    ghost invariant = { λ d. AreKept d.keys.keys d.chains d.count };
 }
 
 impl DelayChains {
@@ -50,8 +47,7 @@ impl DelayChains {
     {
         DelayChains {
             keys: Keys::new(alloc),
-            chains: Vec::new(alloc),
-            fresh: PriorityChain::new(alloc),
+            chains: Rows::new(alloc),
             count: 0,
         }
     }
@@ -112,7 +108,7 @@ impl DelayChains {
         let Some(index) = place else {
             return None;
         };
-        Some(&self.chains[index])
+        self.chains.chain(index)
     }
 
     /// The first that waits for a facility.
@@ -160,11 +156,9 @@ impl DelayChains {
         }
         let Some(index) = place else {
             self.keys.reserve()?;
-            self.chains.reserve(1)?;
-            return self.fresh.reserve(1);
+            return self.chains.reserve_next(self.keys.len());
         };
-        let chain = &mut self.chains[index];
-        chain.reserve(1)
+        self.chains.reserve(index)
     }
 
     /// A transaction waits for a facility or a storage: behind its equals, in front of the first of lower priority.
@@ -188,8 +182,7 @@ impl DelayChains {
         ensures { delays_of self.new.chains ≡
             with_value (delays_of self.old.chains) key.now (lined_up x (delay_at (delays_of self.old.chains) key.now)) }
     {
-        let chain = &mut self.chains[index];
-        chain.line_up(x);
+        self.chains.line_up(index, x);
         self.count += 1;
     }
 
@@ -201,11 +194,8 @@ impl DelayChains {
         ensures { delays_of self.new.chains ≡
             with_value (delays_of self.old.chains) key (lined_up x (delay_at (delays_of self.old.chains) key)) }
     {
-        let alloc = *self.chains.allocator();
-        let mut chain = mem::replace(&mut self.fresh, PriorityChain::new(alloc));
-        chain.line_up(x);
+        self.chains.line_up(self.keys.len(), x);
         self.keys.push(key);
-        self.chains.push_reserved(chain);
         self.count += 1;
     }
 
@@ -231,8 +221,7 @@ impl DelayChains {
         let Some(index) = place else {
             return None;
         };
-        let chain = &mut self.chains[index];
-        let x = chain.take_first()?;
+        let x = self.chains.take_first(index)?;
         self.count -= 1;
         Some(x)
     }
@@ -260,6 +249,7 @@ impl DelayChains {
     }
 
     /// The same, where it is known where those lie who wait for the storage.
+    #[inline(always)]
     pub fn let_in_some_at(
         &mut self,
         key: &Key,
@@ -282,36 +272,26 @@ impl DelayChains {
         let Some(index) = place else {
             return;
         };
-        let chain = &mut self.chains[index];
-        let before = chain.len();
-        chain.let_in_some(shares, current, counts);
-        let gone = before - chain.len();
+        let gone = self.chains.let_in_some(index, shares, current, counts);
         self.count -= gone;
     }
 
-    /// Equal chains.
+    /// Gets ready for many questions: from now on the chain of a facility or a storage behind the first few is found by
+    /// slots. Until then, as in a copy, all are looked through. It changes no chain.
+    pub fn get_ready(&mut self) -> Result<(), AllocError>
+        ensures { delays_of self.new.chains ≡ delays_of self.old.chains }
+    {
+        self.keys.get_ready()
+    }
+
+    /// Equal chains. The copy is not ready.
     pub fn copy(&self) -> Result<DelayChains, AllocError>
         ensures { IfOk result (λ d. delays_of d.chains ≡ delays_of self.now.chains) }
     {
-        let alloc = *self.chains.allocator();
-        let keys = self.keys.copy()?;
-        let chains = copy_chains(alloc, &self.chains)?;
         Ok(DelayChains {
-            keys,
-            chains,
-            fresh: PriorityChain::new(alloc),
+            keys: self.keys.copy()?,
+            chains: self.chains.copy()?,
             count: self.count,
         })
     }
-}
-
-// Chains of the same transactions.
-fn copy_chains(alloc: Global, chains: &[PriorityChain]) -> Result<Vec<PriorityChain>, AllocError>
-    ensures { IfOk result (λ cs. queues_of cs.items ≡ queues_of chains.now) }
-{
-    let mut copies = Vec::with_capacity(alloc, chains.len())?;
-    for chain in chains {
-        copies.push(chain.copy()?)?;
-    }
-    Ok(copies)
 }

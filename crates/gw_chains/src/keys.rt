@@ -1,4 +1,4 @@
-ghost use Rattle.std.specs.Prelude.{◌≡◌, ◌<◌, ◌++◌, ◌∷◌, [], Some, false, slice_get, IfSome, IfNone, IfOk, OnOk};
+ghost use Rattle.std.specs.Prelude.{◌≡◌, ◌<◌, ◌++◌, ◌∷◌, [], Some, false, length, slice_get, IfSome, IfNone, IfOk, OnOk};
 ghost use Rattle.std.specs.List.{list_any};
 ghost use Rattle.gw_names.specs.Keys.{key_eq};
 
@@ -45,6 +45,14 @@ impl Keys {
         }
     }
 
+    // How many there are.
+    #[inline(always)]
+    pub fn len(&self) -> usize
+        ensures { result ≡ length self.now.keys }
+    {
+        self.few.len() + self.behind.len()
+    }
+
     // Where a key lies, if it is one of these.
     #[inline(always)]
     pub fn place(&self, key: &Key) -> Option<usize>
@@ -85,6 +93,13 @@ impl Keys {
         } else {
             self.behind.insert(key);
         }
+    }
+
+    // From now on the keys behind the first few are found by slots.
+    pub fn get_ready(&mut self) -> Result<(), AllocError>
+        ensures { self.new.keys ≡ self.old.keys }
+    {
+        self.behind.get_ready()
     }
 
     // The same keys.

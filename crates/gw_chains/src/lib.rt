@@ -10,6 +10,8 @@ mod delays;
 mod entering;
 mod future;
 mod keys;
+mod row;
+mod rows;
 mod segment;
 mod times;
 

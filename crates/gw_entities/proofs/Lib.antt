@@ -9,3 +9,4 @@ pub mod Sums
 pub mod TableLaws
 pub mod Ticks
 pub mod PieceLaws
+pub mod SharedLaws

@@ -194,7 +194,7 @@ take_whole zero (c ∷ cs) l = absurd (omega (arith, l))
 take_whole (suc n) [] l = refl
 take_whole (suc n) (c ∷ cs) l = ap (λ r. c ∷ r) (take_whole n cs (omega (arith, l)))
 
-take_last : (cs : List (Key × ℕ)) (p : ℕ) (c : Key × ℕ) → slice_get cs p ≡ Some c → take (suc p) cs ≡ take p cs ++ c ∷ []
+pub take_last : (cs : List (Key × ℕ)) (p : ℕ) (c : Key × ℕ) → slice_get cs p ≡ Some c → take (suc p) cs ≡ take p cs ++ c ∷ []
 take_last [] p c at = absurd cc
 take_last (d ∷ cs) zero c at = ap (λ x. x ∷ []) (Some_coming d c at)
 take_last (d ∷ cs) (suc p) c at = ap (λ r. d ∷ r) (take_last cs p c at)
@@ -260,23 +260,25 @@ head_leads heads links cs key number linked inside =
       in_slot = λ p c f at. last_is_in slot s cs p c (f ∙ last) at;
     }
 
--- what was read at a place
-at_place :
-    (cs : List (Key × ℕ)) (place : ℕ) (c : Key × ℕ) → 0 < place → place ≤ length cs → c ≡ slice_index_or cs (place - 1) c →
-    slice_get cs (place - 1) ≡ Some c
-at_place cs place c some within e =
-    slice_get_read cs (length cs) (place - 1) c refl (omega (arith, some, within)) e
-
 -- the pair that is looked for, where it was read
 pub found_at :
-    (cs : List (Key × ℕ)) (place : ℕ) (c : Key × ℕ) (key : Key) (number : ℕ) → 0 < place → place ≤ length cs →
-    c ≡ slice_index_or cs (place - 1) c → (key_eq key c.0 && nat_eq number c.1) ≡ true →
-    slice_get cs (place - 1) ≡ Some (key, number)
-found_at cs place c key number some within was is =
+    (cs : List (Key × ℕ)) (i : ℕ) (c : Key × ℕ) (key : Key) (number : ℕ) → slice_get cs i ≡ Some c →
+    (key_eq key c.0 && nat_eq number c.1) ≡ true → slice_get cs i ≡ Some (key, number)
+found_at cs i c key number at is =
     let k = key_same key c.0 (and_left (key_eq key c.0) (nat_eq number c.1) is) in
     let n = eqb-true number c.1 (and_right (key_eq key c.0) (nat_eq number c.1) is) in
-    at_place cs place c some within was
-    ∙ (ap (λ (q : Key). Some (q, c.1)) (sym k) ∙ ap (λ (m : ℕ). Some (key, m)) (sym n))
+    at ∙ (ap (λ (q : Key). Some (q, c.1)) (sym k) ∙ ap (λ (m : ℕ). Some (key, m)) (sym n))
+
+-- it is not among those up to here where it is neither in front nor here
+pub passed_by :
+    (cs : List (Key × ℕ)) (i : ℕ) (c : Key × ℕ) (key : Key) (number : ℕ) → slice_get cs i ≡ Some c →
+    (key_eq key c.0 && nat_eq number c.1) ≡ false → came (take i cs) key number ≡ false → came (take (i + 1) cs) key number ≡ false
+passed_by cs i c key number at other none =
+    let next : i + 1 ≡ suc i = omega arith in
+    ap (λ n. came (take n cs) key number) next
+    ∙ (ap (λ l. came l key number) (take_last cs i c at)
+    ∙ (came_append (take i cs) (c ∷ []) key number
+    ∙ (or_nothing (came (take i cs) key number) (key_eq key c.0 && nat_eq number c.1) other ∙ none)))
 
 before_next : (place : ℕ) → 0 < place → place ≡ suc (place - 1)
 before_next place some = omega (arith, some)
@@ -284,13 +286,12 @@ before_next place some = omega (arith, some)
 pub next_leads :
     (heads links : List ℕ) (cs : List (Key × ℕ)) (key : Key) (number place next : ℕ) (c : Key × ℕ) →
     AreLinked heads links cs → Leads (length heads) cs key number place → 0 < place →
-    c ≡ slice_index_or cs (place - 1) c → (key_eq key c.0 && nat_eq number c.1) ≡ false →
+    slice_get cs (place - 1) ≡ Some c → (key_eq key c.0 && nat_eq number c.1) ≡ false →
     next ≡ slice_index_or links (place - 1) next → Leads (length heads) cs key number next × (next < place)
-next_leads heads links cs key number place next c linked leads some was other e =
+next_leads heads links cs key number place next c linked leads some at other e =
     let slot : Key × ℕ → ℕ = slot_of (length heads) in
     let p = place - 1 in
     let one_more = before_next place some in
-    let at = at_place cs place c some leads.within was in
     let in_slot = leads.in_slot p c (sym one_more) at in
     let w = leads.within in
     let l = linked.each in

@@ -11,3 +11,8 @@ ArePieces (p ∷ q ∷ qs) = (length p ≡ 8) × ArePieces (q ∷ qs)
 -- the items of all pieces, in order
 abbrev pub joined : {A : Type 0} → List (List A) → List A
 joined ps = flat_map (λ p. p) ps
+
+-- each piece is full
+abbrev pub AreFull : {A : Type 0} → List (List A) → Type 0
+AreFull [] = Unit {0}
+AreFull (p ∷ ps) = (length p ≡ 8) × AreFull ps

@@ -5,7 +5,6 @@ use crate::linked_pairs::LinkedPairs;
 use gw_names::Key;
 use std::alloc::{AllocError, Global};
 use std::marker::Model;
-use std::mem;
 
 // About so many comings are looked through one by one. Most ticks have no more.
 const FEW_COMINGS: usize = 4;
@@ -77,7 +76,7 @@ impl Comings {
         ensures comings { self.new.comings ≡ self.old.comings }
         ensures room { self.old.room ≤ self.new.room }
     {
-        self.get_ready(key)?;
+        self.get_key_ready(key)?;
         if self.few.len() < self.few.capacity() {
             return Ok(());
         }
@@ -86,7 +85,7 @@ impl Comings {
 
     // Gets a key ready, for the next coming.
     #[inline(always)]
-    fn get_ready(&mut self, key: &Key) -> Result<(), AllocError>
+    fn get_key_ready(&mut self, key: &Key) -> Result<(), AllocError>
         ensures ok { OnOk result (self.new.ready ≡ Some key.now) }
         ensures comings { self.new.comings ≡ self.old.comings }
         ensures room { self.new.room ≡ self.old.room }
@@ -109,16 +108,19 @@ impl Comings {
         ensures room { self.old.room ≤ self.new.room }
     {
         if !self.many.is_empty() {
-            return self.many.reserve(1);
+            return self.many.reserve();
         }
-        if self.few.len() < FEW_COMINGS {
-            return self.few.reserve(FEW_COMINGS - self.few.len());
+        let most = self.few.capacity().max(FEW_COMINGS);
+        if self.few.len() < most {
+            return self.few.reserve(most - self.few.len());
         }
         // From now on all are looked for by slots.
-        self.many.reserve(self.few.capacity().saturating_add(1))?;
-        let none = Vec::new(*self.few.allocator());
-        let few = mem::replace(&mut self.few, none);
-        self.many.append(few);
+        let added = add_all(&mut self.many, &self.few);
+        if added.is_err() {
+            self.many.clear();
+            return added;
+        }
+        self.few = Vec::new(*self.few.allocator());
         Ok(())
     }
 
@@ -166,7 +168,15 @@ impl Comings {
         self.many.clear();
     }
 
-    /// The same comings.
+    /// Gets ready for many questions: from now on comings are found by slots where there are many. Until then, as in a
+    /// copy, all are looked through. It changes none.
+    pub fn get_ready(&mut self) -> Result<(), AllocError>
+        ensures { self.new.comings ≡ self.old.comings }
+    {
+        self.many.get_ready()
+    }
+
+    /// The same comings. Many are shared.
     pub fn copy(&self) -> Result<Comings, AllocError>
         ensures { IfOk result (λ c. c.comings ≡ self.now.comings) }
     {
@@ -184,6 +194,20 @@ impl Comings {
             ready: None,
         })
     }
+}
+
+// Puts in these pairs, where there are none yet, and makes room for one more. Where memory is refused, some may be in.
+fn add_all(many: &mut LinkedPairs, few: &[(Key, u64)]) -> Result<(), AllocError>
+    requires { many.old.pairs ≡ [] }
+    ensures pairs { OnOk result (many.new.pairs ≡ few.now) }
+    ensures room { OnOk result (0 < many.new.room) }
+{
+    for (key, number) in few {
+        let own = key.clone()?;
+        many.reserve()?;
+        many.add(own, *number);
+    }
+    many.reserve()
 }
 
 // Whether a transaction came to a queue, among those in a list.

@@ -1,4 +1,4 @@
-ghost use Rattle.std.specs.Prelude.{◌≡◌, ◌<◌, ◌≤◌, ◌^◌, [], Some, false, slice_get, IfSome, IfNone, IfOk, OnOk};
+ghost use Rattle.std.specs.Prelude.{◌≡◌, ◌<◌, ◌≤◌, ◌^◌, [], Some, false, length, slice_get, IfSome, IfNone, IfOk, OnOk};
 ghost use Rattle.std.specs.List.{list_any};
 ghost use Rattle.indexmap.specs.IndexSet.{insert_key};
 ghost use Rattle.gw_names.specs.Keys.{key_eq};
@@ -54,6 +54,17 @@ impl KeySet {
         }
     }
 
+    /// How many there are.
+    pub fn len(&self) -> usize
+        ensures len { result ≡ length self.now.keys }
+        ensures bound { result < 2 ^ 63 }
+    {
+        match &self.set {
+            Some(set) => set.len(),
+            None => 0,
+        }
+    }
+
     // Whether a key is there.
     fn has(&self, key: &Key) -> bool
         ensures { result ≡ list_any (key_eq key.now) self.now.keys }
@@ -71,12 +82,23 @@ impl KeySet {
         ensures room { self.old.room ≤ self.new.room }
     {
         if let Some(set) = &mut self.set {
-            return set.reserve(1);
+            return set.reserve();
         }
         let mut set = LinkedPairs::new(self.alloc);
-        set.reserve(1)?;
+        set.reserve()?;
         self.set = Some(boxed(self.alloc, set)?);
         Ok(())
+    }
+
+    /// Gets ready for many questions: from now on a key is found by slots. Until then, as in a copy, all are looked
+    /// through. It changes none.
+    pub fn get_ready(&mut self) -> Result<(), AllocError>
+        ensures { self.new.keys ≡ self.old.keys }
+    {
+        match &mut self.set {
+            Some(set) => set.get_ready(),
+            None => Ok(()),
+        }
     }
 
     /// A key comes behind the others, unless it is there.
@@ -93,7 +115,7 @@ impl KeySet {
         set.add(key, 0);
     }
 
-    /// The same keys.
+    /// The same keys, which are shared. The copy is not ready.
     pub fn copy(&self) -> Result<KeySet, AllocError>
         ensures { IfOk result (λ s. s.keys ≡ self.now.keys) }
     {

@@ -21,6 +21,7 @@ mod linked_pairs;
 mod parameters;
 mod pieces;
 mod queue;
+mod shared_pairs;
 mod storage;
 mod values;
 

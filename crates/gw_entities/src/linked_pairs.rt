@@ -1,9 +1,10 @@
 ghost use Rattle.std.specs.Prelude.{◌≡◌, ◌==◌, ◌&&◌, ◌<◌, ◌≤◌, ◌+◌, ◌^◌, ◌++◌, ◌∷◌, ℕ, nat_eq, List, [], Some, false};
-ghost use Rattle.std.specs.Prelude.{length, replicate, vec_capacity, slice_get, IfSome, IfNone, IfOk, OnOk};
+ghost use Rattle.std.specs.Prelude.{length, replicate, vec_capacity, slice_get, IfSome, IfNone, IfOk, OnOk, OnErr};
 ghost use Rattle.gw_names.specs.Keys.{key_eq};
 ghost use Rattle.gw_entities.specs.Comings.{came};
 ghost use Rattle.gw_entities.specs.Links.{slot_of, AreLinked, Leads};
 
+use crate::shared_pairs::SharedPairs;
 use gw_names::Key;
 use std::alloc::{AllocError, Global};
 use std::marker::Model;
@@ -14,38 +15,34 @@ const FEWEST: usize = 32;
 // So many slots at the most are kept where all pairs are taken out.
 const SLOTS_KEPT: usize = 4_096;
 
-// So many pairs may be linked.
-const MOST: usize = u32::MAX as usize;
-
 // An odd number whose products spread over all 64 bits.
 const MIXER: u64 = 11_400_714_819_323_198_485;
 
 // Pairs of a key and a number, in the order of coming: a queue and who came to it, or a key alone, with the number 0.
 // Those in one slot are linked, each with the last one before it. What is linked is a place, counted from 1, and 0 is
-// none.
+// none. A copy shares the pairs and has no slots: until it is got ready, all its pairs are looked through.
 #[derive(Drop)]
 pub struct LinkedPairs {
-    list: Vec<(Key, u64)>,
-    // For each pair the place of the last one before it in its slot, or 0.
+    list: SharedPairs,
+    // For each pair the place of the last one before it in its slot, or 0, where there are slots.
     links: Vec<u32>,
     // For each slot the place of the last pair in it, or 0. Their number is a power of two, or 0.
     heads: Vec<u32>,
 }
 
 impl Model for LinkedPairs {
-    ghost use Rattle.std.specs.Prelude.{◌≡◌, ◌≤◌, ◌-◌, [], length, vec_capacity, min, if◌then◌else◌, nat_lt};
+    ghost use Rattle.std.specs.Prelude.{◌-◌, ◌<◌, length, vec_capacity, min, if◌then◌else◌, nat_lt};
     ghost use Rattle.gw_entities.specs.Links.{Pairs, AreLinked};
 
     ghost Value = { Pairs };
 
     ghost view = { λ c. record {
-      pairs = c.list.items;
+      pairs = c.list.pairs;
       room = if nat_lt 0 (length c.heads.items)
-          then min (min (vec_capacity c.list) (vec_capacity c.links)) 4294967295 - length c.list.items else 0;
+          then min c.list.room (min (vec_capacity c.links) 4294967295 - length c.list.pairs) else 0;
     } };
 
-    ghost invariant = { λ c. AreLinked c.heads.items c.links.items c.list.items
-        × (length c.heads.items ≡ 0 → c.list.items ≡ []) × (length c.list.items ≤ 4294967295) };
+    ghost invariant = { λ c. 0 < length c.heads.items → AreLinked c.heads.items c.links.items c.list.pairs };
 }
 
 impl LinkedPairs {
@@ -54,7 +51,7 @@ impl LinkedPairs {
         ensures { result.pairs ≡ [] }
     {
         LinkedPairs {
-            list: Vec::new(alloc),
+            list: SharedPairs::new(alloc),
             links: Vec::new(alloc),
             heads: Vec::new(alloc),
         }
@@ -66,6 +63,15 @@ impl LinkedPairs {
         ensures { result ≡ (length self.now.pairs == 0) }
     {
         self.list.is_empty()
+    }
+
+    // How many there are.
+    #[inline(always)]
+    pub fn len(&self) -> usize
+        ensures len { result ≡ length self.now.pairs }
+        ensures bound { result < 2 ^ 63 }
+    {
+        self.list.len()
     }
 
     // Whether a pair is there.
@@ -85,12 +91,12 @@ impl LinkedPairs {
         ensures none { IfNone result (came self.now.pairs key.now number ≡ false) }
         ensures bound { IfSome result (λ i. i < 2 ^ 63) }
     {
-        if self.list.is_empty() {
-            return None;
+        if self.heads.is_empty() {
+            return place_in(&self.list, key, number);
         }
         let mut place = last_of(&self.heads, key, number);
         while place > 0 {
-            if is_pair(&self.list[place - 1], key, number) {
+            if is_pair(self.list.at(place - 1), key, number) {
                 return Some(place - 1);
             }
             place = self.links[place - 1] as usize;
@@ -98,45 +104,39 @@ impl LinkedPairs {
         None
     }
 
-    // Makes room for so many more pairs. It changes none, and room that was there stays. It doubles the slots once at
-    // the most, which is enough where no more come than there are.
-    pub fn reserve(&mut self, more: usize) -> Result<(), AllocError>
-        ensures ok { OnOk result (more ≤ self.new.room) }
+    // Makes room for one more pair, and gets ready. It changes none, and room that was there stays.
+    pub fn reserve(&mut self) -> Result<(), AllocError>
+        ensures ok { OnOk result (0 < self.new.room) }
         ensures pairs { self.new.pairs ≡ self.old.pairs }
         ensures room { self.old.room ≤ self.new.room }
     {
-        let len = self.list.len();
-        if more > MOST.saturating_sub(len) {
-            return Err(AllocError);
+        self.list.reserve()?;
+        self.links.reserve(1)?;
+        if self.list.len() < self.heads.len() / 2 {
+            return Ok(());
         }
-        self.list.reserve(more)?;
-        self.links.reserve(more)?;
-        if len + more <= self.heads.len() {
+        relink(&self.list, &mut self.heads, &mut self.links)
+    }
+
+    // Gets ready for many questions: from now on a pair is found by slots. It changes none.
+    pub fn get_ready(&mut self) -> Result<(), AllocError>
+        ensures { self.new.pairs ≡ self.old.pairs }
+    {
+        if !self.heads.is_empty() || self.list.is_empty() {
             return Ok(());
         }
         relink(&self.list, &mut self.heads, &mut self.links)
     }
 
     // A pair comes behind the others.
-    #[inline(always)]
+    #[inline(never)]
     pub fn add(&mut self, key: Key, number: u64)
         requires { 0 < self.old.room }
         ensures pairs { self.new.pairs ≡ self.old.pairs ++ (key, number) ∷ [] }
         ensures room { self.old.room ≤ self.new.room + 1 }
     {
         link(&mut self.heads, &mut self.links, &key, number);
-        self.list.push_reserved((key, number));
-    }
-
-    // More pairs come behind the others, in their order.
-    pub fn append(&mut self, pairs: Vec<(Key, u64)>)
-        requires { length pairs.items ≤ self.old.room }
-        ensures pairs { self.new.pairs ≡ self.old.pairs ++ pairs.items }
-        ensures room { self.old.room ≤ self.new.room + length pairs.items }
-    {
-        for (key, number) in pairs {
-            self.add(key, number);
-        }
+        self.list.push(key, number);
     }
 
     // Takes all pairs out. The memory goes with them where slots are very many, or many beside the pairs: each costs a
@@ -146,7 +146,7 @@ impl LinkedPairs {
     {
         let kept = self.list.len().saturating_mul(8).saturating_add(64);
         if self.heads.len() > kept.min(SLOTS_KEPT) {
-            *self = LinkedPairs::new(*self.list.allocator());
+            *self = LinkedPairs::new(*self.heads.allocator());
         } else {
             self.list.clear();
             self.links.clear();
@@ -154,20 +154,34 @@ impl LinkedPairs {
         }
     }
 
-    // The same pairs.
+    // The same pairs, which are shared. The copy is not ready.
     pub fn copy(&self) -> Result<LinkedPairs, AllocError>
         ensures { IfOk result (λ c. c.pairs ≡ self.now.pairs) }
     {
-        // To clone what holds nothing costs more than to make it.
-        if self.list.is_empty() {
-            return Ok(LinkedPairs::new(*self.list.allocator()));
-        }
+        let alloc = *self.heads.allocator();
+        let list = self.list.copy()?;
         Ok(LinkedPairs {
-            list: self.list.clone()?,
-            links: self.links.clone()?,
-            heads: self.heads.clone()?,
+            list,
+            links: Vec::new(alloc),
+            heads: Vec::new(alloc),
         })
     }
+}
+
+// The index of a pair, if it is there: all are looked through.
+#[cold]
+#[inline(never)]
+fn place_in(list: &SharedPairs, key: &Key, number: u64) -> Option<usize>
+    ensures there { IfSome result (λ i. slice_get list.now.pairs i ≡ Some (key.now, number)) }
+    ensures none { IfNone result (came list.now.pairs key.now number ≡ false) }
+    ensures bound { IfSome result (λ i. i < 2 ^ 63) }
+{
+    for index in 0..list.len() {
+        if is_pair(list.at(index), key, number) {
+            return Some(index);
+        }
+    }
+    None
 }
 
 // Whether it is the pair of a key and a number.
@@ -188,19 +202,20 @@ fn last_of(heads: &[u32], key: &Key, number: u64) -> usize
     heads[slot_of(heads.len(), key, number)] as usize
 }
 
-// Doubles the slots, or makes the first ones, and links all pairs anew.
+// Makes twice as many slots as there are pairs, or more, and links all pairs anew: so most slots have one pair at the
+// most. Where memory is refused, nothing changes.
 #[cold]
 #[inline(never)]
-fn relink(list: &[(Key, u64)], heads: &mut Vec<u32>, links: &mut Vec<u32>) -> Result<(), AllocError>
-    requires most { length list.now ≤ 4294967295 }
-    requires linked { AreLinked heads.old.items links.old.items list.now }
-    ensures linked { AreLinked heads.new.items links.new.items list.now }
+fn relink(list: &SharedPairs, heads: &mut Vec<u32>, links: &mut Vec<u32>) -> Result<(), AllocError>
     ensures ok { OnOk result (0 < length heads.new.items) }
-    ensures slots { length heads.old.items ≤ length heads.new.items }
-    ensures capacity { vec_capacity links.new ≡ vec_capacity links.old }
+    ensures linked { OnOk result (AreLinked heads.new.items links.new.items list.now.pairs) }
+    ensures room { OnOk result (length list.now.pairs < vec_capacity links.new) }
+    ensures err { OnErr result ((heads.new.items ≡ heads.old.items) × (links.new.items ≡ links.old.items)) }
+    ensures capacity { vec_capacity links.old ≤ vec_capacity links.new }
 {
-    let slots = heads.len().saturating_mul(2).max(FEWEST);
+    let slots = (2 * list.len() + 1).next_power_of_two().max(FEWEST);
     let mut more = vec![in *heads.allocator(); 0; slots]?;
+    links.reserve(list.len() + 1)?;
     links.clear();
     link_all(list, &mut more, links);
     *heads = more;
@@ -208,17 +223,17 @@ fn relink(list: &[(Key, u64)], heads: &mut Vec<u32>, links: &mut Vec<u32>) -> Re
 }
 
 // Links all pairs, where no slot has one yet.
-fn link_all(list: &[(Key, u64)], heads: &mut [u32], links: &mut Vec<u32>)
-    requires most { length list.now ≤ 4294967295 }
+fn link_all(list: &SharedPairs, heads: &mut [u32], links: &mut Vec<u32>)
     requires slots { 0 < length heads.old }
     requires none { heads.old ≡ replicate (length heads.old) 0 }
     requires empty { links.old.items ≡ [] }
-    requires room { length list.now ≤ vec_capacity links.old }
-    ensures linked { AreLinked heads.new links.new.items list.now }
+    requires room { length list.now.pairs ≤ vec_capacity links.old }
+    ensures linked { AreLinked heads.new links.new.items list.now.pairs }
     ensures slots { length heads.new ≡ length heads.old }
     ensures capacity { vec_capacity links.new ≡ vec_capacity links.old }
 {
-    for pair in list {
+    for index in 0..list.len() {
+        let pair = list.at(index);
         link(heads, links, &pair.0, pair.1);
     }
 }

@@ -13,7 +13,7 @@ use std::marker::Model;
 use std::sync::Arc;
 
 // So many entries lie in a piece.
-const PIECE: usize = 8;
+pub const PIECE: usize = 8;
 
 // How many entries there are at the most, 2^63 - 1.
 const LIMIT: usize = 9_223_372_036_854_775_807;
@@ -118,8 +118,8 @@ impl<V: Copy> Pieces<V> {
 
 // So many entries, or fewer in the last piece.
 #[derive(Drop)]
-struct Piece<V: Copy> {
-    entries: Vec<(Key, V)>,
+pub struct Piece<V: Copy> {
+    pub entries: Vec<(Key, V)>,
 }
 
 impl<V: Copy> Model for Piece<V> {
@@ -146,7 +146,7 @@ impl<V: Copy> Piece<V> {
 
     // The entry at an index.
     #[inline(always)]
-    fn at(&self, index: usize) -> &(Key, V)
+    pub fn at(&self, index: usize) -> &(Key, V)
         requires { index < length self.now }
         ensures { slice_get self.now index ≡ Some result.now }
     {

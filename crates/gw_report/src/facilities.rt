@@ -1,4 +1,5 @@
 ghost use Rattle.std.specs.Prelude.{◌≡◌, ◌++◌, OnOk, IfOk, map};
+ghost use Rattle.gw_chains.specs.Chains.{delays_of};
 ghost use Rattle.gw_report.specs.Layout.{row_of, rows_of, heading_of};
 ghost use Rattle.gw_report.specs.Facilities.{facility_columns, facility_line, facilities_text};
 
@@ -6,6 +7,7 @@ use crate::column::{Cell, Column, Side, put_row};
 use crate::entity::{average_cell, key_cell};
 use crate::section::put_section;
 use crate::sheet::Sheet;
+use gw_chains::DelayChains;
 use gw_entities::Facility;
 use gw_names::Key;
 use gw_scan::State;
@@ -24,11 +26,16 @@ const FACILITY_COLUMNS: [Column; 10] = [
     Column(5, Side::Right),
 ];
 
-/// Appends the facilities, in order of first touch.
-pub fn put_facilities(out: &mut Vec<u8>, state: &State) -> Result<(), AllocError>
+/// Appends the facilities, in order of first touch. The delay chains are those of the state.
+pub fn put_facilities(
+    out: &mut Vec<u8>,
+    state: &State,
+    delays: &DelayChains,
+) -> Result<(), AllocError>
+    requires { delays_of delays.now.chains ≡ state.now.delays }
     ensures { OnOk result (out.new.items ≡ out.old.items ++ facilities_text state.now) }
 {
-    let lines = facility_lines(*out.allocator(), state)?;
+    let lines = facility_lines(*out.allocator(), state, delays)?;
     put_section(out, facility_heading(), lines.as_slice())
 }
 
@@ -41,7 +48,8 @@ fn facility_heading() -> &'static [u8]
 }
 
 // The lines of the facilities.
-fn facility_lines(alloc: Global, state: &State) -> Result<Sheet, AllocError>
+fn facility_lines(alloc: Global, state: &State, delays: &DelayChains) -> Result<Sheet, AllocError>
+    requires { delays_of delays.now.chains ≡ state.now.delays }
     ensures { IfOk result (λ lines. lines ≡
         rows_of facility_columns (map (facility_line state.now) state.now.entities.facilities)) }
 {
@@ -49,7 +57,7 @@ fn facility_lines(alloc: Global, state: &State) -> Result<Sheet, AllocError>
     let mut lines = Sheet::new(alloc);
     for index in 0..facilities.len() {
         if let Some((key, facility)) = facilities.at(index) {
-            put_facility(&mut lines, state, key, facility)?;
+            put_facility(&mut lines, state, delays, key, facility)?;
         }
     }
     Ok(lines)
@@ -60,16 +68,18 @@ fn facility_lines(alloc: Global, state: &State) -> Result<Sheet, AllocError>
 fn put_facility(
     out: &mut Sheet,
     state: &State,
+    delays: &DelayChains,
     key: &Key,
     facility: Facility,
 ) -> Result<(), AllocError>
+    requires { delays_of delays.now.chains ≡ state.now.delays }
     ensures { OnOk result (out.new ≡ out.old ++
         row_of facility_columns (facility_line state.now (key.now, facility))) }
 {
     let sum = facility.level().sum_up_to(state.clock_now());
     let time = state.clock().ticks().saturating_sub(state.since().ticks());
     let captures = facility.captures();
-    let delayed = state.delays().len(key) as u64;
+    let delayed = delays.len(key) as u64;
     let cells = [
         key_cell(key),
         Cell::Number(captures),

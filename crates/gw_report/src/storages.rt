@@ -1,5 +1,6 @@
 ghost use Rattle.gw_meaning.specs.Listing.{Listing};
 ghost use Rattle.std.specs.Prelude.{◌≡◌, ◌++◌, OnOk, IfOk, map};
+ghost use Rattle.gw_chains.specs.Chains.{delays_of};
 ghost use Rattle.gw_report.specs.Layout.{row_of, rows_of, heading_of};
 ghost use Rattle.gw_report.specs.Storages.{units_of, storage_columns, storage_line, storages_text};
 
@@ -7,6 +8,7 @@ use crate::column::{Cell, Column, Side, put_row};
 use crate::entity::{average_cell, key_cell};
 use crate::section::put_section;
 use crate::sheet::Sheet;
+use gw_chains::DelayChains;
 use gw_entities::Storage;
 use gw_model::Version;
 use gw_names::Key;
@@ -27,11 +29,18 @@ const STORAGE_COLUMNS: [Column; 11] = [
     Column(5, Side::Right),
 ];
 
-/// Appends the storages, in order of first touch, with the units that the version gives them.
-pub fn put_storages(out: &mut Vec<u8>, version: &Version, state: &State) -> Result<(), AllocError>
+/// Appends the storages, in order of first touch, with the units that the version gives them. The delay chains are those
+/// of the state.
+pub fn put_storages(
+    out: &mut Vec<u8>,
+    version: &Version,
+    state: &State,
+    delays: &DelayChains,
+) -> Result<(), AllocError>
+    requires { delays_of delays.now.chains ≡ state.now.delays }
     ensures { OnOk result (out.new.items ≡ out.old.items ++ storages_text version.now state.now) }
 {
-    let lines = storage_lines(*out.allocator(), version, state)?;
+    let lines = storage_lines(*out.allocator(), version, state, delays)?;
     put_section(out, storage_heading(), lines.as_slice())
 }
 
@@ -44,7 +53,13 @@ fn storage_heading() -> &'static [u8]
 }
 
 // The lines of the storages.
-fn storage_lines(alloc: Global, version: &Version, state: &State) -> Result<Sheet, AllocError>
+fn storage_lines(
+    alloc: Global,
+    version: &Version,
+    state: &State,
+    delays: &DelayChains,
+) -> Result<Sheet, AllocError>
+    requires { delays_of delays.now.chains ≡ state.now.delays }
     ensures { IfOk result (λ lines. lines ≡
         rows_of storage_columns (map (storage_line version.now state.now) state.now.entities.storages)) }
 {
@@ -52,7 +67,8 @@ fn storage_lines(alloc: Global, version: &Version, state: &State) -> Result<Shee
     let mut lines = Sheet::new(alloc);
     for index in 0..storages.len() {
         if let Some((key, storage)) = storages.at(index) {
-            put_storage(&mut lines, state, units_of(version, key), key, storage)?;
+            let capacity = units_of(version, key);
+            put_storage(&mut lines, state, delays, capacity, key, storage)?;
         }
     }
     Ok(lines)
@@ -73,17 +89,19 @@ fn units_of(version: &Version, key: &Key) -> u64
 fn put_storage(
     out: &mut Sheet,
     state: &State,
+    delays: &DelayChains,
     capacity: u64,
     key: &Key,
     storage: Storage,
 ) -> Result<(), AllocError>
+    requires { delays_of delays.now.chains ≡ state.now.delays }
     ensures { (t : Listing) → units_of t key.now ≡ capacity → OnOk result (out.new ≡ out.old ++
         row_of storage_columns (storage_line t state.now (key.now, storage))) }
 {
     let sum = storage.level().sum_up_to(state.clock_now());
     let time = state.clock().ticks().saturating_sub(state.since().ticks());
     let content = storage.level().content();
-    let delayed = state.delays().len(key) as u64;
+    let delayed = delays.len(key) as u64;
     let cells = [
         key_cell(key),
         Cell::Number(capacity),

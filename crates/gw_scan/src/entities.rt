@@ -215,7 +215,8 @@ impl Entities {
     {
         self.facilities.get_ready()?;
         self.queues.get_ready()?;
-        self.storages.get_ready()
+        self.storages.get_ready()?;
+        self.comings.get_ready()
     }
 
     // Equal entities.

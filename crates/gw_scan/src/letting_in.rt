@@ -64,7 +64,7 @@ pub fn reserve_some(
 }
 
 // The same, where there are shares.
-#[inline(never)]
+#[inline(always)]
 fn reserve_shares(
     delays: &DelayChains,
     current: &mut PriorityChain,

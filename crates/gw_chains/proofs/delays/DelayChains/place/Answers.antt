@@ -5,5 +5,5 @@ pub returns : goal.returns
 returns c =
     let d = c.self.inside in
     rw (← c.self.view_is)
-    (placed_beside d.keys.keys d.chains.items c.args.key.now c.place.result c.self.invariant.apart c.self.invariant.beside
+    (placed_beside d.keys.keys d.chains c.args.key.now c.place.result c.self.invariant.apart c.self.invariant.beside
     c.place.ensures.there c.place.ensures.none)

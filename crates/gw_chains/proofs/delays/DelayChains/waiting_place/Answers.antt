@@ -9,12 +9,12 @@ pub returns : goal.returns
 returns c =
     let d = c.self.inside in
     rw (← c.self.view_is)
-    (queue_of_place (zip d.keys.keys d.chains.items) c.args.key.now c.place.result
-    (placed_beside d.keys.keys d.chains.items c.args.key.now c.place.result c.self.invariant.apart c.self.invariant.beside
+    (queue_of_place (zip d.keys.keys d.chains) c.args.key.now c.place.result
+    (placed_beside d.keys.keys d.chains c.args.key.now c.place.result c.self.invariant.apart c.self.invariant.beside
     c.place.ensures.there c.place.ensures.none))
 
 pub returns-then-self-eq0 : goal.returns-then-self-eq0
 returns-then-self-eq0 c =
     let d = c.self.inside in
     rw (← c.self.view_is)
-    (sym (none_waits (delays_of (zip d.keys.keys d.chains.items)) c.args.key.now d.count c.self.invariant.counted c.if-self-eq0.true))
+    (sym (none_waits (delays_of (zip d.keys.keys d.chains)) c.args.key.now d.count c.self.invariant.counted c.if-self-eq0.true))
