@@ -1,6 +1,6 @@
 -- How `DelayChains` keeps the delay chains: each beside its key, in rows. No public clause cites this module. (Our
 -- own.)
-use Rattle.std.specs.Prelude.{◌≡◌, ℕ, ◌≤◌, List, [], ◌∷◌, ◌++◌, Option, Some, None, length, map, set, slice_get}
+use Rattle.std.specs.Prelude.{◌≡◌, ℕ, ◌≤◌, List, [], ◌∷◌, Option, Some, None, length, map, set, slice_get}
 use Rattle.std.specs.List.{IsDistinct, zip}
 use Rattle.gw_names.specs.declared.key.Key.{Key}
 use Rattle.gw_names.specs.Keys.{key_eq}
@@ -48,15 +48,6 @@ nobody = idle ∷ idle ∷ idle ∷ idle ∷ idle ∷ idle ∷ idle ∷ idle ∷
 abbrev pub row_of : List (Chain Transaction) → List (Chain Transaction)
 row_of [] = nobody
 row_of (c ∷ cs) = c ∷ cs
-
--- rows of eight, and the chains of all of them (8 is ROW)
-abbrev pub AreRows : List (List (Chain Transaction)) → Type 0
-AreRows [] = Unit {0}
-AreRows (r ∷ rs) = (length r ≡ 8) × AreRows rs
-
-abbrev pub joined : List (List (Chain Transaction)) → List (Chain Transaction)
-joined [] = []
-joined (r ∷ rs) = r ++ joined rs
 
 -- a chain for each key, further ones on which nobody waits, and how many are on all of them
 pub record AreKept (keys : List Key) (chains : List (Chain Transaction)) (count : ℕ) : Type 0 where

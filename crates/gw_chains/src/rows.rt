@@ -22,13 +22,14 @@ impl Model for Rows {
     ghost use Rattle.std.specs.Prelude.{List};
     ghost use Rattle.gw_meaning.specs.declared.transaction.Transaction.{Transaction};
     ghost use Rattle.gw_chains.specs.Chains.{Chain};
-    ghost use Rattle.gw_chains.specs.Delays.{AreRows, joined};
+    ghost use Rattle.gw_entities.specs.Pieces.{AreFull, joined};
 
     ghost Value = { List (Chain Transaction) };
 
     ghost view = { λ r. joined r.rows.items };
 
-    ghost invariant = { λ r. AreRows r.rows.items };
+    // Each row is full: it has eight chains, as a full piece has eight items (ROW and PIECE go together).
+    ghost invariant = { λ r. AreFull r.rows.items };
 }
 
 impl Rows {

@@ -62,6 +62,7 @@ impl Desk {
             None => unreachable!(),
         }
     }
+
     // What stopped the steps on the way to the end of a START that there is, as it is answered.
     fn told_by(&self, alloc: Global, rep: u64, k: u64, seed: u64, reach: Reach) -> Answer
         requires some { 1 ≤ k }

@@ -20,6 +20,7 @@ impl Recorded {
         ensures start { self.new.start ≡ self.old.start }
     {
         if moment < self.moment {
+            self.due = 0;
             let count = count_until(self.kept.as_slice(), moment);
             self.kept.truncate(count);
             match self.kept.pop() {
@@ -43,12 +44,11 @@ impl Recorded {
     }
 }
 
-// How many steps lead from a moment to the first multiple of a spacing that is not before it.
+// How many steps lead from a moment to the next multiple of a spacing.
 fn steps_ahead(moment: u64, every: u64) -> u64
     requires { 1 ≤ every }
-    ensures within { result < every }
+    ensures within { (1 ≤ result) × (result ≤ every) }
     ensures multiple { (moment + result) % every ≡ 0 }
 {
-    let past = moment % every;
-    if past == 0 { 0 } else { every - past }
+    every - moment % every
 }

@@ -1,5 +1,5 @@
 // One step after another, each kept before it is left.
-ghost use Rattle.std.specs.Prelude.{◌≡◌, ◌≢◌, ◌+◌, ◌-◌, ◌≤◌, ◌<◌, ℕ, Ok, IfOk, OnOk, OnErr, length, IsTrue, IsFalse};
+ghost use Rattle.std.specs.Prelude.{◌≡◌, ◌≢◌, ◌+◌, ◌-◌, ◌%◌, ◌≤◌, ◌<◌, ℕ, Ok, IfOk, OnOk, OnErr, length, IsTrue, IsFalse};
 ghost use Rattle.gw_meaning.specs.Listing.{Listing};
 ghost use Rattle.gw_meaning.specs.Step.{step};
 ghost use Rattle.gw_scan.specs.Stepping.{Counts};
@@ -13,9 +13,9 @@ use gw_scan::{Tally, Turn, step};
 use std::alloc::{AllocError, Global};
 
 impl Recorded {
-    /// Makes `steps` more steps of the version's run with this seed, or those up to the step limit or to the
-    /// run's end, counts them and says how many they are: 0 where the run cannot go on. Where memory is refused,
-    /// the steps made stay, each with its first uses, and nothing stays of the one that was not made.
+    /// Makes `steps` more steps of the version's run with this seed, or those up to the step limit or to the run's end,
+    /// counts them and says how many they are: 0 where the run cannot go on. Where memory is refused, the steps made
+    /// stay, each with its first uses, and nothing stays of the one that was not made.
     pub fn extend(
         &mut self,
         alloc: Global,
@@ -75,19 +75,18 @@ impl Recorded {
         Ok(turn)
     }
 
-    // One step further: the next multiple of the spacing comes one step nearer, and right after a multiple it is a
-    // spacing less one step off.
+    // One step further: the next multiple of the spacing comes one step nearer. At one there is a state to keep.
     #[inline(always)]
     fn move_on(&mut self)
         requires { self.old.moment < 1000000 }
         ensures { self.new ≡ record self.old { moment = self.old.moment + 1 } }
     {
         self.moment += 1;
-        self.ahead = if self.ahead == 0 {
-            self.every - 1
-        } else {
-            self.ahead - 1
-        };
+        self.ahead -= 1;
+        if self.ahead == 0 {
+            self.ahead = self.every;
+            self.due = 0;
+        }
     }
 
     // Keeps the tip where it stands at the start or a multiple of the spacing, or a START is complete there, so that
@@ -110,7 +109,7 @@ impl Recorded {
     fn is_due(&self) -> bool
         ensures { IsFalse result → (t : Listing) (seed : ℕ) → Records t seed self.now → IsKeptUp t seed self.now }
     {
-        self.ahead == 0 || self.due <= self.tip.complete()
+        self.due <= self.tip.complete()
     }
 
     // Keeps what is left to keep at the tip.
@@ -162,11 +161,12 @@ impl Recorded {
             IsWanted t seed self.now.every self.now.start self.now.moment → IsThere self.now.kept self.now.moment }
         ensures ends { IsFalse result → self.now.tip.complete ≤ length self.now.ends }
         ensures behind { IsFalse result → self.now.moment ≢ self.now.start }
+        ensures between { IsFalse result → self.now.moment % self.now.every ≢ 0 }
     {
         if self.moment == self.start {
             return true;
         }
-        self.ahead == 0 || (self.ends.len() as u64) < self.tip.complete()
+        self.ahead == self.every || (self.ends.len() as u64) < self.tip.complete()
     }
 
     // Whether the tip's state is kept.

@@ -18,10 +18,10 @@ pub struct Recorded {
     // From this moment on states are kept.
     pub(crate) start: u64,
     pub(crate) moment: u64,
-    // How many steps the tip stands before the next multiple of the spacing: 0 at one.
+    // How many steps the tip stands before the next multiple of the spacing: all of the spacing at one.
     pub(crate) ahead: u64,
-    // While fewer STARTs than these are complete, only the multiples of the spacing are left to keep: one more than are
-    // noted, or 0 where the start may not be kept yet.
+    // While fewer STARTs than these are complete, nothing is left to keep: one more than are noted, or 0 where the
+    // start or a multiple of the spacing may not be kept yet.
     pub(crate) due: u64,
     pub(crate) tip: State,
     pub(crate) kept: Vec<Kept>,
@@ -31,7 +31,7 @@ pub struct Recorded {
 }
 
 impl Model for Recorded {
-    ghost use Rattle.std.specs.Prelude.{◌≡◌, ◌+◌, ◌%◌, ◌<◌};
+    ghost use Rattle.std.specs.Prelude.{◌≡◌, ◌+◌, ◌%◌, ◌≤◌};
     ghost use Rattle.gw_record.specs.Keeping.{IsDue};
     ghost use Rattle.gw_record.specs.Tape.{Tape};
 
@@ -47,8 +47,8 @@ impl Model for Recorded {
       firsts = r.notes.firsts;
     } };
 
-    ghost invariant = { λ r. (r.ahead < r.every) × ((r.moment + r.ahead) % r.every ≡ 0) ×
-        IsDue r.start r.moment r.kept.items r.ends.items r.due × (r.notes.streams ≡ r.tip.streams) };
+    ghost invariant = { λ r. ((1 ≤ r.ahead) × (r.ahead ≤ r.every)) × ((r.moment + r.ahead) % r.every ≡ 0) ×
+        IsDue r.start r.every r.moment r.kept.items r.ends.items r.due × (r.notes.streams ≡ r.tip.streams) };
 }
 
 impl Recorded {
@@ -65,7 +65,7 @@ impl Recorded {
             every,
             start: 0,
             moment: 0,
-            ahead: 0,
+            ahead: every,
             due: 0,
             tip,
             kept: Vec::new(alloc),

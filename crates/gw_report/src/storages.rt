@@ -29,8 +29,8 @@ const STORAGE_COLUMNS: [Column; 11] = [
     Column(5, Side::Right),
 ];
 
-/// Appends the storages, in order of first touch, with the units that the version gives them. The delay chains are those
-/// of the state.
+/// Appends the storages, in order of first touch, with the units that the version gives them. The delay chains are
+/// those of the state.
 pub fn put_storages(
     out: &mut Vec<u8>,
     version: &Version,

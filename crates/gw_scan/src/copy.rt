@@ -34,8 +34,8 @@ impl State {
         self.future.share()
     }
 
-    /// Gets it ready for many steps: the slots by which entities, delay chains and comings are found, which a copy leaves
-    /// out, are made anew. The state is the same behind it, also where memory is refused.
+    /// Gets it ready for many steps: the slots by which entities, delay chains and comings are found, which a copy
+    /// leaves out, are made anew. The state is the same behind it, also where memory is refused.
     #[inline(never)]
     pub fn get_ready(&mut self) -> Result<(), AllocError>
         ensures { self.new ≡ self.old }

@@ -6,15 +6,16 @@ use std::marker::Model;
 /// How many steps were made. It stays once it is at its greatest value, 2^64 - 1.
 #[derive(Drop)]
 pub struct Tally {
-    steps: u64,
+    // How many further ones it counts: to count down to 0 takes an instruction less of each step.
+    left: u64,
 }
 
 impl Model for Tally {
-    ghost use Rattle.std.specs.Prelude.{ℕ};
+    ghost use Rattle.std.specs.Prelude.{ℕ, ◌-◌, ◌^◌};
 
     ghost Value = { ℕ };
 
-    ghost view = { λ t. t.steps };
+    ghost view = { λ t. 2 ^ 64 - 1 - t.left };
 }
 
 impl Tally {
@@ -22,20 +23,20 @@ impl Tally {
     pub fn new() -> Tally
         ensures { result ≡ 0 }
     {
-        Tally { steps: 0 }
+        Tally { left: u64::MAX }
     }
 
     /// The number of steps.
     pub fn count(&self) -> u64
         ensures { result ≡ self.now }
     {
-        self.steps
+        u64::MAX - self.left
     }
 
     // One step more.
     pub(crate) fn raise(&mut self)
         ensures { self.new ≡ raised self.old }
     {
-        self.steps = self.steps.saturating_add(1);
+        self.left = self.left.saturating_sub(1);
     }
 }

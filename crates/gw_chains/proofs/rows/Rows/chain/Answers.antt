@@ -5,16 +5,11 @@ use Rattle.gw_chains.proofs.rows.Rows.chain.Goals as goal
 
 pub index-requires : goal.index-requires
 index-requires c =
-    let rs = c.self.inside.rows.items in
-    let i = c.args.index in
-    let within = within_rows rs i c.self.invariant (rw (← c.self.view_is) at c.requires) in
+    let within = within_rows c.self.inside.rows.items c.args.index c.self.invariant (rw (← c.self.view_is) at c.requires) in
     search rules
 
 pub returns : goal.returns
 returns c =
-    let rs = c.self.inside.rows.items in
-    let i = c.args.index in
-    let within = within_rows rs i c.self.invariant (rw (← c.self.view_is) at c.requires) in
-    let read = c.index.ensures in
-    let there = stands rs i c.index.result.now c.self.invariant within read in
+    let less = rw (← c.self.view_is) at c.requires in
+    let there = stands c.self.inside.rows.items c.args.index c.index.result.now c.self.invariant less c.index.ensures in
     rw (← c.self.view_is) (c.chain.ensures ∙ ap items_of (sym there))

@@ -5,10 +5,10 @@ use Rattle.gw_chains.proofs.rows.Rows.copy.Goals as goal
 
 pub invariant_of-result : goal.invariant_of-result
 invariant_of-result c =
-    let same = c.in_ok-copy_rows.ensures ∙ ap (λ rs. map (λ r. queues_of r) rs) c.deref.ensures.value in
+    let same = c.in_ok-copy_rows.ensures ∙ ap (λ rs. map queues_of rs) c.deref.ensures.value in
     alike_rows c.self.inside.rows.items c.in_ok-copy_rows.field-0.items same c.self.invariant
 
 pub returns : goal.returns
 returns c =
-    let same = c.in_ok-copy_rows.ensures ∙ ap (λ rs. map (λ r. queues_of r) rs) c.deref.ensures.value in
+    let same = c.in_ok-copy_rows.ensures ∙ ap (λ rs. map queues_of rs) c.deref.ensures.value in
     rw (← c.self.view_is) (alike_queues c.self.inside.rows.items c.in_ok-copy_rows.field-0.items same)

@@ -1,6 +1,7 @@
-use Rattle.std.proofs.Common.{◌<◌, ◌/◌, ◌++◌, ◌∷◌, [], length, ap, sym, subst, ◌∙◌, rules}
-use Rattle.gw_chains.specs.Delays.{AreRows, joined, queues_of}
-use Rattle.gw_chains.proofs.RowLaws.{grown_rows, still_grown, still_same, within_all, within_grown}
+use Rattle.std.proofs.Common.{◌<◌, ◌/◌, length, refl, rules}
+use Rattle.gw_entities.proofs.SharedLaws.{full_more}
+use Rattle.gw_chains.specs.Delays.{nobody}
+use Rattle.gw_chains.proofs.RowLaws.{still_grown, still_same, within_all, within_grown}
 use Rattle.gw_chains.proofs.rows.Rows.reserve_next.Goals as goal
 
 pub reserve-requires : goal.reserve-requires
@@ -13,21 +14,14 @@ pub returns-then-index-len-clause-queues : goal.returns-then-index-len-clause-qu
 returns-then-index-len-clause-queues c = still_same c.args.self.now c.reserve.new.self c.reserve.ensures.queues
 
 pub invariant_of-self-2 : goal.invariant_of-self-2
-invariant_of-self-2 c =
-    let rs = c.self.inside.rows.items in
-    let is = c.in_ok-push.ensures.items ∙ ap (λ r. rs ++ r ∷ []) c.new-row.ensures in
-    subst AreRows (sym is) (grown_rows rs c.self.invariant)
+invariant_of-self-2 c = rw (c.in_ok-push.ensures.items, c.new-row.ensures) (full_more c.self.inside.rows.items nobody c.self.invariant refl)
 
 pub reserve-requires-2 : goal.reserve-requires-2
 reserve-requires-2 c =
-    let rs = c.self.inside.rows.items in
-    let is = c.in_ok-push.ensures.items ∙ ap (λ r. rs ++ r ∷ []) c.new-row.ensures in
-    subst (λ ss. c.args.index < length (joined ss)) (sym is)
-    (within_grown rs c.args.index c.self.invariant (rw (← c.self.view_is) at c.requires))
+    rw (c.in_ok-push.ensures.items, c.new-row.ensures)
+    (within_grown c.self.inside.rows.items c.args.index c.self.invariant (rw (← c.self.view_is) at c.requires))
 
 pub returns-clause-queues : goal.returns-clause-queues
 returns-clause-queues c =
-    let rs = c.self.inside.rows.items in
-    let is = c.in_ok-push.ensures.items ∙ ap (λ r. rs ++ r ∷ []) c.new-row.ensures in
     rw (← c.self.view_is)
-    (still_grown rs c.reserve-2.new.self (c.reserve-2.ensures.queues ∙ ap (λ ss. queues_of (joined ss)) is))
+    (still_grown c.self.inside.rows.items c.reserve-2.new.self (rw (c.in_ok-push.ensures.items, c.new-row.ensures) at c.reserve-2.ensures.queues))

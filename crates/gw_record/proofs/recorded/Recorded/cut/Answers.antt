@@ -1,5 +1,6 @@
 use Rattle.std.proofs.Common.{◌≡◌, sym, ◌∙◌, arith}
 use Rattle.gw_record.proofs.CutLaws.{cut_back, one_is_kept}
+use Rattle.gw_record.proofs.KeepLaws.{due_all}
 use Rattle.gw_record.proofs.recorded.Recorded.cut.Goals as goal
 
 pub returns-in-Some-clause-records : goal.returns-in-Some-clause-records
@@ -38,6 +39,4 @@ returns-in-None-clause-kept c = λ t seed h.
 pub invariant_of-self : goal.invariant_of-self
 invariant_of-self c =
     let (within, multiple, due, streams) = c.self.invariant in
-    let from = rw (← c.self.view_is) at c.requires in
-    let before = c.if-moment-self.true in
-    (within, multiple, record { few = due.few; at_start = λ low. absurd (omega (arith, from, before, low)) }, streams)
+    (within, multiple, due_all _ _ _ _ _, streams)

@@ -1,4 +1,5 @@
-use Rattle.std.proofs.Common.{inl, refl, arith}
+use Rattle.std.proofs.Common.{arith}
+use Rattle.gw_record.proofs.KeepLaws.{due_all}
 use Rattle.std.proofs.lemmas.Grind.{common_steps}
 use Rattle.gw_record.proofs.RecordLaws.{begun_at_tip}
 use Rattle.gw_record.proofs.recorded.Recorded.into_branch.Goals as goal
@@ -6,7 +7,7 @@ use Rattle.gw_record.proofs.recorded.Recorded.into_branch.Goals as goal
 pub invariant_of-self : goal.invariant_of-self
 invariant_of-self c =
     let (within, multiple, due, streams) = c.self.invariant in
-    (within, multiple, record { few = omega arith; at_start = λ low. inl refl }, streams)
+    (within, multiple, due_all _ _ _ _ _, streams)
 
 pub returns-clause-value : goal.returns-clause-value
 returns-clause-value c = grind (arith, common_steps)

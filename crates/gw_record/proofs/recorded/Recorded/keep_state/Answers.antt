@@ -23,7 +23,7 @@ returns-in_err-state-clause-records c = grind (arith, common_steps)
 pub invariant_of-self-in-Continue-branch-3 : goal.invariant_of-self-in-Continue-branch-3
 invariant_of-self-in-Continue-branch-3 c =
     let (within, multiple, due, streams) = c.self.invariant in
-    (within, multiple, rw c.in_ok-push.ensures.items (due_kept _ _ _ _ _ _ due), rw c.share.ensures streams)
+    (within, multiple, rw c.in_ok-push.ensures.items (due_kept _ _ _ _ _ _ _ due), rw c.share.ensures streams)
 
 pub invariant_of-self-in_err-push : goal.invariant_of-self-in_err-push
 invariant_of-self-in_err-push c = grind (arith, common_steps)
