@@ -8,7 +8,6 @@ use Rattle.clap.specs.declared.parser.matches.ArgMatches.{ArgMatches}
 use Rattle.clap.proofs.OnLiterals.{clap_on_literals}
 use Rattle.clap.proofs.WalkLemmas.{first_value-rows}
 use Rattle.gw_script.specs.declared.opening.Options.{Options}
-use Rattle.gw_script.specs.declared.opening.TheConstants as constants
 use Rattle.gw_main.specs.declared.words.Refusal.{Refusal}
 use Rattle.gw_main.specs.declared.words.Refusal.TheVariants as refusals
 use Rattle.gw_main.specs.Words.{HasBadNumber, IsNumberRefusal, IsRefusalAt, IsRefusedBy, SaysOptions, every, faults_of, gpssbench, horizon, limit, said, seed, word_of}
@@ -36,17 +35,17 @@ given_by_words a words m e h name =
 -- what is said does not depend on how the words are looked up
 pub says_same : (given given' : Text → Option Text) (o : Options) → ((name : Text) → given name ≡ given' name) → SaysOptions given o → SaysOptions given' o
 says_same given given' o same h = record {
-  seed = ap (said 1 2147483646 constants.Options.USUAL.seed) (sym (same (codes "seed"))) ∙ h.seed;
-  horizon = ap (said 1 1000000000000 constants.Options.USUAL.horizon) (sym (same (codes "horizon"))) ∙ h.horizon;
-  every = ap (said 1 1000000 constants.Options.USUAL.every) (sym (same (codes "every"))) ∙ h.every;
-  limit = ap (said 1 1000000 constants.Options.USUAL.limit) (sym (same (codes "limit"))) ∙ h.limit;
+  seed = ap (said 1 2147483646 1) (sym (same (codes "seed"))) ∙ h.seed;
+  horizon = ap (said 1 1000000000000 1000000000) (sym (same (codes "horizon"))) ∙ h.horizon;
+  every = ap (said 1 1000000 1000) (sym (same (codes "every"))) ∙ h.every;
+  limit = ap (said 1 1000000 1000000) (sym (same (codes "limit"))) ∙ h.limit;
 }
 
 pub bad_same : (given given' : Text → Option Text) → ((name : Text) → given name ≡ given' name) → HasBadNumber given → HasBadNumber given'
-bad_same given given' same (seed e) = seed (ap (said 1 2147483646 constants.Options.USUAL.seed) (sym (same (codes "seed"))) ∙ e)
-bad_same given given' same (horizon e) = horizon (ap (said 1 1000000000000 constants.Options.USUAL.horizon) (sym (same (codes "horizon"))) ∙ e)
-bad_same given given' same (every e) = every (ap (said 1 1000000 constants.Options.USUAL.every) (sym (same (codes "every"))) ∙ e)
-bad_same given given' same (limit e) = limit (ap (said 1 1000000 constants.Options.USUAL.limit) (sym (same (codes "limit"))) ∙ e)
+bad_same given given' same (seed e) = seed (ap (said 1 2147483646 1) (sym (same (codes "seed"))) ∙ e)
+bad_same given given' same (horizon e) = horizon (ap (said 1 1000000000000 1000000000) (sym (same (codes "horizon"))) ∙ e)
+bad_same given given' same (every e) = every (ap (said 1 1000000 1000) (sym (same (codes "every"))) ∙ e)
+bad_same given given' same (limit e) = limit (ap (said 1 1000000 1000000) (sym (same (codes "limit"))) ∙ e)
 
 -- clap refused the words by one of their faults, or for want of memory
 pub refused_by_clap : (words : List Text) (kind : ErrorKind) (refusal : Refusal) → IsRefusalAt kind refusal → (kind ≡ kinds.OutOfMemory) ⊎

@@ -4,7 +4,6 @@ use Rattle.std.specs.Prelude.{Option, Some, None, Result, Ok, Err, IfOk, codes}
 use Rattle.std.proofs.lemmas.Bool.Decides.{nat_tests}
 use Rattle.clap.specs.Words.{Text}
 use Rattle.gw_request.specs.Numbers.{number_of}
-use Rattle.gw_script.specs.declared.opening.TheConstants as constants
 use Rattle.gw_main.specs.declared.words.Asked.{Asked}
 use Rattle.gw_main.specs.declared.words.Refusal.{Refusal}
 use Rattle.gw_main.specs.Words.{IsReadAs, said, within, word_of}
@@ -28,5 +27,5 @@ said_least least greatest usual n (Some word) enough e = within_least least grea
 
 pub spacing : (words : List Text) (meant : Result Asked Refusal) → IsReadAs words meant → IfOk meant (λ asked. 1 ≤ asked.options.every)
 spacing words (Ok asked) h =
-    said_least 1 1000000 constants.Options.USUAL.every asked.options.every (word_of words (codes "every")) (omega arith) h.options.every
+    said_least 1 1000000 1000 asked.options.every (word_of words (codes "every")) (omega arith) h.options.every
 spacing words (Err refusal) h = tt

@@ -39,23 +39,23 @@ says_usual least greatest usual n name h =
 
 no_bad_number : HasBadNumber (word_of []) → ⊥
 no_bad_number (seed h) =
-    let e : Some constants.Options.USUAL.seed ≡ None = sym (ap (said 1 2147483646 constants.Options.USUAL.seed) (no_word (codes "seed"))) ∙ h in cc
+    let e : Some 1 ≡ None = sym (ap (said 1 2147483646 1) (no_word (codes "seed"))) ∙ h in cc
 no_bad_number (horizon h) =
-    let e : Some constants.Options.USUAL.horizon ≡ None = sym (ap (said 1 1000000000000 constants.Options.USUAL.horizon) (no_word (codes "horizon"))) ∙ h in cc
+    let e : Some 1000000000 ≡ None = sym (ap (said 1 1000000000000 1000000000) (no_word (codes "horizon"))) ∙ h in cc
 no_bad_number (every h) =
-    let e : Some constants.Options.USUAL.every ≡ None = sym (ap (said 1 1000000 constants.Options.USUAL.every) (no_word (codes "every"))) ∙ h in cc
+    let e : Some 1000 ≡ None = sym (ap (said 1 1000000 1000) (no_word (codes "every"))) ∙ h in cc
 no_bad_number (limit h) =
-    let e : Some constants.Options.USUAL.limit ≡ None = sym (ap (said 1 1000000 constants.Options.USUAL.limit) (no_word (codes "limit"))) ∙ h in cc
+    let e : Some 1000000 ≡ None = sym (ap (said 1 1000000 1000000) (no_word (codes "limit"))) ∙ h in cc
 
 abbrev options_with : ℕ → ℕ → ℕ → ℕ → Options
 options_with s t k l = record { seed = s; horizon = t; every = k; limit = l }
 
 usual_options : (o : Options) → SaysOptions (word_of []) o → o ≡ constants.Options.USUAL
 usual_options o h =
-    let s : o.seed ≡ 1 = says_usual 1 2147483646 constants.Options.USUAL.seed o.seed (codes "seed") h.seed in
-    let t : o.horizon ≡ 1000000000 = says_usual 1 1000000000000 constants.Options.USUAL.horizon o.horizon (codes "horizon") h.horizon in
-    let k : o.every ≡ 1000 = says_usual 1 1000000 constants.Options.USUAL.every o.every (codes "every") h.every in
-    let l : o.limit ≡ 1000000 = says_usual 1 1000000 constants.Options.USUAL.limit o.limit (codes "limit") h.limit in
+    let s : o.seed ≡ 1 = says_usual 1 2147483646 1 o.seed (codes "seed") h.seed in
+    let t : o.horizon ≡ 1000000000 = says_usual 1 1000000000000 1000000000 o.horizon (codes "horizon") h.horizon in
+    let k : o.every ≡ 1000 = says_usual 1 1000000 1000 o.every (codes "every") h.every in
+    let l : o.limit ≡ 1000000 = says_usual 1 1000000 1000000 o.limit (codes "limit") h.limit in
     ap (λ v. options_with v o.horizon o.every o.limit) s ∙
     (ap (λ v. options_with 1 v o.every o.limit) t ∙ (ap (λ v. options_with 1 1000000000 v o.limit) k ∙ ap (options_with 1 1000000000 1000) l))
 

@@ -8,7 +8,6 @@ use Rattle.clap.specs.declared.error.kind.ErrorKind.{ErrorKind}
 use Rattle.clap.specs.declared.error.kind.ErrorKind.TheVariants as kinds
 use Rattle.gw_request.specs.Numbers.{number_of}
 use Rattle.gw_script.specs.declared.opening.Options.{Options}
-use Rattle.gw_script.specs.declared.opening.TheConstants as constants
 use Rattle.gw_main.specs.declared.words.ModelAt.{ModelAt}
 use Rattle.gw_main.specs.declared.words.ModelAt.TheVariants as places
 use Rattle.gw_main.specs.declared.words.Asked.{Asked}
@@ -53,18 +52,18 @@ said least greatest usual None = Some usual
 said least greatest usual (Some word) = within least greatest (number_of word)
 
 -- the options' numbers, by the word that is given for each name: the limits are those of a seed, of a clock, of the
--- kept states and of a run
+-- kept states and of a run, and the usual ones 1, 1,000,000,000, 1,000 and 1,000,000
 abbrev pub seed_of : (Text → Option Text) → Option ℕ
-seed_of given = said 1 2147483646 constants.Options.USUAL.seed (given (codes "seed"))
+seed_of given = said 1 2147483646 1 (given (codes "seed"))
 
 abbrev pub horizon_of : (Text → Option Text) → Option ℕ
-horizon_of given = said 1 1000000000000 constants.Options.USUAL.horizon (given (codes "horizon"))
+horizon_of given = said 1 1000000000000 1000000000 (given (codes "horizon"))
 
 abbrev pub every_of : (Text → Option Text) → Option ℕ
-every_of given = said 1 1000000 constants.Options.USUAL.every (given (codes "every"))
+every_of given = said 1 1000000 1000 (given (codes "every"))
 
 abbrev pub limit_of : (Text → Option Text) → Option ℕ
-limit_of given = said 1 1000000 constants.Options.USUAL.limit (given (codes "limit"))
+limit_of given = said 1 1000000 1000000 (given (codes "limit"))
 
 -- each option says a number, and these are the numbers
 pub record SaysOptions (given : Text → Option Text) (o : Options) : Type 0 where
