@@ -1,12 +1,12 @@
 -- The delay chains in rows of eight: where a chain lies, and what a chain that changes makes of its row and of all rows.
 use Rattle.std.proofs.Common.{◌≡◌, ℕ, zero, suc, ◌+◌, ◌*◌, ◌/◌, ◌%◌, ◌<◌, ◌≤◌, List, [], ◌∷◌, ◌++◌, length, map, set, get_or, slice_get, take, replicate, add-one, refl, sym, ap, ◌∙◌, append-nil, arith}
 use Rattle.std.proofs.lemmas.Nat.{div-add-mod', mod_below}
-use Rattle.std.proofs.lemmas.List.{length-append, length-map, length-set, map-append, map-id, map-set, get_or-set_same, get_or-set_other, set-get_or, nil_from_length, set-append_left}
+use Rattle.std.proofs.lemmas.List.{length-append, length-map, length-set, map-append, map-id, map-set, get_or-set_same, get_or-set_other, set-get_or, nil_from_length}
 use Rattle.std.proofs.lemmas.Option.{slice_get_read}
 use Rattle.std.proofs.Math.ListN.{get_or-map}
 use Rattle.gw_entities.specs.Pieces.{AreFull, joined}
 use Rattle.gw_entities.proofs.PieceLaws.{same_in}
-use Rattle.gw_entities.proofs.SharedLaws.{full_length, in_full, joined_more}
+use Rattle.gw_entities.proofs.SharedLaws.{in_full, joined_more, within_pieces, piece_length, set_joined, full_set}
 use Rattle.gw_meaning.specs.declared.transaction.Transaction.{Transaction}
 use Rattle.gw_chains.specs.Chains.{Chain, items_of}
 use Rattle.gw_chains.specs.Delays.{queues_of, queue_at, room_at, idle, nobody, row_of, IsChangedAt, AreStillThere, AreEmpty}
@@ -124,27 +124,6 @@ pub empty_row : (cs : List Own) → AreEmpty cs → length (row_of cs) ≡ 8 →
 empty_row [] none long = refl
 empty_row (c ∷ cs) none long = no_queues (c ∷ cs) none ∙ ap (λ n. replicate n []) long
 
--- a chain that is there lies in a row that is there
-pub within_rows : (rs : List (List Own)) (i : ℕ) → AreFull rs → i < length (joined rs) → i / 8 < length rs
-within_rows rs i are less =
-    let all = full_length rs are in
-    let is = div-add-mod' i 8 in
-    omega (arith, all, is, less)
-
--- where the row of an index is there, so is its chain
-pub within_all : (rs : List (List Own)) (i : ℕ) → AreFull rs → i / 8 < length rs → i < length (joined rs)
-within_all rs i are less =
-    let all = full_length rs are in
-    let is = div-add-mod' i 8 in
-    let rest = mod_below i 8 (omega arith) in
-    omega (arith, all, is, rest, less)
-
--- how long a row is
-row_length : (rs : List (List Own)) (q : ℕ) (r : List Own) → AreFull rs → q < length rs → r ≡ get_or rs q r → length r ≡ 8
-row_length [] q r are less read = absurd (omega (arith, less))
-row_length (x ∷ xs) zero r are less read = ap length read ∙ are.0
-row_length (x ∷ xs) (suc q) r are less read = row_length xs q r are.1 (omega (arith, less)) read
-
 -- a chain lies in the row at an eighth of its index
 stands_at : (rs : List (List Own)) (i : ℕ) (r : List Own) → AreFull rs → i / 8 < length rs → r ≡ get_or rs (i / 8) r →
     slice_get (joined rs) i ≡ slice_get r (i % 8)
@@ -155,7 +134,7 @@ stands_at rs i r are within read =
 -- where the chain is there, it lies in that row
 pub stands : (rs : List (List Own)) (i : ℕ) (r : List Own) → AreFull rs → i < length (joined rs) → r ≡ get_or rs (i / 8) r →
     slice_get (joined rs) i ≡ slice_get r (i % 8)
-stands rs i r are less read = stands_at rs i r are (within_rows rs i are less) read
+stands rs i r are less read = stands_at rs i r are (within_pieces rs i are less) read
 
 -- who waits on the chains of all rows
 queues_joined : (rs : List (List Own)) → queues_of (joined rs) ≡ joined (map queues_of rs)
@@ -166,31 +145,6 @@ queues_joined (r ∷ rs) = map-append (λ (c : Own). c.items) r (joined rs) ∙ 
 full_queues : (rs : List (List Own)) → AreFull (map queues_of rs) ≡ AreFull rs
 full_queues [] = refl
 full_queues (r ∷ rs) = rw (length-map r (λ (c : Own). c.items), full_queues rs) refl
-
--- an item behind some others that is written
-set_right : (xs ys : Queues) (i j : ℕ) (q : List Transaction) → j ≡ length xs + i → set (xs ++ ys) j q ≡ xs ++ set ys i q
-set_right [] ys i j q is = ap (λ k. set ys k q) (omega (arith, is))
-set_right (x ∷ xs) ys i zero q is = absurd (omega (arith, is))
-set_right (x ∷ xs) ys i (suc j) q is = ap (λ (l : Queues). x ∷ l) (set_right xs ys i j q (omega (arith, is)))
-
--- an item that is written in its row
-set_joined : (rs : List Queues) (q k i : ℕ) (r : Queues) (w : List Transaction) → i ≡ q * 8 + k → k < 8 → AreFull rs → q < length rs →
-    r ≡ get_or rs q r → joined (set rs q (set r k w)) ≡ set (joined rs) i w
-set_joined [] q k i r w is less are within read = absurd (omega (arith, within))
-set_joined (x ∷ xs) zero k i r w is less are within read =
-    let full = are.0 in
-    ap (λ (l : Queues). set l k w ++ joined xs) read ∙
-    (sym (set-append_left x (joined xs) k w (omega (arith, full, less))) ∙ ap (λ j. set (x ++ joined xs) j w) (omega (arith, is)))
-set_joined (x ∷ xs) (suc q) k i r w is less are within read =
-    let full = are.0 in
-    ap (λ (l : Queues). x ++ l) (set_joined xs q k (q * 8 + k) r w refl less are.1 (omega (arith, within)) read) ∙
-    sym (set_right x (joined xs) (q * 8 + k) i w (omega (arith, is, full)))
-
--- a full row in the place of another
-full_set : (rs : List (List Own)) (q : ℕ) (s : List Own) → length s ≡ 8 → AreFull rs → AreFull (set rs q s)
-full_set [] q s full are = tt
-full_set (x ∷ xs) zero s full are = (full, are.1)
-full_set (x ∷ xs) (suc q) s full are = (are.0, full_set xs q s full are.1)
 
 -- the chain at an index stood in its row, and what another row in its place makes of all of them
 pub record Changed (rs : List (List Own)) (i : ℕ) (r s : List Own) : Type 0 where
@@ -204,8 +158,8 @@ pub record Changed (rs : List (List Own)) (i : ℕ) (r s : List Own) : Type 0 wh
 pub changed : (rs : List (List Own)) (i : ℕ) (r s : List Own) → AreFull rs → i < length (joined rs) → r ≡ get_or rs (i / 8) r →
     length s ≡ length r → Changed rs i r s
 changed rs i r s are less read long =
-    let within = within_rows rs i are less in
-    let full = full_set rs (i / 8) s (long ∙ row_length rs (i / 8) r are within read) are in
+    let within = within_pieces rs i are less in
+    let full = full_set rs (i / 8) s (long ∙ piece_length rs (i / 8) r are within read) are in
     let now = stands_at (set rs (i / 8) s) i s full (rw (length-set rs (i / 8) s) within) (sym (get_or-set_same rs (i / 8) s s within)) in
     let all = queues_joined rs in
     let new = queues_joined (set rs (i / 8) s) ∙ ap joined (map-set queues_of rs (i / 8) s) in

@@ -20,6 +20,7 @@ impl Recorded {
         ensures start { self.new.start ≡ self.old.start }
     {
         if moment < self.moment {
+            // Until it has gone back, a state may be due at the multiples behind those that go.
             self.due = 0;
             let count = count_until(self.kept.as_slice(), moment);
             self.kept.truncate(count);

@@ -1,14 +1,15 @@
 use Rattle.std.proofs.Common.{◌<◌, subst, rules}
 use Rattle.gw_entities.specs.Pieces.{joined}
 use Rattle.gw_chains.specs.Delays.{room_of}
-use Rattle.gw_chains.proofs.RowLaws.{Changed, changed, changed_length, stands, within_room, within_rows}
+use Rattle.gw_entities.proofs.SharedLaws.{within_pieces}
+use Rattle.gw_chains.proofs.RowLaws.{Changed, changed, changed_length, stands, within_room}
 use Rattle.gw_chains.proofs.rows.Rows.line_up.Goals as goal
 
 pub index_mut-requires : goal.index_mut-requires
 index_mut-requires c =
     let rs = c.self.inside.rows.items in
     let less = within_room (joined rs) c.args.index (rw (← c.self.view_is) at c.requires) in
-    let within = within_rows rs c.args.index c.self.invariant less in
+    let within = within_pieces rs c.args.index c.self.invariant less in
     search rules
 
 pub line_up-requires : goal.line_up-requires

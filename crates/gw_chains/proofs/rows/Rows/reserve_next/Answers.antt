@@ -1,14 +1,15 @@
 use Rattle.std.proofs.Common.{◌<◌, ◌/◌, length, refl, rules}
 use Rattle.gw_entities.proofs.SharedLaws.{full_more}
 use Rattle.gw_chains.specs.Delays.{nobody}
-use Rattle.gw_chains.proofs.RowLaws.{still_grown, still_same, within_all, within_grown}
+use Rattle.gw_entities.proofs.SharedLaws.{within_joined}
+use Rattle.gw_chains.proofs.RowLaws.{still_grown, still_same, within_grown}
 use Rattle.gw_chains.proofs.rows.Rows.reserve_next.Goals as goal
 
 pub reserve-requires : goal.reserve-requires
 reserve-requires c =
     let rs = c.self.inside.rows.items in
     let less : c.args.index / 8 < length rs = search rules in
-    rw (← c.self.view_is) (within_all rs c.args.index c.self.invariant less)
+    rw (← c.self.view_is) (within_joined rs c.args.index c.self.invariant less)
 
 pub returns-then-index-len-clause-queues : goal.returns-then-index-len-clause-queues
 returns-then-index-len-clause-queues c = still_same c.args.self.now c.reserve.new.self c.reserve.ensures.queues

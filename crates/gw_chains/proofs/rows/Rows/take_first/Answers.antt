@@ -1,10 +1,11 @@
 use Rattle.std.proofs.Common.{rules}
-use Rattle.gw_chains.proofs.RowLaws.{Changed, changed, changed_length, within_rows}
+use Rattle.gw_entities.proofs.SharedLaws.{within_pieces}
+use Rattle.gw_chains.proofs.RowLaws.{Changed, changed, changed_length}
 use Rattle.gw_chains.proofs.rows.Rows.take_first.Goals as goal
 
 pub index_mut-requires : goal.index_mut-requires
 index_mut-requires c =
-    let within = within_rows c.self.inside.rows.items c.args.index c.self.invariant (rw (← c.self.view_is) at c.requires) in
+    let within = within_pieces c.self.inside.rows.items c.args.index c.self.invariant (rw (← c.self.view_is) at c.requires) in
     search rules
 
 -- what the row whose chain gave its first makes of all rows
