@@ -1,6 +1,6 @@
 """An independent reading of the language: sessions are answered by a plain interpreter that knows nothing of the program.
 
-It takes all sessions but those that end for want of memory or behind too many reads, and reads statements by statements.py. A
+It takes all sessions but those that end out of memory or behind too many reads, and reads statements by statements.py. A
 report is a run from clock zero; what an edit leaves of a recorded run goes by the items that each step read."""
 import re, sys
 

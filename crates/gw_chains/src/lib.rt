@@ -1,6 +1,6 @@
 //! The chains of transactions (current, future and delay) as lists, and the counts of the blocks that they stand in.
 //!
-//! All that grows is reserved first, so want of memory changes no list and no count.
+//! All that grows is reserved first, so a refused growth changes no list and no count.
 #![tactic(auto)]
 
 mod chain;

@@ -122,7 +122,7 @@ stopped_shuts b rep k seed reach h is some reached n u =
     (subst (λ o. IsRunOf b.version b.every o (run_in b.runs rep)) is (h.runs rep)) in
     not_unfinished b rep k seed u.run is u.recorded (reach_shuts b.version seed k u.run reach of_run.0 some (reached u.run u.recorded)) n u
 
--- what holds of each answer that is no want of memory
+-- what holds of each answer that is not out of memory
 pub on_each : {A E : Type 0} (P Q : A → Type 0) (result : Result A E) → IfOk result P → ((a : A) → P a → Q a) → IfOk result Q
 on_each P Q (Ok a) h f = f a h
 on_each P Q (Err e) h f = tt

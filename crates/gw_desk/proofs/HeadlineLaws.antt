@@ -6,7 +6,6 @@ use Rattle.gw_meaning.specs.declared.statement.Numbered.{Numbered}
 use Rattle.gw_meaning.specs.Listing.{Listing}
 use Rattle.gw_lines.specs.Printed.{IsSpelled, listed_text}
 use Rattle.gw_lines.proofs.Printed.{printed_models}
-use Rattle.gw_lines.proofs.Whole.{models_are_read}
 use Rattle.gw_frame.specs.Renamed.{statements_of}
 use Rattle.gw_edit.specs.declared.edit.Edit.{Edit}
 use Rattle.gw_edit.specs.Applied.{applied}
@@ -95,7 +94,7 @@ printed_is t h =
     let spelled = All-map IsSpelled (λ (l : Numbered). l.statement) t.lines h in
     record {
       statements = statements;
-      reads = (models_are_read (listed_text statements) statements).1 (printed_models statements spelled);
+      spelled = printed_models statements spelled;
       opens = refl;
     }
 

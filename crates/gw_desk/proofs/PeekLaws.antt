@@ -47,7 +47,7 @@ peeks_ready b rep k seed r s o answer some there is recorded found shut given = 
     (λ memory. subst (λ a. Peeks b rep k a) (sym memory) tt)
     given
 
--- where the recorded steps decide the answer is that of the run from zero, or want of memory
+-- where the recorded steps decide the answer is that of the run from zero, or out of memory
 pub peeks_answer : (b : Book) (rep k : ℕ) (answer : Answer) → Peeks b rep k answer → ((n : ℕ) → IsUnfinished b rep k n → ⊥) →
     IsAnswer (answer_of b.version (length b.edits) rep k) answer
 peeks_answer b rep k (answers.Unfinished n) h shut = absurd (shut n h)

@@ -35,7 +35,7 @@ pub record Accepts (old : Book) (e : Edit) (new : Book) (n : ℕ) : Type 0 where
   pub fresh : (rep b : ℕ) → seed_at old.version rep ≡ None → seed_at new.version rep ≡ Some b →
       run_in new.runs rep ≡ Some (blank new.every)
 
--- a refusal is the first that holds: the desk has 4,096 edits, or the edit's own; want of memory may come in place of
+-- a refusal is the first that holds: the desk has 4,096 edits, or the edit's own; out of memory may come in place of
 -- any
 abbrev pub Refuses : Book → Edit → EditFault → Type 0
 Refuses b e faults.HistoryFull = 4096 ≤ length b.edits

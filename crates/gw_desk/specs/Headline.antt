@@ -3,8 +3,8 @@
 use Rattle.std.specs.Prelude.{◌≡◌, ℕ, ◌+◌, List, [], ◌∷◌, Ok, length}
 use Rattle.gw_meaning.specs.declared.statement.Statement.{Statement}
 use Rattle.gw_meaning.specs.Listing.{Listing}
-use Rattle.gw_lines.specs.Models.{model_of}
 use Rattle.gw_lines.specs.Printed.{listed_text}
+use Rattle.gw_lines.specs.Whole.{SpellsModel}
 use Rattle.gw_model.specs.Listed.{listed}
 use Rattle.gw_frame.specs.Renamed.{statements_of}
 use Rattle.gw_edit.specs.Applied.{applied}
@@ -27,7 +27,7 @@ IsAnew t u = u ≡ anew t
 -- the version that the model that `list` prints of a version opens, with its horizon, replications and step limit
 pub record IsPrinted (t u : Listing) : Type 0 where
   pub statements : List Statement
-  pub reads : model_of (listed_text (statements_of t.lines)) ≡ Ok statements
+  pub spelled : SpellsModel (listed_text (statements_of t.lines)) statements
   pub opens : u ≡ listed statements t.horizon t.replications t.limit
 
 -- a query of a version behind n accepted edits is answered as one that is so of it, run from zero; or memory was

@@ -31,6 +31,6 @@ Peeks b rep k answers.NoStart = Decided b rep k answers.NoStart
 Peeks b rep k answers.TooLong = Decided b rep k answers.TooLong
 Peeks b rep k answers.NoReplication = Decided b rep k answers.NoReplication
 
--- the answer of the run from zero, or want of memory
+-- the answer of the run from zero, or out of memory
 abbrev pub IsAnswer : Answer → Answer → Type 0
 IsAnswer whole answer = (answer ≡ whole) ⊎ (answer ≡ answers.Memory)

@@ -1,6 +1,7 @@
 -- The first step that read something touched, probe by probe.
 use Rattle.std.proofs.Common.{◌≡◌, ℕ, zero, suc, ◌<◌, ◌≤◌, min, ◌||◌, nat_le, Bool, true, false, cond, List, [], ◌∷◌, ◌++◌, Option, Some, None, refl, sym, ap, ◌∙◌, ◌+◌, length, take, get_or, add-one, arith}
 use Rattle.std.specs.List.{list_any}
+use Rattle.std.proofs.Math.Bool.{or-false}
 use Rattle.std.proofs.lemmas.Bool.Decides.{nat_tests}
 use Rattle.std.proofs.lemmas.List.Folds.{list_any-append}
 use Rattle.std.proofs.lemmas.List.Elements.{filter_map-append}
@@ -86,16 +87,12 @@ module _ (p q : Item → Bool) (t : Listing) (seed n : ℕ) where
       (first_reading (λ i. p i || q i) t seed n) (is_earlier (first_reading p t seed n) (first_reading q t seed n) (first_is p t seed n) (first_is q t seed n))
       (first_is (λ i. p i || q i) t seed n)
 
-or_false : (b : Bool) → (b || false) ≡ b
-or_false true = refl
-or_false false = refl
-
 -- no probe, one, and probes behind others
 pub touched_none : (t : Listing) (seed n : ℕ) → None ≡ first_reading (is_touched []) t seed n
 touched_none t seed n = no_reading (is_touched []) (λ i. refl) t seed n
 
 pub touched_one : (p : Probe) (t : Listing) (seed n : ℕ) → first_reading (is_probed p) t seed n ≡ first_reading (is_touched (p ∷ [])) t seed n
-touched_one p t seed n = same_reading (is_probed p) (is_touched (p ∷ [])) (λ i. sym (or_false (is_probed p i))) t seed n
+touched_one p t seed n = same_reading (is_probed p) (is_touched (p ∷ [])) (λ i. sym (or-false (is_probed p i))) t seed n
 
 pub touched_both : (ps qs : List Probe) (t : Listing) (seed n : ℕ) →
     earlier (first_reading (is_touched ps) t seed n) (first_reading (is_touched qs) t seed n) ≡ first_reading (is_touched (ps ++ qs)) t seed n

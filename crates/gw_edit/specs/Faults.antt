@@ -19,7 +19,7 @@ number_of NoSuchStorage = 6
 number_of Memory = 7
 number_of HistoryFull = 8
 
--- the refusal for a text's fault; want of memory is the edit's own
+-- the refusal for a text's fault; out of memory is the edit's own
 abbrev pub of_line : LineFault → EditFault
 of_line lines.Memory = Memory
 of_line fault = BadStatement fault

@@ -54,7 +54,7 @@ impl EditFault {
     }
 }
 
-/// The refusal of an edit whose text has this fault; want of memory is the edit's own.
+/// The refusal of an edit whose text has this fault; out of memory is the edit's own.
 pub fn of_line(fault: LineFault) -> EditFault
     ensures { result ≡ of_line fault }
 {
@@ -64,7 +64,7 @@ pub fn of_line(fault: LineFault) -> EditFault
     }
 }
 
-/// The refusal of an edit whose version would have this fault; want of memory is the edit's own.
+/// The refusal of an edit whose version would have this fault; out of memory is the edit's own.
 pub fn of_model(fault: ModelFault) -> EditFault
     ensures { result ≡ of_model fault }
 {

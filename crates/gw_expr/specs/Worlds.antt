@@ -21,7 +21,7 @@ with_reply reply (Ok noted) = Ok reply
 with_reply reply (Err fault) = Err fault
 
 -- an evaluation, with the world before and behind it, came to this result: each of its questions got a reply that the
--- definitions say and the world may give, up to the first that got none. Want of memory alone leaves the rest open
+-- definitions say and the world may give, up to the first that got none. A refused growth alone leaves the rest open
 pub data Evaluates {W : Type 0} (says : (q : Question) → Reply q → Type 0)
     (replies : (q : Question) → W → Result (Reply q) Fault → W → Type 0) {A : Type 0}
     : Evaluation A → Result A Fault → W → W → Type 0 where

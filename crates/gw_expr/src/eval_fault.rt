@@ -40,7 +40,7 @@ impl EvalFault {
 
     pub const VARIABLE_DEPTH: EvalFault = EvalFault { number: 10 };
 
-    /// The fault with a number: want of memory has 0, and a stop its own, 1 to 12.
+    /// The fault with a number: out of memory has 0, and a stop its own, 1 to 12.
     #[inline(always)]
     pub fn numbered(number: u32) -> EvalFault
         requires { number < 13 }

@@ -14,7 +14,7 @@ use std::marker::Model;
 const MOST: usize = 128;
 
 // The values of an expression that wait for their operator, the last one first, where they may be many. They wait in
-// place; where there is none left, that is want of memory.
+// place; where there is none left, that is out of memory.
 #[derive(Drop)]
 pub struct ManyValues {
     values: ArrayVec<Val, MOST>,

@@ -4,8 +4,8 @@ use Rattle.gw_io.specs.Reading.{Breaks, failures_at}
 use Rattle.gw_io.specs.declared.budget.ReadFault.{ReadFault}
 use Rattle.gw_io.specs.declared.budget.ReadFault.TheVariants.{Memory}
 
--- the calls of two parts together
-calls : (x y : List ℕ) (k m n t : ℕ) → k ≡ m + length x → m ≡ n + (length y + t) → k ≡ n + (length (x ++ y) + t)
+-- the calls for two parts together, and for some calls more
+pub calls : (x y : List ℕ) (k m n t : ℕ) → k ≡ m + length x → m ≡ n + (length y + t) → k ≡ n + (length (x ++ y) + t)
 calls x y k m n t p q = omega (arith, length-append x y)
 
 -- a fault behind the bytes x

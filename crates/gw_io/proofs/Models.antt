@@ -3,6 +3,7 @@ use Rattle.std.proofs.Common.{◌≡◌, ◌≢◌, ℕ, ◌+◌, true, false, L
 use Rattle.std.proofs.lemmas.List.{flat_map_more}
 use Rattle.std.proofs.lemmas.List.Elements.{All-push, All-nil}
 use Rattle.gw_io.specs.Line.{IsUnended}
+use Rattle.gw_io.proofs.Faults.{calls}
 use Rattle.gw_io.specs.Model.{IsOtherLines, IsModelPart, before_end, before_last_end, without_end, TakesModel, IsEnd, with_feed}
 
 -- no text is whole lines, none of which ends the model
@@ -25,10 +26,6 @@ part_of text rest h u = record { text = text; rest = rest; others = h; unended =
 -- whole lines and nothing of the next one
 pub whole_part : (text : List ℕ) → IsOtherLines text → IsModelPart text
 whole_part text h = record { text = text; rest = []; others = h; unended = All-nil (λ b. b ≢ 10); parts = sym (append-nil text) }
-
--- the calls for two parts, and for one call more
-pub calls : (x y : List ℕ) (k m n t : ℕ) → k ≡ m + length x → m ≡ n + (length y + t) → k ≡ n + (length (x ++ y) + t)
-calls x y k m n t p q = omega (arith, length-append x y)
 
 module _ {S : Type 0} (took : S → List ℕ → S → Type 0) (ended : S → Type 0) (onward : (a b c : S) (x y : List ℕ) → took a x b → took b y c → took a (x ++ y) c)
     (a b c : S) (text : List ℕ) (k m n : ℕ) (before : took a text b) (spent : k ≡ m + length text) (others : IsOtherLines text) where

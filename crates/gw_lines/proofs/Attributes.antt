@@ -1,5 +1,5 @@
 -- Numerical attributes: what is read is spelled so, and what is spelled so is read, and is neither a name nor a number.
-use Rattle.std.proofs.Common.{◌≡◌, ℕ, ◌==◌, ◌≤◌, Bool, true, false, ◌&&◌, ◌||◌, List, [], ◌∷◌, ◌++◌, length, drop, Option, Some, None, refl, sym, ap, subst, ◌∙◌, inl, inr, arith}
+use Rattle.std.proofs.Common.{◌≡◌, ℕ, ◌==◌, ◌≤◌, Bool, true, false, ◌&&◌, List, [], ◌∷◌, ◌++◌, length, drop, Option, Some, None, refl, sym, ap, subst, ◌∙◌, inl, inr, arith}
 use Rattle.std.specs.Prelude.{nat_eq, nat_le, is_some}
 use Rattle.std.specs.List.{list_all, starts_with}
 use Rattle.std.specs.Char.{is_ascii_alphabetic, is_ascii_digit, to_ascii_uppercase}
@@ -22,7 +22,7 @@ use Rattle.gw_lines.specs.Numbers.{number_of, value_of, from_one}
 use Rattle.gw_lines.specs.Attributes.{scope_of, own_in, number_in, name_in, or_name, subject_of, of_class, or_atom, attribute_in, attribute_of}
 use Rattle.gw_lines.specs.Spelling.{Digits, Number, first_digit, next_digit, SpellsAttribute, alone, numbered_one, named_one, of_block, of_stream}
 use Rattle.gw_lines.proofs.Results.{some_is}
-use Rattle.gw_lines.proofs.Fronts.{and_false}
+use Rattle.gw_lines.proofs.Fronts.{and_false, or_true}
 use Rattle.gw_lines.proofs.Digits.{mapped, number_found, number_again, from_one_found, from_one_again}
 
 -- ---- the word of a class
@@ -34,10 +34,6 @@ record Behind (class : Class) (rest : List ℕ) : Type 0 where
   barred : list_all is_ascii_digit (upper_of rest) ≡ true → is_class (upper_of (class_word class ++ rest)) ≡ true
   value : value_of (class_word class ++ rest) ≡ None
   number : number_of 1000000000 (class_word class ++ rest) ≡ None
-
-or_true : (a b : Bool) → b ≡ true → (a || b) ≡ true
-or_true true b h = refl
-or_true false b h = h
 
 -- `P` stands in front of `PR`, which no number and no `$` begins
 parameter_read : (rest : List ℕ) (of : Subject) → subject_of scopes.Entity rest ≡ Some of

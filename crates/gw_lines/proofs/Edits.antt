@@ -1,5 +1,5 @@
 -- The text of an edit: what is read is spelled so, what is spelled so is read, and the same of its first fault.
-use Rattle.std.proofs.Common.{◌≡◌, ℕ, suc, ◌<◌, ◌≤◌, ◌==◌, false, List, [], ◌∷◌, length, Option, None, Result, Ok, Err, refl, sym, ap, subst, ◌∙◌, ◌⊎◌, inl, inr, arith}
+use Rattle.std.proofs.Common.{◌≡◌, ℕ, suc, ◌<◌, ◌≤◌, ◌==◌, false, List, [], ◌∷◌, length, Result, Ok, Err, refl, sym, ap, subst, ◌∙◌, ◌⊎◌, inl, inr, arith}
 use Rattle.std.specs.Prelude.{◌↔◌, All, Any, nat_lt}
 use Rattle.std.proofs.lemmas.Bool.{both_ways, cases_Bool}
 use Rattle.std.proofs.lemmas.List.Elements.{All-cons, All-head, All-nil, All-tail}
@@ -8,21 +8,20 @@ use Rattle.gw_lines.specs.declared.fault.LineFault.{LineFault}
 use Rattle.gw_lines.specs.declared.fault.LineFault.TheVariants as faults
 use Rattle.gw_lines.specs.Reading.{◌>>=◌}
 use Rattle.gw_lines.specs.Classes.{are_plain}
-use Rattle.gw_lines.specs.Lines.{line_of, wanted, statement_of}
+use Rattle.gw_lines.specs.Lines.{statement_of}
 use Rattle.gw_lines.specs.Pairs.{wants_pairs, kept_of, further_of}
 use Rattle.gw_lines.specs.Spelling.{Spells}
 use Rattle.gw_lines.specs.Faulty as faulty
 use Rattle.gw_lines.specs.Faulty.{FirstFault}
 use Rattle.gw_lines.specs.Points.{HasPairs, Completes, complete, past_remark, past_pairs, SpellsLines, spells_lines, PairsFault, too_long, wrong_byte, bad_pairs}
 use Rattle.gw_lines.specs.Edits as edits
-use Rattle.gw_lines.specs.Edits.{edit_lines, SpellsEdit, HasWrongText, HasWrongByte, in_first_line, in_further_line, AreClean, names_function, is_missing, MayMiss, no_further, pairs_behind, may_miss, FaultOfLines, no_line, long_line, in_first, not_wanted, short_lines, byte_fault, plain_further, plain_lines, completed_by, followed, behind_first, first_of, edit_in, edit_of}
+use Rattle.gw_lines.specs.Edits.{edit_lines, SpellsEdit, HasWrongText, HasWrongByte, in_first_line, in_further_line, AreClean, names_function, is_missing, MayMiss, no_further, pairs_behind, may_miss, FaultOfLines, no_line, long_line, in_first, not_wanted, short_lines, byte_fault, plain_further, completed_by, followed, behind_first, plain_behind, first_of, edit_in, edit_of}
 use Rattle.gw_lines.specs.Read.{EditsAreRead, EditsAreRefused}
 use Rattle.gw_lines.proofs.Results.{done, failed, ok_is, err_is}
 use Rattle.gw_lines.proofs.Fronts.{nonzero}
 use Rattle.gw_lines.proofs.Lines.{long_is, short_is, spells_found, spells_again}
 use Rattle.gw_lines.proofs.Faults.{fault_found, fault_again}
 use Rattle.gw_lines.proofs.PairsRead.{bind_ok}
-use Rattle.gw_lines.proofs.Whole.{faulty_found, wanted_err}
 use Rattle.gw_lines.proofs.OpenPairs.{IsClean, may_be_found, may_be_again, open_fault}
 use Rattle.gw_lines.proofs.Further as further
 use Rattle.gw_lines.proofs.Further.{kept_is, is_long, is_none, is_wrong, is_kept}
@@ -43,9 +42,6 @@ IsShort line = length line ≤ 250
 
 abbrev IsLong : List ℕ → Type 0
 IsLong line = 250 < length line
-
-abbrev IsWrong : List ℕ → Type 0
-IsWrong line = FirstFault line faults.BadByte
 
 abbrev IsRight : List ℕ → Type 0
 IsRight line = FirstFault line faults.BadByte → ⊥
@@ -73,29 +69,17 @@ short_cases =
     ])
 
 -- a wrong byte, or none
-byte_cases : (r : Result (Option Statement) LineFault) → (r ≡ Err faults.BadByte) ⊎ ((byte_fault r ≡ Ok tt) × (r ≡ Err faults.BadByte → ⊥))
-byte_cases (Ok x) = inr (refl, λ e. cc)
+byte_cases : (r : Result Statement LineFault) → (r ≡ Err faults.BadByte) ⊎ (r ≡ Err faults.BadByte → ⊥)
+byte_cases (Ok x) = inr (λ e. cc)
 byte_cases (Err faults.BadByte) = inl refl
-byte_cases (Err faults.TooLong) = inr (refl, λ e. cc)
-byte_cases (Err faults.UnknownVerb) = inr (refl, λ e. cc)
-byte_cases (Err faults.BadLabel) = inr (refl, λ e. cc)
-byte_cases (Err (faults.BadOperand n)) = inr (refl, λ e. cc)
-byte_cases (Err (faults.MissingOperand n)) = inr (refl, λ e. cc)
-byte_cases (Err (faults.ExtraOperand n)) = inr (refl, λ e. cc)
-byte_cases (Err faults.BadPairs) = inr (refl, λ e. cc)
-byte_cases (Err faults.Memory) = inr (refl, λ e. cc)
-
-none_wanted : (r : Result (Option Statement) LineFault) → r ≡ Ok None → (r >>= wanted) ≡ Err faults.BadByte → ⊥
-none_wanted r n e = let f : failed {A = Statement} faults.UnknownVerb ≡ Err faults.BadByte =
-    sym (ap (λ (x : Result (Option Statement) LineFault). x >>= wanted) n) ∙ e in cc
-
-wrong_is : (line : List ℕ) → IsWrong line → line_of line ≡ Err faults.BadByte
-unfolding statement_of
-wrong_is line h =
-    elim (wanted_err (line_of line) faults.BadByte (fault_again h)) [
-      | inl none ↦ absurd (none_wanted (line_of line) none (fault_again h))
-      | inr e ↦ e
-    ]
+byte_cases (Err faults.TooLong) = inr (λ e. cc)
+byte_cases (Err faults.UnknownVerb) = inr (λ e. cc)
+byte_cases (Err faults.BadLabel) = inr (λ e. cc)
+byte_cases (Err (faults.BadOperand n)) = inr (λ e. cc)
+byte_cases (Err (faults.MissingOperand n)) = inr (λ e. cc)
+byte_cases (Err (faults.ExtraOperand n)) = inr (λ e. cc)
+byte_cases (Err faults.BadPairs) = inr (λ e. cc)
+byte_cases (Err faults.Memory) = inr (λ e. cc)
 
 kept_byte_cases : (line : List ℕ) → ((byte_fault (kept_of line) ≡ Err faults.BadByte) × HasWrongText line)
     ⊎ ((byte_fault (kept_of line) ≡ Ok tt) × (HasWrongText line → ⊥))
@@ -127,15 +111,28 @@ none_wrong : {lines : List (List ℕ)} → HasWrongByte lines → lines ≡ [] �
 none_wrong (in_first_line line more w) e = cc
 none_wrong (in_further_line line more w) e = cc
 
-plain_cases : (lines : List (List ℕ)) → ((plain_lines lines ≡ Ok tt) × (HasWrongByte lines → ⊥))
-    ⊎ ((plain_lines lines ≡ Err faults.BadByte) × HasWrongByte lines)
+-- a first line with a wrong byte tells it as it is read, unless a further one did before
+followed_wrong : (m : Result (Unit {0}) LineFault) → followed m faults.BadByte ≡ faults.BadByte
+followed_wrong (Ok u) = refl
+followed_wrong (Err f) = refl
+
+first_wrong : (line : List ℕ) (more : List (List ℕ)) → statement_of line ≡ Err faults.BadByte →
+    (plain_further more >>= λ u. first_of (line ∷ more)) ≡ failed {A = Statement} faults.BadByte
+first_wrong line more wrong =
+    elim (further_cases more) [
+      | inl plain ↦ rw (plain.0, wrong, followed_wrong (may_miss line more)) refl
+      | inr others ↦ rw others.0 refl
+    ]
+
+plain_cases : (lines : List (List ℕ)) → ((plain_behind lines ≡ Ok tt) × (HasWrongByte lines → ⊥))
+    ⊎ (((plain_behind lines >>= λ u. first_of lines) ≡ failed {A = Statement} faults.BadByte) × HasWrongByte lines)
 plain_cases [] = inl (refl, λ h. none_wrong h refl)
 plain_cases (line ∷ more) =
-    elim (byte_cases (line_of line)) [
-      | inl wrong ↦ inr (rw wrong refl, in_first_line line more (faulty_found line faults.BadByte wrong))
+    elim (byte_cases (statement_of line)) [
+      | inl wrong ↦ inr (first_wrong line more wrong, in_first_line line more (fault_found line faults.BadByte wrong))
       | inr right ↦ elim (further_cases more) [
-        | inl others ↦ inl (rw (right.0, others.0) refl, first_right line more (λ h. right.1 (wrong_is line h)) others.1)
-        | inr others ↦ inr (rw (right.0, others.0) refl, in_further_line line more others.1)
+        | inl others ↦ inl (others.0, first_right line more (λ h. right (fault_again h)) others.1)
+        | inr others ↦ inr (rw others.0 refl, in_further_line line more others.1)
       ]
     ]
 
@@ -266,21 +263,12 @@ of_one Q line a =
 none_of : (Q : List ℕ → Type 0) → Any Q [] → ⊥
 none_of Q a = let lt = a.2 in omega arith
 
-wrong_alone : {lines : List (List ℕ)} → HasWrongByte lines → (line : List ℕ) → lines ≡ line ∷ [] → FirstFault line faults.BadByte
-wrong_alone (in_first_line own more w) line e =
-    let same : own ≡ line = cc in subst (λ (l : List ℕ). FirstFault l faults.BadByte) same w
-wrong_alone (in_further_line own more w) line e =
-    let none : more ≡ [] = cc in absurd (none_of HasWrongText (subst (Any HasWrongText) none w))
-
 -- a line alone
 edit_alone : (line : List ℕ) → edit_in (line ∷ []) ≡ first_of (line ∷ [])
 edit_alone line =
     elim (short_cases (line ∷ [])) [
       | inr p ↦ rw (p.0, fault_again (faulty.too_long line (of_one IsLong line p.1))) refl
-      | inl p ↦ elim (plain_cases (line ∷ [])) [
-        | inl q ↦ rw (p.0, q.0) refl
-        | inr q ↦ rw (p.0, q.0, fault_again (wrong_alone q.1 line refl)) refl
-      ]
+      | inl p ↦ rw p.0 refl
     ]
 
 no_wrong : (line : List ℕ) (s : Statement) → Spells line s → FirstFault line faults.BadByte → ⊥

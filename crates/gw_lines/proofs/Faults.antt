@@ -19,10 +19,10 @@ use Rattle.gw_lines.specs.Bodies.{body_of}
 use Rattle.gw_lines.specs.Lines.{word_of, behind_word, verb_in, is_command, needs_label, or_bad_label, label_of, no_label_of, plain_of, by_first, by_second, coded_of, fault_without_verb, code_of, line_in, line_of, statement_of}
 use Rattle.gw_lines.specs.Spelling.{AreIn, Stops, Head, Label, no_label, named, ArePlain}
 use Rattle.gw_lines.specs.Faulty.{Verbless, one_word, two_words, WordsFault, byte_with_verb, byte_without_verb, no_verb, bad_first_word, bad_label, lacks_label, verb_to_come, operand_fault, FirstFault, too_long, no_statement, in_words}
-use Rattle.gw_lines.proofs.Fronts.{front_again, rest_again, parts, front_all, rest_stops}
+use Rattle.gw_lines.proofs.Fronts.{or_true, front_again, rest_again, parts, front_all, rest_stops}
 use Rattle.gw_lines.proofs.Results.{failed, err_is}
 use Rattle.gw_lines.proofs.Bodies.{body_fault, body_fault_again, body_to_come}
-use Rattle.gw_lines.proofs.Heads.{are_plain_upper, none_is, not_none, some_is_not, both_stop, no_word, blanks_before, two_are, two_again, head_first, head_second, at_head, head_is, label_again, free_again, labelled_head, or_true, plain_again}
+use Rattle.gw_lines.proofs.Heads.{are_plain_upper, none_is, not_none, some_is_not, both_stop, no_word, blanks_before, two_are, two_again, head_first, head_second, at_head, head_is, label_again, free_again, labelled_head, plain_again}
 use Rattle.gw_lines.proofs.Lines.{short_again, cut_is, words_are, line_is, is_long, no_words, has_words}
 
 step_ok : {X Y : Type 0} (r : Result X LineFault) (next : X → Result Y LineFault) (x : X) (f : LineFault) → r ≡ Ok x → (r >>= next) ≡ Err f → next x ≡ Err f

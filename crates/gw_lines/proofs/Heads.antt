@@ -1,5 +1,5 @@
 -- The words of a line: what is read is spelled so, and what is spelled so is read.
-use Rattle.std.proofs.Common.{◌≡◌, ◌≢◌, ℕ, ◌||◌, not, Bool, true, false, List, [], ◌∷◌, ◌++◌, length, Option, Some, None, Result, Ok, Err, refl, sym, ap, subst, ◌∙◌, inl, inr, arith}
+use Rattle.std.proofs.Common.{◌≡◌, ◌≢◌, ℕ, not, true, false, List, [], ◌∷◌, ◌++◌, length, Option, Some, None, Result, Ok, Err, refl, sym, ap, subst, ◌∙◌, inl, inr, arith}
 use Rattle.std.specs.List.{list_all}
 use Rattle.std.specs.Char.{to_ascii_uppercase}
 use Rattle.std.proofs.lemmas.Bool.{and_parts, both_ways, cases_Bool, eqb-true}
@@ -18,7 +18,7 @@ use Rattle.gw_lines.specs.Listed.{listed_of}
 use Rattle.gw_lines.specs.Bodies.{body_of}
 use Rattle.gw_lines.specs.Lines.{word_of, behind_word, verb_in, is_command, needs_label, or_bad_label, label_of, no_label_of, plain_of, operands_of, unlabelled_of, labelled_of, by_first, by_second, coded_of, behind_number}
 use Rattle.gw_lines.specs.Spelling.{AreIn, Stops, Behind, Head, first_word, second_word, Label, no_label, named, ArePlain, Numbering, unnumbered, numbered, Coded}
-use Rattle.gw_lines.proofs.Fronts.{nonzero, not_true, not_false, front_again, rest_again, parts, front_all, rest_stops, blank_no_mark}
+use Rattle.gw_lines.proofs.Fronts.{or_true, nonzero, not_true, not_false, front_again, rest_again, parts, front_all, rest_stops, blank_no_mark}
 use Rattle.gw_lines.proofs.Kept.{parted_of, behind_of}
 use Rattle.gw_lines.proofs.Results.{done, ok_is}
 use Rattle.gw_lines.proofs.Bodies.{body_found, body_again}
@@ -51,10 +51,6 @@ some_is_not (b ∷ bs) h = nonzero (length bs)
 pub not_none : (text : List ℕ) → is_nothing text ≡ false → text ≢ []
 not_none [] h e = absurd cc
 not_none (b ∷ bs) h e = absurd cc
-
-pub or_true : (a b : Bool) → b ≡ true → (a || b) ≡ true
-or_true true b h = refl
-or_true false b h = h
 
 -- where no blanks stand before it
 no_blanks : (text : List ℕ) → front_of class.Blank text ≡ [] → Stops class.Blank text

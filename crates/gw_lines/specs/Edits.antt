@@ -8,7 +8,7 @@ use Rattle.gw_lines.specs.declared.class.Class.TheVariants as class
 use Rattle.gw_lines.specs.declared.fault.LineFault.{LineFault}
 use Rattle.gw_lines.specs.declared.fault.LineFault.TheVariants as faults
 use Rattle.gw_lines.specs.Reading.{◌>>=◌, OrMemory}
-use Rattle.gw_lines.specs.Lines.{word_of, behind_word, verb_in, behind_number, code_of, line_of, statement_of}
+use Rattle.gw_lines.specs.Lines.{word_of, behind_word, verb_in, behind_number, code_of, statement_of}
 use Rattle.gw_lines.specs.Pairs.{wants_pairs, kept_of, further_of, open_lines}
 use Rattle.gw_lines.specs.Classes.{are_plain, pieces_of}
 use Rattle.gw_lines.specs.Spelling.{Spells}
@@ -112,12 +112,10 @@ plain_further (line ∷ lines) = do
   plain ← byte_fault (kept_of line)
   plain_further lines
 
--- the fault of a line that has a wrong byte, if there is one
-abbrev pub plain_lines : List (List ℕ) → Result (Unit {0}) LineFault
-plain_lines [] = Ok tt
-plain_lines (line ∷ further) = do
-  plain ← byte_fault (line_of line)
-  plain_further further
+-- the same of the lines behind the first, which tells its own as it is read
+abbrev pub plain_behind : List (List ℕ) → Result (Unit {0}) LineFault
+plain_behind [] = Ok tt
+plain_behind (line ∷ further) = plain_further further
 
 -- a statement with the pairs of further lines, each of which it wants, and those alone
 abbrev pub completed_by : Statement → List (List ℕ) → Result Statement LineFault
@@ -150,7 +148,7 @@ first_of (line ∷ further) = behind_first line further (statement_of line)
 abbrev pub edit_in : List (List ℕ) → Result Statement LineFault
 edit_in lines = do
   short ← short_lines lines
-  plain ← plain_lines lines
+  plain ← plain_behind lines
   first_of lines
 
 -- the statement that an edit's text is

@@ -1,13 +1,12 @@
 ghost use Rattle.std.specs.Prelude.{◌≡◌, ◌∷◌, [], IfOk, IfErr, Ok, Err, false};
 ghost use Rattle.gw_lines.specs.Reading.{Gives, IsFault, OrMemory};
-ghost use Rattle.gw_lines.specs.Lines.{line_of};
 ghost use Rattle.gw_lines.specs.Pairs.{kept_of, wants_pairs, open_lines};
 ghost use Rattle.gw_lines.specs.Points.{SpellsLines};
-ghost use Rattle.gw_lines.specs.Edits.{SpellsEdit, FaultOfLines, FirstFaultOfEdit, AnswersEdit, edit_lines, short_lines, byte_fault, plain_further, plain_lines, may_miss, followed, completed_by, first_of, edit_of};
+ghost use Rattle.gw_lines.specs.Edits.{SpellsEdit, FaultOfLines, FirstFaultOfEdit, AnswersEdit, edit_lines, short_lines, byte_fault, plain_further, may_miss, followed, completed_by, first_of, plain_behind, edit_of};
 
 use crate::class::{Class, first_piece};
 use crate::fault::LineFault;
-use crate::line::{LONGEST, behind_number, code, read_first, read_line};
+use crate::line::{LONGEST, behind_number, code, read_first};
 use crate::pairs::{read_further, read_kept, read_open, wants_pairs};
 use crate::words::names_function;
 use gw_meaning::Statement;
@@ -63,7 +62,7 @@ fn read_lines(alloc: Global, text: &[u8]) -> Result<Statement, LineFault>
     ensures { Gives (λ s. s) result (edit_of text.now) }
 {
     short_lines(text)?;
-    plain_lines(alloc, text)?;
+    plain_behind(alloc, text)?;
     first_statement(alloc, text)
 }
 
@@ -82,27 +81,15 @@ fn short_lines(text: &[u8]) -> Result<(), LineFault>
     Ok(())
 }
 
-// Nothing, where no line has a wrong byte outside its comment: the first one as a statement's, a further one as one of
-// pairs.
-fn plain_lines(alloc: Global, text: &[u8]) -> Result<(), LineFault>
-    ensures { Gives (λ u. u) result (plain_lines (edit_lines text.now)) }
+// Nothing, where no line behind the first has a wrong byte outside its comment. The first one tells its own as it is
+// read, and no fault of that line comes before it.
+fn plain_behind(alloc: Global, text: &[u8]) -> Result<(), LineFault>
+    ensures { Gives (λ u. u) result (plain_behind (edit_lines text.now)) }
 {
     if text.is_empty() {
         return Ok(());
     }
-    let (line, further) = first_piece(Class::Part, text);
-    plain_line(alloc, line)?;
-    plain_further(alloc, further)
-}
-
-fn plain_line(alloc: Global, line: &[u8]) -> Result<(), LineFault>
-    ensures { Gives (λ u. u) result (byte_fault (line_of line.now)) }
-{
-    match read_line(alloc, line).err() {
-        Some(LineFault::BadByte) => Err(LineFault::BadByte),
-        Some(LineFault::Memory) => Err(LineFault::Memory),
-        _ => Ok(()),
-    }
+    plain_further(alloc, first_piece(Class::Part, text).1)
 }
 
 fn plain_further(alloc: Global, text: &[u8]) -> Result<(), LineFault>

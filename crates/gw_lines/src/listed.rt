@@ -54,10 +54,3 @@ pub fn shallower(depth: usize) -> usize
         _ => depth - 1,
     }
 }
-
-/// The text in upper case.
-pub fn upper(alloc: Global, text: &[u8]) -> Result<Vec<u8>, AllocError>
-    ensures { IfOk result (λ v. v.items ≡ upper_of text.now) }
-{
-    text.iter().map(|b| b.to_ascii_uppercase()).collect(alloc)
-}

@@ -7,7 +7,7 @@ use crate::body::read_body;
 use crate::class::{Class, are_plain, span};
 use crate::fault::LineFault;
 use crate::form::forms_of_definition;
-use crate::listed::{listed, upper};
+use crate::listed::listed;
 use gw_expr::Row;
 use gw_meaning::Statement;
 use gw_names::{DefinitionVerb, Name, Verb};
@@ -64,7 +64,7 @@ fn word(bytes: &[u8]) -> (&[u8], &[u8])
 fn verb(alloc: Global, word: &[u8]) -> Result<Option<Verb>, AllocError>
     ensures { IfOk result (λ o. o ≡ verb_in word.now) }
 {
-    Ok(Verb::read(&upper(alloc, word)?))
+    Ok(Verb::read(&word.to_ascii_uppercase(alloc)?))
 }
 
 #[tactic(auto, unfolding(crate::specs::Lines::unlabelled_of))]

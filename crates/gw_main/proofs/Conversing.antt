@@ -29,7 +29,7 @@ module _ {S K : Type 0} (took : S → List ℕ → S → Type 0) (ended : S → 
         refused model (subst P (sym h.1) taken) h.0 h.2
     fails_behind reader between reader' writer writer' model fault taken (inr h) = in_session between model h.0 h.1 taken h.2 h.3
 
-    -- a conversation that stopped for a faulty line stopped, as far as can be said, for want of memory
+    -- a conversation that stopped for a faulty line stopped, as far as can be said, out of memory
     pub fails_of_memory : (reader reader' : S) (writer writer' : K) (faulty : FaultyLine) → FailsBy reader reader' writer writer' (faults.Line faulty) →
         FailsBy reader reader' writer writer' faults.Memory
     fails_of_memory reader reader' writer writer' faulty (in_model left causes.Read breaks is unwritten) = absurd cc
@@ -38,7 +38,7 @@ module _ {S K : Type 0} (took : S → List ℕ → S → Type 0) (ended : S → 
     fails_of_memory reader reader' writer writer' faulty (refused model taken refusal unwritten) = refused model taken tt unwritten
     fails_of_memory reader reader' writer writer' faulty (in_session between model book after taken opens stops) = absurd stops.cause
 
--- what stopped for a fault stopped for the one that is told, where a faulty line may be told as want of memory
+-- what stopped for a fault stopped for the one that is told, where a faulty line may be told as out of memory
 pub is_told : (F : Fault → Type 0) → ((faulty : FaultyLine) → F (faults.Line faulty) → F faults.Memory) → (came told : Fault) → IsToldAs came told → F came →
     F told
 is_told F memory (faults.Line faulty) told (inl same) h = subst F (sym same) h

@@ -26,7 +26,7 @@ module _ {F S K : Type 0} (took_file : F → List ℕ → F → Type 0) (ended_f
   fails_over model fault taken (inl h) = refused model taken h.0 h.1 h.2
   fails_over model fault taken (inr h) = in_session model h.0 h.1 taken h.2 h.3
 
-  -- a conversation that stopped for a faulty line stopped, as far as can be said, for want of memory
+  -- a conversation that stopped for a faulty line stopped, as far as can be said, out of memory
   pub file_fails_of_memory : (faulty : FaultyLine) → FailsBy (faults.Line faulty) → FailsBy faults.Memory
   file_fails_of_memory faulty (unopened causes.Read e is unread unwritten) = absurd cc
   file_fails_of_memory faulty (unopened causes.Limit e is unread unwritten) = absurd cc

@@ -47,7 +47,7 @@ bad_same given given' same (horizon e) = horizon (ap (said 1 1000000000000 10000
 bad_same given given' same (every e) = every (ap (said 1 1000000 1000) (sym (same (codes "every"))) ∙ e)
 bad_same given given' same (limit e) = limit (ap (said 1 1000000 1000000) (sym (same (codes "limit"))) ∙ e)
 
--- clap refused the words by one of their faults, or for want of memory
+-- clap refused the words by one of their faults, or out of memory
 pub refused_by_clap : (words : List Text) (kind : ErrorKind) (refusal : Refusal) → IsRefusalAt kind refusal → (kind ≡ kinds.OutOfMemory) ⊎
     IsAmong kind (faults_of words) → IsRefusedBy words refusal
 refused_by_clap words kind (refusals.Help text) is (inl memory) = absurd cc

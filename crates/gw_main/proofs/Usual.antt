@@ -76,7 +76,7 @@ is_usual (Err refusals.Memory) h = inr refl
 
 module _ {S K : Type 0} (took : S → List ℕ → S → Type 0) (ended : S → Type 0) (reads : S → ℕ) (wrote : K → List ℕ → K → Type 0) (writes : K → ℕ)
     (nothing : (a : S) → took a [] a) (reader reader' : S) (writer writer' : K) where
-  -- want of memory before anything is read is a conversation that stopped for want of memory within its model
+  -- out of memory before anything is read is a conversation that stopped out of memory within its model
   stops_unread : (o : Options) → reader' ≡ reader → writer' ≡ writer → Fails took ended reads wrote writes o reader reader' writer writer' faults.Memory
   stops_unread o unread unwritten =
       let P : S → Type 0 = λ v. Breaks took reads IsModelPart reader v 16777216 16777216 causes.Memory in

@@ -35,7 +35,7 @@ status_of Write = 3
 status_of ReadLimit = 3
 status_of Memory = 3
 
--- the fault that is told: the one that came, save that a faulty line may be told as want of memory
+-- the fault that is told: the one that came, save that a faulty line may be told as out of memory
 abbrev pub IsToldAs : Fault → Fault → Type 0
 IsToldAs (Line faulty) told = (told ≡ Line faulty) ⊎ (told ≡ Memory)
 IsToldAs (Model fault) told = told ≡ Model fault

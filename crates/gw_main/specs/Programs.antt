@@ -56,7 +56,7 @@ RunsAt {F} opens took_file ended_file reads_file took ended reads wrote writes t
     FileRuns took_file ended_file reads_file took ended reads wrote writes told losses o opened reader reader' writer
     writer' errors errors' status
 
--- what is done for what the words came to: a run, help with status 0, a refusal with status 2, or want of memory with
+-- what is done for what the words came to: a run, help with status 0, a refusal with status 2, or out of memory with
 -- status 3
 abbrev pub Proceeds : {F S K E : Type 0} → (List ℕ → Result F ReadFault → Type 0) → (F → List ℕ → F → Type 0) →
     (F → Type 0) → (F → ℕ) → (S → List ℕ → S → Type 0) → (S → Type 0) → (S → ℕ) → (K → List ℕ → K → Type 0) → (K → ℕ) →

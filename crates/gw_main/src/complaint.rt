@@ -9,7 +9,7 @@ use gw_script::{Fault, Sink};
 use std::alloc::{AllocError, Global};
 
 /// Tells standard error of a fault, as far as it takes that, and gives the fault that was told: a faulty line for whose
-/// text no memory was left is told as want of memory.
+/// text no memory was left is told as out of memory.
 pub fn complain<E: Sink>(alloc: Global, fault: Fault, errors: &mut E) -> Fault
     ensures told { IsToldAs fault result }
     ensures text { Tells E.wrote E.failures (complaint_of result) errors.old errors.new }

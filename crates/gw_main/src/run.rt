@@ -44,7 +44,7 @@ pub fn run<
 const NO_TEXT: &[u8] =
     b"error: invalid UTF-8 was detected in one or more arguments\n\nFor more information, try '--help'.\n";
 
-/// Tells why the program could not begin, and gives its status: 3 for want of memory, and 2 for a word that is no text.
+/// Tells why the program could not begin, and gives its status: 3 for out of memory, and 2 for a word that is no text.
 pub fn not_begun<E: Sink>(error: ErrorKind, errors: &mut E) -> u8
     ensures memory { error ≡ ErrorKind.OutOfMemory → (result ≡ 3) ×
         Tells E.wrote E.failures (codes "stopped: F6\n") errors.old errors.new }
@@ -59,7 +59,7 @@ pub fn not_begun<E: Sink>(error: ErrorKind, errors: &mut E) -> u8
     }
 }
 
-/// Why a file could not be opened: for want of memory, or as one that cannot be read.
+/// Why a file could not be opened: out of memory, or as one that cannot be read.
 pub fn not_opened(error: ErrorKind) -> ReadFault
     ensures memory { error ≡ ErrorKind.OutOfMemory → result ≡ Memory }
     ensures others { error ≢ ErrorKind.OutOfMemory → result ≡ Read }

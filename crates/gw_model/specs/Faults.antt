@@ -187,11 +187,5 @@ fault_of t =
 
 -- the fault is the first one, or memory was refused
 abbrev pub IsFault : Option ModelFault → ModelFault → Type 0
-IsFault first TooMany = first ≡ Some TooMany
-IsFault first BadSeed = first ≡ Some BadSeed
-IsFault first BadHorizon = first ≡ Some BadHorizon
-IsFault first LabelTwice = first ≡ Some LabelTwice
-IsFault first NoSuchLabel = first ≡ Some NoSuchLabel
-IsFault first NoSuchDefinition = first ≡ Some NoSuchDefinition
-IsFault first EquNamedDefinition = first ≡ Some EquNamedDefinition
 IsFault first Memory = Unit {0}
+IsFault first fault = first ≡ Some fault

@@ -4,7 +4,6 @@ ghost use Rattle.std.specs.List.{list_all};
 ghost use Rattle.std.specs.Ordering.{nat_cmp};
 ghost use Rattle.std.specs.Cmp.Lexicographic.{slice_cmp};
 ghost use Rattle.gw_names.specs.Names.{name_of, is_name_text, is_name_byte, is_barred};
-ghost use Rattle.gw_names.specs.Words.{upper_of};
 ghost use Rattle.gw_names.specs.Heads.{head_of, mark_of};
 
 use crate::class::is_class;
@@ -46,7 +45,7 @@ impl Name {
         if !is_name_text(text) {
             return Ok(None);
         }
-        let bytes = upper(alloc, text)?;
+        let bytes = text.to_ascii_uppercase(alloc)?;
         if is_barred(&bytes) {
             return Ok(None);
         }
@@ -206,10 +205,4 @@ fn is_barred(word: &[u8]) -> bool
     ensures { result ≡ is_barred word.now }
 {
     Verb::read(word).is_some() || is_class(word)
-}
-
-fn upper(alloc: Global, text: &[u8]) -> Result<Vec<u8>, AllocError>
-    ensures { IfOk result (λ v. v.items ≡ upper_of text.now) }
-{
-    text.iter().map(|b| b.to_ascii_uppercase()).collect(alloc)
 }

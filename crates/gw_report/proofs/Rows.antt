@@ -1,14 +1,11 @@
 -- A row, column by column; a number in a cell.
 use Rattle.std.proofs.Common.{◌≡◌, ℕ, ℤ, pos, negsuc, ap, ◌∙◌, ◌+◌, ◌<◌, List, [], ◌∷◌, ◌++◌}
-use Rattle.std.proofs.Common.{append_assoc, ◌⊎◌, Some, None, slice_get, length, get_or, drop, refl, inl, inr, add-one, drop-cons, arith}
+use Rattle.std.proofs.Common.{append_assoc, ◌⊎◌, Some, None, slice_get, length, get_or, drop, refl, inl, inr, add-one, arith}
+use Rattle.std.proofs.lemmas.List.{drop_more}
 use Rattle.std.proofs.lemmas.Option.{slice_get_within, slice_get-get_or, get_or_from_slice_get}
 use Rattle.std.specs.Fmt.{decimal, signed_decimal}
 use Rattle.gw_report.specs.Layout.{Column, row_behind}
 use Rattle.gw_report.specs.Cells.{signed}
-
--- what is left of a list, from one element on
-pub item_drop : {X : Type 0} (xs : List X) (i : ℕ) (d : X) → i < length xs → drop i xs ≡ get_or xs i d ∷ drop (i + 1) xs
-item_drop xs i d h = rw (add-one, drop-cons xs i d) refl
 
 -- a row ends where there is no column left, or no text
 ended_texts : (before : List ℕ) (columns : List Column) → row_behind before columns [] ≡ 10 ∷ []
@@ -30,7 +27,7 @@ signed_is (negsuc n) = ap (λ m. 45 ∷ decimal m) (add-one n)
 pub got_drop : {X : Type 0} (xs : List X) (i : ℕ) (x : X) → slice_get xs i ≡ Some x → drop i xs ≡ x ∷ drop (i + 1) xs
 got_drop xs i x h =
     let within = slice_get_within xs i x h in
-    item_drop xs i x within ∙ ap (λ y. y ∷ drop (i + 1) xs) (get_or_from_slice_get xs i x x h)
+    drop_more xs i x within ∙ ap (λ y. y ∷ drop (i + 1) xs) (get_or_from_slice_get xs i x x h)
 
 -- within a list there is an element
 pub none_left : {X : Type 0} (xs : List X) (i : ℕ) → i < length xs → slice_get xs i ≡ None → ⊥

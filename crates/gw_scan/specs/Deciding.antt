@@ -23,7 +23,7 @@ use Rattle.gw_scan.specs.Noted.{Noted, Reads, Keeps}
 use Rattle.gw_scan.specs.declared.halt.Why.{Why}
 use Rattle.gw_scan.specs.declared.halt.Why.TheVariants as whys
 
--- the result, the questions and the streams behind the draws are the evaluation's; only want of memory leaves them
+-- the result, the questions and the streams behind the draws are the evaluation's; only a refused growth leaves them
 -- open, and it keeps what was noted of earlier steps
 abbrev pub Decides : {A : Type 0} → Listing → ℕ → Eval A → Result A Why → Noted → Noted → Type 0
 Decides t seed p (Ok a) old new =
@@ -32,7 +32,7 @@ Decides t seed p (Err (whys.End end)) old new =
     (result_of t seed (p old.streams) ≡ Err end) × Reads old (items_of t seed (p old.streams)) new
 Decides t seed p (Err whys.Memory) old new = Keeps old new
 
--- the same, of an evaluation that neither asks nor draws; only want of memory leaves it open
+-- the same, of an evaluation that neither asks nor draws; only a refused growth leaves it open
 abbrev pub Comes : {A : Type 0} → Eval A → Result A Why → Type 0
 Comes p (Ok a) = p ≡ gives a
 Comes p (Err (whys.End end)) = p ≡ ends_with end

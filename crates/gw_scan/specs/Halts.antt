@@ -35,7 +35,7 @@ abbrev pub why_of_fault : Fault → Why
 why_of_fault faults.Memory = whys.Memory
 why_of_fault (faults.Stop stop) = whys.End (ends.Error stop)
 
--- an evaluation may come to this: want of memory or a stop, and no other end of a run
+-- an evaluation may come to this: out of memory or a stop, and no other end of a run
 abbrev pub IsFault : Why → Type 0
 IsFault whys.Memory = Unit {0}
 IsFault (whys.End (ends.Error stop)) = Unit {0}

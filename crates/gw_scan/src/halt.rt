@@ -95,7 +95,7 @@ impl Halt {
         }
     }
 
-    // As a fault of an evaluation, which has the same number: of want of memory and of a stop alone.
+    // As a fault of an evaluation, which has the same number: of out of memory and of a stop alone.
     #[inline(always)]
     #[tactic(auto, using(crate::proofs::Halting::same_halt, crate::proofs::Halting::fault_number))]
     pub(crate) fn fault(&self) -> EvalFault

@@ -1,7 +1,7 @@
 //! The state of a run and its steps.
 //!
 //! [`step`] is the step of the definitions: it makes the same move with the same questions, or says why none
-//! follows and changes nothing. Want of memory changes nothing either.
+//! follows and changes nothing. A refused growth changes nothing either.
 #![tactic(auto)]
 
 mod act;

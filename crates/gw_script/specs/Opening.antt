@@ -56,7 +56,7 @@ Refuses model o faults.Write = ⊥
 Refuses model o faults.ReadLimit = ⊥
 Refuses model o faults.Memory = Unit {0}
 
--- want of memory is one fault, wherever it came
+-- out of memory is one fault, wherever it came
 abbrev pub kind_of : LineFault → FaultyLine → Fault
 kind_of lines.Memory faulty = faults.Memory
 kind_of fault faulty = faults.Line faulty

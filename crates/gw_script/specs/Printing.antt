@@ -14,5 +14,5 @@ lines_from place [] = []
 lines_from place (line ∷ lines) = line_of place line.statement ++ lines_from (place + 1) lines
 
 -- how many statements there are, and all of them
-abbrev pub listing_of : List Numbered → List ℕ
-listing_of lines = codes "list " ++ decimal (length lines) ++ codes "\n" ++ lines_from 1 lines
+abbrev pub list_answer : List Numbered → List ℕ
+list_answer lines = codes "list " ++ decimal (length lines) ++ codes "\n" ++ lines_from 1 lines

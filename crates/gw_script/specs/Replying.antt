@@ -13,7 +13,7 @@ use Rattle.gw_desk.specs.Book.{Book}
 use Rattle.gw_desk.specs.Playing.{Does}
 use Rattle.gw_script.specs.Answers.{Queries, ReportsAll}
 use Rattle.gw_script.specs.Changes.{Edits}
-use Rattle.gw_script.specs.Printing.{listing_of}
+use Rattle.gw_script.specs.Printing.{list_answer}
 
 -- the word for what is wrong with a line
 abbrev pub word_of : Reason → List ℕ
@@ -34,7 +34,7 @@ Replies version does d n (requests.Report rep k) front d' = Queries does d (even
 Replies version does d n (requests.Peek rep k) front d' = Queries does d (events.Peek rep k) front d'
 Replies version does d n (requests.All k) front d' = ReportsAll version does d k front d'
 Replies version does d n requests.List front d' =
-    ((front ≡ listing_of (version d).lines) ⊎ (front ≡ codes "memory\n")) × (d' ≡ d)
+    ((front ≡ list_answer (version d).lines) ⊎ (front ≡ codes "memory\n")) × (d' ≡ d)
 Replies version does d n requests.Quit front d' = TellsOnly (codes "bye\n") d front d'
 Replies version does d n (requests.Bad reason) front d' =
     TellsOnly (codes "? " ++ decimal n ++ codes " " ++ word_of reason ++ codes "\n") d front d'

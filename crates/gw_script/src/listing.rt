@@ -1,6 +1,6 @@
 // The statements of a version.
 ghost use Rattle.std.specs.Prelude.{◌≡◌, ◌++◌, IfOk, OnOk};
-ghost use Rattle.gw_script.specs.Printing.{listing_of, lines_from, line_of};
+ghost use Rattle.gw_script.specs.Printing.{list_answer, lines_from, line_of};
 
 use crate::answers::heading;
 use gw_meaning::{Numbered, Statement};
@@ -9,7 +9,7 @@ use std::alloc::{AllocError, Global};
 
 /// How many statements there are, and each of them behind its place.
 pub fn list(alloc: Global, lines: &[Numbered]) -> Result<Vec<u8>, AllocError>
-    ensures { IfOk result (λ v. v.items ≡ listing_of lines.now) }
+    ensures { IfOk result (λ v. v.items ≡ list_answer lines.now) }
 {
     let mut text = heading(alloc, b"list ", lines.len())?;
     put_lines(&mut text, lines)?;

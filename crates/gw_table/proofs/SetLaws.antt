@@ -2,6 +2,7 @@
 use Rattle.std.proofs.Common.{◌≡◌, ℕ, ◌<◌, Bool, true, false, cond, ◌||◌, eqb, List, [], ◌∷◌, ◌++◌, length, set, Option, Some, None, refl, sym, ap, ◌∙◌, arith}
 use Rattle.std.specs.Prelude.{is_some}
 use Rattle.std.specs.List.{IsDistinct, AllByRecursion, list_any}
+use Rattle.std.proofs.Math.Bool.{or-true, or-false}
 use Rattle.std.proofs.lemmas.Bool.{eqb-true, eqb-false, ne_eqb}
 use Rattle.std.proofs.lemmas.List.{get_or-set_same, get_or-set_other, length-set}
 use Rattle.std.proofs.lemmas.List.Folds.{list_any-append}
@@ -15,14 +16,6 @@ use Rattle.gw_table.proofs.LookupLaws.{HaveValues, have_values, first_value, oth
 absent : (n : ℕ) (ns : List ℕ) → AllByRecursion (λ y. eqb n y ≡ false) ns → list_any (eqb n) ns ≡ false
 absent n [] h = refl
 absent n (m ∷ ns) h = ap (λ b. b || list_any (eqb n) ns) h.0 ∙ absent n ns h.1
-
-or_true : (a : Bool) → (a || true) ≡ true
-or_true true = refl
-or_true false = refl
-
-or_false : (a : Bool) → (a || false) ≡ a
-or_false true = refl
-or_false false = refl
 
 module _ {V : Type 0} where
   value_elsewhere : (values : List (Option V)) (number : ℕ) (o : Option V) (n : ℕ) → eqb n number ≡ false → value_at (set values number o) n ≡ value_at values n
@@ -105,11 +98,11 @@ module _ {V : Type 0} where
     go : (n : ℕ) (b : Bool) → eqb n number ≡ b → (list_any (eqb n) ns || (b || false)) ≡ is_some (value_at (set values number (Some value)) n)
     go n true e =
         let same = eqb-true n number e in
-        or_true (list_any (eqb n) ns)
+        or-true (list_any (eqb n) ns)
         ∙ sym (ap (λ m. is_some (value_at (set values number (Some value)) m)) same
         ∙ ap is_some (get_or-set_same values number (Some value) None low))
     go n false e =
-        or_false (list_any (eqb n) ns)
+        or-false (list_any (eqb n) ns)
         ∙ (h.listed n ∙ ap is_some (sym (value_elsewhere values number (Some value) n e)))
 
   with_pair_in_front : (n : ℕ) (o : Option V) (ps qs : List (ℕ × V)) → with_pair n o (ps ++ qs) ≡ with_pair n o ps ++ qs

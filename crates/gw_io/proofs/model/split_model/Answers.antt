@@ -4,7 +4,8 @@ use Rattle.std.proofs.lemmas.Result.{err_from_is_err_and}
 use Rattle.gw_io.specs.Line.{IsUnended}
 use Rattle.gw_io.specs.Model.{IsModelPart, IsEnd, with_feed}
 use Rattle.gw_io.proofs.Faults.{behind, out_of_memory}
-use Rattle.gw_io.proofs.Models.{calls, with_line, part_of, whole_part, at_end, at_last_end, at_last, at_nothing}
+use Rattle.gw_io.proofs.Faults.{calls}
+use Rattle.gw_io.proofs.Models.{with_line, part_of, whole_part, at_end, at_last_end, at_last, at_nothing}
 use Rattle.gw_io.proofs.model.split_model.Goals as goal
 
 pub returns-in_err-line-clause-fault : goal.returns-in_err-line-clause-fault
