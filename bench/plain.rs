@@ -65,7 +65,7 @@ fn run(
     seed: u64,
     state: &mut State,
 ) -> Result<Option<End>, AllocError> {
-    let mut notes = Notes::new(alloc, state);
+    let mut notes = Notes::new(alloc, state.streams());
     let mut tally = Tally::new();
     for _moment in 0..version.limit() {
         match step(alloc, version, seed, state, &mut notes, &mut tally)? {

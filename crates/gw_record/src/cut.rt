@@ -37,7 +37,7 @@ impl Recorded {
     {
         let count = count_before(self.ends.as_slice(), to.moment);
         self.ends.truncate(count);
-        self.notes.go_back(to.moment, &to.state);
+        self.notes.go_back(to.moment, to.state.streams());
         self.moment = to.moment;
         self.ahead = steps_ahead(to.moment, self.every);
         self.due = 0;

@@ -60,7 +60,7 @@ impl Recorded {
         ensures records { (t : Listing) (seed : ℕ) → Records t seed result }
     {
         let tip = State::zero(alloc);
-        let notes = Notes::new(alloc, &tip);
+        let notes = Notes::new(alloc, tip.streams());
         Recorded {
             every,
             start: 0,

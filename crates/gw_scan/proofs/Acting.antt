@@ -16,12 +16,13 @@ use Rattle.gw_meaning.specs.Changes.{decided, moved, placed, crossed, with_activ
 use Rattle.gw_entities.specs.Parameters.{assigned}
 use Rattle.gw_names.specs.declared.key.Key.{Key}
 use Rattle.gw_meaning.specs.Step.{try_prog, attempt_prog, pick_prog, clock_prog, least_time}
-use Rattle.gw_scan.specs.declared.halt.Why.{Why}
-use Rattle.gw_scan.specs.declared.halt.Why.TheVariants as whys
-use Rattle.gw_scan.specs.Noted.{Noted, Asks, Keeps, Tries}
-use Rattle.gw_scan.specs.Deciding.{Decides, Comes, generated, looped, sent, starting}
+use Rattle.gw_asking.specs.declared.halt.Why.{Why}
+use Rattle.gw_asking.specs.declared.halt.Why.TheVariants as whys
+use Rattle.gw_asking.specs.Noted.{Noted, Asks, Keeps, Tries}
+use Rattle.gw_asking.specs.Deciding.{Decides, Comes, sent}
+use Rattle.gw_scan.specs.Making.{generated, looped, starting}
 use Rattle.gw_scan.specs.Stepping.{Acts, Goes, Makes}
-use Rattle.gw_scan.proofs.Binding.{decides_asked, decides_then, decides_halt, decides_gives, decides_comes}
+use Rattle.gw_asking.proofs.Binding.{decides_asked, decides_then, decides_halt, decides_gives, decides_comes}
 use Rattle.gw_scan.proofs.StepLaws.{IsIdle, decides_keeps, idle_undrawn}
 
 -- where none waits on the current chain, the clock moves on

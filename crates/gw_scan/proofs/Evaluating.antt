@@ -14,14 +14,15 @@ use Rattle.gw_meaning.specs.declared.item.Item.TheVariants as items
 use Rattle.gw_meaning.specs.Evaluation.{Eval, gives, ends_with, reply_prog, evaluated, value_prog}
 use Rattle.gw_meaning.specs.Listing.{Listing, variable_at, function_at}
 use Rattle.gw_meaning.specs.Machine.{Machine}
-use Rattle.gw_scan.specs.declared.halt.Why.{Why}
-use Rattle.gw_scan.specs.declared.halt.Why.TheVariants as whys
-use Rattle.gw_scan.specs.Halts.{why_of_fault}
-use Rattle.gw_scan.specs.Deciding.{Decides, halted}
-use Rattle.gw_scan.specs.Noted.{Noted}
+use Rattle.gw_asking.specs.declared.halt.Why.{Why}
+use Rattle.gw_asking.specs.declared.halt.Why.TheVariants as whys
+use Rattle.gw_asking.specs.Halts.{why_of_fault}
+use Rattle.gw_asking.specs.Deciding.{Decides}
+use Rattle.gw_scan.specs.Making.{halted}
+use Rattle.gw_asking.specs.Noted.{Noted}
 use Rattle.gw_scan.specs.Seeing.{Marks, Replied, IsStill, Replies}
 use Rattle.gw_scan.specs.declared.seen.Seen.{Seen}
-use Rattle.gw_scan.proofs.Binding.{keeps_all, decides_then, decides_halt, decides_asked, decides_gives, decides_comes}
+use Rattle.gw_asking.proofs.Binding.{keeps_all, decides_then, decides_halt, decides_asked, decides_gives, decides_comes}
 
 -- what the definitions of a version reply
 abbrev Replying : Listing → (question : Question) → Reply question → Type 0

@@ -1,6 +1,4 @@
 pub mod Acting
-pub mod Binding
 pub mod StepLaws
-pub mod Halting
 pub mod Stopping
 pub mod Evaluating

@@ -12,13 +12,13 @@ use Rattle.gw_meaning.specs.Questions.{Prog, Gives, result_of, items_of}
 use Rattle.gw_meaning.specs.Changes.{decided, moved, picked}
 use Rattle.gw_meaning.specs.Evaluation.{Eval}
 use Rattle.gw_meaning.specs.Step.{decide, move_prog, step, step_prog, step_items, items_if_moved}
-use Rattle.gw_scan.specs.declared.halt.Why.{Why}
-use Rattle.gw_scan.specs.declared.halt.Why.TheVariants as whys
-use Rattle.gw_scan.specs.Noted.{Noted, Reads, Keeps}
-use Rattle.gw_scan.specs.Deciding.{Decides}
+use Rattle.gw_asking.specs.declared.halt.Why.{Why}
+use Rattle.gw_asking.specs.declared.halt.Why.TheVariants as whys
+use Rattle.gw_asking.specs.Noted.{Noted, Reads, Keeps}
+use Rattle.gw_asking.specs.Deciding.{Decides}
 use Rattle.gw_scan.specs.Stepping.{EndsAs, Acts, Halts, Steps}
 use Rattle.gw_scan.specs.declared.steps.Turn.{Turn}
-use Rattle.gw_scan.proofs.Binding.{reads_keep}
+use Rattle.gw_asking.proofs.Binding.{reads_keep}
 use Rattle.gw_meaning.proofs.Programs.{bind_gives, bind_ends}
 
 -- what comes next is the step of the definition, with these streams behind its draws, or its end; a refused growth leaves

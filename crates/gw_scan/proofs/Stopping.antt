@@ -22,11 +22,11 @@ use Rattle.gw_meaning.specs.Listing.{Listing}
 use Rattle.gw_meaning.specs.Machine.{Machine}
 use Rattle.gw_meaning.specs.Questions.{Answer, ask, Prog, Gives, Ends, Asks, result_of, ◌>>=◌}
 use Rattle.gw_meaning.specs.Evaluation.{Eval, gives, ends_with, asks, ◌~>◌, stops_if, number_of_draw, draw, amount, own_value, numbered, named, subject_prog, storage_prog, left_prog, counted, block_count, drawn_prog, random_prog, random_part, entity_value, storage_value, block_value, value_held, parameter_value, attribute_prog}
-use Rattle.gw_scan.specs.declared.halt.Why.{Why}
-use Rattle.gw_scan.specs.declared.halt.Why.TheVariants as whys
-use Rattle.gw_scan.specs.Halts.{IsFault}
-use Rattle.gw_scan.specs.Noted.{Noted}
-use Rattle.gw_scan.specs.Deciding.{Decides}
+use Rattle.gw_asking.specs.declared.halt.Why.{Why}
+use Rattle.gw_asking.specs.declared.halt.Why.TheVariants as whys
+use Rattle.gw_asking.specs.Halts.{IsFault}
+use Rattle.gw_asking.specs.Noted.{Noted}
+use Rattle.gw_asking.specs.Deciding.{Decides}
 
 -- however its questions are answered, a program gives a result or ends by a stop
 abbrev MayStop : {A : Type 0} → Prog A → Type 0

@@ -2,7 +2,7 @@
 use Rattle.std.specs.Prelude.{◌≡◌}
 use Rattle.gw_meaning.specs.Machine.{Machine}
 use Rattle.gw_chains.specs.Chains.{delays_of}
-use Rattle.gw_scan.specs.Parts.{entities_of}
+use Rattle.gw_parts.specs.Parts.{entities_of}
 use Rattle.gw_scan.specs.declared.copy.Chains.{Chains}
 use Rattle.gw_scan.specs.declared.copy.Kept.{Kept}
 

@@ -5,11 +5,12 @@ pub use Rattle.gw_meaning.specs.Evaluation
 pub use Rattle.gw_meaning.specs.Changes
 pub use Rattle.gw_meaning.specs.Step
 pub use Rattle.gw_meaning.specs.Point
-pub mod Halts
-pub mod EntityRef
-pub mod Parts
+pub use Rattle.gw_asking.specs.Halts
+pub use Rattle.gw_asking.specs.EntityRef
+pub use Rattle.gw_asking.specs.Noted
+pub use Rattle.gw_asking.specs.Deciding
+pub use Rattle.gw_parts.specs.Parts
 pub mod Copies
-pub mod Noted
-pub mod Deciding
+pub mod Making
 pub mod Seeing
 pub mod Stepping

@@ -9,8 +9,9 @@ use Rattle.gw_meaning.specs.declared.item.Item.TheVariants as items
 use Rattle.gw_meaning.specs.Evaluation.{reply_prog}
 use Rattle.gw_meaning.specs.Listing.{Listing}
 use Rattle.gw_meaning.specs.Machine.{Machine}
-use Rattle.gw_scan.specs.Deciding.{Decides, halted}
-use Rattle.gw_scan.specs.Noted.{Noted, Asks}
+use Rattle.gw_asking.specs.Deciding.{Decides}
+use Rattle.gw_scan.specs.Making.{halted}
+use Rattle.gw_asking.specs.Noted.{Noted, Asks}
 use Rattle.gw_scan.specs.declared.seen.Seen.{Seen}
 
 -- a question that definitions reply to is noted, whatever they reply; where memory is refused, nothing is

@@ -8,10 +8,8 @@ ghost use Rattle.gw_meaning.specs.declared.transaction.Transaction.{Transaction}
 ghost use Rattle.gw_meaning.specs.Step.{move_prog, attempt_prog, try_prog, meet_prog};
 ghost use Rattle.gw_scan.specs.Stepping.{Acts};
 
-use crate::case::{Case, ask_block, ask_next};
-use crate::halt::Halt;
-use crate::notes::Notes;
 use crate::state::State;
+use gw_asking::{Case, Halt, Notes, ask_block, ask_next};
 use gw_meaning::{Block, StatementId};
 use gw_names::BlockVerb;
 

@@ -2,12 +2,10 @@
 ghost use Rattle.std.specs.Prelude.{◌≡◌, [], OnOk, option_copied, true, nat_le};
 ghost use Rattle.gw_meaning.specs.Machine.{live, count_at};
 ghost use Rattle.gw_meaning.specs.Step.{arrival_prog, arrival_in_time, arrival_at, first_of, first_arrival, prime_prog, arrivals_prog, with_arrival};
-ghost use Rattle.gw_scan.specs.Deciding.{Decides, Comes};
+ghost use Rattle.gw_asking.specs.Deciding.{Decides, Comes};
 
-use crate::case::{Case, ask_block};
-use crate::halt::Halt;
-use crate::notes::Notes;
 use crate::state::State;
+use gw_asking::{Case, Halt, Notes, ask_block};
 use gw_expr::{Expr, Row};
 use gw_meaning::operands::{A, B, C, D, E};
 use gw_meaning::{Arrival, Asker, Block, StatementId};

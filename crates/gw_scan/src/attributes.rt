@@ -3,13 +3,10 @@ ghost use Rattle.std.specs.Prelude.{◌≡◌, pos};
 ghost use Rattle.gw_expr.specs.declared.attribute.Subject.TheVariants as subjects;
 ghost use Rattle.gw_meaning.specs.Evaluation.{amount, own_value, owned, subject_prog, named, numbered, parameter_value, entity_value, storage_prog, storage_value, block_count, counted, block_value, drawn_prog, random_prog, random_part, millionths, thousandth, attribute_prog, ◌~>◌, left_prog, units_left};
 ghost use Rattle.gw_meaning.specs.Step.{for_none, for_one};
-ghost use Rattle.gw_scan.specs.Deciding.{Decides, Comes};
+ghost use Rattle.gw_asking.specs.Deciding.{Decides, Comes};
 
-use crate::case::{Case, ask_capacity, ask_label, ask_name};
-use crate::draws::{draw, millionths};
-use crate::halt::Halt;
-use crate::notes::Notes;
 use crate::state::State;
+use gw_asking::{Case, Halt, Notes, ask_capacity, ask_label, ask_name, draw, millionths};
 use gw_expr::Subject;
 use gw_meaning::{Asker, StatementId, Transaction};
 use gw_names::{Class, Key, Name};

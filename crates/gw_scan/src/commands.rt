@@ -3,17 +3,16 @@ ghost use Rattle.std.specs.Prelude.{◌≡◌, option_copied, OnOk, OnErr};
 ghost use Rattle.gw_meaning.specs.Changes.{moved};
 ghost use Rattle.gw_meaning.specs.Step.{move_prog, command_prog, start_prog, first_arrivals_prog};
 ghost use Rattle.gw_meaning.specs.declared.moves.Move.TheVariants as moves;
-ghost use Rattle.gw_scan.specs.Deciding.{Decides, starting};
+ghost use Rattle.gw_asking.specs.Deciding.{Decides};
+ghost use Rattle.gw_scan.specs.Making.{starting};
 ghost use Rattle.gw_scan.specs.Stepping.{Acts, Makes};
 
 use crate::attributes::for_none;
-use crate::case::{Case, ask_command, ask_generates};
-use crate::halt::Halt;
-use crate::making::make_all;
-use crate::notes::Notes;
 use crate::state::State;
+use gw_asking::{Case, Halt, Notes, ask_command, ask_generates};
 use gw_expr::Row;
 use gw_meaning::{Arrival, Command};
+use gw_parts::make_all;
 use std::alloc::AllocError;
 
 impl State {
@@ -47,7 +46,7 @@ impl State {
                 self.start_with(*count, arrivals, notes)
             }
             Some(Command::Rmult { values }) => {
-                notes.streams.set_all(values.as_slice());
+                notes.set_streams(values.as_slice());
                 self.count_command();
                 self.take_draws(notes);
                 Ok(())

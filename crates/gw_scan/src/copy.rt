@@ -3,10 +3,10 @@
 ghost use Rattle.std.specs.Prelude.{◌≡◌, IfOk};
 ghost use Rattle.gw_scan.specs.Copies.{ChainsOf, KeptOf};
 
-use crate::entities::Entities;
 use crate::state::State;
 use gw_chains::{Counts, DelayChains, FutureChain, PriorityChain};
 use gw_entities::Parameters;
+use gw_parts::Entities;
 use std::alloc::AllocError;
 
 // The chains of a state.

@@ -10,13 +10,12 @@ ghost use Rattle.gw_meaning.specs.declared.transaction.Transaction.{Transaction}
 ghost use Rattle.gw_meaning.specs.Changes.{crossed, placed, bound, moved};
 ghost use Rattle.gw_scan.specs.Stepping.{Acts, Goes};
 
-use crate::active::Active;
-use crate::halt::Halt;
-use crate::notes::Notes;
 use crate::state::State;
+use gw_asking::{Halt, Notes};
 use gw_chains::Counts;
 use gw_meaning::{Destination, Fate, StatementId, Transaction};
 use gw_names::Key;
+use gw_parts::Active;
 use std::alloc::AllocError;
 
 impl State {
@@ -65,7 +64,7 @@ impl State {
     pub(crate) fn take_draws(&mut self, notes: &Notes)
         ensures { self.new ≡ record self.old { streams = notes.now.streams } }
     {
-        self.streams = notes.streams;
+        self.streams = notes.streams();
     }
 }
 

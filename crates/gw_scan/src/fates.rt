@@ -8,19 +8,17 @@ ghost use Rattle.gw_meaning.specs.Step.{for_one, delay_of, advance_prog, termina
 ghost use Rattle.gw_meaning.specs.declared.moves.Change.TheVariants as changes;
 ghost use Rattle.gw_meaning.specs.declared.moves.Move.TheVariants as moves;
 ghost use Rattle.gw_meaning.specs.declared.transaction.Transaction.{Transaction};
-ghost use Rattle.gw_scan.specs.Deciding.{Decides, entered};
+ghost use Rattle.gw_asking.specs.Deciding.{Decides};
+ghost use Rattle.gw_scan.specs.Making.{entered};
 ghost use Rattle.gw_scan.specs.Stepping.{Acts, Makes};
 
-use crate::active::Active;
-use crate::case::Case;
-use crate::halt::Halt;
-use crate::notes::Notes;
-use crate::progress::Progress;
 use crate::state::State;
+use gw_asking::{Case, Halt, Notes};
 use gw_chains::{FutureChain, PriorityChain};
 use gw_entities::Parameters;
 use gw_meaning::operands::{A, B};
 use gw_meaning::{Block, Event, Fate, StatementId, Transaction};
+use gw_parts::{Active, Progress};
 use std::alloc::AllocError;
 
 impl State {

@@ -6,19 +6,18 @@ ghost use Rattle.gw_meaning.specs.Step.{generate_prog};
 ghost use Rattle.gw_meaning.specs.declared.moves.Change.TheVariants as changes;
 ghost use Rattle.gw_meaning.specs.declared.moves.Fate.TheVariants as fates;
 ghost use Rattle.gw_meaning.specs.declared.moves.Move.TheVariants as moves;
-ghost use Rattle.gw_scan.specs.Deciding.{Decides, generated};
+ghost use Rattle.gw_asking.specs.Deciding.{Decides};
+ghost use Rattle.gw_scan.specs.Making.{generated};
 ghost use Rattle.gw_meaning.specs.declared.transaction.Transaction.{Transaction};
 ghost use Rattle.gw_scan.specs.Stepping.{Acts, Makes};
 
 use crate::attributes::for_none;
-use crate::case::Case;
 use crate::entering::enter_active;
-use crate::halt::Halt;
-use crate::making::make;
-use crate::notes::Notes;
 use crate::state::State;
+use gw_asking::{Case, Halt, Notes};
 use gw_meaning::operands::{A, B, D, E};
 use gw_meaning::{Arrival, Block, StatementId, Transaction};
+use gw_parts::make;
 use std::alloc::AllocError;
 
 impl State {

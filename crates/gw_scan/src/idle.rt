@@ -3,13 +3,12 @@ ghost use Rattle.std.specs.Prelude.{◌≡◌, OnOk, OnErr};
 ghost use Rattle.gw_meaning.specs.Changes.{moved};
 ghost use Rattle.gw_meaning.specs.Step.{pick_prog, clock_prog, least_time};
 ghost use Rattle.gw_meaning.specs.declared.moves.Move.TheVariants as moves;
-ghost use Rattle.gw_scan.specs.Deciding.{Decides, clocked};
+ghost use Rattle.gw_asking.specs.Deciding.{Decides};
+ghost use Rattle.gw_scan.specs.Making.{clocked};
 ghost use Rattle.gw_scan.specs.Stepping.{Acts};
 
-use crate::case::{Case, ask_within};
-use crate::halt::Halt;
-use crate::notes::Notes;
 use crate::state::State;
+use gw_asking::{Case, Halt, Notes, ask_within};
 use gw_nums::Clock;
 use std::alloc::AllocError;
 

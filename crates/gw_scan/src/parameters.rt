@@ -8,16 +8,14 @@ ghost use Rattle.gw_meaning.specs.Step.{for_one, by_sign, or_zero, assign_with, 
 ghost use Rattle.gw_meaning.specs.declared.transaction.Transaction.{Transaction};
 ghost use Rattle.gw_meaning.specs.Changes.{moved};
 ghost use Rattle.gw_names.specs.declared.key.Key.{Key};
-ghost use Rattle.gw_scan.specs.EntityRef.{key_of};
+ghost use Rattle.gw_asking.specs.EntityRef.{key_of};
 ghost use Rattle.gw_scan.specs.Stepping.{Acts, Goes};
-ghost use Rattle.gw_scan.specs.Deciding.{Decides, Comes, assign_key, loop_key, looped, looping};
+ghost use Rattle.gw_asking.specs.Deciding.{Decides, Comes};
+ghost use Rattle.gw_scan.specs.Making.{assign_key, loop_key, looped, looping};
 
-use crate::case::{Case, ask_label};
 use crate::entering::enter_active;
-use crate::entity_ref::EntityRef;
-use crate::halt::Halt;
-use crate::notes::Notes;
 use crate::state::State;
+use gw_asking::{Case, EntityRef, Halt, Notes, ask_label};
 use gw_entities::{ParameterPlace, Parameters};
 use gw_expr::{Expr, Node, Operator};
 use gw_meaning::operands::B;

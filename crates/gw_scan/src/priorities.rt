@@ -5,14 +5,12 @@ ghost use Rattle.gw_meaning.specs.Step.{for_one, mark_prog, priority_prog};
 ghost use Rattle.gw_meaning.specs.Evaluation.{gives};
 ghost use Rattle.gw_meaning.specs.Listing.{Listing};
 ghost use Rattle.gw_meaning.specs.declared.transaction.Transaction.{Transaction};
-ghost use Rattle.gw_scan.specs.Deciding.{prioritized};
+ghost use Rattle.gw_scan.specs.Making.{prioritized};
 ghost use Rattle.gw_scan.specs.Stepping.{Acts, Goes};
 
-use crate::case::Case;
 use crate::entering::enter_active;
-use crate::halt::Halt;
-use crate::notes::Notes;
 use crate::state::State;
+use gw_asking::{Case, Halt, Notes};
 use gw_meaning::operands::A;
 use gw_meaning::{Block, StatementId};
 use gw_nums::Val;

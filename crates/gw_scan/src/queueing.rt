@@ -5,19 +5,15 @@ ghost use Rattle.gw_meaning.specs.declared.transaction.Transaction.{Transaction}
 ghost use Rattle.gw_meaning.specs.Entities.{line_at};
 ghost use Rattle.gw_meaning.specs.Statements.{A, B, operand};
 ghost use Rattle.gw_meaning.specs.Step.{for_one, is_too_many, queue_units, queue_prog, depart_units, depart_prog};
-ghost use Rattle.gw_scan.specs.EntityRef.{key_of};
+ghost use Rattle.gw_asking.specs.EntityRef.{key_of};
 ghost use Rattle.gw_scan.specs.Stepping.{Acts, Goes};
 
-use crate::case::Case;
-use crate::deeds::{Arrive, Depart};
 use crate::entering::enter_active;
-use crate::entity_ref::EntityRef;
-use crate::halt::Halt;
-use crate::notes::Notes;
 use crate::state::State;
-use gw_entities::Queue;
+use gw_asking::{Case, EntityRef, Halt, Notes};
 use gw_meaning::{Block, StatementId};
 use gw_names::Key;
+use gw_parts::{Arrive, Depart};
 
 impl State {
     // Units come to a queue.
@@ -62,7 +58,7 @@ impl State {
             Goes (queue_units id key.now (line_at self.old.entities key.now) units) result self.old self.new }
     {
         let units = u64::from(units);
-        let (place, queue) = self.entities.queues.look(key, Queue::new());
+        let (place, queue) = self.entities.look_for_queue(key);
         if is_too_many(queue.entries().saturating_add(units))
             || is_too_many(queue.level().content().saturating_add(units))
         {
@@ -123,8 +119,8 @@ impl State {
     {
         let x = self.active.get();
         let units = u64::from(units);
-        let at_once = self.entities.comings.has(key, x.number);
-        let (place, queue) = self.entities.queues.look(key, Queue::new());
+        let at_once = self.entities.has_come(key, x.number);
+        let (place, queue) = self.entities.look_for_queue(key);
         if at_once && is_too_many(queue.zero_entries().saturating_add(units)) {
             return Err(Halt::TOO_MANY_UNITS);
         }

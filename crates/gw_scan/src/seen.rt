@@ -1,13 +1,11 @@
 // What an evaluation of operands asks of a state.
 ghost use Rattle.gw_meaning.specs.Evaluation.{attribute_prog};
-ghost use Rattle.gw_scan.specs.Deciding.{Decides};
+ghost use Rattle.gw_asking.specs.Deciding.{Decides};
 ghost use Rattle.gw_scan.specs.Seeing.{IsStill, Replies};
 
 use crate::attributes::random_part;
-use crate::case::{Case, ask_name};
-use crate::halt::Halt;
-use crate::notes::Notes;
 use crate::state::State;
+use gw_asking::{Case, Halt, Notes, ask_name};
 use gw_expr::{EvalFault, Sna, Subject, World};
 use gw_meaning::Asker;
 use gw_names::{Class, Name};

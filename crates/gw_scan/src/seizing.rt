@@ -5,19 +5,15 @@ ghost use Rattle.gw_meaning.specs.Machine.{delay_at};
 ghost use Rattle.gw_meaning.specs.Entities.{facility_at};
 ghost use Rattle.gw_meaning.specs.Statements.{A, operand};
 ghost use Rattle.gw_meaning.specs.Step.{for_one, seize_or_wait, seize_prog, first_number, is_owner, release_to, release_prog};
-ghost use Rattle.gw_scan.specs.EntityRef.{key_of};
+ghost use Rattle.gw_asking.specs.EntityRef.{key_of};
 ghost use Rattle.gw_scan.specs.Stepping.{Acts, Goes};
 
-use crate::case::Case;
-use crate::deeds::{Release, Seize};
 use crate::entering::enter_active;
-use crate::entity_ref::EntityRef;
-use crate::halt::Halt;
-use crate::letting_in::{let_first_in, reserve_first};
-use crate::notes::Notes;
 use crate::state::State;
+use gw_asking::{Case, EntityRef, Halt, Notes};
 use gw_meaning::{Block, StatementId};
 use gw_names::Key;
+use gw_parts::{Release, Seize, let_first_in, reserve_first};
 
 impl State {
     // A facility is taken, or waited for where it is owned.

@@ -1,16 +1,13 @@
 ghost use Rattle.std.specs.Prelude.{◌≡◌, option_copied};
 ghost use Rattle.gw_meaning.specs.Machine.{zero_state, count_at};
 ghost use Rattle.gw_chains.specs.Chains.{delays_of};
-ghost use Rattle.gw_scan.specs.Parts.{entities_of};
+ghost use Rattle.gw_parts.specs.Parts.{entities_of};
 
-use crate::active::Active;
-use crate::clocks::Clocks;
-use crate::entities::Entities;
-use crate::progress::Progress;
 use gw_chains::{Counts, DelayChains, FutureChain, PriorityChain};
 use gw_entities::Parameters;
 use gw_meaning::{Count, StatementId, Transaction};
 use gw_nums::{Clock, Time};
+use gw_parts::{Active, Clocks, Entities, Progress};
 use gw_streams::Streams;
 use std::alloc::Global;
 use std::marker::Model;
@@ -34,7 +31,7 @@ pub struct State {
 impl Model for State {
     ghost use Rattle.gw_meaning.specs.Machine.{Machine};
     ghost use Rattle.gw_chains.specs.Chains.{delays_of};
-    ghost use Rattle.gw_scan.specs.Parts.{entities_of};
+    ghost use Rattle.gw_parts.specs.Parts.{entities_of};
 
     ghost Value = { Machine };
 
@@ -117,6 +114,13 @@ impl State {
         ensures { result ≡ self.now.complete }
     {
         self.progress.complete()
+    }
+
+    /// The random streams.
+    pub fn streams(&self) -> Streams
+        ensures { result ≡ self.now.streams }
+    {
+        self.streams
     }
 
     /// The active transaction.

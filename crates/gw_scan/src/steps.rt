@@ -2,13 +2,11 @@
 ghost use Rattle.std.specs.Prelude.{◌≡◌, IfOk, OnErr};
 ghost use Rattle.gw_meaning.specs.Step.{step, step_items};
 ghost use Rattle.gw_scan.specs.Stepping.{Steps, Counts, EndsAs, Follows, Halts};
-ghost use Rattle.gw_scan.specs.Noted.{Forgets};
+ghost use Rattle.gw_asking.specs.Noted.{Forgets};
 
-use crate::case::Case;
-use crate::halt::{Halt, Why};
-use crate::notes::Notes;
 use crate::state::State;
 use crate::tally::Tally;
+use gw_asking::{Case, Halt, Notes, Why};
 use gw_meaning::End;
 use gw_model::Version;
 use std::alloc::{AllocError, Global};
@@ -63,7 +61,7 @@ fn halted(halt: Halt, state: &State, notes: &mut Notes) -> Result<Turn, AllocErr
     ensures told { Halts halt result }
     ensures notes { Forgets notes.old.step state.now.streams notes.old notes.new }
 {
-    notes.forget(state);
+    notes.forget(state.streams());
     match halt.why() {
         Why::End(end) => Ok(Turn::Ended(end)),
         Why::Memory => Err(AllocError),
@@ -95,7 +93,7 @@ impl State {
     fn next_end(&mut self, case: Case) -> Result<Option<End>, AllocError>
         ensures { IfOk result (EndsAs (step case.entry.version.now case.entry.seed self.old)) }
     {
-        let mut notes = Notes::new(case.alloc, self);
+        let mut notes = Notes::new(case.alloc, self.streams());
         let made = self.act(case, &mut notes);
         drop(notes);
         match made {

@@ -1,5 +1,5 @@
 // ENTER and LEAVE, made where they are decided: the storage is looked up once.
-ghost use Rattle.std.specs.Prelude.{◌≡◌, [], IsSome, Some, None, true};
+ghost use Rattle.std.specs.Prelude.{◌≡◌, [], IsSome, Some, None, true, option_copied};
 ghost use Rattle.gw_expr.specs.Term.{Defined};
 ghost use Rattle.gw_names.specs.declared.key.Key.TheVariants as keys;
 ghost use Rattle.gw_entities.specs.Tables.{IsPlace};
@@ -9,29 +9,39 @@ ghost use Rattle.gw_meaning.specs.declared.moves.Change.TheVariants as changes;
 ghost use Rattle.gw_meaning.specs.declared.moves.Fate.TheVariants as fates;
 ghost use Rattle.gw_meaning.specs.declared.moves.Move.TheVariants as moves;
 ghost use Rattle.gw_meaning.specs.declared.transaction.Transaction.{Transaction};
+ghost use Rattle.gw_chains.specs.Chains.{items_of};
 ghost use Rattle.gw_meaning.specs.Entities.{store_at};
+ghost use Rattle.gw_meaning.specs.Machine.{delay_at};
 ghost use Rattle.gw_meaning.specs.Evaluation.{asks, gives};
 ghost use Rattle.gw_meaning.specs.Listing.{capacity_at};
 ghost use Rattle.gw_meaning.specs.Statements.{A, B, operand};
 ghost use Rattle.gw_meaning.specs.Step.{for_one, enter_or_wait, enter_storage, enter_prog, leave_for, leave_units, leave_prog};
 ghost use Rattle.gw_scan.specs.Stepping.{Acts, Goes};
 
-use crate::case::{Case, ask_fits};
-use crate::deeds::{Become, Enter, Leave, enter_all};
 use crate::entering::enter_active;
-use crate::halt::Halt;
-use crate::letting_in::{let_some_in, reserve_some};
-use crate::notes::Notes;
 use crate::queueing::is_too_many;
-use crate::shares::{all_shares, beside, shares_of};
 use crate::state::State;
+use gw_asking::{Case, Halt, Notes, all_shares, ask_fits, beside, shares_of};
+use gw_chains::PriorityChain;
 use gw_entities::Storage;
 use gw_expr::Node;
 use gw_meaning::operands::A;
 use gw_meaning::{Block, StatementId};
 use gw_names::{Key, StorageName};
+use gw_parts::{Become, Enter, Leave, enter_all, let_some_in, reserve_some};
 
 impl State {
+    // The delay chain of a storage, where somebody waits on it.
+    #[inline(always)]
+    pub(crate) fn waiting_for(&self, key: &Key) -> Option<&PriorityChain>
+        ensures { items_of (option_copied result) ≡ delay_at self.now.delays key.now }
+    {
+        match self.delays.chain(key) {
+            Some(chain) if !chain.is_empty() => Some(chain),
+            _ => None,
+        }
+    }
+
     // Units of a storage come into use, or are waited for where they do not fit.
     #[inline(never)]
     pub(crate) fn act_enter(

@@ -4,15 +4,12 @@ ghost use Rattle.gw_meaning.specs.declared.transaction.Transaction.{Transaction}
 ghost use Rattle.gw_meaning.specs.Evaluation.{value_prog, value_or_zero, value_there, numbered, entity_prog, units_prog, ◌~>◌};
 ghost use Rattle.gw_meaning.specs.Statements.{A, B, operand};
 ghost use Rattle.gw_meaning.specs.Step.{for_one};
-ghost use Rattle.gw_scan.specs.Deciding.{Decides};
-ghost use Rattle.gw_scan.specs.EntityRef.{keyed};
+ghost use Rattle.gw_asking.specs.Deciding.{Decides};
+ghost use Rattle.gw_asking.specs.EntityRef.{keyed};
 
-use crate::case::{Case, ask_name};
-use crate::entity_ref::{EntityRef, named, numbered};
-use crate::halt::Halt;
-use crate::notes::Notes;
 use crate::seen::Seen;
 use crate::state::State;
+use gw_asking::{Case, EntityRef, Halt, Notes, ask_name, named, numbered};
 use gw_expr::{Atom, Expr, Node, eval};
 use gw_meaning::operands::{A, B};
 use gw_meaning::{Asker, Block, Transaction};

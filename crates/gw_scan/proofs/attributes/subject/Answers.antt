@@ -1,6 +1,6 @@
 use Rattle.gw_expr.specs.declared.attribute.Subject.TheVariants as subjects
 use Rattle.gw_meaning.specs.Evaluation.{subject_prog}
-use Rattle.gw_scan.proofs.Binding.{decides_comes}
+use Rattle.gw_asking.proofs.Binding.{decides_comes}
 use Rattle.gw_scan.proofs.attributes.subject.Goals as goal
 
 pub returns-in-Number : goal.returns-in-Number

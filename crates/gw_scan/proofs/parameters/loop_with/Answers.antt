@@ -3,8 +3,8 @@ use Rattle.std.proofs.lemmas.Bool.{eq-eqb}
 use Rattle.gw_nums.specs.Range.{magnitude}
 use Rattle.gw_meaning.specs.Evaluation.{gives}
 use Rattle.gw_meaning.specs.Step.{assign_to}
-use Rattle.gw_scan.specs.Deciding.{looped, looping}
-use Rattle.gw_scan.proofs.Binding.{decides_comes}
+use Rattle.gw_scan.specs.Making.{looped, looping}
+use Rattle.gw_asking.proofs.Binding.{decides_comes}
 use Rattle.gw_scan.proofs.parameters.loop_with.Goals as goal
 
 pub returns-then-magnitude-eq0 : goal.returns-then-magnitude-eq0

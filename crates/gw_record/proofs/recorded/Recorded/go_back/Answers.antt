@@ -1,4 +1,4 @@
-use Rattle.std.proofs.Common.{refl}
+use Rattle.std.proofs.Common.{◌∙◌, refl}
 use Rattle.gw_record.proofs.KeepLaws.{due_all}
 use Rattle.gw_record.proofs.recorded.Recorded.go_back.Goals as goal
 
@@ -23,4 +23,4 @@ returns c =
 pub invariant_of-self : goal.invariant_of-self
 invariant_of-self c =
     let ahead = c.steps_ahead-self-inside.ensures in
-    (ahead.within, ahead.multiple, due_all _ _ _ _ _, rw c.replace.ensures.after c.go_back.ensures.drawn)
+    (ahead.within, ahead.multiple, due_all _ _ _ _ _, rw c.replace.ensures.after (c.go_back.ensures.drawn ∙ c.streams.ensures))

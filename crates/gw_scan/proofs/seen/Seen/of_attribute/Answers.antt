@@ -1,6 +1,6 @@
 use Rattle.gw_expr.specs.declared.attribute.Subject.TheVariants as subjects
 use Rattle.gw_meaning.specs.Evaluation.{attribute_prog, subject_prog, parameter_value, ◌~>◌}
-use Rattle.gw_scan.proofs.Binding.{decides_comes}
+use Rattle.gw_asking.proofs.Binding.{decides_comes}
 use Rattle.gw_scan.proofs.seen.Seen.of_attribute.Goals as goal
 
 -- a parameter with a number, which nobody is asked for

@@ -1,7 +1,7 @@
 use Rattle.std.proofs.Common.{◌≡◌, rules}
 use Rattle.gw_meaning.specs.Statements.{A, B, operand}
 use Rattle.gw_meaning.specs.Step.{for_one, advance_prog}
-use Rattle.gw_scan.specs.Deciding.{entered}
+use Rattle.gw_scan.specs.Making.{entered}
 use Rattle.gw_scan.proofs.Acting.{acts_made}
 use Rattle.gw_scan.proofs.state.State.act_advance.Goals as goal
 

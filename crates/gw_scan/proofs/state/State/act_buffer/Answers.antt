@@ -1,8 +1,8 @@
 use Rattle.std.proofs.Common.{Ok}
 use Rattle.gw_meaning.specs.declared.moves.Fate.TheVariants as fates
 use Rattle.gw_meaning.specs.Step.{buffer_prog}
-use Rattle.gw_scan.specs.Deciding.{entered}
-use Rattle.gw_scan.proofs.Binding.{decides_gives}
+use Rattle.gw_scan.specs.Making.{entered}
+use Rattle.gw_asking.proofs.Binding.{decides_gives}
 use Rattle.gw_scan.proofs.Acting.{acts_made}
 use Rattle.gw_scan.proofs.state.State.act_buffer.Goals as goal
 

@@ -1,7 +1,7 @@
 use Rattle.std.proofs.Common.{◌≡◌, Some, option_copied, rules}
 use Rattle.gw_meaning.specs.declared.statement.Command.TheVariants as commands
 use Rattle.gw_meaning.specs.Step.{start_prog}
-use Rattle.gw_scan.specs.Deciding.{starting}
+use Rattle.gw_scan.specs.Making.{starting}
 use Rattle.gw_scan.proofs.Acting.{acts_made}
 use Rattle.gw_scan.proofs.state.State.act_command_of.Goals as goal
 

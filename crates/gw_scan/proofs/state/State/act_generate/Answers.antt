@@ -1,7 +1,7 @@
 use Rattle.std.proofs.Common.{◌≡◌, rules}
 use Rattle.gw_meaning.specs.Statements.{A, B, D, E, operand}
 use Rattle.gw_meaning.specs.Step.{generate_prog}
-use Rattle.gw_scan.specs.Deciding.{generated}
+use Rattle.gw_scan.specs.Making.{generated}
 use Rattle.gw_scan.proofs.Acting.{acts_made}
 use Rattle.gw_scan.proofs.state.State.act_generate.Goals as goal
 

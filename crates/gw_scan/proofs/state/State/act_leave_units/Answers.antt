@@ -10,8 +10,8 @@ use Rattle.gw_meaning.specs.Machine.{delay_at}
 use Rattle.gw_meaning.specs.Entities.{store_at}
 use Rattle.gw_meaning.specs.Evaluation.{Eval, ◌~>◌}
 use Rattle.gw_meaning.specs.Step.{shares_prog, leave_for, leave_units}
-use Rattle.gw_scan.specs.Deciding.{Decides}
-use Rattle.gw_scan.specs.Noted.{Noted}
+use Rattle.gw_asking.specs.Deciding.{Decides}
+use Rattle.gw_asking.specs.Noted.{Noted}
 use Rattle.gw_scan.specs.Stepping.{Goes}
 use Rattle.gw_scan.proofs.Acting.{acts_then, acts_exit}
 use Rattle.gw_scan.proofs.state.State.act_leave_units.Goals as goal

@@ -4,7 +4,7 @@ use Rattle.gw_meaning.specs.declared.moves.Move.{Move}
 use Rattle.gw_meaning.specs.Evaluation.{Eval, gives, value_there, ◌~>◌}
 use Rattle.gw_meaning.specs.Statements.{A, operand}
 use Rattle.gw_meaning.specs.Step.{for_one, priority_prog}
-use Rattle.gw_scan.specs.Deciding.{prioritized}
+use Rattle.gw_scan.specs.Making.{prioritized}
 use Rattle.gw_scan.proofs.Acting.{acts_whole, acts_exit}
 use Rattle.gw_scan.proofs.state.State.act_priority.Goals as goal
 

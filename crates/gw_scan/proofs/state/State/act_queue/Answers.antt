@@ -6,7 +6,7 @@ use Rattle.gw_meaning.specs.Entities.{line_at}
 use Rattle.gw_meaning.specs.Evaluation.{Eval, entity_prog, units_prog, ◌~>◌}
 use Rattle.gw_meaning.specs.Statements.{A, B, operand}
 use Rattle.gw_meaning.specs.Step.{for_one, queue_units}
-use Rattle.gw_scan.specs.EntityRef.{key_of}
+use Rattle.gw_asking.specs.EntityRef.{key_of}
 use Rattle.gw_scan.proofs.Acting.{acts_then, acts_exit}
 use Rattle.gw_scan.proofs.state.State.act_queue.Goals as goal
 

@@ -7,7 +7,7 @@ use Rattle.gw_meaning.specs.Machine.{delay_at}
 use Rattle.gw_meaning.specs.Evaluation.{Eval, entity_prog}
 use Rattle.gw_meaning.specs.Statements.{A, operand}
 use Rattle.gw_meaning.specs.Step.{for_one, first_number, is_owner, release_to}
-use Rattle.gw_scan.specs.EntityRef.{key_of}
+use Rattle.gw_asking.specs.EntityRef.{key_of}
 use Rattle.gw_scan.proofs.Acting.{acts_then, acts_exit}
 use Rattle.gw_scan.proofs.state.State.act_release.Goals as goal
 

@@ -3,7 +3,7 @@ use Rattle.std.proofs.lemmas.Result.{err_from_is_err_and}
 use Rattle.gw_meaning.specs.Machine.{Machine}
 use Rattle.gw_meaning.specs.Statements.{A, B, C, operand}
 use Rattle.gw_meaning.specs.Step.{transfer_prog}
-use Rattle.gw_scan.specs.Deciding.{sent, sending}
+use Rattle.gw_asking.specs.Deciding.{sent, sending}
 use Rattle.gw_scan.specs.Stepping.{Acts}
 use Rattle.gw_scan.proofs.Acting.{acts_ends, acts_memory}
 use Rattle.gw_scan.proofs.StepLaws.{decides_keeps}

@@ -9,9 +9,9 @@ use Rattle.gw_meaning.specs.declared.moves.Move.TheVariants as moves
 use Rattle.gw_meaning.specs.Statements.{A, B, operand}
 use Rattle.gw_meaning.specs.Evaluation.{Eval, gives, ends_with, stops_if, time_prog, ◌~>◌}
 use Rattle.gw_meaning.specs.Step.{for_one, advance_prog, delay_of}
-use Rattle.gw_scan.specs.declared.halt.Why.TheVariants as whys
-use Rattle.gw_scan.specs.Deciding.{entered}
-use Rattle.gw_scan.proofs.Binding.{decides_exit, decides_whole, decides_comes}
+use Rattle.gw_asking.specs.declared.halt.Why.TheVariants as whys
+use Rattle.gw_scan.specs.Making.{entered}
+use Rattle.gw_asking.proofs.Binding.{decides_exit, decides_whole, decides_comes}
 use Rattle.gw_scan.proofs.state.State.advance_of.Goals as goal
 
 pub returns-in_err-time : goal.returns-in_err-time

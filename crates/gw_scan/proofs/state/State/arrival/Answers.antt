@@ -7,14 +7,14 @@ use Rattle.gw_meaning.specs.declared.moves.Arrival.{Arrival}
 use Rattle.gw_meaning.specs.Machine.{count_at}
 use Rattle.gw_meaning.specs.Evaluation.{Eval, gives, ends_with, value_prog, ◌~>◌}
 use Rattle.gw_meaning.specs.Step.{arrival_prog, arrival_within}
-use Rattle.gw_scan.specs.declared.halt.Why.TheVariants as whys
-use Rattle.gw_scan.proofs.Binding.{decides_exit, decides_whole, decides_comes}
+use Rattle.gw_asking.specs.declared.halt.Why.TheVariants as whys
+use Rattle.gw_asking.proofs.Binding.{decides_exit, decides_whole, decides_comes}
 use Rattle.std.proofs.Common.{◌≡◌, Option, option_copied, ℤ, rules}
 use Rattle.gw_meaning.specs.Machine.{count_at}
 use Rattle.gw_meaning.specs.declared.moves.Arrival.{Arrival}
 use Rattle.gw_meaning.specs.Evaluation.{Eval, value_prog, ◌~>◌}
 use Rattle.gw_meaning.specs.Step.{arrival_prog, arrival_within, arrival_in_time}
-use Rattle.gw_scan.proofs.Binding.{decides_whole}
+use Rattle.gw_asking.proofs.Binding.{decides_whole}
 use Rattle.gw_scan.proofs.state.State.arrival.Goals as goal
 use Rattle.gw_scan.proofs.state.State.arrival.Goals.{in-Some+in_ok-limit+else-is_negative+else-magnitude-count, in_default}
 

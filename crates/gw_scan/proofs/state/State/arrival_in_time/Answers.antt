@@ -3,7 +3,7 @@ use Rattle.std.proofs.lemmas.Result.{err_from_is_err_and}
 use Rattle.gw_meaning.specs.declared.moves.Arrival.{Arrival}
 use Rattle.gw_meaning.specs.Evaluation.{Eval, value_or_zero, time_prog, ◌~>◌}
 use Rattle.gw_meaning.specs.Step.{arrival_at}
-use Rattle.gw_scan.proofs.Binding.{decides_exit, decides_then, decides_comes}
+use Rattle.gw_asking.proofs.Binding.{decides_exit, decides_then, decides_comes}
 use Rattle.gw_scan.proofs.state.State.arrival_in_time.Goals as goal
 
 pub returns-in_err-time : goal.returns-in_err-time

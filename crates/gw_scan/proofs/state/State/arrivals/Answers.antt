@@ -5,8 +5,8 @@ use Rattle.gw_meaning.specs.Evaluation.{◌~>◌}
 use Rattle.gw_meaning.specs.Step.{arrivals_prog, prime_prog, with_arrival}
 use Rattle.gw_chains.proofs.ChainLaws.{item_drop}
 use Rattle.std.specs.Prelude.{Err}
-use Rattle.gw_scan.specs.declared.halt.Why.TheVariants as whys
-use Rattle.gw_scan.proofs.Binding.{decides_exit, decides_whole, decides_gives, decides_memory, reads_keep}
+use Rattle.gw_asking.specs.declared.halt.Why.TheVariants as whys
+use Rattle.gw_asking.proofs.Binding.{decides_exit, decides_whole, decides_gives, decides_memory, reads_keep}
 use Rattle.gw_scan.proofs.state.State.arrivals.Goals as goal
 
 pub returns-in_err-arrival : goal.returns-in_err-arrival

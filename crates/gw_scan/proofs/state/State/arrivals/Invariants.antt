@@ -1,9 +1,9 @@
 use Rattle.std.proofs.Common.{List, [], Result, drop}
 use Rattle.gw_meaning.specs.declared.moves.Arrival.{Arrival}
 use Rattle.gw_meaning.specs.Step.{arrivals_prog}
-use Rattle.gw_scan.specs.declared.halt.Why.{Why}
-use Rattle.gw_scan.specs.Noted.{Noted}
-use Rattle.gw_scan.specs.Deciding.{Decides}
+use Rattle.gw_asking.specs.declared.halt.Why.{Why}
+use Rattle.gw_asking.specs.Noted.{Noted}
+use Rattle.gw_asking.specs.Deciding.{Decides}
 use Rattle.gw_scan.proofs.state.State.arrivals.Given as goal
 
 -- what the rest comes to is what all comes to

@@ -1,6 +1,6 @@
 use Rattle.gw_names.specs.declared.class.Class.TheVariants as class
 use Rattle.gw_meaning.specs.Evaluation.{own_value, attribute_prog}
-use Rattle.gw_scan.proofs.Binding.{decides_comes}
+use Rattle.gw_asking.proofs.Binding.{decides_comes}
 use Rattle.gw_scan.proofs.state.State.attribute.Goals as goal
 
 pub returns-in-C1 : goal.returns-in-C1

@@ -2,8 +2,8 @@ use Rattle.std.proofs.Common.{◌≡◌, ℤ, refl, ap}
 use Rattle.std.proofs.lemmas.Result.{err_from_is_err_and}
 use Rattle.gw_names.specs.declared.key.Key.{Key}
 use Rattle.gw_meaning.specs.Evaluation.{Eval, value_prog, numbered, ◌~>◌}
-use Rattle.gw_scan.specs.EntityRef.{keyed}
-use Rattle.gw_scan.proofs.Binding.{decides_exit, decides_then, decides_comes}
+use Rattle.gw_asking.specs.EntityRef.{keyed}
+use Rattle.gw_asking.proofs.Binding.{decides_exit, decides_then, decides_comes}
 use Rattle.gw_scan.proofs.state.State.computed_entity.Goals as goal
 
 pub returns-in_err-number : goal.returns-in_err-number

@@ -1,7 +1,7 @@
 use Rattle.std.proofs.Common.{[]}
 use Rattle.gw_meaning.specs.declared.item.Item.TheVariants as items
 use Rattle.gw_meaning.specs.Step.{for_none, arrivals_prog}
-use Rattle.gw_scan.proofs.Binding.{decides_asked}
+use Rattle.gw_asking.proofs.Binding.{decides_asked}
 use Rattle.gw_scan.proofs.state.State.first_arrivals.Goals as goal
 
 pub returns : goal.returns

@@ -7,5 +7,5 @@ use Rattle.gw_scan.proofs.state.State.go.Goals as goal
 
 pub returns : goal.returns
 returns c x is =
-    let m = moves.Enter c.args.id (changes.Entity (c.args.key.now, deeds.Depart c.args.units c.has-at_once.result)) fates.Active in
+    let m = moves.Enter c.args.id (changes.Entity (c.args.key.now, deeds.Depart c.args.units c.has_come-at_once.result)) fates.Active in
     (m, search rules, rw is (search rules))

@@ -1,6 +1,6 @@
 use Rattle.std.proofs.Common.{◌≡◌, rules}
 use Rattle.gw_names.specs.declared.key.Key.TheVariants as keys
-use Rattle.gw_scan.specs.EntityRef.{key_of}
+use Rattle.gw_asking.specs.EntityRef.{key_of}
 use Rattle.gw_scan.proofs.state.State.loop_entity.Goals as goal
 
 pub returns-in-Named : goal.returns-in-Named

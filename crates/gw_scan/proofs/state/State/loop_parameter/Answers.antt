@@ -7,10 +7,11 @@ use Rattle.gw_meaning.specs.Evaluation.{Eval, ◌~>◌}
 use Rattle.gw_meaning.specs.Machine.{Machine}
 use Rattle.gw_meaning.specs.Statements.{B, operand}
 use Rattle.gw_meaning.specs.Step.{left_of, loop_with}
-use Rattle.gw_scan.specs.Deciding.{Decides, Comes, looped, looping}
+use Rattle.gw_asking.specs.Deciding.{Decides, Comes}
+use Rattle.gw_scan.specs.Making.{looped, looping}
 use Rattle.gw_scan.specs.Stepping.{Acts}
 use Rattle.gw_scan.proofs.Acting.{acts_exit, acts_ends, acts_memory}
-use Rattle.gw_scan.proofs.Binding.{decides_comes, decides_then}
+use Rattle.gw_asking.proofs.Binding.{decides_comes, decides_then}
 use Rattle.gw_scan.proofs.StepLaws.{decides_keeps}
 use Rattle.gw_scan.proofs.state.State.loop_parameter.Goals as goal
 

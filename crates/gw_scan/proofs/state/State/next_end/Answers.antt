@@ -1,7 +1,7 @@
-use Rattle.std.proofs.Common.{◌≡◌, Err, ap, rules}
+use Rattle.std.proofs.Common.{◌≡◌, ◌∙◌, Err, ap, rules}
 use Rattle.gw_meaning.specs.Step.{step}
-use Rattle.gw_scan.specs.Noted.{Noted}
-use Rattle.gw_scan.specs.declared.halt.Why.TheVariants as whys
+use Rattle.gw_asking.specs.Noted.{Noted}
+use Rattle.gw_asking.specs.declared.halt.Why.TheVariants as whys
 use Rattle.gw_scan.proofs.StepLaws.{acted, foretold, goes_on, ends_as}
 use Rattle.gw_scan.proofs.state.State.next_end.Goals as goal
 
@@ -10,7 +10,7 @@ returns-in-Ok c =
     let t = c.args.case.version.now in
     let seed = c.args.case.seed in
     let s = c.args.self.now in
-    let same = ap (λ (n : Noted). n.streams) c.new-notes.ensures in
+    let same = ap (λ (n : Noted). n.streams) c.new-notes.ensures ∙ c.streams.ensures in
     goes_on (step t seed s) c.act-made.new.self (acted t seed s c.act-made.new.self c.new-notes.result c.act-made.new.notes same c.in-Ok.ensures)
 
 pub returns-in-End : goal.returns-in-End
@@ -18,7 +18,7 @@ returns-in-End c =
     let t = c.args.case.version.now in
     let seed = c.args.case.seed in
     let s = c.args.self.now in
-    let same = ap (λ (n : Noted). n.streams) c.new-notes.ensures in
+    let same = ap (λ (n : Noted). n.streams) c.new-notes.ensures ∙ c.streams.ensures in
     let end = c.in-End.end in
     let halt : c.in-Err.halt ≡ whys.End end = search rules in
     ends_as (step t seed s) end

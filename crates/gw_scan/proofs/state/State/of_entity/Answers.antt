@@ -1,7 +1,7 @@
 use Rattle.std.proofs.Common.{ℤ}
 use Rattle.gw_names.specs.declared.key.Key.{Key}
 use Rattle.gw_meaning.specs.Evaluation.{Eval, subject_prog, entity_value}
-use Rattle.gw_scan.proofs.Binding.{decides_then, decides_comes}
+use Rattle.gw_asking.proofs.Binding.{decides_then, decides_comes}
 use Rattle.gw_scan.proofs.state.State.of_entity.Goals as goal
 
 pub returns : goal.returns

@@ -1,6 +1,6 @@
 use Rattle.gw_meaning.specs.declared.item.Item.TheVariants as items
 use Rattle.gw_meaning.specs.Step.{first_arrival}
-use Rattle.gw_scan.proofs.Binding.{decides_asked}
+use Rattle.gw_asking.proofs.Binding.{decides_asked}
 use Rattle.gw_scan.proofs.state.State.prime.Goals as goal
 
 pub returns : goal.returns

@@ -10,9 +10,9 @@ use Rattle.gw_meaning.specs.declared.moves.Move.TheVariants as moves
 use Rattle.gw_meaning.specs.Statements.{A, operand}
 use Rattle.gw_meaning.specs.Evaluation.{Eval, gives, ends_with, stops_if, value_or_zero, ◌~>◌}
 use Rattle.gw_meaning.specs.Step.{for_one, terminate_prog}
-use Rattle.gw_scan.specs.declared.halt.Why.TheVariants as whys
-use Rattle.gw_scan.specs.Deciding.{entered}
-use Rattle.gw_scan.proofs.Binding.{decides_exit, decides_whole, decides_comes}
+use Rattle.gw_asking.specs.declared.halt.Why.TheVariants as whys
+use Rattle.gw_scan.specs.Making.{entered}
+use Rattle.gw_asking.proofs.Binding.{decides_exit, decides_whole, decides_comes}
 use Rattle.gw_scan.proofs.state.State.terminate_of.Goals as goal
 
 pub returns-in_err-count : goal.returns-in_err-count

@@ -3,8 +3,8 @@ use Rattle.std.proofs.lemmas.Result.{err_from_is_err_and}
 use Rattle.gw_nums.specs.Millionths.{times}
 use Rattle.gw_expr.specs.Evaluation.{function_of}
 use Rattle.gw_meaning.specs.Evaluation.{Eval, value_or_zero, evaluated, in_range, ◌~>◌}
-use Rattle.gw_scan.specs.Halts.{why_of_fault}
-use Rattle.gw_scan.proofs.Binding.{decides_exit, decides_then, decides_comes}
+use Rattle.gw_asking.specs.Halts.{why_of_fault}
+use Rattle.gw_asking.proofs.Binding.{decides_exit, decides_then, decides_comes}
 use Rattle.gw_scan.proofs.Evaluating.{seen_decides}
 use Rattle.gw_scan.proofs.state.State.time_by_function.Goals as goal
 

@@ -1,11 +1,11 @@
 use Rattle.std.proofs.Common.{◌≡◌, ℤ, option_copied, refl}
 use Rattle.std.proofs.lemmas.Result.{err_from_is_err_and}
 use Rattle.gw_meaning.specs.Evaluation.{Eval, value_or_zero, sample, ◌~>◌}
-use Rattle.gw_scan.proofs.Binding.{decides_exit, decides_then}
+use Rattle.gw_asking.proofs.Binding.{decides_exit, decides_then}
 use Rattle.std.proofs.Common.{option_copied, ℤ, refl}
 use Rattle.std.proofs.lemmas.Result.{err_from_is_err_and}
 use Rattle.gw_meaning.specs.Evaluation.{Eval, value_or_zero, sample, ◌~>◌}
-use Rattle.gw_scan.proofs.Binding.{decides_exit, decides_then}
+use Rattle.gw_asking.proofs.Binding.{decides_exit, decides_then}
 use Rattle.gw_scan.proofs.state.State.time_within.Goals as goal
 
 pub returns-in_err-range : goal.returns-in_err-range

@@ -5,8 +5,8 @@ use Rattle.gw_expr.specs.declared.stop.Stop.TheVariants.{BadCount}
 use Rattle.gw_meaning.specs.declared.item.End.TheVariants as ends
 use Rattle.gw_meaning.specs.Evaluation.{Eval, gives, ends_with, stops_if, value_prog, units_prog, ◌~>◌}
 use Rattle.gw_meaning.specs.Step.{for_one}
-use Rattle.gw_scan.specs.declared.halt.Why.TheVariants as whys
-use Rattle.gw_scan.proofs.Binding.{decides_exit, decides_whole, decides_comes}
+use Rattle.gw_asking.specs.declared.halt.Why.TheVariants as whys
+use Rattle.gw_asking.proofs.Binding.{decides_exit, decides_whole, decides_comes}
 use Rattle.gw_scan.proofs.state.State.units.Goals as goal
 
 pub returns-in_err-units : goal.returns-in_err-units

@@ -1,0 +1,38 @@
+-- What a function that asks came to, against the evaluation that it stands for.
+use Rattle.std.specs.Prelude.{◌≡◌, ℕ, Option, Some, None, Result, Ok, Err}
+use Rattle.gw_meaning.specs.declared.moves.Change.TheVariants as changes
+use Rattle.gw_meaning.specs.declared.transaction_change.TransactionChange.TheVariants as own
+use Rattle.gw_meaning.specs.declared.moves.Fate.TheVariants as fates
+use Rattle.gw_meaning.specs.declared.moves.Move.{Move}
+use Rattle.gw_meaning.specs.declared.moves.Move.TheVariants as moves
+use Rattle.gw_meaning.specs.Listing.{Listing}
+use Rattle.gw_meaning.specs.Questions.{result_of, items_of}
+use Rattle.gw_meaning.specs.Evaluation.{Eval, gives, ends_with}
+use Rattle.gw_asking.specs.Noted.{Noted, Reads, Keeps}
+use Rattle.gw_asking.specs.declared.halt.Why.{Why}
+use Rattle.gw_asking.specs.declared.halt.Why.TheVariants as whys
+
+-- the result, the questions and the streams behind the draws are the evaluation's; only a refused growth leaves them
+-- open, and it keeps what was noted of earlier steps
+abbrev pub Decides : {A : Type 0} → Listing → ℕ → Eval A → Result A Why → Noted → Noted → Type 0
+Decides t seed p (Ok a) old new =
+    (result_of t seed (p old.streams) ≡ Ok (a, new.streams)) × Reads old (items_of t seed (p old.streams)) new
+Decides t seed p (Err (whys.End end)) old new =
+    (result_of t seed (p old.streams) ≡ Err end) × Reads old (items_of t seed (p old.streams)) new
+Decides t seed p (Err whys.Memory) old new = Keeps old new
+
+-- the same, of an evaluation that neither asks nor draws; only a refused growth leaves it open
+abbrev pub Comes : {A : Type 0} → Eval A → Result A Why → Type 0
+Comes p (Ok a) = p ≡ gives a
+Comes p (Err (whys.End end)) = p ≡ ends_with end
+Comes p (Err whys.Memory) = Unit {0}
+
+-- a TRANSFER is entered, where it was decided to which block the transaction goes, if not to the next one
+abbrev pub sent : ℕ → Option ℕ → Move
+sent id None = moves.Enter id changes.Nothing fates.Active
+sent id (Some to) = moves.Enter id (changes.Transaction (own.Transfer to)) fates.Active
+
+-- the same, of what was decided
+abbrev pub sending : ℕ → Result (Option ℕ) Why → Result Move Why
+sending id (Ok to) = Ok (sent id to)
+sending id (Err halt) = Err halt

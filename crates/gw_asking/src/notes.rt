@@ -1,0 +1,146 @@
+ghost use Rattle.std.specs.Prelude.{◌≡◌, ◌+◌, ◌<◌, ◌^◌, ◌-◌, [], OnOk, OnErr};
+ghost use Rattle.gw_streams.specs.Draws.{all_set};
+ghost use Rattle.gw_uses.specs.Asked.{asked_item};
+ghost use Rattle.gw_uses.specs.Steps.{AreBelow};
+ghost use Rattle.gw_uses.specs.Uses.{nothing_used};
+ghost use Rattle.gw_asking.specs.Noted.{Asks, Forgets};
+
+use gw_expr::Row;
+use gw_meaning::Item;
+use gw_streams::Streams;
+use gw_uses::{Asked, FirstUses};
+use std::alloc::{AllocError, Global};
+use std::marker::Model;
+use std::mem;
+
+/// The last step that may read: what comes behind it stands for none.
+const LAST: u64 = u64::MAX - 1;
+
+/// What steps note on their way: for each item the first step that read it, and the streams behind their draws.
+#[derive(Drop)]
+pub struct Notes {
+    firsts: FirstUses,
+    step: u64,
+    pub(crate) streams: Streams,
+    // The memory of the last list of shares of a LEAVE, for the next one.
+    spare: Vec<Option<u64>>,
+}
+
+impl Model for Notes {
+    ghost use Rattle.std.specs.Prelude.{◌+◌, ◌<◌, ◌^◌, ◌-◌};
+    ghost use Rattle.gw_uses.specs.Steps.{AreBelow};
+    ghost use Rattle.gw_asking.specs.Noted.{Noted};
+
+    ghost Value = { Noted };
+
+    ghost view = { λ n. record { firsts = n.firsts; step = n.step; streams = n.streams } };
+
+    ghost invariant = { λ n. (n.step < 2 ^ 64 - 1) × AreBelow (n.step + 1) n.firsts.clock_steps };
+}
+
+impl Notes {
+    /// Nothing read yet, in front of step 0 from these streams.
+    pub fn new(alloc: Global, streams: Streams) -> Notes
+        ensures { result ≡ record { firsts = nothing_used; step = 0; streams = streams } }
+    {
+        Notes {
+            firsts: FirstUses::new(alloc),
+            step: 0,
+            streams,
+            spare: Vec::new(alloc),
+        }
+    }
+
+    /// The first step that read each item.
+    pub fn firsts(&self) -> &FirstUses
+        ensures { result.now ≡ self.now.firsts }
+    {
+        &self.firsts
+    }
+
+    /// The streams behind the draws.
+    #[inline(always)]
+    pub fn streams(&self) -> Streams
+        ensures { result ≡ self.now.streams }
+    {
+        self.streams
+    }
+
+    /// Sets the streams for which a value stands, as an RMULT does.
+    pub fn set_streams(&mut self, values: &[Option<u32>])
+        ensures { self.new ≡ record self.old { streams = all_set self.old.streams values.now } }
+    {
+        self.streams.set_all(values);
+    }
+
+    /// For proofs alone: no clock step that is noted comes after the step that reads. It does nothing.
+    pub fn rise(&self)
+        ensures { AreBelow (self.now.step + 1) self.now.firsts.clock_steps }
+    {
+        let _ = &self.firsts;
+    }
+
+    /// From now on this step reads: below 2^64 - 1, and no earlier than any clock step that is noted.
+    pub fn begin(&mut self, step: u64)
+        requires step { step < 2 ^ 64 - 1 }
+        requires clock { AreBelow (step + 1) self.old.firsts.clock_steps }
+        ensures { self.new ≡ record self.old { step = step } }
+    {
+        self.step = step;
+    }
+
+    /// Forgets the steps from one on, that one too, and the draws behind these streams.
+    pub fn go_back(&mut self, step: u64, streams: Streams)
+        ensures { Forgets step streams self.old self.new }
+    {
+        self.firsts.forget(step);
+        self.step = step.min(LAST);
+        self.streams = streams;
+    }
+
+    /// An empty list, in the memory of the one that was given back last.
+    #[inline(always)]
+    pub fn take_spare(&mut self, alloc: Global) -> Vec<Option<u64>>
+        ensures empty { result.items ≡ [] }
+        ensures same { self.new ≡ self.old }
+    {
+        let mut spare = mem::replace(&mut self.spare, Vec::new(alloc));
+        spare.clear();
+        spare
+    }
+
+    /// Keeps the memory of a list for the next one.
+    #[inline(always)]
+    pub fn give_back(&mut self, shares: Row<Option<u64>>)
+        ensures { self.new ≡ self.old }
+    {
+        self.spare = shares.into_vec();
+    }
+
+    /// Forgets the step that reads, and its draws behind these streams.
+    #[cold]
+    #[inline(never)]
+    pub fn forget(&mut self, streams: Streams)
+        ensures { Forgets self.old.step streams self.old self.new }
+    {
+        self.go_back(self.step, streams);
+    }
+
+    /// Notes an item that the step reads.
+    #[inline(always)]
+    pub fn note(&mut self, item: &Item) -> Result<(), AllocError>
+        ensures ok { OnOk result (Asks self.old item.now self.new) }
+        ensures err { OnErr result (self.new ≡ self.old) }
+    {
+        self.firsts.note(item, self.step)
+    }
+
+    /// Notes a question with a name that the step asks.
+    #[inline(always)]
+    pub fn note_asked(&mut self, asked: Asked) -> Result<(), AllocError>
+        ensures ok { OnOk result (Asks self.old (asked_item asked.entry) self.new) }
+        ensures err { OnErr result (self.new ≡ self.old) }
+    {
+        self.firsts.note_asked(asked, self.step)
+    }
+}

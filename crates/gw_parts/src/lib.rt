@@ -1,0 +1,20 @@
+//! The parts of a state that no crate below has, and what is done to several parts at once.
+//!
+//! Each call says what it makes of its part. All that grows is reserved first, so a refused growth changes nothing.
+#![tactic(auto)]
+
+mod active;
+mod clocks;
+mod deeds;
+mod entities;
+mod letting_in;
+mod making;
+mod progress;
+
+pub use active::Active;
+pub use clocks::Clocks;
+pub use deeds::{Arrive, Become, Depart, Enter, Leave, Release, Seize, enter_all};
+pub use entities::Entities;
+pub use letting_in::{let_first_in, let_some_in, reserve_first, reserve_some};
+pub use making::{make, make_all};
+pub use progress::Progress;
