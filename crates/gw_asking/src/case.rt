@@ -1,15 +1,15 @@
 // What a step asks, of a version and a seed.
 ghost use Rattle.std.specs.Prelude.{◌≡◌, IfOk, OnOk, OnErr, Some, None, if◌then◌else◌, option_copied, nat_le};
+ghost use Rattle.gw_meaning.specs.declared.item.Asked.TheVariants as questions;
 ghost use Rattle.gw_meaning.specs.declared.item.Item.TheVariants as items;
 ghost use Rattle.gw_asking.specs.Noted.{Asks, Tries};
 ghost use Rattle.gw_meaning.specs.Listing.{block_at, after_at, label_at, number_at, capacity_at, command_at, generates_in};
 
 use crate::notes::Notes;
-use gw_meaning::{Block, Command, Item, StatementId, Transaction};
+use gw_meaning::{Asked, Block, Command, Item, StatementId, Transaction};
 use gw_model::Version;
 use gw_names::Name;
 use gw_nums::{Clock, Time, Val};
-use gw_uses::Asked;
 use std::alloc::{AllocError, Global};
 
 /// The version and the seed that a run is of, and where a step finds memory.
@@ -74,10 +74,10 @@ pub fn ask_label(
     name: &Name,
 ) -> Result<Option<StatementId>, AllocError>
     ensures answer { IfOk result (λ id. id ≡ label_at version.now name.now) }
-    ensures ok { OnOk result (Asks notes.old (items.Label name.now) notes.new) }
+    ensures ok { OnOk result (Asks notes.old (items.Named questions.Label name.now) notes.new) }
     ensures err { OnErr result (notes.new ≡ notes.old) }
 {
-    notes.note_asked(Asked::Label(name))?;
+    notes.note_asked(Asked::Label, name)?;
     Ok(version.label(name))
 }
 
@@ -89,10 +89,10 @@ pub fn ask_name(
     name: &Name,
 ) -> Result<Option<Val>, AllocError>
     ensures answer { IfOk result (λ number. number ≡ number_at version.now name.now) }
-    ensures ok { OnOk result (Asks notes.old (items.Name name.now) notes.new) }
+    ensures ok { OnOk result (Asks notes.old (items.Named questions.Number name.now) notes.new) }
     ensures err { OnErr result (notes.new ≡ notes.old) }
 {
-    notes.note_asked(Asked::Name(name))?;
+    notes.note_asked(Asked::Number, name)?;
     Ok(version.number_of(name))
 }
 
@@ -106,20 +106,20 @@ pub fn ask_fits(
     capacity: u64,
 ) -> Result<bool, AllocError>
     ensures answer { IfOk result (λ fits. fits ≡ nat_le units capacity) }
-    ensures ok { OnOk result (Asks notes.old (items.Fits name.now units) notes.new) }
+    ensures ok { OnOk result (Asks notes.old (items.Named (questions.Fits units) name.now) notes.new) }
     ensures err { OnErr result (notes.new ≡ notes.old) }
 {
-    notes.note_asked(Asked::Fits(name, units))?;
+    notes.note_asked(Asked::Fits(units), name)?;
     Ok(units <= capacity)
 }
 
 /// How many units does the storage of this name have?
 pub fn ask_capacity(version: &Version, notes: &mut Notes, name: &Name) -> Result<u64, AllocError>
     ensures answer { IfOk result (λ capacity. capacity ≡ capacity_at version.now name.now) }
-    ensures ok { OnOk result (Asks notes.old (items.Storage name.now) notes.new) }
+    ensures ok { OnOk result (Asks notes.old (items.Named questions.Storage name.now) notes.new) }
     ensures err { OnErr result (notes.new ≡ notes.old) }
 {
-    notes.note_asked(Asked::Storage(name))?;
+    notes.note_asked(Asked::Storage, name)?;
     Ok(version.capacity(name))
 }
 

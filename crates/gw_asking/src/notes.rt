@@ -1,14 +1,15 @@
 ghost use Rattle.std.specs.Prelude.{◌≡◌, ◌+◌, ◌<◌, ◌^◌, ◌-◌, [], OnOk, OnErr};
 ghost use Rattle.gw_streams.specs.Draws.{all_set};
-ghost use Rattle.gw_uses.specs.Asked.{asked_item};
+ghost use Rattle.gw_meaning.specs.declared.item.Item.TheVariants as items;
 ghost use Rattle.gw_uses.specs.Steps.{AreBelow};
 ghost use Rattle.gw_uses.specs.Uses.{nothing_used};
 ghost use Rattle.gw_asking.specs.Noted.{Asks, Forgets};
 
 use gw_expr::Row;
-use gw_meaning::Item;
+use gw_meaning::{Asked, Item};
+use gw_names::Name;
 use gw_streams::Streams;
-use gw_uses::{Asked, FirstUses};
+use gw_uses::FirstUses;
 use std::alloc::{AllocError, Global};
 use std::marker::Model;
 use std::mem;
@@ -135,12 +136,12 @@ impl Notes {
         self.firsts.note(item, self.step)
     }
 
-    /// Notes a question with a name that the step asks.
+    /// Notes what the step asks of a name.
     #[inline(always)]
-    pub fn note_asked(&mut self, asked: Asked) -> Result<(), AllocError>
-        ensures ok { OnOk result (Asks self.old (asked_item asked.entry) self.new) }
+    pub fn note_asked(&mut self, asked: Asked, name: &Name) -> Result<(), AllocError>
+        ensures ok { OnOk result (Asks self.old (items.Named asked name.now) self.new) }
         ensures err { OnErr result (self.new ≡ self.old) }
     {
-        self.firsts.note_asked(asked, self.step)
+        self.firsts.note_asked(asked, name, self.step)
     }
 }

@@ -9,7 +9,12 @@ use Rattle.std.proofs.lemmas.Slice.Eq.{bytes_eq-Decides}
 use Rattle.std.proofs.lemmas.Bool.{cases_Bool, or_parts}
 use Rattle.std.proofs.lemmas.List.Elements.{filter_map-append}
 use Rattle.std.proofs.lemmas.List.Folds.{list_any-append}
+use Rattle.std.specs.Prelude.{ℤ}
+use Rattle.gw_expr.specs.Term.{Term}
+use Rattle.gw_expr.specs.declared.function.Function.{Function}
 use Rattle.gw_meaning.specs.declared.item.Item.{Item}
+use Rattle.gw_meaning.specs.declared.item.Asked.{Asked}
+use Rattle.gw_meaning.specs.declared.item.Asked.TheVariants as questions
 use Rattle.gw_meaning.specs.declared.item.Item.TheVariants as items
 use Rattle.gw_meaning.specs.declared.statement.Body.{Body}
 use Rattle.gw_meaning.specs.declared.statement.Body.TheVariants as bodies
@@ -142,30 +147,30 @@ module _ (name : List ℕ) where
       [ true ↦ refl | false ↦ label_listed lines ]
 
   -- a label that was wanted and is left untouched is another one
-  other_label : (label : Option (List ℕ)) → probed_at (label_if true label) (items.Label name) ≡ false → has_label name label ≡ false
+  other_label : (label : Option (List ℕ)) → probed_at (label_if true label) (items.Named questions.Label name) ≡ false → has_label name label ≡ false
   other_label None h = refl
   other_label (Some label) h = bytes_other name label h
 
   pub no_label : (t : Listing) (place : ℕ) (line : Numbered) (block : Bool) → is_block line ≡ block →
-      is_touched (cond block (block_probes t place line) (rest_probes t place line)) (items.Label name) ≡ false → label_of line ≡ None
+      is_touched (cond block (block_probes t place line) (rest_probes t place line)) (items.Named questions.Label name) ≡ false → label_of line ≡ None
   no_label t place line true is h =
-      let other = other_label line.statement.label (untouched_at (block_places (block_before t place) line) 4 _ (items.Label name) refl h) in
+      let other = other_label line.statement.label (untouched_at (block_places (block_before t place) line) 4 _ (items.Named questions.Label name) refl h) in
       ap (λ c. cond c (Some line.number) None) (ap₂ (λ a b. a && b) is other)
   no_label t place line false is h = ap (λ c. cond (c && has_label name line.statement.label) (Some line.number) None) is
 
   label_there : (line : Numbered) (s : Statement) (same : Bool) → same_label line.statement.label s.label ≡ same →
-      is_touched (given (label_places (not same) line (changed_line line s))) (items.Label name) ≡ false →
+      is_touched (given (label_places (not same) line (changed_line line s))) (items.Named questions.Label name) ≡ false →
       has_label name s.label ≡ has_label name line.statement.label
   label_there line s true is h = ap (has_label name) (sym (label_same line.statement.label s.label is))
   label_there line s false is h =
       let places = label_places true line (changed_line line s) in
-      other_label s.label (untouched_at places 1 _ (items.Label name) refl h) ∙
-      sym (other_label line.statement.label (untouched_at places 0 _ (items.Label name) refl h))
+      other_label s.label (untouched_at places 1 _ (items.Named questions.Label name) refl h) ∙
+      sym (other_label line.statement.label (untouched_at places 0 _ (items.Named questions.Label name) refl h))
 
   pub label_changed : (line : Numbered) (s : Statement) → is_block line ≡ true → is_block (changed_line line s) ≡ true →
-      is_touched (block_change line (changed_line line s)) (items.Label name) ≡ false → label_of (changed_line line s) ≡ label_of line
+      is_touched (block_change line (changed_line line s)) (items.Named questions.Label name) ≡ false → label_of (changed_line line s) ≡ label_of line
   label_changed line s was is h =
-      let labels = label_there line s (same_label line.statement.label s.label) refl (change_parts line s (items.Label name) h).1 in
+      let labels = label_there line s (same_label line.statement.label s.label) refl (change_parts line s (items.Named questions.Label name) h).1 in
       ap (λ c. cond c (Some line.number) None) (ap₂ (λ a b. a && b) (is ∙ sym was) labels)
 
 -- what definitions say of a name
@@ -204,23 +209,32 @@ pub said_same : {X : Type 0} (f : Option Definition → Option X) (name label : 
 said_same f name label d e (inl same) = elim (bytes_eq label name) as (λ b. f (definition_if b d) ≡ f (definition_if b e)) [ true ↦ same | false ↦ refl ]
 said_same f name label d e (inr other) = rw other refl
 
--- they say the same to an item
+-- what a definition says to what is asked of its name
+pub record Saying : Type 1 where
+  pub X : Type 0
+  pub says : Option Definition → Option X
+
+abbrev pub saying : Asked → Saying
+saying questions.Label = record { X = ℕ; says = λ d. None }
+saying questions.Number = record { X = ℤ; says = number_of }
+saying (questions.Fits units) = record { X = Bool; says = fitting units }
+saying questions.Storage = record { X = ℕ; says = units_of }
+saying questions.Variable = record { X = Term; says = expression_of }
+saying questions.Function = record { X = Function; says = function_of }
+
+-- two definitions say the same to an item
 abbrev pub IsSameTo : Item → List ℕ → Option Definition → Option Definition → Type 0
-IsSameTo (items.Name name) = IsSameOf number_of name
-IsSameTo (items.Fits name units) = IsSameOf (fitting units) name
-IsSameTo (items.Storage name) = IsSameOf units_of name
-IsSameTo (items.Variable name) = IsSameOf expression_of name
-IsSameTo (items.Function name) = IsSameOf function_of name
+IsSameTo (items.Named asked name) = IsSameOf (saying asked).says name
 IsSameTo item = IsSameOf {X = ℕ} (λ d. None) []
 
 -- a definition that is left untouched says no more than none
 pub untouched_same : (i : Item) (label : List ℕ) (d : Definition) → probed_at (definition_place (Some label) (Some d)) i ≡ false →
     IsSameTo i label (Some d) None
-untouched_same (items.Name name) label (definitions.Equ value) h = inr (bytes_other name label h)
-untouched_same (items.Fits name units) label (definitions.Storage capacity) h = inr (and_true_parts (bytes_eq label name) h)
-untouched_same (items.Storage name) label (definitions.Storage capacity) h = inr (and_true_parts (bytes_eq label name) h)
-untouched_same (items.Variable name) label (definitions.Variable expression) h = inr (bytes_other name label h)
-untouched_same (items.Function name) label (definitions.Function function) h = inr (bytes_other name label h)
+untouched_same (items.Named questions.Number name) label (definitions.Equ value) h = inr (bytes_other name label h)
+untouched_same (items.Named (questions.Fits units) name) label (definitions.Storage capacity) h = inr (and_true_parts (bytes_eq label name) h)
+untouched_same (items.Named questions.Storage name) label (definitions.Storage capacity) h = inr (and_true_parts (bytes_eq label name) h)
+untouched_same (items.Named questions.Variable name) label (definitions.Variable expression) h = inr (bytes_other name label h)
+untouched_same (items.Named questions.Function name) label (definitions.Function function) h = inr (bytes_other name label h)
 untouched_same item label d h = inl refl
 
 module _ (name : List ℕ) where
@@ -320,7 +334,7 @@ by_lines items.Generates listed = record {
   line = λ t place line h. generate_none line (no_generate t place line (is_block line) refl h);
   change = λ line s was is h. ap (λ b. cond b (Some line.number) None) (same_generate line s h);
 }
-by_lines (items.Label name) listed = record {
+by_lines (items.Named questions.Label name) listed = record {
   X = ℕ;
   says = label_of name;
   made = λ horizon seed ns. leading ns;
@@ -328,12 +342,17 @@ by_lines (items.Label name) listed = record {
   line = λ t place line h. no_label name t place line (is_block line) refl h;
   change = λ line s was is h. label_changed name line s was is h;
 }
-by_lines (items.Name name) listed = by_name name number_of refl (λ z. z) (λ t seed. refl) (untouched_same (items.Name name))
-by_lines (items.Fits name units) listed =
-    by_name name (fitting units) refl (λ b. unwrap_or b (nat_le units 0)) (λ t seed. fits_listed name units t.lines) (untouched_same (items.Fits name units))
-by_lines (items.Storage name) listed = by_name name units_of refl (λ n. unwrap_or n 0) (λ t seed. refl) (untouched_same (items.Storage name))
-by_lines (items.Variable name) listed = by_name name expression_of refl (λ e. e) (λ t seed. refl) (untouched_same (items.Variable name))
-by_lines (items.Function name) listed = by_name name function_of refl (λ f. f) (λ t seed. refl) (untouched_same (items.Function name))
+by_lines (items.Named questions.Number name) listed =
+    by_name name number_of refl (λ z. z) (λ t seed. refl) (untouched_same (items.Named questions.Number name))
+by_lines (items.Named (questions.Fits units) name) listed =
+    by_name name (fitting units) refl (λ b. unwrap_or b (nat_le units 0)) (λ t seed. fits_listed name units t.lines)
+    (untouched_same (items.Named (questions.Fits units) name))
+by_lines (items.Named questions.Storage name) listed =
+    by_name name units_of refl (λ n. unwrap_or n 0) (λ t seed. refl) (untouched_same (items.Named questions.Storage name))
+by_lines (items.Named questions.Variable name) listed =
+    by_name name expression_of refl (λ e. e) (λ t seed. refl) (untouched_same (items.Named questions.Variable name))
+by_lines (items.Named questions.Function name) listed =
+    by_name name function_of refl (λ f. f) (λ t seed. refl) (untouched_same (items.Named questions.Function name))
 by_lines item listed = record {
   X = Unit {0};
   says = λ line. None;

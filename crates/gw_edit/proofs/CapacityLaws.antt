@@ -4,6 +4,8 @@ use Rattle.std.specs.Str.{bytes_eq}
 use Rattle.std.proofs.lemmas.Bool.Decides.{nat_tests}
 use Rattle.std.proofs.lemmas.Slice.Eq.{bytes_eq-Decides}
 use Rattle.gw_meaning.specs.declared.item.Item.{Item}
+use Rattle.gw_meaning.specs.declared.item.Asked.{Asked}
+use Rattle.gw_meaning.specs.declared.item.Asked.TheVariants as questions
 use Rattle.gw_meaning.specs.declared.item.Item.TheVariants as items
 use Rattle.gw_meaning.specs.declared.statement.Body.{Body}
 use Rattle.gw_meaning.specs.declared.statement.Body.TheVariants as bodies
@@ -13,7 +15,7 @@ use Rattle.gw_meaning.specs.declared.statement.Numbered.{Numbered}
 use Rattle.gw_meaning.specs.Listing.{Listing, nth, has_label, definition_of_body, definition_if, defines, or_next, units_of, capacity_in, capacity_at}
 use Rattle.gw_model.specs.Faults.{is_outside}
 use Rattle.gw_model.specs.Spliced.{with_splice}
-use Rattle.gw_uses.specs.Asks.{differs, is_other}
+use Rattle.gw_uses.specs.Asks.{answers_differ, differs, is_other}
 use Rattle.gw_frame.specs.Alike.{SameAnswer}
 use Rattle.gw_edit.specs.declared.touch.Probe.TheVariants.{Amounts}
 use Rattle.gw_lines.specs.Printed.{storage_of}
@@ -111,34 +113,27 @@ two_ways from to amount h = go (nat_le amount from) (nat_le amount to) h where
 two_capacities : (from to : ℕ) → is_other (Some from) (Some to) ≡ true → to ≡ from → ⊥
 two_capacities from to h same = grind (arith, nat_tests, h, same)
 
+-- what the two capacities answer in two ways is not answered alike
+told_otherwise : (t u : Listing) (a b : ℕ) (name other : List ℕ) (from to : ℕ) → capacity_at t name ≡ from → capacity_at u name ≡ to → name ≡ other →
+    (asked : Asked) → answers_differ (Some from) (Some to) asked ≡ true → SameAnswer t a u b (items.Named asked other) → ⊥
+told_otherwise t u a b name other from to was is here (questions.Fits amount) differ same =
+    let alike : nat_le amount (capacity_at u name) ≡ nat_le amount (capacity_at t name) = rw here same in
+    two_ways from to amount differ (ap (λ n. nat_le amount n) (sym is) ∙ (alike ∙ ap (λ n. nat_le amount n) was))
+told_otherwise t u a b name other from to was is here questions.Storage differ same =
+    let alike : capacity_at u name ≡ capacity_at t name = rw here same in
+    two_capacities from to differ (sym is ∙ (alike ∙ was))
+told_otherwise t u a b name other from to was is here asked differ same = absurd cc
+
 answered : (t u : Listing) (a b : ℕ) (name : List ℕ) (from to : ℕ) → capacity_at t name ≡ from → capacity_at u name ≡ to → (i : Item) →
     is_touched (Amounts name (Some from) (Some to) ∷ []) i ≡ true → SameAnswer t a u b i → ⊥
-answered t u a b name from to was is (items.Fits other amount) h same = go (bytes_eq name other) refl (differs (Some from) (Some to) amount) refl h where
-  go : (e : Bool) → bytes_eq name other ≡ e → (d : Bool) → differs (Some from) (Some to) amount ≡ d → ((e && d) || false) ≡ true → ⊥
-  go false named d there k = absurd cc
-  go true named false there k = absurd cc
-  go true named true there k =
-      let here : name ≡ other = (bytes_eq-Decides name other).0 named in
-      let alike : nat_le amount (capacity_at u name) ≡ nat_le amount (capacity_at t name) = rw here same in
-      two_ways from to amount there (ap (λ n. nat_le amount n) (sym is) ∙ (alike ∙ ap (λ n. nat_le amount n) was))
-answered t u a b name from to was is (items.Storage other) h same = go (bytes_eq name other) refl (is_other (Some from) (Some to)) refl h where
-  go : (e : Bool) → bytes_eq name other ≡ e → (d : Bool) → is_other (Some from) (Some to) ≡ d → ((e && d) || false) ≡ true → ⊥
-  go false named d there k = absurd cc
-  go true named false there k = absurd cc
-  go true named true there k =
-      let here : name ≡ other = (bytes_eq-Decides name other).0 named in
-      let alike : capacity_at u name ≡ capacity_at t name = rw here same in
-      two_capacities from to there (sym is ∙ (alike ∙ was))
-answered t u a b name from to was is (items.Variable other) h same = absurd cc
-answered t u a b name from to was is (items.Function other) h same = absurd cc
-answered t u a b name from to was is (items.Block id) h same = absurd cc
-answered t u a b name from to was is (items.After id) h same = absurd cc
-answered t u a b name from to was is (items.Label label) h same = absurd cc
-answered t u a b name from to was is (items.Name other) h same = absurd cc
-answered t u a b name from to was is items.Generates h same = absurd cc
-answered t u a b name from to was is (items.Cmd j) h same = absurd cc
-answered t u a b name from to was is items.Seed h same = absurd cc
-answered t u a b name from to was is (items.Within time) h same = absurd cc
+answered t u a b name from to was is (items.Named asked other) h same =
+    go (bytes_eq name other) refl (answers_differ (Some from) (Some to) asked) refl h
+  where
+    go : (e : Bool) → bytes_eq name other ≡ e → (d : Bool) → answers_differ (Some from) (Some to) asked ≡ d → ((e && d) || false) ≡ true → ⊥
+    go true named true there k = told_otherwise t u a b name other from to was is ((bytes_eq-Decides name other).0 named) asked there same
+    go true named false there k = absurd cc
+    go false named d there k = absurd cc
+answered t u a b name from to was is i h same = absurd cc
 
 pub capacity_touches_what_differs : CapacityTouchesWhatDiffers
 capacity_touches_what_differs t name amount u r a b made i touched same = go (storage_place name t) refl made touched where

@@ -4,6 +4,7 @@ use Rattle.std.specs.List.{filter_map, cons_option}
 use Rattle.std.proofs.lemmas.Bool.{cases_Bool, or_parts, eqb-true, not-false}
 use Rattle.gw_expr.specs.Term.{Term}
 use Rattle.gw_meaning.specs.declared.item.Item.{Item}
+use Rattle.gw_meaning.specs.declared.item.Asked.TheVariants as questions
 use Rattle.gw_meaning.specs.declared.item.Item.TheVariants as items
 use Rattle.gw_meaning.specs.declared.statement.Statement.{Statement}
 use Rattle.gw_meaning.specs.declared.statement.Numbered.{Numbered}
@@ -15,7 +16,7 @@ use Rattle.gw_edit.specs.Same.{same_statement}
 use Rattle.gw_edit.specs.Touching.{lines_before, one_if, line_probes, change_places, block_change, splice_probes, is_touched, one_name, other_change, same_number, same_expression, same_curve}
 use Rattle.gw_edit.proofs.Fronts.{block_in, block_behind, after_behind, commands_behind}
 use Rattle.gw_edit.proofs.SameBlocks.{statement_same, term_same, function_same}
-use Rattle.gw_edit.proofs.ByLines.{untouched_both, probed_at, untouched_at, changed_line, change_parts, by_lines, changed_alike, IsListed, IsSameOf, IsSameTo, said_same, bytes_other, fitting, generate_none, generate_of, label_of}
+use Rattle.gw_edit.proofs.ByLines.{untouched_both, probed_at, untouched_at, changed_line, change_parts, by_lines, changed_alike, IsListed, IsSameOf, IsSameTo, saying, said_same, bytes_other, generate_none, generate_of, label_of}
 use Rattle.std.proofs.lemmas.Bool.Decides.{Decides-int_eq}
 use Rattle.gw_edit.proofs.LineLaws.{command_none, line_alike}
 use Rattle.std.specs.Str.{bytes_eq}
@@ -102,12 +103,8 @@ module _ (label : List ℕ) (d e : Definition) (line other : Numbered) (l : line
   definition_said (items.After k) listed same = absurd listed
   definition_said (items.Cmd j) listed same = absurd listed
   definition_said items.Generates listed same = generates_said line other (defined_parts line d was).0 (defined_parts other e is).0
-  definition_said (items.Label name) listed same = label_said name line other (defined_parts line d was).0 (defined_parts other e is).0
-  definition_said (items.Name name) listed same = of_name_said number_of name same
-  definition_said (items.Fits name amount) listed same = of_name_said (fitting amount) name same
-  definition_said (items.Storage name) listed same = of_name_said units_of name same
-  definition_said (items.Variable name) listed same = of_name_said expression_of name same
-  definition_said (items.Function name) listed same = of_name_said function_of name same
+  definition_said (items.Named questions.Label name) listed same = label_said name line other (defined_parts line d was).0 (defined_parts other e is).0
+  definition_said (items.Named asked name) listed same = of_name_said (saying asked).says name same
   definition_said item listed same = refl
 
 -- two capacities that answer an amount alike
@@ -131,27 +128,30 @@ alike_one false read item i h alike other = inr (other h)
 -- two definitions of one kind and name
 units_same : (i : Item) (label : List ℕ) (x y : ℕ) → is_ask label (Some x) (Some y) i ≡ false →
     IsSameTo i label (Some (definitions.Storage y)) (Some (definitions.Storage x))
-units_same (items.Fits name amount) label x y h = alike_amount _ _ h (answered_alike (nat_le amount x) (nat_le amount y))
-units_same (items.Storage name) label x y h = alike_amount _ _ h (λ none. ap (λ n. Some n) (sym (eqb-true x y (not-false (x == y) none))))
+units_same (items.Named (questions.Fits amount) name) label x y h = alike_amount _ _ h (answered_alike (nat_le amount x) (nat_le amount y))
+units_same (items.Named questions.Storage name) label x y h = alike_amount _ _ h (λ none. ap (λ n. Some n) (sym (eqb-true x y (not-false (x == y) none))))
 units_same item label x y h = inl refl
 
 module _ (label : List ℕ) (old new : Statement) where
-  number_same : (i : Item) (x y : ℤ) → probed_at (one_if (not (same_number old new x y)) (items.Name label)) i ≡ false →
+  number_same : (i : Item) (x y : ℤ) → probed_at (one_if (not (same_number old new x y)) (items.Named questions.Number label)) i ≡ false →
       IsSameTo i label (Some (definitions.Equ y)) (Some (definitions.Equ x))
-  number_same (items.Name name) x y h =
-      alike_one (bytes_eq old.operands new.operands) _ (items.Name label) (items.Name name) h (Decides-int_eq x y).0 (bytes_other name label)
+  number_same (items.Named questions.Number name) x y h =
+      alike_one (bytes_eq old.operands new.operands) _ (items.Named questions.Number label) (items.Named questions.Number name) h
+      (Decides-int_eq x y).0 (bytes_other name label)
   number_same item x y h = inl refl
 
-  expression_same : (i : Item) (x y : Term) → probed_at (one_if (not (same_expression old new x y)) (items.Variable label)) i ≡ false →
+  expression_same : (i : Item) (x y : Term) → probed_at (one_if (not (same_expression old new x y)) (items.Named questions.Variable label)) i ≡ false →
       IsSameTo i label (Some (definitions.Variable y)) (Some (definitions.Variable x))
-  expression_same (items.Variable name) x y h =
-      alike_one (bytes_eq old.operands new.operands) _ (items.Variable label) (items.Variable name) h (term_same x y) (bytes_other name label)
+  expression_same (items.Named questions.Variable name) x y h =
+      alike_one (bytes_eq old.operands new.operands) _ (items.Named questions.Variable label) (items.Named questions.Variable name) h
+      (term_same x y) (bytes_other name label)
   expression_same item x y h = inl refl
 
-  curve_same : (i : Item) (x y : Function) → probed_at (one_if (not (same_curve old new x y)) (items.Function label)) i ≡ false →
+  curve_same : (i : Item) (x y : Function) → probed_at (one_if (not (same_curve old new x y)) (items.Named questions.Function label)) i ≡ false →
       IsSameTo i label (Some (definitions.Function y)) (Some (definitions.Function x))
-  curve_same (items.Function name) x y h =
-      alike_one (bytes_eq old.operands new.operands) _ (items.Function label) (items.Function name) h (function_same x y) (bytes_other name label)
+  curve_same (items.Named questions.Function name) x y h =
+      alike_one (bytes_eq old.operands new.operands) _ (items.Named questions.Function label) (items.Named questions.Function name) h
+      (function_same x y) (bytes_other name label)
   curve_same item x y h = inl refl
 
 -- a version and the version with the other statement

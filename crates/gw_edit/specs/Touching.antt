@@ -4,6 +4,7 @@ use Rattle.std.specs.Prelude.{ℕ, ℤ, ◌+◌, ◌-◌, Bool, ◌==◌, true, 
 use Rattle.std.specs.List.{list_any, filter_map}
 use Rattle.gw_meaning.specs.declared.item.Item.{Item}
 use Rattle.gw_meaning.specs.declared.item.Item.TheVariants.{After, Generates, Seed, Within}
+use Rattle.gw_meaning.specs.declared.item.Asked.TheVariants as questions
 use Rattle.gw_meaning.specs.declared.item.Item.TheVariants as items
 use Rattle.std.specs.Ordering.{int_eq}
 use Rattle.std.specs.Str.{bytes_eq}
@@ -65,7 +66,7 @@ behind (Some number) = Some (One (After number))
 -- the label of a statement, where it has one and it is wanted
 abbrev pub label_if : Bool → Option (List ℕ) → Option Probe
 label_if wanted None = None
-label_if wanted (Some name) = one_if wanted (items.Label name)
+label_if wanted (Some name) = one_if wanted (items.Named questions.Label name)
 
 -- a block that comes in or goes out: what comes after the block in front of it, itself and what comes after itself, the
 -- list of GENERATEs where it is one, and its label. (Where it comes in, the version before had no block with its
@@ -83,9 +84,9 @@ block_probes t place line = given (block_places (block_before t place) line)
 -- name with a number which number that is, a VARIABLE its expression, and a FUNCTION what it is
 abbrev pub definition_place : Option (List ℕ) → Option Definition → Option Probe
 definition_place (Some name) (Some (definitions.Storage capacity)) = Some (Amounts name None None)
-definition_place (Some name) (Some (definitions.Equ value)) = Some (One (items.Name name))
-definition_place (Some name) (Some (definitions.Variable expression)) = Some (One (items.Variable name))
-definition_place (Some name) (Some (definitions.Function function)) = Some (One (items.Function name))
+definition_place (Some name) (Some (definitions.Equ value)) = Some (One (items.Named questions.Number name))
+definition_place (Some name) (Some (definitions.Variable expression)) = Some (One (items.Named questions.Variable name))
+definition_place (Some name) (Some (definitions.Function function)) = Some (One (items.Named questions.Function name))
 definition_place label definition = None
 
 abbrev pub definition_probes : Numbered → List Probe
@@ -141,11 +142,11 @@ abbrev pub other_change :
 other_change (Some name) (Some (definitions.Storage from)) (Some (definitions.Storage to)) t place old new =
     given (Some (Amounts name (Some from) (Some to)) ∷ [])
 other_change (Some name) (Some (definitions.Equ a)) (Some (definitions.Equ b)) t place old new =
-    given (one_if (not (same_number old.statement new.statement a b)) (items.Name name) ∷ [])
+    given (one_if (not (same_number old.statement new.statement a b)) (items.Named questions.Number name) ∷ [])
 other_change (Some name) (Some (definitions.Variable a)) (Some (definitions.Variable b)) t place old new =
-    given (one_if (not (same_expression old.statement new.statement a b)) (items.Variable name) ∷ [])
+    given (one_if (not (same_expression old.statement new.statement a b)) (items.Named questions.Variable name) ∷ [])
 other_change (Some name) (Some (definitions.Function a)) (Some (definitions.Function b)) t place old new =
-    given (one_if (not (same_curve old.statement new.statement a b)) (items.Function name) ∷ [])
+    given (one_if (not (same_curve old.statement new.statement a b)) (items.Named questions.Function name) ∷ [])
 other_change name before behind t place old new = line_probes t place old ++ line_probes t place new
 
 -- of a statement, where there is one

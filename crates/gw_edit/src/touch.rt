@@ -6,7 +6,7 @@ use crate::edit::Edit;
 use crate::lines::{count_commands, last_block, line_at, lines_before, storage_place};
 use crate::same::{same_function, same_label, same_statement, same_term};
 use gw_expr::{Expr, Function};
-use gw_meaning::{Body, Definition, Item, Numbered, Statement, StatementId};
+use gw_meaning::{Asked, Body, Definition, Item, Numbered, Statement, StatementId};
 use gw_model::Version;
 use gw_names::Name;
 use gw_nums::{Time, Val};
@@ -196,13 +196,13 @@ fn definition_place(line: &Numbered) -> Result<Option<Probe>, AllocError>
             to: None,
         })),
         (Some(name), Some(Definition::Equ { .. })) => {
-            Ok(Some(Probe::One(Item::Name(name.clone()?))))
+            Ok(Some(Probe::One(Item::Named(Asked::Number, name.clone()?))))
         }
         (Some(name), Some(Definition::Variable { .. })) => {
-            Ok(Some(Probe::One(Item::Variable(name.clone()?))))
+            Ok(Some(Probe::One(Item::Named(Asked::Variable, name.clone()?))))
         }
         (Some(name), Some(Definition::Function(_))) => {
-            Ok(Some(Probe::One(Item::Function(name.clone()?))))
+            Ok(Some(Probe::One(Item::Named(Asked::Function, name.clone()?))))
         }
         _ => Ok(None),
     }
@@ -234,7 +234,7 @@ fn label_if(wanted: bool, label: &Option<Name>) -> Result<Option<Probe>, AllocEr
     ensures { IfOk result (λ probe. probe ≡ label_if wanted label.now) }
 {
     match label {
-        Some(name) => Ok(one_if(wanted, Item::Label(name.clone()?))),
+        Some(name) => Ok(one_if(wanted, Item::Named(Asked::Label, name.clone()?))),
         None => Ok(None),
     }
 }
@@ -299,15 +299,15 @@ fn definition_change(
         }
         (Definition::Equ { value: a }, Definition::Equ { value: b }) => {
             let same = same_number(&old.statement, &new.statement, *a, *b);
-            Ok(alone(one_if(!same, Item::Name(name.clone()?))))
+            Ok(alone(one_if(!same, Item::Named(Asked::Number, name.clone()?))))
         }
         (Definition::Variable { expression: a }, Definition::Variable { expression: b }) => {
             let same = same_expression(&old.statement, &new.statement, a, b);
-            Ok(alone(one_if(!same, Item::Variable(name.clone()?))))
+            Ok(alone(one_if(!same, Item::Named(Asked::Variable, name.clone()?))))
         }
         (Definition::Function(a), Definition::Function(b)) => {
             let same = same_curve(&old.statement, &new.statement, a, b);
-            Ok(alone(one_if(!same, Item::Function(name.clone()?))))
+            Ok(alone(one_if(!same, Item::Named(Asked::Function, name.clone()?))))
         }
         _ => both_touch(version, place, old, new),
     }

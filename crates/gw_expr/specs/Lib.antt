@@ -1,5 +1,6 @@
 pub mod Arithmetic
 pub mod Expressions
+pub mod Symbols
 pub mod Term
 pub mod Stops
 pub mod Faults

@@ -18,6 +18,7 @@ mod laws;
 mod many_values;
 mod row;
 mod stop;
+mod symbol;
 mod token;
 mod world;
 
@@ -32,5 +33,6 @@ pub use laws::{
 };
 pub use row::Row;
 pub use stop::Stop;
+pub use symbol::{Symbol, symbol_of};
 pub use token::{Operator, Token};
 pub use world::{Defs, World};

@@ -1,6 +1,7 @@
 -- A version with its ids renamed answers renamed, and two versions with the same statements are one renamed.
 use Rattle.std.proofs.Common.{◌≡◌, ℕ, ◌+◌, nat_eq, nat_le, Bool, true, false, cond, ◌&&◌, List, [], ◌∷◌, map, Option, Some, None, is_some, unwrap_or, option_map, option_and_then, filter_map, refl, ap, ap₂, ◌∙◌}
 use Rattle.std.specs.List.{cons_option}
+use Rattle.gw_meaning.specs.declared.item.Asked.TheVariants as questions
 use Rattle.gw_meaning.specs.declared.item.Item.TheVariants as items
 use Rattle.gw_meaning.specs.declared.statement.Definition.{Definition}
 use Rattle.gw_meaning.specs.declared.statement.Statement.{Statement}
@@ -100,13 +101,14 @@ commands_renamed move (l ∷ ls) (m ∷ ms) r = ap₂ cons_option (ap (λ (s : S
 pub renamed_answers : RenamedAnswers
 renamed_answers move t u seed r (items.Block id) = block_renamed move r.is_move t.lines u.lines r.lines id
 renamed_answers move t u seed r (items.After id) = after_renamed move r.is_move t.lines u.lines r.lines id
-renamed_answers move t u seed r (items.Label name) = label_renamed move r.is_move name t.lines u.lines r.lines
-renamed_answers move t u seed r (items.Name name) = said_renamed move r.is_move number_of name t.lines u.lines r.lines
-renamed_answers move t u seed r (items.Fits name units) =
+renamed_answers move t u seed r (items.Named questions.Label name) = label_renamed move r.is_move name t.lines u.lines r.lines
+renamed_answers move t u seed r (items.Named questions.Number name) = said_renamed move r.is_move number_of name t.lines u.lines r.lines
+renamed_answers move t u seed r (items.Named (questions.Fits units) name) =
     ap (λ o. nat_le units (unwrap_or o 0)) (said_renamed move r.is_move units_of name t.lines u.lines r.lines)
-renamed_answers move t u seed r (items.Storage name) = ap (λ o. unwrap_or o 0) (said_renamed move r.is_move units_of name t.lines u.lines r.lines)
-renamed_answers move t u seed r (items.Variable name) = said_renamed move r.is_move expression_of name t.lines u.lines r.lines
-renamed_answers move t u seed r (items.Function name) = said_renamed move r.is_move function_of name t.lines u.lines r.lines
+renamed_answers move t u seed r (items.Named questions.Storage name) =
+    ap (λ o. unwrap_or o 0) (said_renamed move r.is_move units_of name t.lines u.lines r.lines)
+renamed_answers move t u seed r (items.Named questions.Variable name) = said_renamed move r.is_move expression_of name t.lines u.lines r.lines
+renamed_answers move t u seed r (items.Named questions.Function name) = said_renamed move r.is_move function_of name t.lines u.lines r.lines
 renamed_answers move t u seed r items.Generates = generates_renamed move r.is_move t.lines u.lines r.lines
 renamed_answers move t u seed r (items.Cmd i) = ap (λ cs. nth cs i) (commands_renamed move t.lines u.lines r.lines)
 renamed_answers move t u seed r item = ap (λ n. ask (record t { horizon = n }) seed item) r.horizon

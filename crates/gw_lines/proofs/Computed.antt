@@ -10,12 +10,14 @@ use Rattle.gw_expr.specs.declared.token.Operator.{Operator}
 use Rattle.gw_expr.specs.declared.token.Token.{Token}
 use Rattle.gw_expr.specs.declared.token.Token.TheVariants as tokens
 use Rattle.gw_expr.specs.Expressions.{Expression, Single, Opposite, Both, postfix}
-use Rattle.gw_lines.specs.declared.expression.Symbol.{Symbol}
-use Rattle.gw_lines.specs.declared.expression.Symbol.TheVariants as symbols
+use Rattle.gw_expr.specs.declared.token.Operator.TheVariants as operators
+use Rattle.gw_expr.specs.declared.symbol.Symbol.{Symbol}
+use Rattle.gw_expr.specs.declared.symbol.Symbol.TheVariants as symbols
 use Rattle.gw_lines.specs.declared.expression.Pending.{Pending}
 use Rattle.gw_lines.specs.declared.expression.Pending.TheVariants as waits
 use Rattle.gw_lines.specs.Atoms.{atom_of}
-use Rattle.gw_lines.specs.Expressions.{symbol_of, State, before, behind, completed, settled, taken, step, run, ended, tokens_of}
+use Rattle.gw_expr.specs.Symbols.{symbol_of}
+use Rattle.gw_lines.specs.Expressions.{State, before, behind, completed, settled, taken, step, run, ended, tokens_of}
 use Rattle.gw_lines.specs.Spelling.{SpellsAtom, Multiplies, times, quotient, remainder, Adds, plus, minus, Rank, Factor, Product, Sum, SpellsExpression, a_single, with_minus, in_parentheses, a_factor, multiplied, a_product, summed}
 use Rattle.gw_lines.proofs.Values.{no_atom}
 use Rattle.gw_lines.proofs.Symbols.{is_word, AreWords, word_byte, atom_words, atom_again}
@@ -44,8 +46,8 @@ pub data Follows : List ℕ → Type 0 where
 ends_of : {text : List ℕ} → Follows text → Ends text
 ends_of nothing_follows = at_the_end
 ends_of (closing_follows bs) = at_symbol 41 symbols.Closing bs refl
-ends_of (plus_follows bs) = at_symbol 43 symbols.Plus bs refl
-ends_of (minus_follows bs) = at_symbol 45 symbols.Minus bs refl
+ends_of (plus_follows bs) = at_symbol 43 (symbols.Sum operators.Plus) bs refl
+ends_of (minus_follows bs) = at_symbol 45 (symbols.Sum operators.Minus) bs refl
 
 -- ---- a word
 

@@ -9,10 +9,11 @@ use Rattle.gw_names.specs.Names.{is_name_byte}
 use Rattle.gw_expr.specs.declared.atom.Atom.{Atom}
 use Rattle.gw_expr.specs.declared.atom.Atom.TheVariants as atoms
 use Rattle.gw_expr.specs.declared.token.Operator.{Operator}
-use Rattle.gw_lines.specs.declared.expression.Symbol.{Symbol}
-use Rattle.gw_lines.specs.declared.expression.Symbol.TheVariants as symbols
+use Rattle.gw_expr.specs.declared.token.Operator.TheVariants as operators
+use Rattle.gw_expr.specs.declared.symbol.Symbol.{Symbol}
+use Rattle.gw_expr.specs.declared.symbol.Symbol.TheVariants as symbols
 use Rattle.gw_lines.specs.Atoms.{atom_of}
-use Rattle.gw_lines.specs.Expressions.{symbol_of}
+use Rattle.gw_expr.specs.Symbols.{symbol_of}
 use Rattle.gw_lines.specs.Spelling.{Value, with_sign, without_sign, SpellsAtom, plain_number, plain_name, plain_attribute, Multiplies, times, quotient, remainder}
 use Rattle.gw_lines.proofs.Bytes.{Takes, atom_passes}
 use Rattle.gw_lines.proofs.Fronts.{not_true}
@@ -24,8 +25,8 @@ use Rattle.gw_lines.proofs.Values.{Valued, signed, called, of_attribute, valued_
 pub data IsSymbol : ℕ → Symbol → Type 0 where
   opening : IsSymbol 40 symbols.Opening
   closing : IsSymbol 41 symbols.Closing
-  adding : IsSymbol 43 symbols.Plus
-  taking : IsSymbol 45 symbols.Minus
+  adding : IsSymbol 43 (symbols.Sum operators.Plus)
+  taking : IsSymbol 45 (symbols.Sum operators.Minus)
   multiplying : (b : ℕ) (o : Operator) → Multiplies b o → IsSymbol b (symbols.Product o)
 
 abbrev pub is_word : ℕ → Bool
@@ -48,9 +49,9 @@ kind_of b =
       | inr h0 ↦ elim (cases_Bool (b == 41)) [
         | inl h ↦ rw (eqb-true b 41 h) (a_symbol 41 symbols.Closing closing)
         | inr h1 ↦ elim (cases_Bool (b == 43)) [
-          | inl h ↦ rw (eqb-true b 43 h) (a_symbol 43 symbols.Plus adding)
+          | inl h ↦ rw (eqb-true b 43 h) (a_symbol 43 (symbols.Sum operators.Plus) adding)
           | inr h2 ↦ elim (cases_Bool (b == 45)) [
-            | inl h ↦ rw (eqb-true b 45 h) (a_symbol 45 symbols.Minus taking)
+            | inl h ↦ rw (eqb-true b 45 h) (a_symbol 45 (symbols.Sum operators.Minus) taking)
             | inr h3 ↦ elim (cases_Bool (b == 35)) [
               | inl h ↦ rw (eqb-true b 35 h) (a_symbol 35 (symbols.Product _) (multiplying 35 _ times))
               | inr h4 ↦ elim (cases_Bool (b == 92)) [

@@ -10,8 +10,8 @@ use Rattle.gw_expr.specs.declared.token.Operator.TheVariants as operators
 use Rattle.gw_expr.specs.declared.token.Token.{Token}
 use Rattle.gw_expr.specs.declared.token.Token.TheVariants as tokens
 use Rattle.gw_expr.specs.Expressions.{Expression, Single, Opposite, Both, postfix}
-use Rattle.gw_lines.specs.declared.expression.Symbol.{Symbol}
-use Rattle.gw_lines.specs.declared.expression.Symbol.TheVariants as symbols
+use Rattle.gw_expr.specs.declared.symbol.Symbol.{Symbol}
+use Rattle.gw_expr.specs.declared.symbol.Symbol.TheVariants as symbols
 use Rattle.gw_lines.specs.declared.expression.Pending.{Pending}
 use Rattle.gw_lines.specs.declared.expression.Pending.TheVariants as waits
 use Rattle.gw_lines.specs.Atoms.{atom_of}

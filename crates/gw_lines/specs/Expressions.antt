@@ -7,24 +7,13 @@ use Rattle.gw_expr.specs.declared.token.Operator.TheVariants as operators
 use Rattle.gw_expr.specs.declared.token.Token.{Token}
 use Rattle.gw_expr.specs.declared.token.Token.TheVariants as tokens
 use Rattle.gw_expr.specs.Term.{Term, Computed}
-use Rattle.gw_lines.specs.declared.expression.Symbol.{Symbol}
-use Rattle.gw_lines.specs.declared.expression.Symbol.TheVariants as symbols
+use Rattle.gw_expr.specs.declared.symbol.Symbol.{Symbol}
+use Rattle.gw_expr.specs.declared.symbol.Symbol.TheVariants as symbols
+use Rattle.gw_expr.specs.Symbols.{symbol_of}
 use Rattle.gw_lines.specs.declared.expression.Pending.{Pending}
 use Rattle.gw_lines.specs.declared.expression.Pending.TheVariants as waits
 use Rattle.gw_lines.specs.Listed.{shallower}
 use Rattle.gw_lines.specs.Atoms.{atom_of}
-
--- the symbol that a byte is, where it is no part of a word
-abbrev pub symbol_of : ℕ → Option Symbol
-symbol_of b =
-    if b == 40 then Some symbols.Opening
-    else (if b == 41 then Some symbols.Closing
-    else (if b == 43 then Some symbols.Plus
-    else (if b == 45 then Some symbols.Minus
-    else (if b == 35 then Some (symbols.Product operators.Times)
-    else (if b == 92 then Some (symbols.Product operators.Quotient)
-    else (if b == 64 then Some (symbols.Product operators.Remainder)
-    else None))))))
 
 -- where reading stands: the word so far, whether an operand is complete here, how many parentheses are open, what waits
 -- for an operand, the last first, and the tokens so far
@@ -87,12 +76,11 @@ opened s = if nat_lt s.depth 32 then Some (before (suc s.depth) (waits.Opening �
 -- behind a symbol, where an operand is complete and where none is
 abbrev pub by_symbol : Symbol → Bool → State → Option State
 by_symbol symbols.Opening false s = opened s
-by_symbol symbols.Minus false s = Some (before s.depth (waits.Sign ∷ s.pending) s.tokens)
+by_symbol (symbols.Sum operators.Minus) false s = Some (before s.depth (waits.Sign ∷ s.pending) s.tokens)
 by_symbol symbol false s = None
 by_symbol symbols.Opening true s = None
 by_symbol symbols.Closing true s = closed_in (settled s.depth s.pending s.tokens)
-by_symbol symbols.Plus true s = Some (added operators.Plus (settled s.depth s.pending s.tokens))
-by_symbol symbols.Minus true s = Some (added operators.Minus (settled s.depth s.pending s.tokens))
+by_symbol (symbols.Sum operator) true s = Some (added operator (settled s.depth s.pending s.tokens))
 by_symbol (symbols.Product operator) true s = Some (before s.depth (waits.Product operator ∷ s.pending) s.tokens)
 
 abbrev pub with_symbol : Symbol → State → Option State

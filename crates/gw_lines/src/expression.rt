@@ -1,25 +1,14 @@
 ghost use Rattle.std.specs.Prelude.{◌≡◌, ◌∷◌, [], true, IfOk, option_map};
-ghost use Rattle.gw_lines.specs.Expressions.{symbol_of, before, completed, settled, taken, closed_in, opened, by_symbol, with_symbol, with_byte, step, ended, tokens_of, before_closing, inside_of, computed, computed_of, bare_of};
+ghost use Rattle.gw_lines.specs.Expressions.{before, completed, settled, taken, closed_in, opened, by_symbol, with_symbol, with_byte, step, ended, tokens_of, before_closing, inside_of, computed, computed_of, bare_of};
 
 use crate::atom::atom_of;
 use crate::listed::shallower;
-use gw_expr::{Expr, Operator, Token};
+use gw_expr::{Expr, Operator, Symbol, Token, symbol_of};
 use std::alloc::{AllocError, Global};
 use std::marker::Model;
 
 // How many parentheses may be open at once.
 const DEEPEST: usize = 32;
-
-/// A byte that is no part of a word.
-#[derive(Clone, Copy)]
-pub enum Symbol {
-    Opening,
-    Closing,
-    Plus,
-    Minus,
-    /// An operator that binds tighter than a sum.
-    Product(Operator),
-}
 
 /// What waits for the operand that comes next.
 #[derive(Clone, Copy)]
@@ -126,22 +115,6 @@ fn read_tokens(alloc: Global, depth: usize, text: &[u8]) -> Result<Option<Vec<To
     }
 }
 
-// The symbol that a byte is, where it is no part of a word.
-fn symbol_of(b: u8) -> Option<Symbol>
-    ensures { result ≡ symbol_of b }
-{
-    match b {
-        b'(' => Some(Symbol::Opening),
-        b')' => Some(Symbol::Closing),
-        b'+' => Some(Symbol::Plus),
-        b'-' => Some(Symbol::Minus),
-        b'#' => Some(Symbol::Product(Operator::Times)),
-        b'\\' => Some(Symbol::Product(Operator::Quotient)),
-        b'@' => Some(Symbol::Product(Operator::Remainder)),
-        _ => None,
-    }
-}
-
 impl Reader {
     // Before the first operand.
     fn new(alloc: Global, depth: usize) -> Reader
@@ -236,8 +209,8 @@ impl Reader {
         }
         match symbol {
             Symbol::Opening => self.opened(),
-            Symbol::Minus => Ok(Some(self.waiting(Pending::Sign)?)),
-            Symbol::Closing | Symbol::Plus | Symbol::Product(_) => Ok(None),
+            Symbol::Sum(Operator::Minus) => Ok(Some(self.waiting(Pending::Sign)?)),
+            Symbol::Closing | Symbol::Sum(_) | Symbol::Product(_) => Ok(None),
         }
     }
 
@@ -247,8 +220,7 @@ impl Reader {
         match symbol {
             Symbol::Opening => Ok(None),
             Symbol::Closing => self.settled()?.closed(),
-            Symbol::Plus => Ok(Some(self.settled()?.waiting(Pending::Sum(Operator::Plus))?)),
-            Symbol::Minus => Ok(Some(self.settled()?.waiting(Pending::Sum(Operator::Minus))?)),
+            Symbol::Sum(operator) => Ok(Some(self.settled()?.waiting(Pending::Sum(operator))?)),
             Symbol::Product(operator) => Ok(Some(self.waiting(Pending::Product(operator))?)),
         }
     }

@@ -1,9 +1,11 @@
 -- What a run reads: the items of each of its steps, and the first step that uses an item. (Our own.)
 use Rattle.std.specs.Prelude.{ℕ, zero, suc, Bool, false, List, [], Option, Some, None, Result, Ok, Err, if◌then◌else◌, nat_lt, nat_le}
 use Rattle.std.specs.List.{list_any}
+use Rattle.gw_meaning.specs.declared.item.Asked.{Asked}
 use Rattle.gw_meaning.specs.declared.item.Item.{Item}
 use Rattle.gw_meaning.specs.declared.item.Item.TheVariants as items
 use Rattle.gw_meaning.specs.declared.item.End.{End}
+use Rattle.gw_meaning.specs.contracts.item.AskedPartialEq.TheImpl as asking
 use Rattle.gw_meaning.specs.contracts.item.ItemPartialEq.TheImpl as comparison
 use Rattle.gw_meaning.specs.Listing.{Listing}
 use Rattle.gw_meaning.specs.Machine.{Machine}
@@ -18,7 +20,10 @@ read_from t seed (Err end) = []
 abbrev pub reads : Listing → ℕ → ℕ → List Item
 reads t seed n = read_from t seed (run t seed n)
 
--- whether two items are one, as the code tells
+-- whether the same is asked of two names, and whether two items are one, as the code tells
+abbrev pub same_asked : Asked → Asked → Bool
+same_asked = asking.ghosts.eq
+
 abbrev pub same_item : Item → Item → Bool
 same_item = comparison.ghosts.eq
 

@@ -3,6 +3,23 @@ use gw_expr::Stop;
 use gw_names::Name;
 use gw_nums::Time;
 
+/// What a step may ask of a name.
+#[derive(Clone, Copy, PartialEq, Eq, Hash)]
+pub enum Asked {
+    /// Which block has it as its label?
+    Label,
+    /// Which number does it stand for, if any?
+    Number,
+    /// Do so many units fit into the storage of this name?
+    Fits(u64),
+    /// How many units does the storage of this name have?
+    Storage,
+    /// What is the expression of the VARIABLE of this name, if there is one?
+    Variable,
+    /// What are the argument, the type and the points of the FUNCTION of this name, if there is one?
+    Function,
+}
+
 /// A question that a step may ask of the version and the seed. Blocks go by their statement ids.
 #[derive(Clone, Drop, PartialEq, Eq, Hash)]
 pub enum Item {
@@ -10,18 +27,8 @@ pub enum Item {
     Block(StatementId),
     /// Which block comes after this one?
     After(StatementId),
-    /// Which block has this label?
-    Label(Name),
-    /// Which number does this name stand for, if any?
-    Name(Name),
-    /// Do so many units fit into the storage of this name?
-    Fits(Name, u64),
-    /// How many units does the storage of this name have?
-    Storage(Name),
-    /// What is the expression of the VARIABLE of this name, if there is one?
-    Variable(Name),
-    /// What are the argument, the type and the points of the FUNCTION of this name, if there is one?
-    Function(Name),
+    /// What is asked of a name.
+    Named(Asked, Name),
     /// Which blocks are GENERATEs?
     Generates,
     /// What is the i-th command, from 1?

@@ -22,7 +22,7 @@ mod transaction_change;
 pub use asker::Asker;
 pub use destination::Destination;
 pub use entity_change::{Deed, EntityChange};
-pub use item::{End, Item, Outcome};
+pub use item::{Asked, End, Item, Outcome};
 pub use moves::{Arrival, Change, Fate, Move};
 pub use sign::Sign;
 pub use statement::{Block, Body, Command, Definition, Numbered, Replication, Statement};

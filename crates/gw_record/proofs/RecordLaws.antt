@@ -41,17 +41,7 @@ use Rattle.gw_uses.specs.Uses.{nothing_used, first_in, AreFirstUses}
 -- nothing is used yet
 nothing_yet : (item : Item) → first_in nothing_used item ≡ None
 nothing_yet (items.Block id) = refl
-nothing_yet (items.After id) = refl
-nothing_yet (items.Label name) = refl
-nothing_yet (items.Name name) = refl
-nothing_yet (items.Fits name units) = refl
-nothing_yet (items.Storage name) = refl
-nothing_yet (items.Variable name) = refl
-nothing_yet (items.Function name) = refl
-nothing_yet items.Generates = refl
-nothing_yet (items.Cmd i) = refl
-nothing_yet items.Seed = refl
-nothing_yet (items.Within time) = refl
+nothing_yet item = refl
 
 pub blank_firsts : (t : Listing) (seed : ℕ) → AreFirstUses t seed 0 nothing_used
 blank_firsts t seed = record { each = nothing_yet; clock = λ i d less. absurd (omega (arith, less)) }

@@ -7,10 +7,9 @@ use crate::attributes::random_part;
 use crate::state::State;
 use gw_asking::{Case, Halt, Notes, ask_name};
 use gw_expr::{EvalFault, Sna, Subject, World};
-use gw_meaning::Asker;
+use gw_meaning::{Asked, Asker};
 use gw_names::{Class, Name};
 use gw_nums::{Millionths, Val};
-use gw_uses::Asked;
 
 // What an evaluation of operands asks: a state, for whoever asks, and the version and the seed of its run; and where it
 // notes what it asks for.
@@ -50,13 +49,13 @@ impl<'a> World for Seen<'a> {
 
     #[inline(always)]
     fn note_variable(&mut self, name: &Name) -> Result<(), EvalFault> {
-        self.notes.note_asked(Asked::Variable(name))?;
+        self.notes.note_asked(Asked::Variable, name)?;
         Ok(())
     }
 
     #[inline(always)]
     fn note_function(&mut self, name: &Name) -> Result<(), EvalFault> {
-        self.notes.note_asked(Asked::Function(name))?;
+        self.notes.note_asked(Asked::Function, name)?;
         Ok(())
     }
 }

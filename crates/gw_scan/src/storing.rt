@@ -4,6 +4,7 @@ ghost use Rattle.gw_expr.specs.Term.{Defined};
 ghost use Rattle.gw_names.specs.declared.key.Key.TheVariants as keys;
 ghost use Rattle.gw_entities.specs.Tables.{IsPlace};
 ghost use Rattle.gw_meaning.specs.declared.entity_change.Deed.TheVariants as deeds;
+ghost use Rattle.gw_meaning.specs.declared.item.Asked.TheVariants as questions;
 ghost use Rattle.gw_meaning.specs.declared.item.Item.TheVariants as items;
 ghost use Rattle.gw_meaning.specs.declared.moves.Change.TheVariants as changes;
 ghost use Rattle.gw_meaning.specs.declared.moves.Fate.TheVariants as fates;
@@ -96,7 +97,7 @@ impl State {
     ) -> Result<(), Halt>
         requires { IsSome self.old.active }
         ensures { (x : Transaction) → self.old.active ≡ Some x →
-            Acts case.entry.version.now case.entry.seed (asks (items.Fits name.now units)
+            Acts case.entry.version.now case.entry.seed (asks (items.Named (questions.Fits units) name.now)
             (enter_storage id name.now (store_at self.old.entities (keys.Defined name.now)) units))
             result self.old self.new notes.old notes.new }
     {

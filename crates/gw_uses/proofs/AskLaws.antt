@@ -9,14 +9,16 @@ use Rattle.std.proofs.lemmas.Bool.Decides.{nat_tests}
 use Rattle.std.proofs.lemmas.Slice.Eq.{bytes_eq-Decides}
 use Rattle.std.proofs.lemmas.Map.Entries.{lookup_from_place}
 use Rattle.gw_meaning.specs.declared.item.Item.{Item}
+use Rattle.gw_meaning.specs.declared.item.Asked.{Asked}
+use Rattle.gw_meaning.specs.declared.item.Asked.TheVariants as questions
 use Rattle.gw_meaning.specs.declared.item.Item.TheVariants as items
 use Rattle.gw_meaning.specs.contracts.item.ItemEq.TheImpl.Laws as laws
 use Rattle.gw_meaning.specs.Listing.{Listing}
-use Rattle.gw_meaning.specs.Reads.{first_reading, first_use, reads, is_use, same_item}
+use Rattle.gw_meaning.specs.Reads.{first_reading, first_use, reads, is_use, same_asked, same_item}
 use Rattle.gw_uses.specs.declared.first_uses.FirstUses.{FirstUses}
 use Rattle.gw_uses.specs.Steps.{step_of}
 use Rattle.gw_uses.specs.Uses.{first_in}
-use Rattle.gw_uses.specs.Asks.{is_ask, earlier, least_in}
+use Rattle.gw_uses.specs.Asks.{answers_differ, is_ask, earlier, least_in}
 use Rattle.gw_uses.proofs.FirstLaws.{IsFirstReading, first_is, first_same, first_no_later}
 
 -- ---- the least of entries
@@ -98,81 +100,34 @@ least_is p (e ∷ es) = least_with p e es (p e.0) (least_in p es) refl (least_is
 
 -- ---- asks
 
--- who is one item with a capacity that is asked, is that
-storage_same : (item : Item) (name : List ℕ) → same_item item (items.Storage name) ≡ true → item ≡ items.Storage name
-storage_same (items.Storage other) name h = ap (λ b. items.Storage b) ((bytes_eq-Decides other name).0 h)
-storage_same (items.Fits other n) name h = absurd (true≢false (sym h))
-storage_same (items.Variable other) name h = absurd (true≢false (sym h))
-storage_same (items.Function other) name h = absurd (true≢false (sym h))
-storage_same (items.Block id) name h = absurd (true≢false (sym h))
-storage_same (items.After id) name h = absurd (true≢false (sym h))
-storage_same (items.Label other) name h = absurd (true≢false (sym h))
-storage_same (items.Name other) name h = absurd (true≢false (sym h))
-storage_same items.Generates name h = absurd (true≢false (sym h))
-storage_same (items.Cmd i) name h = absurd (true≢false (sym h))
-storage_same items.Seed name h = absurd (true≢false (sym h))
-storage_same (items.Within time) name h = absurd (true≢false (sym h))
+-- what two capacities answer in two ways is one with itself alone
+told_apart : (from to : Option ℕ) (b a : Asked) → answers_differ from to b ≡ true → same_asked a b ≡ true → a ≡ b
+told_apart from to (questions.Fits n) (questions.Fits m) differ h = ap (λ k. questions.Fits k) (grind (arith, nat_tests, h))
+told_apart from to questions.Storage questions.Storage differ h = refl
+told_apart from to b a differ h = absurd cc
 
--- who is one item with an amount asked of a storage, is that
-fits_same : (item : Item) (name : List ℕ) (amount : ℕ) → same_item item (items.Fits name amount) ≡ true → item ≡ items.Fits name amount
-fits_same (items.Fits other n) name amount h =
-    let parts = and_parts (bytes_eq other name) (nat_eq n amount) h in
-    ap₂ (λ b k. items.Fits b k) ((bytes_eq-Decides other name).0 parts.0) (grind (arith, nat_tests, parts.1))
-fits_same (items.Block id) name amount h = absurd (true≢false (sym h))
-fits_same (items.After id) name amount h = absurd (true≢false (sym h))
-fits_same (items.Label other) name amount h = absurd (true≢false (sym h))
-fits_same (items.Name other) name amount h = absurd (true≢false (sym h))
-fits_same (items.Storage other) name amount h = absurd (true≢false (sym h))
-fits_same (items.Variable other) name amount h = absurd (true≢false (sym h))
-fits_same (items.Function other) name amount h = absurd (true≢false (sym h))
-fits_same items.Generates name amount h = absurd (true≢false (sym h))
-fits_same (items.Cmd i) name amount h = absurd (true≢false (sym h))
-fits_same items.Seed name amount h = absurd (true≢false (sym h))
-fits_same (items.Within time) name amount h = absurd (true≢false (sym h))
+-- so is the item that asks it of a name
+named_same : (from to : Option ℕ) (asked : Asked) (name : List ℕ) (item : Item) → answers_differ from to asked ≡ true →
+    same_item item (items.Named asked name) ≡ true → item ≡ items.Named asked name
+named_same from to asked name (items.Named other of) differ h =
+    let parts = and_parts (same_asked other asked) (bytes_eq of name) h in
+    ap₂ (λ a n. items.Named a n) (told_apart from to asked other differ parts.0) ((bytes_eq-Decides of name).0 parts.1)
+named_same from to asked name item differ h = absurd cc
 
 -- an item that is asked is used just where it is read
 asked_same : (name : List ℕ) (from to : Option ℕ) (q item : Item) → is_ask name from to q ≡ true → same_item item q ≡ true → item ≡ q
-asked_same name from to (items.Fits other n) item asks h = fits_same item other n h
-asked_same name from to (items.Block id) item asks h = absurd cc
-asked_same name from to (items.After id) item asks h = absurd cc
-asked_same name from to (items.Label other) item asks h = absurd cc
-asked_same name from to (items.Name other) item asks h = absurd cc
-asked_same name from to (items.Storage other) item asks h = storage_same item other h
-asked_same name from to (items.Variable other) item asks h = absurd cc
-asked_same name from to (items.Function other) item asks h = absurd cc
-asked_same name from to items.Generates item asks h = absurd cc
-asked_same name from to (items.Cmd i) item asks h = absurd cc
-asked_same name from to items.Seed item asks h = absurd cc
-asked_same name from to (items.Within time) item asks h = absurd cc
+asked_same name from to (items.Named asked other) item asks h =
+    named_same from to asked other item (and_parts (bytes_eq name other) (answers_differ from to asked) asks).1 h
+asked_same name from to q item asks h = absurd cc
 
 asked_use : (name : List ℕ) (from to : Option ℕ) (q item : Item) → is_ask name from to q ≡ true → is_use q item ≡ same_item item q
-asked_use name from to (items.Fits other n) item asks = refl
-asked_use name from to (items.Block id) item asks = absurd cc
-asked_use name from to (items.After id) item asks = absurd cc
-asked_use name from to (items.Label other) item asks = absurd cc
-asked_use name from to (items.Name other) item asks = absurd cc
-asked_use name from to (items.Storage other) item asks = refl
-asked_use name from to (items.Variable other) item asks = absurd cc
-asked_use name from to (items.Function other) item asks = absurd cc
-asked_use name from to items.Generates item asks = absurd cc
-asked_use name from to (items.Cmd i) item asks = absurd cc
-asked_use name from to items.Seed item asks = absurd cc
-asked_use name from to (items.Within time) item asks = absurd cc
+asked_use name from to (items.Named asked other) item asks = refl
+asked_use name from to q item asks = absurd cc
 
 -- and it is noted with the items of no other kind
 pub asked_noted : (name : List ℕ) (from to : Option ℕ) (f : FirstUses) (q : Item) → is_ask name from to q ≡ true → first_in f q ≡ step_of f.others q
-asked_noted name from to f (items.Fits other n) asks = refl
-asked_noted name from to f (items.Block id) asks = absurd cc
-asked_noted name from to f (items.After id) asks = absurd cc
-asked_noted name from to f (items.Label other) asks = absurd cc
-asked_noted name from to f (items.Name other) asks = absurd cc
-asked_noted name from to f (items.Storage other) asks = refl
-asked_noted name from to f (items.Variable other) asks = absurd cc
-asked_noted name from to f (items.Function other) asks = absurd cc
-asked_noted name from to f items.Generates asks = absurd cc
-asked_noted name from to f (items.Cmd i) asks = absurd cc
-asked_noted name from to f items.Seed asks = absurd cc
-asked_noted name from to f (items.Within time) asks = absurd cc
+asked_noted name from to f (items.Named asked other) asks = refl
+asked_noted name from to f q asks = absurd cc
 
 or_true : (b c : Bool) → c ≡ true → (b || c) ≡ true
 or_true true c h = refl

@@ -3,6 +3,8 @@
 use Rattle.std.specs.Prelude.{ℕ, Bool, true, false, not, ◌==◌, ◌&&◌, List, [], ◌∷◌, Option, Some, None, if◌then◌else◌, nat_le, min}
 use Rattle.std.specs.Str.{bytes_eq}
 use Rattle.gw_meaning.specs.declared.item.Item.{Item}
+use Rattle.gw_meaning.specs.declared.item.Asked.{Asked}
+use Rattle.gw_meaning.specs.declared.item.Asked.TheVariants as questions
 use Rattle.gw_meaning.specs.declared.item.Item.TheVariants as items
 
 -- whether two capacities answer an amount in two ways; where there is no storage before or behind, every amount counts
@@ -15,10 +17,15 @@ abbrev pub is_other : Option ℕ → Option ℕ → Bool
 is_other (Some from) (Some to) = not (from == to)
 is_other from to = true
 
--- whether such an amount is asked of the storage of this name, or its capacity where it is another one
+-- whether two capacities answer this in two ways, where it is asked of their storage
+abbrev pub answers_differ : Option ℕ → Option ℕ → Asked → Bool
+answers_differ from to (questions.Fits amount) = differs from to amount
+answers_differ from to questions.Storage = is_other from to
+answers_differ from to asked = false
+
+-- whether such a thing is asked of the storage of this name
 abbrev pub is_ask : List ℕ → Option ℕ → Option ℕ → Item → Bool
-is_ask name from to (items.Fits other amount) = bytes_eq name other && differs from to amount
-is_ask name from to (items.Storage other) = bytes_eq name other && is_other from to
+is_ask name from to (items.Named asked other) = bytes_eq name other && answers_differ from to asked
 is_ask name from to item = false
 
 -- the earlier of two steps, of which either may be none

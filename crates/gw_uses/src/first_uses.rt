@@ -1,15 +1,15 @@
 ghost use Rattle.std.specs.Prelude.{◌≡◌, ◌+◌, ◌<◌, ◌-◌, ◌^◌, Some, None, if◌then◌else◌, OnOk, OnErr};
 ghost use Rattle.gw_meaning.specs.declared.item.Item.{Item};
+ghost use Rattle.gw_meaning.specs.declared.item.Item.TheVariants as items;
 ghost use Rattle.gw_meaning.specs.Reads.{or_later, is_use};
-ghost use Rattle.gw_uses.specs.Asked.{asked_item};
 ghost use Rattle.gw_uses.specs.Steps.{below, AreBelow};
 ghost use Rattle.gw_uses.specs.Uses.{first_in, nothing_used};
 
-use crate::asked::Asked;
 use crate::clock_steps::ClockSteps;
 use crate::first_steps::FirstSteps;
 use crate::item_steps::ItemSteps;
-use gw_meaning::Item;
+use gw_meaning::{Asked, Item};
+use gw_names::Name;
 use std::alloc::{AllocError, Global};
 
 /// For each item the first step of a run that used it, if any did.
@@ -72,15 +72,15 @@ impl FirstUses {
         }
     }
 
-    /// Notes that a step asked a question with a name, as [`FirstUses::note`] notes its item.
+    /// Notes that a step asked this of a name, as [`FirstUses::note`] notes the item.
     #[inline(always)]
-    pub fn note_asked(&mut self, asked: Asked, step: u64) -> Result<(), AllocError>
+    pub fn note_asked(&mut self, asked: Asked, name: &Name, step: u64) -> Result<(), AllocError>
         ensures ok { OnOk result ((q : Item) → first_in self.new q ≡
-            or_later (first_in self.old q) (if is_use q (asked_item asked.entry) then Some step else None)) }
+            or_later (first_in self.old q) (if is_use q (items.Named asked name.now) then Some step else None)) }
         ensures clock { self.new.clock_steps ≡ self.old.clock_steps }
         ensures err { OnErr result (self.new ≡ self.old) }
     {
-        self.others.note_asked(asked, step)
+        self.others.note_asked(asked, name, step)
     }
 
     /// Forgets the steps from one on, that one too.

@@ -1,14 +1,13 @@
 ghost use Rattle.std.specs.Prelude.{◌≡◌, ◌<◌, [], Some, None, if◌then◌else◌, OnOk, OnErr, nat_lt, IsTrue, IsSome};
 ghost use Rattle.gw_meaning.specs.declared.item.Item.{Item};
+ghost use Rattle.gw_meaning.specs.declared.item.Item.TheVariants as items;
 ghost use Rattle.gw_meaning.specs.Reads.{same_item, or_later};
-ghost use Rattle.gw_uses.specs.Asks.{differs, earlier, is_ask, is_other, least_in};
-ghost use Rattle.gw_uses.specs.Asked.{asked_item};
+ghost use Rattle.gw_uses.specs.Asks.{answers_differ, differs, earlier, is_ask, is_other, least_in};
 ghost use Rattle.gw_uses.specs.Steps.{step_of, below};
 ghost use Rattle.std.specs.List.{IsDistinct};
 ghost use Rattle.std.specs.Map.{keys_of};
 
-use crate::asked::Asked;
-use gw_meaning::Item;
+use gw_meaning::{Asked, Item};
 use gw_names::Name;
 use indexmap::IndexMap;
 use std::alloc::{AllocError, Global};
@@ -16,6 +15,9 @@ use std::marker::Model;
 
 // How many slots there are.
 const SLOTS: usize = 2_048;
+
+// The marks of two amounts of a storage lie so far apart, since those of names that end in numbers are neighbours.
+const APART: u64 = 1_267;
 
 /// For each item of any kind the first step that used it, if any did, in the order in which they were noted.
 #[derive(Drop)]
@@ -121,40 +123,46 @@ impl ItemSteps {
         }
     }
 
-    /// Notes that a step asked a question with a name, as [`ItemSteps::note`] notes its item, which is made only where
-    /// its slot does not tell it.
+    /// Notes that a step asked this of a name, as [`ItemSteps::note`] notes the item, which is made only where its slot
+    /// does not tell it.
     #[inline(always)]
-    pub fn note_asked(&mut self, asked: Asked, step: u64) -> Result<(), AllocError>
+    pub fn note_asked(&mut self, asked: Asked, name: &Name, step: u64) -> Result<(), AllocError>
         ensures ok { OnOk result ((q : Item) → step_of self.new q ≡
-            or_later (step_of self.old q) (if same_item (asked_item asked.entry) q then Some step else None)) }
+            or_later (step_of self.old q) (if same_item (items.Named asked name.now) q then Some step else None)) }
         ensures err { OnErr result (self.new ≡ self.old) }
     {
-        let slot = slot_of(asked.mark());
-        if self.is_asked_at(usize::from(self.slots[slot]), asked) {
+        let slot = slot_of(mark_of(asked, name));
+        if self.is_asked_at(usize::from(self.slots[slot]), asked, name) {
             return Ok(());
         }
-        self.note_item_of(asked, step, slot)
+        self.note_named(asked, name, step, slot)
     }
 
-    // Notes the item of a question, which its slot did not tell.
+    // Notes what is asked of a name, which its slot did not tell. The item shares the name.
     #[cold]
     #[inline(never)]
-    fn note_item_of(&mut self, asked: Asked, step: u64, slot: usize) -> Result<(), AllocError>
+    fn note_named(
+        &mut self,
+        asked: Asked,
+        name: &Name,
+        step: u64,
+        slot: usize,
+    ) -> Result<(), AllocError>
         requires { slot < 2048 }
         ensures ok { OnOk result ((q : Item) → step_of self.new q ≡
-            or_later (step_of self.old q) (if same_item (asked_item asked.entry) q then Some step else None)) }
+            or_later (step_of self.old q) (if same_item (items.Named asked name.now) q then Some step else None)) }
         ensures err { OnErr result (self.new ≡ self.old) }
     {
-        self.note_at(&asked.item()?, step, slot)
+        self.note_at(&Item::Named(asked, name.clone()?), step, slot)
     }
 
-    // Whether a question's item is noted at an index.
+    // Whether what is asked of a name is noted at an index.
     #[inline(always)]
-    fn is_asked_at(&self, index: usize, asked: Asked) -> bool
-        ensures { IsTrue result → IsSome (step_of self.now (asked_item asked.entry)) }
+    fn is_asked_at(&self, index: usize, asked: Asked, name: &Name) -> bool
+        ensures { IsTrue result → IsSome (step_of self.now (items.Named asked name.now)) }
     {
         match self.steps.get_index(index) {
-            Some((kept, _)) => asked.is(kept),
+            Some((kept, _)) => is_asked(kept, asked, name),
             None => false,
         }
     }
@@ -177,6 +185,26 @@ fn slot_of(mark: u64) -> usize
     ensures { result < 2048 }
 {
     (mark % SLOTS as u64) as usize
+}
+
+// Whether an item is this, asked of a name.
+#[inline(always)]
+fn is_asked(item: &Item, asked: Asked, name: &Name) -> bool
+    ensures { result ≡ same_item (items.Named asked name.now) item.now }
+{
+    match item {
+        Item::Named(other, of) => asked == *other && *name == *of,
+        _ => false,
+    }
+}
+
+// A number by which what is asked of names is spread over the slots: it says where one is looked for first, no more.
+#[inline(always)]
+fn mark_of(asked: Asked, name: &Name) -> u64 {
+    match asked {
+        Asked::Fits(units) => name.mark().wrapping_add(units.wrapping_mul(APART)),
+        _ => name.mark(),
+    }
 }
 
 // The mark of an item without a name.
@@ -211,8 +239,18 @@ fn is_ask(name: &Name, from: Option<u64>, to: Option<u64>, item: &Item) -> bool
     ensures { result ≡ is_ask name.now from to item.now }
 {
     match item {
-        Item::Fits(other, amount) => name == other && differs(from, to, *amount),
-        Item::Storage(other) => name == other && is_other(from, to),
+        Item::Named(asked, other) => name == other && answers_differ(from, to, *asked),
+        _ => false,
+    }
+}
+
+// Whether two capacities answer this in two ways, where it is asked of their storage.
+fn answers_differ(from: Option<u64>, to: Option<u64>, asked: Asked) -> bool
+    ensures { result ≡ answers_differ from to asked }
+{
+    match asked {
+        Asked::Fits(amount) => differs(from, to, amount),
+        Asked::Storage => is_other(from, to),
         _ => false,
     }
 }

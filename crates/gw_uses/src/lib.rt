@@ -4,13 +4,11 @@
 //! the steps from one on. An item that is known takes no memory.
 #![tactic(auto)]
 
-mod asked;
 mod clock_steps;
 mod first_steps;
 mod first_uses;
 mod item_steps;
 
-pub use asked::Asked;
 pub use clock_steps::{ClockStep, ClockSteps};
 pub use first_steps::FirstSteps;
 pub use first_uses::FirstUses;

@@ -1,6 +1,7 @@
 use Rattle.std.proofs.Common.{◌≡◌, Bool, subst, rules}
 use Rattle.gw_names.specs.declared.key.Key.{Key}
 use Rattle.gw_names.specs.declared.key.Key.TheVariants as keys
+use Rattle.gw_meaning.specs.declared.item.Asked.TheVariants as questions
 use Rattle.gw_meaning.specs.declared.item.Item.TheVariants as items
 use Rattle.gw_entities.specs.Records.{Store}
 use Rattle.gw_meaning.specs.Entities.{store_at}
@@ -33,6 +34,6 @@ returns c x is =
     let notes = c.ask_fits.new.notes in
     let F : Bool → Type 0 = λ fits. Acts t seed (enter_or_wait id key store c.args.units fits) c.with_draws.result s
     c.with_draws.new.self notes notes in
-    acts_asked t seed (items.Fits name (beside c.args.units store.level.content)) (enter_or_wait id key store c.args.units)
+    acts_asked t seed (items.Named (questions.Fits (beside c.args.units store.level.content)) name) (enter_or_wait id key store c.args.units)
     _ s _ c.args.notes.now notes notes ok
     (subst F answer (c.with_draws.ensures t seed (enter_or_wait id key store c.args.units c.in_ok-fits.fits) s goes))
