@@ -8,7 +8,7 @@ use Rattle.gw_meaning.specs.declared.item.Asked.TheVariants as questions
 use Rattle.gw_meaning.specs.declared.item.Item.TheVariants as items
 use Rattle.gw_meaning.specs.declared.statement.Statement.{Statement}
 use Rattle.gw_meaning.specs.declared.statement.Numbered.{Numbered}
-use Rattle.gw_meaning.specs.Listing.{Listing, line_in, block_of, block_of_body, is_block, command_of, first_block, after_in, nth, command_of_body, defines, definition_if, definition_of, definition_of_body, has_label, is_generate_body, number_of, expression_of, function_of, units_of}
+use Rattle.gw_meaning.specs.Listing.{Listing, line_in, block_of, block_of_body, is_block, command_of, first_block, after_in, nth, command_of_body, defines, definition_if, definition_of, definition_of_body, has_label, is_generate_body}
 use Rattle.gw_meaning.specs.Questions.{ask}
 use Rattle.gw_meaning.specs.Reads.{is_use}
 use Rattle.gw_model.proofs.Numbers.{other_way}

@@ -14,3 +14,4 @@ pub mod TouchLaws
 pub mod RebaseLaws
 pub mod PositionLaws
 pub mod SpelledLaws
+pub mod WrittenLaws

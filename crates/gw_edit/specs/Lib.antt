@@ -1,5 +1,6 @@
 pub mod Faults
 pub mod Applied
+pub mod Written
 pub mod Same
 pub mod Touching
 pub mod Touched

@@ -3,6 +3,16 @@ ghost use Rattle.gw_edit.specs.Capacities.{CapacityTouchesWhatDiffers};
 ghost use Rattle.gw_edit.specs.InPositions.{EditInPositions};
 ghost use Rattle.gw_edit.specs.Spelled.{EditsAreSpelled};
 ghost use Rattle.gw_edit.specs.Untouched.{UntouchedAlike};
+ghost use Rattle.gw_edit.specs.Written.{ChangesAreRefused, ChangesAreSpelled, InsertsAreRefused, InsertsAreSpelled};
+
+/// An insert or a change of a place that is there makes the version with the statement that its text spells, where that
+/// has no fault, and is refused with the first fault of its text, where it spells none.
+pub fn texts_are_spelled()
+    ensures inserts { InsertsAreSpelled }
+    ensures changes { ChangesAreSpelled }
+    ensures inserts_refused { InsertsAreRefused }
+    ensures changes_refused { ChangesAreRefused }
+{}
 
 /// What an edit does not touch, a version and its edited version answer alike, in each replication that both
 /// have.

@@ -20,7 +20,10 @@ mod touched_step;
 
 pub use edit::Edit;
 pub use fault::EditFault;
-pub use laws::{capacity_touches_what_differs, edit_in_positions, edits_are_spelled, untouched};
+pub use laws::{
+    capacity_touches_what_differs, edit_in_positions, edits_are_spelled, texts_are_spelled,
+    untouched,
+};
 pub use making::apply;
 pub use rebasing::rebase;
 pub use touch::{Touch, touch_of};

@@ -1,5 +1,5 @@
 -- The first step that asks an amount that two capacities answer in two ways is the least of those that are noted.
-use Rattle.std.proofs.Common.{◌≡◌, ℕ, zero, suc, ◌+◌, ◌<◌, ◌≤◌, min, Bool, true, false, cond, ◌||◌, nat_le, nat_eq, List, [], ◌∷◌, take, Option, Some, None, inl, inr, refl, sym, ap, ap₂, ◌∙◌, arith, subst}
+use Rattle.std.proofs.Common.{◌≡◌, ℕ, zero, suc, ◌+◌, ◌<◌, ◌≤◌, min, Bool, true, false, cond, ◌||◌, nat_le, List, [], ◌∷◌, take, Option, Some, None, inl, inr, refl, sym, ap, ap₂, ◌∙◌, arith, subst}
 use mathlib.Core.Bool.{true≢false}
 use Rattle.std.specs.List.{list_any, slice_get, IsDistinct}
 use Rattle.std.specs.Str.{bytes_eq}

@@ -1,0 +1,55 @@
+-- An insert or a change makes the version with what its text spells, and is refused with the text's first fault.
+use Rattle.std.proofs.Common.{◌≡◌, ℕ, ◌+◌, Bool, true, false, cond, List, Some, Result, Ok, Err, length, refl}
+use Rattle.gw_meaning.specs.declared.statement.Statement.{Statement}
+use Rattle.gw_meaning.specs.Listing.{Listing}
+use Rattle.gw_lines.specs.declared.fault.LineFault.{LineFault}
+use Rattle.gw_lines.specs.Edits.{FirstFaultOfEdit, edit_of}
+use Rattle.gw_lines.specs.Reading.{◌>>=◌}
+use Rattle.gw_lines.proofs.Edits.{edits_are_read, edits_are_refused}
+use Rattle.gw_model.specs.Faults.{is_outside}
+use Rattle.gw_model.specs.Spliced.{with_splice}
+use Rattle.gw_edit.specs.declared.fault.EditFault.{EditFault}
+use Rattle.gw_edit.specs.declared.fault.EditFault.TheVariants.{NoSuchPlace}
+use Rattle.gw_edit.specs.Applied.{checked, or_refusal, spelled_by}
+use Rattle.gw_edit.specs.Faults.{of_line}
+use Rattle.gw_edit.specs.Written.{Writes, InsertsAreSpelled, ChangesAreSpelled, InsertsAreRefused, ChangesAreRefused}
+use Rattle.gw_edit.proofs.Made.{other_side}
+
+-- what was made of a text is made of the statement that was read
+of_read : (r : Result Statement LineFault) (f : Statement → Result Listing EditFault) (u : Listing) → (or_refusal r >>= f) ≡ Ok u
+    → (s : Statement) × (r ≡ Ok s) × (f s ≡ Ok u)
+of_read (Ok s) f u h = (s, refl, h)
+of_read (Err fault) f u h = absurd cc
+
+module _ (t : Listing) (places place : ℕ) (goes : Bool) (text : List ℕ) where
+  abbrev put : Statement → Result Listing EditFault
+  put s = checked (with_splice t place goes (Some s))
+
+  abbrev written : Result Listing EditFault
+  written = cond (is_outside 1 places place) (Err NoSuchPlace) (spelled_by text >>= put)
+
+  spelled : (u : Listing) → written ≡ Ok u → Writes t u places place goes text
+  spelled u h =
+      let side = other_side (is_outside 1 places place) _ _ u h in
+      let read = of_read (edit_of text) put u side.1 in
+      record { within = side.0; statement = read.0; spells = (edits_are_read text read.0).0 read.1; made = read.2 }
+
+  put_there : (u : Listing) → Writes t u places place goes text → written ≡ Ok u
+  put_there u w = rw (w.within, (edits_are_read text w.statement).1 w.spells) w.made
+
+  refused : (f : LineFault) → is_outside 1 places place ≡ false → FirstFaultOfEdit text f → written ≡ Err (of_line f)
+  refused f within first = rw (within, (edits_are_refused text f).1 first) refl
+
+pub inserts_are_spelled : InsertsAreSpelled
+inserts_are_spelled t u place text =
+    let places = length t.lines + 1 in (spelled t places place false text u, put_there t places place false text u)
+
+pub changes_are_spelled : ChangesAreSpelled
+changes_are_spelled t u place text =
+    let places = length t.lines in (spelled t places place true text u, put_there t places place true text u)
+
+pub inserts_are_refused : InsertsAreRefused
+inserts_are_refused t place text f within first = refused t (length t.lines + 1) place false text f within first
+
+pub changes_are_refused : ChangesAreRefused
+changes_are_refused t place text f within first = refused t (length t.lines) place true text f within first
