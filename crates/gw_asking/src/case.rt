@@ -83,7 +83,7 @@ pub fn ask_label(
 
 /// Which number does this name stand for, if any?
 #[inline(always)]
-pub fn ask_name(
+pub fn ask_number(
     version: &Version,
     notes: &mut Notes,
     name: &Name,

@@ -15,7 +15,7 @@ mod shares;
 
 pub use case::{
     Case, ask_after, ask_block, ask_capacity, ask_command, ask_fits, ask_generates, ask_label,
-    ask_name, ask_next, ask_within,
+    ask_next, ask_number, ask_within,
 };
 pub use draws::{draw, millionths, modifier_of, multiplied, sample};
 pub use entity_ref::{EntityRef, named, numbered};

@@ -21,7 +21,7 @@ pub fn reports_are_right()
 
 /// The numbers of statements do not matter: two versions with the same statements in order, whatever their numbers, are
 /// answered alike for every replication and START. So an edited version is answered as the version made anew from the
-/// statements that `list` shows, which has a fault only where it has one itself.
+/// statements that `list` shows, which has a fault only where the edited one has.
 pub fn numbers_do_not_matter()
     ensures alike { SameAnswers }
     ensures anew { AnsweredAnew }

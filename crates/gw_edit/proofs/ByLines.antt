@@ -215,19 +215,19 @@ pub record Saying : Type 1 where
   pub says : Option Definition → Option X
 
 abbrev pub saying : Asked → Saying
-saying questions.Label = record { X = ℕ; says = λ d. None }
 saying questions.Number = record { X = ℤ; says = number_of }
 saying (questions.Fits units) = record { X = Bool; says = fitting units }
 saying questions.Storage = record { X = ℕ; says = units_of }
 saying questions.Variable = record { X = Term; says = expression_of }
 saying questions.Function = record { X = Function; says = function_of }
+saying asked = record { X = ℕ; says = λ d. None }
 
 -- two definitions say the same to an item
 abbrev pub IsSameTo : Item → List ℕ → Option Definition → Option Definition → Type 0
 IsSameTo (items.Named asked name) = IsSameOf (saying asked).says name
 IsSameTo item = IsSameOf {X = ℕ} (λ d. None) []
 
--- a definition that is left untouched says no more than none
+-- a definition that is not touched says as much as none
 pub untouched_same : (i : Item) (label : List ℕ) (d : Definition) → probed_at (definition_place (Some label) (Some d)) i ≡ false →
     IsSameTo i label (Some d) None
 untouched_same (items.Named questions.Number name) label (definitions.Equ value) h = inr (bytes_other name label h)
@@ -321,7 +321,8 @@ IsListed (items.After k) = ⊥
 IsListed (items.Cmd j) = ⊥
 IsListed item = Unit {0}
 
--- each listed item: what says something to it, and how the probes tell. To one that has no line here no statement does.
+-- each listed item: what says something to it, and how the probes tell. One without a line here is answered without any
+-- statement.
 unfoldable pub by_lines : (i : Item) → IsListed i → IsByLines i
 by_lines (items.Block k) listed = absurd listed
 by_lines (items.After k) listed = absurd listed

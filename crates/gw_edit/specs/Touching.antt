@@ -80,8 +80,8 @@ block_places front line =
 abbrev pub block_probes : Listing → ℕ → Numbered → List Probe
 block_probes t place line = given (block_places (block_before t place) line)
 
--- a definition that comes in or goes out: what its name is asked, a storage how many units fit and how many it has, a
--- name with a number which number that is, a VARIABLE its expression, and a FUNCTION what it is
+-- a definition that comes in or goes out touches what is asked of its name: of a STORAGE each amount and the capacity,
+-- of an EQU the number, of a VARIABLE the expression, of a FUNCTION all of it
 abbrev pub definition_place : Option (List ℕ) → Option Definition → Option Probe
 definition_place (Some name) (Some (definitions.Storage capacity)) = Some (Amounts name None None)
 definition_place (Some name) (Some (definitions.Equ value)) = Some (One (items.Named questions.Number name))

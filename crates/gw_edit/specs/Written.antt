@@ -10,23 +10,23 @@ use Rattle.gw_edit.specs.declared.edit.Edit.TheVariants as edits
 use Rattle.gw_edit.specs.Applied.{applied, checked}
 use Rattle.gw_edit.specs.Faults.{of_line}
 
--- the place is one of so many, the text spells a statement, and the version with that statement there has no fault
-pub record Writes (t u : Listing) (places place : ℕ) (goes : Bool) (text : List ℕ) : Type 0 where
+-- the place is one of 1 to `places`, the text spells a statement, and the version with it has no fault
+pub record IsMadeOfText (t u : Listing) (places place : ℕ) (goes : Bool) (text : List ℕ) : Type 0 where
   pub within : is_outside 1 places place ≡ false
   pub statement : Statement
   pub spells : SpellsEdit text statement
   pub made : checked (with_splice t place goes (Some statement)) ≡ Ok u
 
--- a statement may come behind the last one, and in place of one that is there
+-- an insert has one place more than there are statements, a change has their places
 abbrev pub InsertsAreSpelled : Type 0
 InsertsAreSpelled = (t u : Listing) (place : ℕ) (text : List ℕ) →
-    (applied t (edits.Insert place text) ≡ Ok u) ↔ Writes t u (length t.lines + 1) place false text
+    (applied t (edits.Insert place text) ≡ Ok u) ↔ IsMadeOfText t u (length t.lines + 1) place false text
 
 abbrev pub ChangesAreSpelled : Type 0
 ChangesAreSpelled = (t u : Listing) (place : ℕ) (text : List ℕ) →
-    (applied t (edits.Change place text) ≡ Ok u) ↔ Writes t u (length t.lines) place true text
+    (applied t (edits.Change place text) ≡ Ok u) ↔ IsMadeOfText t u (length t.lines) place true text
 
--- where the place is one of them, the refusal is the text's first fault
+-- where there is such a place, the refusal is the text's first fault
 abbrev pub InsertsAreRefused : Type 0
 InsertsAreRefused = (t : Listing) (place : ℕ) (text : List ℕ) (f : LineFault) →
     is_outside 1 (length t.lines + 1) place ≡ false → FirstFaultOfEdit text f →

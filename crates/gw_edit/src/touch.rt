@@ -184,7 +184,7 @@ fn rest_probes(version: &Version, place: u64, line: &Numbered) -> Result<Probes,
     }
 }
 
-// What a definition is asked of its name.
+// What a definition that comes in or goes out touches: what is asked of its name.
 fn definition_place(line: &Numbered) -> Result<Option<Probe>, AllocError>
     ensures { IfOk result (λ probe. probe ≡
         definition_place line.now.statement.label (definition_of line.now)) }

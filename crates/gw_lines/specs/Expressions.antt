@@ -1,5 +1,5 @@
 -- Expressions as they are read, in parentheses and without: byte by byte, with what waits for the operand that comes
--- next. (Manual: the operators and which of them come first. Our own: how deep parentheses may be.)
+-- next. (Manual: a minus as a sign. Our own: how deep parentheses may be.)
 use Rattle.std.specs.Prelude.{ℕ, suc, ◌==◌, Bool, true, false, List, [], ◌∷◌, ◌++◌, Option, Some, None, option_map, option_and_then, if◌then◌else◌, nat_lt}
 use Rattle.gw_expr.specs.declared.atom.Atom.{Atom}
 use Rattle.gw_expr.specs.declared.token.Operator.{Operator}

@@ -137,8 +137,7 @@ abbrev pub defined_in : List ℕ → List Numbered → Option Definition
 defined_in name [] = None
 defined_in name (line ∷ lines) = or_next (defines name line) (defined_in name lines)
 
--- how many units a definition gives a storage, which number it gives a name, which expression a VARIABLE, and which
--- FUNCTION it is
+-- how many units a definition gives a storage, and which number it gives a name
 abbrev pub units_of : Option Definition → Option ℕ
 units_of (Some (definitions.Storage capacity)) = Some capacity
 units_of definition = None
@@ -147,32 +146,17 @@ abbrev pub number_of : Option Definition → Option ℤ
 number_of (Some (definitions.Equ value)) = Some value
 number_of definition = None
 
-abbrev pub expression_of : Option Definition → Option Term
-expression_of (Some (definitions.Variable expression)) = Some expression
-expression_of definition = None
-
-abbrev pub function_of : Option Definition → Option Function
-function_of (Some (definitions.Function function)) = Some function
-function_of definition = None
-
 -- the first that statements say
 abbrev pub first_said : {X : Type 0} → (Numbered → Option X) → List Numbered → Option X
 first_said says [] = None
 first_said says (line ∷ lines) = or_next (says line) (first_said says lines)
 
--- the units of the storage of a name, the number that a name stands for, the expression of the VARIABLE of a name, and
--- the FUNCTION of a name
+-- the units of the storage of a name, and the number that a name stands for
 abbrev pub capacity_in : List ℕ → List Numbered → Option ℕ
 capacity_in name = first_said (λ line. units_of (defines name line))
 
 abbrev pub number_in : List ℕ → List Numbered → Option ℤ
 number_in name = first_said (λ line. number_of (defines name line))
-
-abbrev pub variable_in : List ℕ → List Numbered → Option Term
-variable_in name = first_said (λ line. expression_of (defines name line))
-
-abbrev pub function_in : List ℕ → List Numbered → Option Function
-function_in name = first_said (λ line. function_of (defines name line))
 
 -- the numbers of the GENERATEs, in order
 abbrev pub generates_in : List Numbered → List ℕ
@@ -212,13 +196,21 @@ capacity_at t name = unwrap_or (capacity_in name t.lines) 0
 abbrev pub number_at : Listing → List ℕ → Option ℤ
 number_at t name = number_in name t.lines
 
--- the expression of the VARIABLE of a name, where there is one
-abbrev pub variable_at : Listing → List ℕ → Option Term
-variable_at t name = variable_in name t.lines
+-- the expression of a VARIABLE, and that of the VARIABLE of a name, where there is one
+abbrev pub expression_of : Option Definition → Option Term
+expression_of (Some (definitions.Variable expression)) = Some expression
+expression_of definition = None
 
--- the FUNCTION of a name, where there is one
+abbrev pub variable_at : Listing → List ℕ → Option Term
+variable_at t name = first_said (λ line. expression_of (defines name line)) t.lines
+
+-- what a FUNCTION is, and the FUNCTION of a name, where there is one
+abbrev pub function_of : Option Definition → Option Function
+function_of (Some (definitions.Function function)) = Some function
+function_of definition = None
+
 abbrev pub function_at : Listing → List ℕ → Option Function
-function_at t name = function_in name t.lines
+function_at t name = first_said (λ line. function_of (defines name line)) t.lines
 
 -- the i-th statement
 abbrev pub statement_at : Listing → ℕ → Option Statement

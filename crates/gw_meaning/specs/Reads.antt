@@ -20,7 +20,7 @@ read_from t seed (Err end) = []
 abbrev pub reads : Listing → ℕ → ℕ → List Item
 reads t seed n = read_from t seed (run t seed n)
 
--- whether the same is asked of two names, and whether two items are one, as the code tells
+-- whether the same is asked, and whether two items are one, as the code tells
 abbrev pub same_asked : Asked → Asked → Bool
 same_asked = asking.ghosts.eq
 

@@ -6,7 +6,7 @@ ghost use Rattle.gw_meaning.specs.Step.{for_none, for_one};
 ghost use Rattle.gw_asking.specs.Deciding.{Decides, Comes};
 
 use crate::state::State;
-use gw_asking::{Case, Halt, Notes, ask_capacity, ask_label, ask_name, draw, millionths};
+use gw_asking::{Case, Halt, Notes, ask_capacity, ask_label, ask_number, draw, millionths};
 use gw_expr::Subject;
 use gw_meaning::{Asker, StatementId, Transaction};
 use gw_names::{Class, Key, Name};
@@ -265,7 +265,7 @@ fn subject(case: Case, notes: &mut Notes, of: &Subject) -> Result<Key, Halt>
         Subject::Own => Err(Halt::RANGE),
         Subject::Number(number) => key_of_number(*number),
         Subject::Name(name) => {
-            let number = ask_name(case.version, notes, name)?;
+            let number = ask_number(case.version, notes, name)?;
             key_named(name, number)
         }
     }

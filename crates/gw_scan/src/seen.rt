@@ -5,7 +5,7 @@ ghost use Rattle.gw_scan.specs.Seeing.{IsStill, Replies};
 
 use crate::attributes::random_part;
 use crate::state::State;
-use gw_asking::{Case, Halt, Notes, ask_name};
+use gw_asking::{Case, Halt, Notes, ask_number};
 use gw_expr::{EvalFault, Sna, Subject, World};
 use gw_meaning::{Asked, Asker};
 use gw_names::{Class, Name};
@@ -26,7 +26,7 @@ impl<'a> World for Seen<'a> {
 
     #[inline(always)]
     fn number(&mut self, name: &Name) -> Result<Option<Val>, EvalFault> {
-        Ok(ask_name(self.case.version, self.notes, name)?)
+        Ok(ask_number(self.case.version, self.notes, name)?)
     }
 
     #[inline(always)]

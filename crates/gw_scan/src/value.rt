@@ -9,7 +9,7 @@ ghost use Rattle.gw_asking.specs.EntityRef.{keyed};
 
 use crate::seen::Seen;
 use crate::state::State;
-use gw_asking::{Case, EntityRef, Halt, Notes, ask_name, named, numbered};
+use gw_asking::{Case, EntityRef, Halt, Notes, ask_number, named, numbered};
 use gw_expr::{Atom, Expr, Node, eval};
 use gw_meaning::operands::{A, B};
 use gw_meaning::{Asker, Block, Transaction};
@@ -112,7 +112,7 @@ impl State {
         };
         match expr.node() {
             Node::Named(name) => {
-                let number = ask_name(case.version, notes, name.name())?;
+                let number = ask_number(case.version, notes, name.name())?;
                 named(name, number)
             }
             Node::Value(Atom::Constant(number)) => numbered(*number),

@@ -100,7 +100,7 @@ least_is p (e ∷ es) = least_with p e es (p e.0) (least_in p es) refl (least_is
 
 -- ---- asks
 
--- what two capacities answer in two ways is one with itself alone
+-- what two capacities answer in two ways equals nothing but itself
 told_apart : (from to : Option ℕ) (b a : Asked) → answers_differ from to b ≡ true → same_asked a b ≡ true → a ≡ b
 told_apart from to (questions.Fits n) (questions.Fits m) differ h = ap (λ k. questions.Fits k) (grind (arith, nat_tests, h))
 told_apart from to questions.Storage questions.Storage differ h = refl

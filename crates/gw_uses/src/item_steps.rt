@@ -123,8 +123,8 @@ impl ItemSteps {
         }
     }
 
-    /// Notes that a step asked this of a name, as [`ItemSteps::note`] notes the item, which is made only where its slot
-    /// does not tell it.
+    /// Notes what a step asks of a name, as [`ItemSteps::note`] does. An item is made only where the slot does not have
+    /// it.
     #[inline(always)]
     pub fn note_asked(&mut self, asked: Asked, name: &Name, step: u64) -> Result<(), AllocError>
         ensures ok { OnOk result ((q : Item) → step_of self.new q ≡
@@ -138,7 +138,7 @@ impl ItemSteps {
         self.note_named(asked, name, step, slot)
     }
 
-    // Notes what is asked of a name, which its slot did not tell. The item shares the name.
+    // The same, where the slot did not have it. The item shares the name.
     #[cold]
     #[inline(never)]
     fn note_named(
@@ -187,7 +187,7 @@ fn slot_of(mark: u64) -> usize
     (mark % SLOTS as u64) as usize
 }
 
-// Whether an item is this, asked of a name.
+// Whether an item asks this of this name.
 #[inline(always)]
 fn is_asked(item: &Item, asked: Asked, name: &Name) -> bool
     ensures { result ≡ same_item (items.Named asked name.now) item.now }
@@ -198,7 +198,7 @@ fn is_asked(item: &Item, asked: Asked, name: &Name) -> bool
     }
 }
 
-// A number by which what is asked of names is spread over the slots: it says where one is looked for first, no more.
+// By its mark what is asked of a name has a slot, which is looked at first; nothing else depends on it.
 #[inline(always)]
 fn mark_of(asked: Asked, name: &Name) -> u64 {
     match asked {
