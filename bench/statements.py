@@ -206,7 +206,7 @@ def parts(line):
     ascii_only(code[: start + end])
     if label is not None and not is_name(label):
         raise Fault("L4")
-    if (label is None and verb in DEFINITIONS + LATER_DEFINITIONS) or (label is not None and verb in COMMANDS + LATER_COMMANDS):
+    if (label is None and verb in DEFINITIONS) or (label is not None and verb in COMMANDS + LATER_COMMANDS):
         raise Fault("L4")
     if verb not in FORMS:
         raise Fault("L3")
