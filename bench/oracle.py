@@ -1,7 +1,8 @@
-"""An independent reading of the language: sessions are answered by a plain interpreter that knows nothing of the program.
+"""An independent reading of the language: sessions are answered by a plain interpreter that knows nothing of the
+program.
 
-It takes all sessions but those that end out of memory or behind too many reads, and reads statements by statements.py. A
-report is a run from clock zero; what an edit leaves of a recorded run goes by the items that each step read."""
+It takes all sessions but those that end out of memory or behind too many reads, and reads statements by statements.py.
+A report is a run from clock zero; what an edit leaves of a recorded run goes by the items that each step read."""
 import re, sys
 
 from statements import BLOCKS, COMMANDS, DEFINITIONS, OF_BLOCKS, OF_FUNCTIONS, OF_STORAGES, OF_THE_MOMENT, OF_VARIABLES
@@ -230,7 +231,8 @@ class Run:
         return x
 
     def time(self, block):
-        """A time of the first operand plus or minus the second, below 0 where the second is; or as often the first as a FUNCTION says."""
+        """A time of the first operand plus or minus the second, below 0 where the second is; or as often the first as a
+        FUNCTION says."""
         mean, modifier = self.value(block, 0), block.operand(1) or ""
         if modifier[:2] == "FN":
             return within(mean * self.function(block, block.tree(1)[2]) // 10**6)
@@ -689,18 +691,30 @@ def report(run, replication, start, outcome):
         t.lstrip("<").ljust(w) if t[0] == "<" else t.rjust(w) for t, w in titles(columns)) + "\n"
     columns = "<FACILITY 10,ENTRIES 8,UTIL. 8,AVE. TIME 11,AVAIL. 6,OWNER 7,PEND 4,INTER 5,RETRY 5,DELAY 5"
     text += section(titles(columns), [
-        (key, f.captures, thousandths(f.total(clock), clock), thousandths(f.total(clock), f.captures), 1, f.owner or 0, 0, 0, 0,
-         len(run.waiting.get(key, []))) for key, f in run.facilities.items()])
+        (
+            key, f.captures, thousandths(f.total(clock), clock), thousandths(f.total(clock), f.captures), 1,
+            f.owner or 0, 0, 0, 0, len(run.waiting.get(key, [])),
+        )
+        for key, f in run.facilities.items()
+    ])
     columns = "<QUEUE 10,MAX 8,CONT. 8,ENTRY 8,ENTRY(0) 8,AVE.CONT. 11,AVE.TIME 11,AVE.(-0) 11,RETRY 5"
     text += section(titles(columns), [
-        (key, q.most, q.content, q.entries, q.zero, thousandths(q.total(clock), clock), thousandths(q.total(clock), q.entries),
-         thousandths(q.total(clock), q.entries - q.zero), 0) for key, q in run.queues.items()])
+        (
+            key, q.most, q.content, q.entries, q.zero, thousandths(q.total(clock), clock),
+            thousandths(q.total(clock), q.entries), thousandths(q.total(clock), q.entries - q.zero), 0,
+        )
+        for key, q in run.queues.items()
+    ])
 
     columns = "<STORAGE 10,CAP. 8,REM. 8,MIN. 8,MAX. 8,ENTRIES 8,AVL. 4,AVE.C. 11,UTIL. 8,RETRY 5,DELAY 5"
     text += section(titles(columns), [
-        (name, v.capacities[name], v.capacities[name] - s.content, s.least, s.most, s.entries, 1, thousandths(s.total(clock), clock),
-         thousandths(s.total(clock), v.capacities[name] * clock), 0, len(run.waiting.get(("storage", name), [])))
-        for name, s in run.storages.items()])
+        (
+            name, v.capacities[name], v.capacities[name] - s.content, s.least, s.most, s.entries, 1,
+            thousandths(s.total(clock), clock), thousandths(s.total(clock), v.capacities[name] * clock), 0,
+            len(run.waiting.get(("storage", name), [])),
+        )
+        for name, s in run.storages.items()
+    ])
 
     def line(time, x):
         to = x.destination if x.destination is not None else v.after(x.current)
@@ -737,7 +751,8 @@ class Session:
         return run
 
     def point(self, r, k):
-        """The run at the point of START k with its outcome, or what is answered in its place, and the steps made for it."""
+        """The run at the point of START k with its outcome, or what is answered in its place, and the steps made for
+        it."""
         if not 1 <= k <= sum(c.verb == "START" for c in self.version.commands):
             return "nostart", None, 0
         run = Run(self.version, self.version.seeds[r])
@@ -886,7 +901,9 @@ class Session:
 
     def line_horizon(self, t):
         v, least = self.version, min(self.version.horizon, t)
-        return self.edit(lambda r, item: item[0] == "clock" and item[1] > least, Version(v.statements, t, v.seeds, v.limit))
+        return self.edit(
+            lambda r, item: item[0] == "clock" and item[1] > least, Version(v.statements, t, v.seeds, v.limit)
+        )
 
     def line_seed(self, r, seed):
         if r not in self.version.seeds:
@@ -921,10 +938,13 @@ ITEMS = {"EQU": "name", "VARIABLE": "variable", "FUNCTION": "function"}
 
 
 def touched_by(items, item):
-    """Whether an item is among those touched; of a storage all amounts, or those above one capacity and up to another."""
+    """Whether an item is among those touched; of a storage all amounts, or those above one capacity and up to
+    another."""
     if item[0] == "fits":
         _, name, units = item
-        return ("asks", name) in items or any(i[0] == "between" and i[1] == name and i[2] < units <= i[3] for i in items)
+        return ("asks", name) in items or any(
+            i[0] == "between" and i[1] == name and i[2] < units <= i[3] for i in items
+        )
     return item in items
 
 

@@ -3,8 +3,8 @@
 //! The model stands on standard input up to the line `end`; what stands behind it is left alone. The report is the
 //! one that the workbench gives of that START with its usual options; none where the run does not complete it.
 //!
-//! It is Rattle, as the crates are. A `.rt` file stands in none but a crate that is proved, so this one is called `.rs`:
-//! `bench/unproved` builds it, as a crate beside the others.
+//! It is Rattle, as the crates are. A `.rt` file stands in none but a crate that is proved, so this one is called
+//! `.rs`: `bench/unproved` builds it, as a crate beside the others.
 #![tactic(auto)]
 
 use gw_io::{Budget, FromRead, Sink, Source, ToWrite, split_model, write_all};

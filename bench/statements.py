@@ -1,7 +1,9 @@
 """How bench/oracle.py reads statements: the label, the verb and the operands of a line, or the first fault in it."""
 import re
 
-BLOCKS = "GENERATE ADVANCE TERMINATE QUEUE DEPART SEIZE RELEASE ENTER LEAVE TRANSFER MARK PRIORITY BUFFER ASSIGN LOOP".split()
+BLOCKS = (
+    "GENERATE ADVANCE TERMINATE QUEUE DEPART SEIZE RELEASE ENTER LEAVE TRANSFER MARK PRIORITY BUFFER ASSIGN LOOP"
+).split()
 DEFINITIONS = "STORAGE EQU VARIABLE FUNCTION".split()
 COMMANDS = "START RMULT".split()
 # The verbs of later stages, which are no names either.
@@ -9,8 +11,8 @@ LATER_DEFINITIONS = ["TABLE"]
 LATER_COMMANDS = "RESET CLEAR".split()
 LATER_BLOCKS = "TEST GATE LOGIC SAVEVALUE TABULATE LINK UNLINK SPLIT".split()
 VERBS = BLOCKS + DEFINITIONS + COMMANDS + LATER_DEFINITIONS + LATER_COMMANDS + LATER_BLOCKS
-# The operands of a verb: a value, an entity, one with a sign behind it or none, a storage, a label, a fraction, an expression, a
-# number, a count, a seed, or a key word; `!` where one must be there.
+# The operands of a verb: a value, an entity, one with a sign behind it or none, a storage, a label, a fraction, an
+# expression, a number, a count, a seed, or a key word; `!` where one must be there.
 FORMS = {
     "GENERATE": "value value value value value",
     "ADVANCE": "value value",
@@ -55,8 +57,8 @@ class Bad(Exception):
 
 
 class Statement:
-    """A label, a verb and operands, each as a tree: its kind, and what it is of or, for an operator, the parts. A FUNCTION has points,
-    in millionths, which further lines bring."""
+    """A label, a verb and operands, each as a tree: its kind, and what it is of or, for an operator, the parts. A
+    FUNCTION has points, in millionths, which further lines bring."""
 
     def __init__(self, text):
         self.label, self.verb, self.listed = parts(text)
@@ -225,7 +227,8 @@ def ascii_only(code):
 
 
 def operand_list(text):
-    """The operands up to the first blank outside parentheses, and where they end; blanks within and behind a comma are dropped."""
+    """The operands up to the first blank outside parentheses, and where they end; blanks within and behind a comma are
+    dropped."""
     listed, depth = "", 0
     for at, byte in enumerate(text):
         if byte in " \t":

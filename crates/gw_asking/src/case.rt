@@ -1,6 +1,6 @@
 // What a step asks, of a version and a seed.
 ghost use Rattle.std.specs.Prelude.{◌≡◌, IfOk, OnOk, OnErr, Some, None, if◌then◌else◌, option_copied, nat_le};
-ghost use Rattle.gw_meaning.specs.declared.item.Asked.TheVariants as questions;
+ghost use Rattle.gw_meaning.specs.declared.item.Asked.TheVariants as asking;
 ghost use Rattle.gw_meaning.specs.declared.item.Item.TheVariants as items;
 ghost use Rattle.gw_asking.specs.Noted.{Asks, Tries};
 ghost use Rattle.gw_meaning.specs.Listing.{block_at, after_at, label_at, number_at, capacity_at, command_at, generates_in};
@@ -74,7 +74,7 @@ pub fn ask_label(
     name: &Name,
 ) -> Result<Option<StatementId>, AllocError>
     ensures answer { IfOk result (λ id. id ≡ label_at version.now name.now) }
-    ensures ok { OnOk result (Asks notes.old (items.Named questions.Label name.now) notes.new) }
+    ensures ok { OnOk result (Asks notes.old (items.Named asking.Label name.now) notes.new) }
     ensures err { OnErr result (notes.new ≡ notes.old) }
 {
     notes.note_asked(Asked::Label, name)?;
@@ -89,7 +89,7 @@ pub fn ask_number(
     name: &Name,
 ) -> Result<Option<Val>, AllocError>
     ensures answer { IfOk result (λ number. number ≡ number_at version.now name.now) }
-    ensures ok { OnOk result (Asks notes.old (items.Named questions.Number name.now) notes.new) }
+    ensures ok { OnOk result (Asks notes.old (items.Named asking.Number name.now) notes.new) }
     ensures err { OnErr result (notes.new ≡ notes.old) }
 {
     notes.note_asked(Asked::Number, name)?;
@@ -106,7 +106,7 @@ pub fn ask_fits(
     capacity: u64,
 ) -> Result<bool, AllocError>
     ensures answer { IfOk result (λ fits. fits ≡ nat_le units capacity) }
-    ensures ok { OnOk result (Asks notes.old (items.Named (questions.Fits units) name.now) notes.new) }
+    ensures ok { OnOk result (Asks notes.old (items.Named (asking.Fits units) name.now) notes.new) }
     ensures err { OnErr result (notes.new ≡ notes.old) }
 {
     notes.note_asked(Asked::Fits(units), name)?;
@@ -116,7 +116,7 @@ pub fn ask_fits(
 /// How many units does the storage of this name have?
 pub fn ask_capacity(version: &Version, notes: &mut Notes, name: &Name) -> Result<u64, AllocError>
     ensures answer { IfOk result (λ capacity. capacity ≡ capacity_at version.now name.now) }
-    ensures ok { OnOk result (Asks notes.old (items.Named questions.Storage name.now) notes.new) }
+    ensures ok { OnOk result (Asks notes.old (items.Named asking.Storage name.now) notes.new) }
     ensures err { OnErr result (notes.new ≡ notes.old) }
 {
     notes.note_asked(Asked::Storage, name)?;

@@ -7,10 +7,10 @@ use crate::halt::Halt;
 use gw_names::{EntityName, Key};
 use gw_nums::Val;
 
-/// An entity that an operand names: by a name, whose key it lends, or by a number, from 1.
+/// An entity that an operand names: by a name, whose key it borrows, or by a number, from 1.
 #[derive(Clone, Copy)]
 pub enum EntityRef<'a> {
-    /// By a name, whose key it lends.
+    /// By a name, whose key it borrows.
     Named(&'a Key),
     /// By a number, from 1.
     Numbered(u32),

@@ -1,15 +1,14 @@
 -- Laws of the future chain in segments: what goes for two lists one after the other, and for a segment with none due.
 use Rattle.std.proofs.Common.{◌≡◌, ℕ, suc, ◌-◌, ◌+◌, ◌<◌, ◌≤◌, Bool, nat_eq, arith, true, false, not, List, [], ◌∷◌, Option, None, Some, ◌++◌, length, refl, sym, ap, ◌∙◌, filter, append_assoc, append-nil, min, take, drop, get_or, set, length-set, true≢false, take-append-drop, All}
-use Rattle.std.proofs.lemmas.Bool.{cond_both}
 use Rattle.std.proofs.lemmas.Bool.Decides.{nat_tests}
 use Rattle.std.proofs.lemmas.List.{drop_more, take_more, take_more_set, drop-set-lt}
 use Rattle.std.proofs.lemmas.List.Elements.{filter-append, All-same, All-push, All-head, All-drop}
 use Rattle.std.proofs.Math.Seq.{drop-append-add}
-use Rattle.gw_nums.specs.Range.{is_below}
 use Rattle.gw_meaning.specs.declared.transaction.Transaction.{Transaction}
 use Rattle.gw_meaning.specs.declared.transaction.Event.{Event}
 use Rattle.gw_meaning.specs.Changes.{lined_up, all_lined_up, due, is_due}
 use Rattle.gw_meaning.specs.Step.{least_time, sooner}
+use Rattle.gw_meaning.proofs.Chains.{length_lined}
 use Rattle.gw_chains.proofs.ChainLaws.{item_drop}
 use Rattle.gw_chains.specs.Segments.{Closed, all_items, soonest, is_in_use, is_later, IsReady}
 
@@ -48,12 +47,6 @@ all_lined_append [] ys chain = refl
 all_lined_append (x ∷ xs) ys chain = all_lined_append xs ys (lined_up x chain)
 
 -- how many there are
-length_lined : (x : Transaction) (ys : List Transaction) → length (lined_up x ys) ≡ suc (length ys)
-length_lined x [] = refl
-length_lined x (y ∷ ys) =
-    cond_both (is_below y.priority x.priority) (x ∷ y ∷ ys) (y ∷ lined_up x ys) (λ zs. length zs ≡ suc (suc (length ys))) (λ _. refl)
-    (λ _. ap suc (length_lined x ys))
-
 pub length_all_lined : (xs chain : List Transaction) → length (all_lined_up xs chain) ≡ length xs + length chain
 length_all_lined [] chain = omega arith
 length_all_lined (x ∷ xs) chain = omega (arith, length_all_lined xs (lined_up x chain), length_lined x chain)

@@ -26,7 +26,7 @@ use Rattle.gw_edit.specs.Touched.{touched_step}
 use Rattle.gw_edit.specs.Rebasing.{IsKeptOf}
 use Rattle.gw_desk.specs.Editing.{Accepts, Refuses}
 use Rattle.gw_desk.specs.Rebasing.{AreRebased, with_missing}
-use Rattle.gw_desk.proofs.BookLaws.{blank_records}
+use Rattle.gw_record.proofs.Blank.{blank_records}
 use Rattle.gw_desk.proofs.RebaseLaws.{IsRebasedOf, rebased_in, missing_or, missing_in, left_in}
 
 -- the runs behind an edit
@@ -66,7 +66,7 @@ module _ (every : ℕ) (t : Listing) (e : Edit) (u : Listing) (old cut : List Re
         let cut = h of_run.2 in
         (s, behind_in n ∙ (rw (is, found) refl), cut.every, cut.start, cut.kept a of_run.0)
 
-  -- the run of a replication that comes in
+  -- the run of a replication that is added
   pub fresh_run : (n b : ℕ) → seed_at t n ≡ None → seed_at u n ≡ Some b → run_in (runs_behind every u cut) n ≡ Some (blank every)
   fresh_run n b was is =
       go (run_in old n) refl (run_in cut n) refl (rebased_in t e u old cut rebased n) (subst (λ o. IsRunOf t every o (run_in old n)) was (runs n)) where

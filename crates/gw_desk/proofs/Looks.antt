@@ -1,5 +1,5 @@
 -- What the recorded steps tell is what the search from zero finds.
-use Rattle.std.proofs.Common.{◌≡◌, ℕ, zero, suc, ◌+◌, ◌-◌, ◌<◌, ◌≤◌, ◌==◌, nat_le, Bool, true, false, cond, length, get_or, Option, Some, None, Result, Ok, Err, inl, inr, refl, sym, ap, ◌∙◌, arith}
+use Rattle.std.proofs.Common.{◌≡◌, ℕ, zero, suc, ◌+◌, ◌-◌, ◌<◌, ◌≤◌, ◌==◌, nat_le, Bool, true, false, cond, length, get_or, Option, Some, None, Ok, Err, inl, inr, refl, sym, ap, ◌∙◌, arith}
 use Rattle.std.proofs.lemmas.Bool.Decides.{nat_tests}
 use Rattle.std.proofs.lemmas.Option.{slice_get-get_or}
 use Rattle.gw_meaning.specs.declared.item.End.{End}
@@ -9,7 +9,6 @@ use Rattle.gw_meaning.specs.Listing.{Listing}
 use Rattle.gw_meaning.specs.Machine.{Machine, zero_state}
 use Rattle.gw_meaning.specs.Step.{step, run}
 use Rattle.gw_meaning.specs.Point.{outcome_of}
-use Rattle.gw_scan.specs.Stepping.{EndsAs}
 use Rattle.gw_meaning.proofs.Programs.{run_on}
 use Rattle.gw_frame.proofs.ReadLaws.{run_before}
 use Rattle.gw_record.specs.Tape.{Tape, Records, IsStartEnd}
@@ -111,8 +110,3 @@ module _ (t : Listing) (seed k : ℕ) (r : Tape) (h : Records t seed r) where
         let f : t.limit - r.moment ≡ 0 = omega (arith, over) in
         let last : search t seed k 0 r.tip ≡ TooLong = rw (apart, goes) refl in
         (found ∙ (ap (λ n. search t seed k n r.tip) f ∙ last), λ o. let b = o.below in omega (arith, b, over))
-
--- the end that is answered is the step's
-pub ends_so : (r : Result Machine End) (end : End) → EndsAs r (Some end) → r ≡ Err end
-ends_so (Ok u) end is = absurd cc
-ends_so (Err e) end is = let same : e ≡ end = cc in ap (λ x. Err x) same

@@ -70,7 +70,7 @@ run_in_more (r ∷ runs) x n = go (r.number == n) (run_in_more runs x n) where
   go true h = refl
   go false h = h
 
--- missing runs are there, and no others come in
+-- missing runs are there, and no others are added
 abbrev pub missing_or : ℕ → Option ℕ → Option Tape → Option Tape
 missing_or every seed (Some r) = Some r
 missing_or every None None = None

@@ -1,5 +1,5 @@
 -- When the desk accepts an edit and what that leaves of it, for all replications at once: the runs of those that stay,
--- of those that come in, and all else that it holds; and when it refuses. (Our own.)
+-- of those that are added, and all else that it holds; and when it refuses. (Our own.)
 use Rattle.std.specs.Prelude.{◌≡◌, ℕ, ◌<◌, ◌≤◌, [], ◌∷◌, ◌++◌, length, Some, None, Ok, Err}
 use Rattle.gw_meaning.specs.Listing.{seed_at}
 use Rattle.gw_record.specs.Tape.{Tape, blank}
@@ -31,7 +31,7 @@ pub record Accepts (old : Book) (e : Edit) (new : Book) (n : ℕ) : Type 0 where
   pub made : new.made ≡ old.made
   pub kept : (rep a b : ℕ) (r : Tape) → seed_at old.version rep ≡ Some a → seed_at new.version rep ≡ Some b →
       run_in old.runs rep ≡ Some r → IsCut old e new rep a r
-  -- a replication that comes in has a run, of no steps
+  -- a replication that is added has a run, of no steps
   pub fresh : (rep b : ℕ) → seed_at old.version rep ≡ None → seed_at new.version rep ≡ Some b →
       run_in new.runs rep ≡ Some (blank new.every)
 

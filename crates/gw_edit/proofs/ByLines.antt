@@ -1,5 +1,5 @@
 -- Items that are answered by lists: the statements say something to the item, each by itself, and its answer is made of what
--- they say, in order. One that says nothing to it may come in or go out, and one may come for another that says the same.
+-- they say, in order. One that says nothing to it may be inserted or deleted, and one may come for another that says the same.
 -- These are all items but those of a block, which go by its number, and those of a command, which go by how many are in front.
 use Rattle.std.proofs.Common.{◌≡◌, ℕ, zero, suc, Bool, true, false, cond, not, ◌&&◌, slice_get, List, [], ◌∷◌, ◌++◌, Option, Some, None, is_some, ◌||◌, ◌⊎◌, inl, inr, refl, ap, ap₂, sym, subst, ◌∙◌, ⊎_elim, nat_le, option_map, unwrap_or}
 use mathlib.Core.Bool.{true≢false}
@@ -10,11 +10,12 @@ use Rattle.std.proofs.lemmas.Bool.{cases_Bool, or_parts}
 use Rattle.std.proofs.lemmas.List.Elements.{filter_map-append}
 use Rattle.std.proofs.lemmas.List.Folds.{list_any-append}
 use Rattle.std.specs.Prelude.{ℤ}
+use Rattle.std.proofs.Math.Bool.{and-true}
 use Rattle.gw_expr.specs.Term.{Term}
 use Rattle.gw_expr.specs.declared.function.Function.{Function}
 use Rattle.gw_meaning.specs.declared.item.Item.{Item}
 use Rattle.gw_meaning.specs.declared.item.Asked.{Asked}
-use Rattle.gw_meaning.specs.declared.item.Asked.TheVariants as questions
+use Rattle.gw_meaning.specs.declared.item.Asked.TheVariants as asking
 use Rattle.gw_meaning.specs.declared.item.Item.TheVariants as items
 use Rattle.gw_meaning.specs.declared.statement.Body.{Body}
 use Rattle.gw_meaning.specs.declared.statement.Body.TheVariants as bodies
@@ -26,7 +27,7 @@ use Rattle.gw_meaning.specs.Reads.{is_use}
 use Rattle.gw_edit.specs.Same.{same_statement, same_label}
 use Rattle.gw_edit.specs.declared.touch.Probe.{Probe}
 use Rattle.gw_edit.specs.declared.touch.Probe.TheVariants.{CommandsFrom}
-use Rattle.gw_edit.specs.Touching.{block_before, command_from, given, one_if, label_if, block_places, block_probes, line_probes, change_places, label_places, block_change, is_probed, is_touched, definition_place, definition_probes, rest_probes}
+use Rattle.gw_edit.specs.Touching.{block_before, command_from, given, one_if, label_if, block_slots, block_probes, line_probes, change_slots, label_slots, block_change, is_probed, is_touched, definition_slot, definition_probes, rest_probes}
 use Rattle.gw_edit.proofs.SameBlocks.{statement_same, label_same}
 use Rattle.gw_meaning.specs.declared.statement.Definition.{Definition}
 use Rattle.gw_meaning.specs.declared.statement.Definition.TheVariants as definitions
@@ -35,21 +36,21 @@ use Rattle.gw_meaning.specs.declared.statement.Definition.TheVariants as definit
 pub untouched_both : (ps qs : List Probe) (i : Item) → is_touched (ps ++ qs) i ≡ false → (is_touched ps i ≡ false) × (is_touched qs i ≡ false)
 untouched_both ps qs i h = or_parts (is_touched ps i) (is_touched qs i) (sym (list_any-append (λ p. is_probed p i) ps qs) ∙ h)
 
--- what a list of places leaves untouched, the probe at each place does; a place that is free is of no item
+-- what a list of slots leaves untouched, the probe in each slot does; an empty slot is of no item
 abbrev pub probed_at : Option Probe → Item → Bool
 probed_at None i = false
 probed_at (Some probe) i = is_probed probe i
 
-first_place : (o : Option Probe) (os : List (Option Probe)) (i : Item) → is_touched (given (o ∷ os)) i ≡ false →
+first_slot : (o : Option Probe) (os : List (Option Probe)) (i : Item) → is_touched (given (o ∷ os)) i ≡ false →
     (probed_at o i ≡ false) × (is_touched (given os) i ≡ false)
-first_place None os i h = (refl, h)
-first_place (Some probe) os i h = or_parts (is_probed probe i) (is_touched (given os) i) h
+first_slot None os i h = (refl, h)
+first_slot (Some probe) os i h = or_parts (is_probed probe i) (is_touched (given os) i) h
 
 pub untouched_at : (os : List (Option Probe)) (k : ℕ) (o : Option Probe) (i : Item) → slice_get os k ≡ Some o → is_touched (given os) i ≡ false →
     probed_at o i ≡ false
 untouched_at [] k o i at h = absurd cc
-untouched_at (p ∷ os) zero o i at h = let same : p ≡ o = cc in ap (λ q. probed_at q i) (sym same) ∙ (first_place p os i h).0
-untouched_at (p ∷ os) (suc k) o i at h = untouched_at os k o i at (first_place p os i h).1
+untouched_at (p ∷ os) zero o i at h = let same : p ≡ o = cc in ap (λ q. probed_at q i) (sym same) ∙ (first_slot p os i h).0
+untouched_at (p ∷ os) (suc k) o i at h = untouched_at os k o i at (first_slot p os i h).1
 
 -- an item that is left untouched was not wanted
 pub not_wanted : (wanted : Bool) (i : Item) → is_use i i ≡ true → probed_at (one_if wanted i) i ≡ false → wanted ≡ false
@@ -83,7 +84,7 @@ generates_listed (line ∷ lines) =
     cons_option (cond b (Some line.number) None) (filter_map generate_of lines))
     [ true ↦ ap (λ ns. line.number ∷ ns) (generates_listed lines) | false ↦ generates_listed lines ]
 
-no_generate_of : (body : Body) → is_some (block_of_body body) ≡ false → is_generate_body body ≡ false
+pub no_generate_of : (body : Body) → is_some (block_of_body body) ≡ false → is_generate_body body ≡ false
 no_generate_of (bodies.Block block) h = absurd cc
 no_generate_of (bodies.Definition definition) h = refl
 no_generate_of (bodies.Command command) h = refl
@@ -91,7 +92,7 @@ no_generate_of (bodies.Command command) h = refl
 pub no_generate : (t : Listing) (place : ℕ) (line : Numbered) (block : Bool) → is_block line ≡ block →
     is_touched (cond block (block_probes t place line) (rest_probes t place line)) items.Generates ≡ false → is_generate line ≡ false
 no_generate t place line true is h =
-    not_wanted (is_generate line) items.Generates refl (untouched_at (block_places (block_before t place) line) 3 _ items.Generates refl h)
+    not_wanted (is_generate line) items.Generates refl (untouched_at (block_slots (block_before t place) line) 3 _ items.Generates refl h)
 no_generate t place line false is h = no_generate_of line.statement.body is
 
 pub generate_none : (line : Numbered) → is_generate line ≡ false → generate_of line ≡ None
@@ -99,8 +100,8 @@ generate_none line none = ap (λ b. cond b (Some line.number) None) none
 
 -- a block that comes for a block touches what its change touches, and labels
 pub change_parts : (line : Numbered) (s : Statement) (i : Item) → is_touched (block_change line (changed_line line s)) i ≡ false →
-    (is_touched (given (change_places (not (same_statement line.statement s)) line (changed_line line s))) i ≡ false) ×
-    (is_touched (given (label_places (not (same_label line.statement.label s.label)) line (changed_line line s))) i ≡ false)
+    (is_touched (given (change_slots (not (same_statement line.statement s)) line (changed_line line s))) i ≡ false) ×
+    (is_touched (given (label_slots (not (same_label line.statement.label s.label)) line (changed_line line s))) i ≡ false)
 change_parts line s i h = untouched_both _ _ i h
 
 pub same_generate : (line : Numbered) (s : Statement) → is_touched (block_change line (changed_line line s)) items.Generates ≡ false →
@@ -110,17 +111,12 @@ same_generate line s h =
     (λ (same : same_statement line.statement s ≡ true). ap is_generate_body (sym (statement_same line.statement s same)))
     (λ (other : same_statement line.statement s ≡ false).
     let either = is_generate line || is_generate (changed_line line s) in
-    let untouched = untouched_at (change_places (not (same_statement line.statement s)) line (changed_line line s)) 1 _ items.Generates refl
+    let untouched = untouched_at (change_slots (not (same_statement line.statement s)) line (changed_line line s)) 1 _ items.Generates refl
     (change_parts line s items.Generates h).0 in
     let none = not_wanted (not (same_statement line.statement s) && either) items.Generates refl untouched in
     let parts = or_parts (is_generate line) (is_generate (changed_line line s)) (subst (λ (b : Bool). (not b && either) ≡ false) other none) in
     parts.1 ∙ sym parts.0)
     (cases_Bool (same_statement line.statement s))
-
--- a test that holds together with one that holds, does not hold
-and_true_parts : (b : Bool) → (b && true) ≡ false → b ≡ false
-and_true_parts true h = h
-and_true_parts false h = refl
 
 -- two names are other ones in either order
 pub bytes_other : (a b : List ℕ) → bytes_eq a b ≡ false → bytes_eq b a ≡ false
@@ -147,30 +143,30 @@ module _ (name : List ℕ) where
       [ true ↦ refl | false ↦ label_listed lines ]
 
   -- a label that was wanted and is left untouched is another one
-  other_label : (label : Option (List ℕ)) → probed_at (label_if true label) (items.Named questions.Label name) ≡ false → has_label name label ≡ false
+  other_label : (label : Option (List ℕ)) → probed_at (label_if true label) (items.Named asking.Label name) ≡ false → has_label name label ≡ false
   other_label None h = refl
   other_label (Some label) h = bytes_other name label h
 
   pub no_label : (t : Listing) (place : ℕ) (line : Numbered) (block : Bool) → is_block line ≡ block →
-      is_touched (cond block (block_probes t place line) (rest_probes t place line)) (items.Named questions.Label name) ≡ false → label_of line ≡ None
+      is_touched (cond block (block_probes t place line) (rest_probes t place line)) (items.Named asking.Label name) ≡ false → label_of line ≡ None
   no_label t place line true is h =
-      let other = other_label line.statement.label (untouched_at (block_places (block_before t place) line) 4 _ (items.Named questions.Label name) refl h) in
+      let other = other_label line.statement.label (untouched_at (block_slots (block_before t place) line) 4 _ (items.Named asking.Label name) refl h) in
       ap (λ c. cond c (Some line.number) None) (ap₂ (λ a b. a && b) is other)
   no_label t place line false is h = ap (λ c. cond (c && has_label name line.statement.label) (Some line.number) None) is
 
   label_there : (line : Numbered) (s : Statement) (same : Bool) → same_label line.statement.label s.label ≡ same →
-      is_touched (given (label_places (not same) line (changed_line line s))) (items.Named questions.Label name) ≡ false →
+      is_touched (given (label_slots (not same) line (changed_line line s))) (items.Named asking.Label name) ≡ false →
       has_label name s.label ≡ has_label name line.statement.label
   label_there line s true is h = ap (has_label name) (sym (label_same line.statement.label s.label is))
   label_there line s false is h =
-      let places = label_places true line (changed_line line s) in
-      other_label s.label (untouched_at places 1 _ (items.Named questions.Label name) refl h) ∙
-      sym (other_label line.statement.label (untouched_at places 0 _ (items.Named questions.Label name) refl h))
+      let slots = label_slots true line (changed_line line s) in
+      other_label s.label (untouched_at slots 1 _ (items.Named asking.Label name) refl h) ∙
+      sym (other_label line.statement.label (untouched_at slots 0 _ (items.Named asking.Label name) refl h))
 
   pub label_changed : (line : Numbered) (s : Statement) → is_block line ≡ true → is_block (changed_line line s) ≡ true →
-      is_touched (block_change line (changed_line line s)) (items.Named questions.Label name) ≡ false → label_of (changed_line line s) ≡ label_of line
+      is_touched (block_change line (changed_line line s)) (items.Named asking.Label name) ≡ false → label_of (changed_line line s) ≡ label_of line
   label_changed line s was is h =
-      let labels = label_there line s (same_label line.statement.label s.label) refl (change_parts line s (items.Named questions.Label name) h).1 in
+      let labels = label_there line s (same_label line.statement.label s.label) refl (change_parts line s (items.Named asking.Label name) h).1 in
       ap (λ c. cond c (Some line.number) None) (ap₂ (λ a b. a && b) (is ∙ sym was) labels)
 
 -- what definitions say of a name
@@ -215,11 +211,11 @@ pub record Saying : Type 1 where
   pub says : Option Definition → Option X
 
 abbrev pub saying : Asked → Saying
-saying questions.Number = record { X = ℤ; says = number_of }
-saying (questions.Fits units) = record { X = Bool; says = fitting units }
-saying questions.Storage = record { X = ℕ; says = units_of }
-saying questions.Variable = record { X = Term; says = expression_of }
-saying questions.Function = record { X = Function; says = function_of }
+saying asking.Number = record { X = ℤ; says = number_of }
+saying (asking.Fits units) = record { X = Bool; says = fitting units }
+saying asking.Storage = record { X = ℕ; says = units_of }
+saying asking.Variable = record { X = Term; says = expression_of }
+saying asking.Function = record { X = Function; says = function_of }
 saying asked = record { X = ℕ; says = λ d. None }
 
 -- two definitions say the same to an item
@@ -228,13 +224,13 @@ IsSameTo (items.Named asked name) = IsSameOf (saying asked).says name
 IsSameTo item = IsSameOf {X = ℕ} (λ d. None) []
 
 -- a definition that is not touched says as much as none
-pub untouched_same : (i : Item) (label : List ℕ) (d : Definition) → probed_at (definition_place (Some label) (Some d)) i ≡ false →
+pub untouched_same : (i : Item) (label : List ℕ) (d : Definition) → probed_at (definition_slot (Some label) (Some d)) i ≡ false →
     IsSameTo i label (Some d) None
-untouched_same (items.Named questions.Number name) label (definitions.Equ value) h = inr (bytes_other name label h)
-untouched_same (items.Named (questions.Fits units) name) label (definitions.Storage capacity) h = inr (and_true_parts (bytes_eq label name) h)
-untouched_same (items.Named questions.Storage name) label (definitions.Storage capacity) h = inr (and_true_parts (bytes_eq label name) h)
-untouched_same (items.Named questions.Variable name) label (definitions.Variable expression) h = inr (bytes_other name label h)
-untouched_same (items.Named questions.Function name) label (definitions.Function function) h = inr (bytes_other name label h)
+untouched_same (items.Named asking.Number name) label (definitions.Equ value) h = inr (bytes_other name label h)
+untouched_same (items.Named (asking.Fits units) name) label (definitions.Storage capacity) h = inr (sym (and-true (bytes_eq label name)) ∙ h)
+untouched_same (items.Named asking.Storage name) label (definitions.Storage capacity) h = inr (sym (and-true (bytes_eq label name)) ∙ h)
+untouched_same (items.Named asking.Variable name) label (definitions.Variable expression) h = inr (bytes_other name label h)
+untouched_same (items.Named asking.Function name) label (definitions.Function function) h = inr (bytes_other name label h)
 untouched_same item label d h = inl refl
 
 module _ (name : List ℕ) where
@@ -257,11 +253,11 @@ module _ (name : List ℕ) where
   module _ {X : Type 0} (f : Option Definition → Option X) (none : f None ≡ None) where
     -- a definition that is left untouched says nothing
     abbrev IsSilent : Item → Type 0
-    IsSilent i = (label : Option (List ℕ)) (definition : Option Definition) → probed_at (definition_place label definition) i ≡ false →
+    IsSilent i = (label : Option (List ℕ)) (definition : Option Definition) → probed_at (definition_slot label definition) i ≡ false →
         f (said_by label definition) ≡ None
 
     pub silent_where : (i : Item) →
-        ((label : List ℕ) (d : Definition) → probed_at (definition_place (Some label) (Some d)) i ≡ false → IsSameOf f name label (Some d) None) → IsSilent i
+        ((label : List ℕ) (d : Definition) → probed_at (definition_slot (Some label) (Some d)) i ≡ false → IsSameOf f name label (Some d) None) → IsSilent i
     silent_where i same None definition h = none
     silent_where i same (Some label) None h = ap f (nothing_defined (Some label)) ∙ none
     silent_where i same (Some label) (Some d) h = said_same f name label (Some d) None (same label d h) ∙ (ap f (nothing_defined (Some label)) ∙ none)
@@ -273,7 +269,7 @@ module _ (name : List ℕ) where
           is_touched (cond command (CommandsFrom (command_from t place) ∷ []) (definition_probes line)) i ≡ false → f (defines name line) ≡ None
       by_command true is k = ap f (command_defines line is) ∙ none
       by_command false is k = silent line.statement.label (definition_of line)
-          (untouched_at (definition_place line.statement.label (definition_of line) ∷ []) 0 _ i refl k)
+          (untouched_at (definition_slot line.statement.label (definition_of line) ∷ []) 0 _ i refl k)
 
       by_block : (block : Bool) → is_block line ≡ block → is_touched (cond block (block_probes t place line) (rest_probes t place line)) i ≡ false →
           f (defines name line) ≡ None
@@ -286,7 +282,7 @@ module _ (name : List ℕ) where
   -- an item that is answered by the first that a definition says of a name, by f
   abbrev pub by_name : {X : Type 0} (f : Option Definition → Option X) → f None ≡ None → {i : Item} (made : Option X → Answer i) →
       ((t : Listing) (seed : ℕ) → ask t seed i ≡ made (first_said (λ line. f (defines name line)) t.lines)) →
-      ((label : List ℕ) (d : Definition) → probed_at (definition_place (Some label) (Some d)) i ≡ false → IsSameOf f name label (Some d) None) → IsByLines i
+      ((label : List ℕ) (d : Definition) → probed_at (definition_slot (Some label) (Some d)) i ≡ false → IsSameOf f name label (Some d) None) → IsByLines i
   by_name {X} f none {i} made is same = record {
     X = X;
     says = λ line. f (defines name line);
@@ -335,7 +331,7 @@ by_lines items.Generates listed = record {
   line = λ t place line h. generate_none line (no_generate t place line (is_block line) refl h);
   change = λ line s was is h. ap (λ b. cond b (Some line.number) None) (same_generate line s h);
 }
-by_lines (items.Named questions.Label name) listed = record {
+by_lines (items.Named asking.Label name) listed = record {
   X = ℕ;
   says = label_of name;
   made = λ horizon seed ns. leading ns;
@@ -343,17 +339,17 @@ by_lines (items.Named questions.Label name) listed = record {
   line = λ t place line h. no_label name t place line (is_block line) refl h;
   change = λ line s was is h. label_changed name line s was is h;
 }
-by_lines (items.Named questions.Number name) listed =
-    by_name name number_of refl (λ z. z) (λ t seed. refl) (untouched_same (items.Named questions.Number name))
-by_lines (items.Named (questions.Fits units) name) listed =
+by_lines (items.Named asking.Number name) listed =
+    by_name name number_of refl (λ z. z) (λ t seed. refl) (untouched_same (items.Named asking.Number name))
+by_lines (items.Named (asking.Fits units) name) listed =
     by_name name (fitting units) refl (λ b. unwrap_or b (nat_le units 0)) (λ t seed. fits_listed name units t.lines)
-    (untouched_same (items.Named (questions.Fits units) name))
-by_lines (items.Named questions.Storage name) listed =
-    by_name name units_of refl (λ n. unwrap_or n 0) (λ t seed. refl) (untouched_same (items.Named questions.Storage name))
-by_lines (items.Named questions.Variable name) listed =
-    by_name name expression_of refl (λ e. e) (λ t seed. refl) (untouched_same (items.Named questions.Variable name))
-by_lines (items.Named questions.Function name) listed =
-    by_name name function_of refl (λ f. f) (λ t seed. refl) (untouched_same (items.Named questions.Function name))
+    (untouched_same (items.Named (asking.Fits units) name))
+by_lines (items.Named asking.Storage name) listed =
+    by_name name units_of refl (λ n. unwrap_or n 0) (λ t seed. refl) (untouched_same (items.Named asking.Storage name))
+by_lines (items.Named asking.Variable name) listed =
+    by_name name expression_of refl (λ e. e) (λ t seed. refl) (untouched_same (items.Named asking.Variable name))
+by_lines (items.Named asking.Function name) listed =
+    by_name name function_of refl (λ f. f) (λ t seed. refl) (untouched_same (items.Named asking.Function name))
 by_lines item listed = record {
   X = Unit {0};
   says = λ line. None;
@@ -377,7 +373,7 @@ said_behind says front xs ys h =
     filter_map-append says front xs ∙ (ap (λ zs. filter_map says front ++ zs) h ∙ sym (filter_map-append says front ys))
 
 module _ (i : Item) (listed : IsListed i) (front back : List Numbered) (t u : Listing) (a b : ℕ) (horizon : u.horizon ≡ t.horizon) (seeds : b ≡ a) where
-  -- a statement that says nothing comes in
+  -- a statement that says nothing is inserted
   pub silent_alike : (line : Numbered) → u.lines ≡ front ++ line ∷ back → t.lines ≡ front ++ back → (by_lines i listed).says line ≡ None → ask u b i ≡ ask t a i
   silent_alike line new old silent =
       let by = by_lines i listed in

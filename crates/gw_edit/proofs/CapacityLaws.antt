@@ -5,7 +5,7 @@ use Rattle.std.proofs.lemmas.Bool.Decides.{nat_tests}
 use Rattle.std.proofs.lemmas.Slice.Eq.{bytes_eq-Decides}
 use Rattle.gw_meaning.specs.declared.item.Item.{Item}
 use Rattle.gw_meaning.specs.declared.item.Asked.{Asked}
-use Rattle.gw_meaning.specs.declared.item.Asked.TheVariants as questions
+use Rattle.gw_meaning.specs.declared.item.Asked.TheVariants as asking
 use Rattle.gw_meaning.specs.declared.item.Item.TheVariants as items
 use Rattle.gw_meaning.specs.declared.statement.Body.{Body}
 use Rattle.gw_meaning.specs.declared.statement.Body.TheVariants as bodies
@@ -15,6 +15,7 @@ use Rattle.gw_meaning.specs.declared.statement.Numbered.{Numbered}
 use Rattle.gw_meaning.specs.Listing.{Listing, nth, has_label, definition_of_body, definition_if, defines, or_next, units_of, capacity_in, capacity_at}
 use Rattle.gw_model.specs.Faults.{is_outside}
 use Rattle.gw_model.specs.Spliced.{with_splice}
+use Rattle.gw_model.proofs.Apart.{same_bytes}
 use Rattle.gw_uses.specs.Asks.{answers_differ, differs, is_other}
 use Rattle.gw_frame.specs.Alike.{SameAnswer}
 use Rattle.gw_edit.specs.declared.touch.Probe.TheVariants.{Amounts}
@@ -66,9 +67,6 @@ gives name n (line ∷ lines) place h = go (defines name line) refl h (gives nam
     silent = λ more. refl;
   }
 
-itself : (name : List ℕ) → bytes_eq name name ≡ true
-itself name = (bytes_eq-Decides name name).1 refl
-
 -- what is touched where such a statement gives it others
 record IsStorage (name : List ℕ) (from : ℕ) (label : Option (List ℕ)) (body : Body) : Type 0 where
   label_is : label ≡ Some name
@@ -90,7 +88,7 @@ is_storage name from (Some other) body h = go (bytes_eq other name) refl body h 
 touched_there : (t : Listing) (place : ℕ) (name : List ℕ) (from amount number : ℕ) (line : Numbered) →
     IsStorage name from line.statement.label line.statement.body →
     splice_probes t place (Some line) (Some (record { number = number; statement = storage_of name amount })) ≡ Amounts name (Some from) (Some amount) ∷ []
-touched_there t place name from amount number line is = rw (is.body_is, is.label_is, itself name) refl
+touched_there t place name from amount number line is = rw (is.body_is, is.label_is, same_bytes name) refl
 
 -- the units of the storage, where it stands behind what gives none
 units_behind : (name : List ℕ) (lines front : List Numbered) (line : Numbered) (behind : List Numbered) (units : ℕ) →
@@ -116,10 +114,10 @@ two_capacities from to h same = grind (arith, nat_tests, h, same)
 -- what the two capacities answer in two ways is not answered alike
 told_otherwise : (t u : Listing) (a b : ℕ) (name other : List ℕ) (from to : ℕ) → capacity_at t name ≡ from → capacity_at u name ≡ to → name ≡ other →
     (asked : Asked) → answers_differ (Some from) (Some to) asked ≡ true → SameAnswer t a u b (items.Named asked other) → ⊥
-told_otherwise t u a b name other from to was is here (questions.Fits amount) differ same =
+told_otherwise t u a b name other from to was is here (asking.Fits amount) differ same =
     let alike : nat_le amount (capacity_at u name) ≡ nat_le amount (capacity_at t name) = rw here same in
     two_ways from to amount differ (ap (λ n. nat_le amount n) (sym is) ∙ (alike ∙ ap (λ n. nat_le amount n) was))
-told_otherwise t u a b name other from to was is here questions.Storage differ same =
+told_otherwise t u a b name other from to was is here asking.Storage differ same =
     let alike : capacity_at u name ≡ capacity_at t name = rw here same in
     two_capacities from to differ (sym is ∙ (alike ∙ was))
 told_otherwise t u a b name other from to was is here asked differ same = absurd cc
@@ -161,7 +159,7 @@ capacity_touches_what_differs t name amount u r a b made i touched same = go (st
       let silent : (rest : List Numbered) → capacity_in name (front ++ rest) ≡ capacity_in name rest =
       λ rest. ap (λ n. capacity_in name (take n t.lines ++ rest)) before ∙ g.silent rest in
       let says : defines name gone.0 ≡ Some (definitions.Storage g.from) = ap (defines name) line ∙ g.says in
-      let says_new : defines name new ≡ Some (definitions.Storage amount) = ap (λ b. definition_if b (Some (definitions.Storage amount))) (itself name) in
+      let says_new : defines name new ≡ Some (definitions.Storage amount) = ap (λ b. definition_if b (Some (definitions.Storage amount))) (same_bytes name) in
       let was : capacity_at t name ≡ g.from = units_behind name t.lines front gone.0 (drop place t.lines) g.from silent says gone.1.old in
       let is : capacity_at u name ≡ amount = units_behind name u.lines front new (drop place t.lines) amount silent says_new lines in
       let storage = is_storage name g.from gone.0.statement.label gone.0.statement.body says in

@@ -4,19 +4,19 @@ use Rattle.std.specs.List.{filter_map, cons_option}
 use Rattle.std.proofs.lemmas.Bool.{cases_Bool, or_parts, eqb-true, not-false}
 use Rattle.gw_expr.specs.Term.{Term}
 use Rattle.gw_meaning.specs.declared.item.Item.{Item}
-use Rattle.gw_meaning.specs.declared.item.Asked.TheVariants as questions
+use Rattle.gw_meaning.specs.declared.item.Asked.TheVariants as asking
 use Rattle.gw_meaning.specs.declared.item.Item.TheVariants as items
 use Rattle.gw_meaning.specs.declared.statement.Statement.{Statement}
 use Rattle.gw_meaning.specs.declared.statement.Numbered.{Numbered}
-use Rattle.gw_meaning.specs.Listing.{Listing, line_in, block_of, block_of_body, is_block, command_of, first_block, after_in, nth, command_of_body, defines, definition_if, definition_of, definition_of_body, has_label, is_generate_body}
+use Rattle.gw_meaning.specs.Listing.{Listing, line_in, block_of, block_of_body, is_block, command_of, first_block, after_in, nth, command_of_body, defines, definition_if, definition_of, definition_of_body, has_label}
 use Rattle.gw_meaning.specs.Questions.{ask}
 use Rattle.gw_meaning.specs.Reads.{is_use}
 use Rattle.gw_model.proofs.Numbers.{other_way}
 use Rattle.gw_edit.specs.Same.{same_statement}
-use Rattle.gw_edit.specs.Touching.{lines_before, one_if, line_probes, change_places, block_change, splice_probes, is_touched, one_name, other_change, same_number, same_expression, same_curve}
+use Rattle.gw_edit.specs.Touching.{lines_before, one_if, line_probes, change_slots, block_change, splice_probes, is_touched, one_name, other_change, same_number, same_expression, same_curve}
 use Rattle.gw_edit.proofs.Fronts.{block_in, block_behind, after_behind, commands_behind}
 use Rattle.gw_edit.proofs.SameBlocks.{statement_same, term_same, function_same}
-use Rattle.gw_edit.proofs.ByLines.{untouched_both, probed_at, untouched_at, changed_line, change_parts, by_lines, changed_alike, IsListed, IsSameOf, IsSameTo, saying, said_same, bytes_other, generate_none, generate_of, label_of}
+use Rattle.gw_edit.proofs.ByLines.{untouched_both, probed_at, untouched_at, changed_line, change_parts, by_lines, changed_alike, IsListed, IsSameOf, IsSameTo, saying, said_same, bytes_other, generate_none, generate_of, no_generate_of, label_of}
 use Rattle.std.proofs.lemmas.Bool.Decides.{Decides-int_eq}
 use Rattle.gw_edit.proofs.LineLaws.{command_none, line_alike}
 use Rattle.std.specs.Str.{bytes_eq}
@@ -75,15 +75,11 @@ defines_it : (line : Numbered) (label : List ℕ) (d : Definition) (name : List 
 defines_it line label d name labelled is =
     ap (λ l. definition_if (has_label name l) (definition_of line)) labelled ∙ ap (definition_if (bytes_eq label name)) is
 
-no_generate_there : (body : Body) → block_of_body body ≡ None → is_generate_body body ≡ false
-no_generate_there (bodies.Block block) h = absurd cc
-no_generate_there (bodies.Definition definition) h = refl
-no_generate_there (bodies.Command command) h = refl
-
 -- two that are no blocks say the same to what only blocks say something to
 generates_said : (line other : Numbered) → block_of line ≡ None → block_of other ≡ None → generate_of other ≡ generate_of line
 generates_said line other was is =
-    generate_none other (no_generate_there other.statement.body is) ∙ sym (generate_none line (no_generate_there line.statement.body was))
+    generate_none other (no_generate_of other.statement.body (ap is_some is)) ∙
+    sym (generate_none line (no_generate_of line.statement.body (ap is_some was)))
 
 label_said : (name : List ℕ) (line other : Numbered) → block_of line ≡ None → block_of other ≡ None → label_of name other ≡ label_of name line
 label_said name line other was is =
@@ -103,7 +99,7 @@ module _ (label : List ℕ) (d e : Definition) (line other : Numbered) (l : line
   definition_said (items.After k) listed same = absurd listed
   definition_said (items.Cmd j) listed same = absurd listed
   definition_said items.Generates listed same = generates_said line other (defined_parts line d was).0 (defined_parts other e is).0
-  definition_said (items.Named questions.Label name) listed same = label_said name line other (defined_parts line d was).0 (defined_parts other e is).0
+  definition_said (items.Named asking.Label name) listed same = label_said name line other (defined_parts line d was).0 (defined_parts other e is).0
   definition_said (items.Named asked name) listed same = of_name_said (saying asked).says name same
   definition_said item listed same = refl
 
@@ -128,29 +124,29 @@ alike_one false read item i h alike other = inr (other h)
 -- two definitions of one kind and name
 units_same : (i : Item) (label : List ℕ) (x y : ℕ) → is_ask label (Some x) (Some y) i ≡ false →
     IsSameTo i label (Some (definitions.Storage y)) (Some (definitions.Storage x))
-units_same (items.Named (questions.Fits amount) name) label x y h = alike_amount _ _ h (answered_alike (nat_le amount x) (nat_le amount y))
-units_same (items.Named questions.Storage name) label x y h = alike_amount _ _ h (λ none. ap (λ n. Some n) (sym (eqb-true x y (not-false (x == y) none))))
+units_same (items.Named (asking.Fits amount) name) label x y h = alike_amount _ _ h (answered_alike (nat_le amount x) (nat_le amount y))
+units_same (items.Named asking.Storage name) label x y h = alike_amount _ _ h (λ none. ap (λ n. Some n) (sym (eqb-true x y (not-false (x == y) none))))
 units_same item label x y h = inl refl
 
 module _ (label : List ℕ) (old new : Statement) where
-  number_same : (i : Item) (x y : ℤ) → probed_at (one_if (not (same_number old new x y)) (items.Named questions.Number label)) i ≡ false →
+  number_same : (i : Item) (x y : ℤ) → probed_at (one_if (not (same_number old new x y)) (items.Named asking.Number label)) i ≡ false →
       IsSameTo i label (Some (definitions.Equ y)) (Some (definitions.Equ x))
-  number_same (items.Named questions.Number name) x y h =
-      alike_one (bytes_eq old.operands new.operands) _ (items.Named questions.Number label) (items.Named questions.Number name) h
+  number_same (items.Named asking.Number name) x y h =
+      alike_one (bytes_eq old.operands new.operands) _ (items.Named asking.Number label) (items.Named asking.Number name) h
       (Decides-int_eq x y).0 (bytes_other name label)
   number_same item x y h = inl refl
 
-  expression_same : (i : Item) (x y : Term) → probed_at (one_if (not (same_expression old new x y)) (items.Named questions.Variable label)) i ≡ false →
+  expression_same : (i : Item) (x y : Term) → probed_at (one_if (not (same_expression old new x y)) (items.Named asking.Variable label)) i ≡ false →
       IsSameTo i label (Some (definitions.Variable y)) (Some (definitions.Variable x))
-  expression_same (items.Named questions.Variable name) x y h =
-      alike_one (bytes_eq old.operands new.operands) _ (items.Named questions.Variable label) (items.Named questions.Variable name) h
+  expression_same (items.Named asking.Variable name) x y h =
+      alike_one (bytes_eq old.operands new.operands) _ (items.Named asking.Variable label) (items.Named asking.Variable name) h
       (term_same x y) (bytes_other name label)
   expression_same item x y h = inl refl
 
-  curve_same : (i : Item) (x y : Function) → probed_at (one_if (not (same_curve old new x y)) (items.Named questions.Function label)) i ≡ false →
+  curve_same : (i : Item) (x y : Function) → probed_at (one_if (not (same_curve old new x y)) (items.Named asking.Function label)) i ≡ false →
       IsSameTo i label (Some (definitions.Function y)) (Some (definitions.Function x))
-  curve_same (items.Named questions.Function name) x y h =
-      alike_one (bytes_eq old.operands new.operands) _ (items.Named questions.Function label) (items.Named questions.Function name) h
+  curve_same (items.Named asking.Function name) x y h =
+      alike_one (bytes_eq old.operands new.operands) _ (items.Named asking.Function label) (items.Named asking.Function name) h
       (function_same x y) (bytes_other name label)
   curve_same item x y h = inl refl
 
@@ -189,7 +185,7 @@ module _ (t u : Listing) (place : ℕ) (line : Numbered) (s : Statement) (back :
         (λ (same : same_statement line.statement s ≡ true).
         block_alike k (block_here back line s k (ap block_of_body (sym (statement_same line.statement s same)))))
         (λ (other : same_statement line.statement s ≡ false).
-        let untouched = untouched_at (change_places (not (same_statement line.statement s)) line (changed_line line s)) 0 _ (items.Block k) refl
+        let untouched = untouched_at (change_slots (not (same_statement line.statement s)) line (changed_line line s)) 0 _ (items.Block k) refl
         (change_parts line s (items.Block k) h).0 in
         let wanted = subst (λ (b : Bool). probed_at (one_if (not b) (items.Block line.number)) (items.Block k) ≡ false) other untouched in
         block_alike k (block_other back line s k (other_way k line.number wanted)))
@@ -199,7 +195,7 @@ module _ (t u : Listing) (place : ℕ) (line : Numbered) (s : Statement) (back :
     block_by_block was is i h =
         changed_alike i tt (lines_before t place) back t u a b e.horizon seeds line (changed_line line s) e.new e.old ((by_lines i tt).change line s was is h)
 
-    -- a block for a command, or a command: as if the one went out and the other came in
+    -- a block for a command, or a command: as if the one were deleted and the other inserted
     kind_alike : line_in (lines_before t place ++ back) line.number ≡ None → (i : Item) →
         is_touched (line_probes t place line ++ line_probes t place (changed_line line s)) i ≡ false → ask u b i ≡ ask t a i
     kind_alike absent i h =

@@ -1,4 +1,4 @@
--- Lines of which one goes or comes in: what it does not touch, those with it and those without it answer alike.
+-- Lines of which one is deleted or inserted: what it does not touch, those with it and those without it answer alike.
 use Rattle.std.proofs.Common.{◌≡◌, ℕ, Bool, true, false, cond, List, [], ◌∷◌, ◌++◌, Option, Some, None, is_some, option_and_then, ◌==◌, refl, ap, sym, subst, ◌∙◌, ⊎_elim}
 use Rattle.std.specs.List.{filter_map, cons_option}
 use Rattle.std.proofs.lemmas.Bool.{cases_Bool, eqb-true, or_parts}
@@ -10,8 +10,9 @@ use Rattle.gw_meaning.specs.declared.statement.Numbered.{Numbered}
 use Rattle.gw_meaning.specs.Listing.{Listing, line_in, block_of, block_of_body, is_block, command_of, command_of_body, first_block, after_in, nth, is_command}
 use Rattle.gw_meaning.specs.Questions.{ask}
 use Rattle.gw_model.proofs.Numbers.{absent_first, other_way}
+use Rattle.gw_model.proofs.Once.{is_none}
 use Rattle.gw_edit.specs.declared.touch.Probe.TheVariants.{CommandsFrom}
-use Rattle.gw_edit.specs.Touching.{last_block, lines_before, block_before, command_from, behind, block_places, block_probes, line_probes, is_touched, definition_probes, rest_probes}
+use Rattle.gw_edit.specs.Touching.{last_block, lines_before, block_before, command_from, behind, block_slots, block_probes, line_probes, is_touched, definition_probes, rest_probes}
 use Rattle.gw_edit.proofs.Fronts.{is_at, block_in, block_behind, after_behind, after_in_front, commands_behind, commands_front, after_none}
 use Rattle.gw_edit.proofs.ByLines.{probed_at, untouched_at, by_lines, silent_alike}
 
@@ -89,10 +90,6 @@ module _ (front back : List Numbered) (line : Numbered) where
     after_same : (k : ℕ) → after_in (front ++ line ∷ back) k ≡ after_in (front ++ back) k
     after_same k = after_behind front (line ∷ back) back k (ap (λ b. cond b (Some line.number) (first_block back)) command) (after_hidden k)
 
-is_none : {X : Type 0} (o : Option X) → is_some o ≡ false → o ≡ None
-is_none None h = refl
-is_none (Some x) h = absurd cc
-
 -- a version whose lines are those with the line, and one whose lines are those without it
 pub record IsWith (t : Listing) (place : ℕ) (line : Numbered) (back : List Numbered) (with without : Listing) : Type 0 where
   pub has : with.lines ≡ lines_before t place ++ line ∷ back
@@ -111,7 +108,7 @@ module _ (t : Listing) (place : ℕ) (line : Numbered) (back : List Numbered) (w
       is_touched (cond block (block_probes t place line) (rest_probes t place line)) (items.Block k) ≡ false →
       block_in with.lines k ≡ block_in without.lines k
   block_alike true is k h =
-      let other = untouched_at (block_places (block_before t place) line) 1 _ (items.Block k) refl h in
+      let other = untouched_at (block_slots (block_before t place) line) 1 _ (items.Block k) refl h in
       between (λ ls. block_in ls k) (block_other (lines_before t place) back line k (other_way k line.number other))
   block_alike false is k h = between (λ ls. block_in ls k) (block_same (lines_before t place) back line is e.absent k)
 
@@ -119,9 +116,9 @@ module _ (t : Listing) (place : ℕ) (line : Numbered) (back : List Numbered) (w
       is_touched (cond block (block_probes t place line) (rest_probes t place line)) (items.After k) ≡ false →
       after_in with.lines k ≡ after_in without.lines k
   after_alike true is k h =
-      let places = block_places (block_before t place) line in
-      let front = untouched_at places 0 _ (items.After k) refl h in
-      let other = untouched_at places 2 _ (items.After k) refl h in
+      let slots = block_slots (block_before t place) line in
+      let front = untouched_at slots 0 _ (items.After k) refl h in
+      let other = untouched_at slots 2 _ (items.After k) refl h in
       between (λ ls. after_in ls k)
       (after_other (lines_before t place) back line k (other_way k line.number other) (not_behind (block_before t place) k front))
   after_alike false is k h = between (λ ls. after_in ls k) (after_same (lines_before t place) back line is e.absent k)

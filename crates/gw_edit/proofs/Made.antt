@@ -6,6 +6,8 @@ use Rattle.gw_meaning.specs.declared.statement.Replication.{Replication}
 use Rattle.gw_meaning.specs.declared.statement.Statement.{Statement}
 use Rattle.gw_meaning.specs.declared.statement.Numbered.{Numbered}
 use Rattle.gw_meaning.specs.Listing.{Listing, seed_at, seed_in, nth, defines}
+use Rattle.gw_lines.specs.declared.fault.LineFault.{LineFault}
+use Rattle.gw_lines.specs.Edits.{edit_of}
 use Rattle.gw_lines.specs.Reading.{◌>>=◌}
 use Rattle.gw_model.specs.declared.fault.ModelFault.{ModelFault}
 use Rattle.gw_model.specs.Faults.{fault_of, is_outside}
@@ -14,9 +16,9 @@ use Rattle.gw_edit.specs.declared.edit.Edit.{Edit}
 use Rattle.gw_edit.specs.declared.edit.Edit.TheVariants as edits
 use Rattle.gw_edit.specs.declared.fault.EditFault.{EditFault}
 use Rattle.gw_lines.specs.Printed.{storage_of}
-use Rattle.gw_edit.specs.Applied.{applied, checked, unless_faulty, spelled_by, reseeded, without_number, has_replication, capacity_at, is_capacity, storage_in, storage_place}
+use Rattle.gw_edit.specs.Applied.{applied, checked, unless_faulty, or_refusal, reseeded, without_number, has_replication, capacity_at, is_capacity, storage_in, storage_place}
 use Rattle.gw_edit.specs.Touching.{touch_of, touched_in, everywhere, seed_touching, is_touched, lines_before, splice_probes, same_seed, capacity_probes}
-use Rattle.gw_edit.specs.InPositions.{front_of, goes_of, comes_of, front_at, line_there}
+use Rattle.gw_edit.specs.InPositions.{front_of, deleted_of, inserted_of, front_at, line_there}
 use Rattle.gw_edit.proofs.Seeds.{seed_in_front, seed_reseeded, seed_without}
 use Rattle.gw_edit.proofs.Splits.{place_in}
 
@@ -29,9 +31,11 @@ pub checked_gives : (v u : Listing) → checked v ≡ Ok u → v ≡ u
 unfolding checked
 checked_gives v u h = unless_gives (fault_of v) v u h
 
-pub spelled_gives : (o : Result Statement EditFault) (f : Statement → Listing) (u : Listing) → (o >>= (λ s. checked (f s))) ≡ Ok u → (s : Statement) × (f s ≡ u)
-spelled_gives (Ok s) f u h = (s, checked_gives (f s) u h)
-spelled_gives (Err fault) f u h = absurd cc
+-- what was made of a text is made of the statement that was read
+pub of_read : (r : Result Statement LineFault) (f : Statement → Result Listing EditFault) (u : Listing) → (or_refusal r >>= f) ≡ Ok u
+    → (s : Statement) × (r ≡ Ok s) × (f s ≡ Ok u)
+of_read (Ok s) f u h = (s, refl, h)
+of_read (Err fault) f u h = absurd cc
 
 -- where a refusal stands for one side of a test, the other side was taken
 pub other_side : {X : Type 0} (b : Bool) (fault : EditFault) (r : Result X EditFault) (u : X) → cond b (Err fault) r ≡ Ok u → (b ≡ false) × (r ≡ Ok u)
@@ -76,48 +80,48 @@ within_both m n time h =
     let least : time ≤ min m n = ltb-false (min m n) time h in
     le-leb time n (omega arith) ∙ sym (le-leb time m (omega arith))
 
--- what goes out at a place, and what stands where a statement came in
-abbrev pub gone : List Numbered → ℕ → Bool → Option Numbered
-gone lines place goes = cond goes (nth lines place) None
+-- what is deleted at a place, and what stands where a statement was inserted
+abbrev pub deleted_at : List Numbered → ℕ → Bool → Option Numbered
+deleted_at lines place deletes = cond deletes (nth lines place) None
 
-abbrev pub come_in : List Numbered → ℕ → Option Statement → Option Numbered
-come_in lines place None = None
-come_in lines place (Some s) = nth lines place
+abbrev pub inserted_at : List Numbered → ℕ → Option Statement → Option Numbered
+inserted_at lines place None = None
+inserted_at lines place (Some s) = nth lines place
 
 -- an edit that is a splice
 pub record IsSpliced (t : Listing) (e : Edit) (u : Listing) : Type 0 where
   pub place : ℕ
-  pub goes : Bool
-  pub comes : Option Statement
+  pub deletes : Bool
+  pub inserts : Option Statement
   pub least : 1 ≤ place
   pub last : place ≤ length t.lines + 1
-  pub there : goes ≡ true → place ≤ length t.lines
-  pub made : with_splice t place goes comes ≡ u
+  pub there : deletes ≡ true → place ≤ length t.lines
+  pub made : with_splice t place deletes inserts ≡ u
   pub front : front_of t e ≡ lines_before t place
-  pub goes_out : goes_of t e ≡ option_to_list (gone t.lines place goes)
-  pub comes_in : comes_of t e u ≡ option_to_list (come_in u.lines place comes)
-  pub touch : (r : ℕ) → touch_of t e u r ≡ splice_probes t place (gone t.lines place goes) (come_in u.lines place comes)
+  pub deleted : deleted_of t e ≡ option_to_list (deleted_at t.lines place deletes)
+  pub inserted : inserted_of t e u ≡ option_to_list (inserted_at u.lines place inserts)
+  pub touch : (r : ℕ) → touch_of t e u r ≡ splice_probes t place (deleted_at t.lines place deletes) (inserted_at u.lines place inserts)
 
 -- an edit that leaves the statements: where the seed is not touched it is the same one, and so are the clock steps
 pub record IsLeft (t : Listing) (e : Edit) (u : Listing) : Type 0 where
   pub lines : u.lines ≡ t.lines
   pub limit : u.limit ≡ t.limit
   pub front : front_of t e ≡ t.lines
-  pub goes_out : goes_of t e ≡ []
-  pub comes_in : comes_of t e u ≡ []
+  pub deleted : deleted_of t e ≡ []
+  pub inserted : inserted_of t e u ≡ []
   pub seeds : (r a b : ℕ) → seed_at t r ≡ Some a → seed_at u r ≡ Some b → is_touched (touch_of t e u r) items.Seed ≡ false → b ≡ a
   pub clock : (r time : ℕ) → is_touched (touch_of t e u r) (items.Within time) ≡ false → nat_le time u.horizon ≡ nat_le time t.horizon
 
 -- other replications
 others : (t : Listing) (e : Edit) (u v : Listing) → v ≡ u → v.lines ≡ t.lines → v.limit ≡ t.limit → v.horizon ≡ t.horizon → front_of t e ≡ t.lines →
-    goes_of t e ≡ [] → comes_of t e u ≡ [] →
+    deleted_of t e ≡ [] → inserted_of t e u ≡ [] →
     ((r a b : ℕ) → seed_at t r ≡ Some a → seed_at u r ≡ Some b → is_touched (touch_of t e u r) items.Seed ≡ false → b ≡ a) → IsLeft t e u
-others t e u v same lines limit horizon front goes_out comes_in seeds = record {
+others t e u v same lines limit horizon front deleted inserted seeds = record {
   lines = ap (λ (x : Listing). x.lines) (sym same) ∙ lines;
   limit = ap (λ (x : Listing). x.limit) (sym same) ∙ limit;
   front = front;
-  goes_out = goes_out;
-  comes_in = comes_in;
+  deleted = deleted;
+  inserted = inserted;
   seeds = seeds;
   clock = λ r time h. ap (λ n. nat_le time n) (ap (λ (x : Listing). x.horizon) (sym same) ∙ horizon);
 }
@@ -143,34 +147,34 @@ capacity_by t name amount u (Some place) is made =
     let high = within.1 in
     record {
       place = place;
-      goes = true;
-      comes = Some (storage_of name amount);
+      deletes = true;
+      inserts = Some (storage_of name amount);
       least = low;
       last = omega (arith, high);
       there = λ h. omega (arith, high);
       made = checked_gives (with_splice t place true (Some (storage_of name amount))) u side.1;
       front = ap (front_at t) is;
-      goes_out = ap (line_there t) is;
-      comes_in = ap (line_there u) is;
+      deleted = ap (line_there t) is;
+      inserted = ap (line_there u) is;
       touch = λ r. ap (λ o. capacity_probes t o u) is;
     }
 
 pub made_by : (t : Listing) (e : Edit) (u : Listing) → applied t e ≡ Ok u → IsSpliced t e u ⊎ IsLeft t e u
 made_by t (edits.Insert place text) u made =
     let side = other_side (is_outside 1 (length t.lines + 1) place) _ _ u made in
-    let spelled = spelled_gives (spelled_by text) (λ s. with_splice t place false (Some s)) u side.1 in
+    let read = of_read (edit_of text) (λ s. checked (with_splice t place false (Some s))) u side.1 in
     let within = place_in (length t.lines + 1) place side.0 in
     inl (record {
       place = place;
-      goes = false;
-      comes = Some spelled.0;
+      deletes = false;
+      inserts = Some read.0;
       least = within.0;
       last = within.1;
       there = λ h. absurd cc;
-      made = spelled.1;
+      made = checked_gives (with_splice t place false (Some read.0)) u read.2;
       front = refl;
-      goes_out = refl;
-      comes_in = refl;
+      deleted = refl;
+      inserted = refl;
       touch = λ r. refl;
     })
 made_by t (edits.Delete place) u made =
@@ -178,32 +182,32 @@ made_by t (edits.Delete place) u made =
     let within = place_in (length t.lines) place side.0 in
     inl (record {
       place = place;
-      goes = true;
-      comes = None;
+      deletes = true;
+      inserts = None;
       least = within.0;
       last = (let w = within.1 in omega (arith, w));
       there = λ h. within.1;
       made = checked_gives (with_splice t place true None) u side.1;
       front = refl;
-      goes_out = refl;
-      comes_in = refl;
+      deleted = refl;
+      inserted = refl;
       touch = λ r. refl;
     })
 made_by t (edits.Change place text) u made =
     let side = other_side (is_outside 1 (length t.lines) place) _ _ u made in
-    let spelled = spelled_gives (spelled_by text) (λ s. with_splice t place true (Some s)) u side.1 in
+    let read = of_read (edit_of text) (λ s. checked (with_splice t place true (Some s))) u side.1 in
     let within = place_in (length t.lines) place side.0 in
     inl (record {
       place = place;
-      goes = true;
-      comes = Some spelled.0;
+      deletes = true;
+      inserts = Some read.0;
       least = within.0;
       last = (let w = within.1 in omega (arith, w));
       there = λ h. within.1;
-      made = spelled.1;
+      made = checked_gives (with_splice t place true (Some read.0)) u read.2;
       front = refl;
-      goes_out = refl;
-      comes_in = refl;
+      deleted = refl;
+      inserted = refl;
       touch = λ r. refl;
     })
 made_by t (edits.Capacity name amount) u made = inl (capacity_by t name amount u (storage_place name t) refl made)
@@ -230,8 +234,8 @@ made_by t (edits.Horizon time) u made =
       lines = ap (λ (x : Listing). x.lines) (sym same);
       limit = ap (λ (x : Listing). x.limit) (sym same);
       front = refl;
-      goes_out = refl;
-      comes_in = refl;
+      deleted = refl;
+      inserted = refl;
       seeds = λ r a b was is h. one_seed (seed_at t r) a b was (ap (λ (x : Listing). seed_at x r) same ∙ is);
       clock = λ r moment h. within_both t.horizon u.horizon moment ((or_parts _ _ h).0);
     })

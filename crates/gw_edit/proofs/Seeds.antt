@@ -1,11 +1,11 @@
--- The seed of a replication where another one has another seed, comes in or goes out.
+-- The seed of a replication where another one has another seed, is added or is dropped.
 use Rattle.std.proofs.Common.{◌≡◌, ℕ, Bool, true, false, cond, not, List, [], ◌∷◌, ◌++◌, Some, None, ◌==◌, refl, ap, sym, subst, ⊎_elim}
 use Rattle.std.proofs.lemmas.Bool.{cases_Bool, eqb-true}
 use Rattle.gw_meaning.specs.declared.statement.Replication.{Replication}
 use Rattle.gw_meaning.specs.Listing.{seed_in}
 use Rattle.gw_edit.specs.Applied.{reseeded, without_number}
 
--- one comes in behind
+-- one is added behind
 pub seed_in_front : (rs more : List Replication) (number seed : ℕ) → seed_in rs number ≡ Some seed → seed_in (rs ++ more) number ≡ Some seed
 seed_in_front [] more number seed h = absurd cc
 seed_in_front (r ∷ rs) more number seed h =
@@ -23,7 +23,7 @@ seed_reseeded (r ∷ rs) number seed other apart = go (r.number == number) refl 
       rw (apart, not_here) rest
   go false differs rest = ap (λ o. cond (r.number == other) (Some r.seed) o) rest
 
--- one goes out: its number has no seed, and the others have theirs
+-- one is dropped: its number has no seed, and the others have theirs
 seed_gone : (rs : List Replication) (number : ℕ) → seed_in (without_number number rs) number ≡ None
 seed_gone [] number = refl
 seed_gone (r ∷ rs) number =

@@ -1,5 +1,5 @@
 -- What is edited from statements that are spelled is spelled.
-use Rattle.std.proofs.Common.{◌≡◌, ℕ, ◌+◌, ◌-◌, Bool, true, false, cond, List, [], ◌∷◌, ◌++◌, Option, Some, None, Result, Ok, Err, length, take, drop, refl, ap, sym, subst, ◌∙◌, inl, inr}
+use Rattle.std.proofs.Common.{◌≡◌, ℕ, ◌+◌, ◌-◌, Bool, true, false, cond, List, [], ◌∷◌, ◌++◌, Option, Some, None, Ok, length, take, drop, refl, ap, sym, subst, ◌∙◌, inl, inr}
 use Rattle.std.proofs.lemmas.Bool.{cases_Bool}
 use Rattle.std.proofs.lemmas.List.Elements.{All-append, All-cons, All-drop, All-head, All-nil, All-tail, All-take}
 use Rattle.std.proofs.lemmas.Slice.Eq.{bytes_eq-Decides}
@@ -8,7 +8,6 @@ use Rattle.gw_meaning.specs.declared.statement.Definition.{Definition}
 use Rattle.gw_meaning.specs.declared.statement.Numbered.{Numbered}
 use Rattle.gw_meaning.specs.declared.statement.Statement.{Statement}
 use Rattle.gw_meaning.specs.Listing.{Listing, defines, definition_if, definition_of, has_label, nth}
-use Rattle.gw_lines.specs.declared.fault.LineFault.{LineFault}
 use Rattle.gw_lines.specs.Edits.{edit_lines, edit_of}
 use Rattle.gw_lines.specs.Points.{Completes, complete, past_remark, past_pairs, SpellsLines, spells_lines}
 use Rattle.gw_lines.specs.Printed.{IsSpelled, storage_of}
@@ -18,44 +17,40 @@ use Rattle.gw_lines.proofs.Edits.{edits_are_read}
 use Rattle.gw_lines.proofs.PrintedWords.{is_name}
 use Rattle.gw_lines.proofs.PrintedStorage.{storages_spell}
 use Rattle.gw_model.specs.Faults.{is_outside}
-use Rattle.gw_model.specs.Spliced.{come, number_in, spliced, with_splice}
+use Rattle.gw_model.specs.Spliced.{inserted, number_in, spliced, with_splice}
 use Rattle.gw_edit.specs.declared.edit.Edit.TheVariants as edits
-use Rattle.gw_edit.specs.Applied.{capacity_at, checked, has_replication, is_capacity, or_refusal, reseeded, spelled_by, storage_in, storage_place, without_number}
+use Rattle.gw_edit.specs.Applied.{capacity_at, checked, has_replication, is_capacity, reseeded, spelled_by, storage_in, storage_place, without_number}
 use Rattle.gw_edit.specs.Spelled.{AreSpelled, EditsAreSpelled}
 use Rattle.gw_edit.proofs.Splits.{place_in}
-use Rattle.gw_edit.proofs.Made.{checked_gives, one_side, other_side}
+use Rattle.gw_edit.proofs.Made.{checked_gives, of_read, one_side, other_side}
 
 abbrev LineIsSpelled : Numbered → Type 0
 LineIsSpelled line = IsSpelled line.statement
 
 -- ---- a splice
 
-come_is : (number : ℕ) (s : Statement) → IsSpelled s → AreSpelled (come number (Some s))
-come_is number s h = All-cons LineIsSpelled (record { number = number; statement = s }) [] h (All-nil LineIsSpelled)
+inserted_is : (number : ℕ) (s : Statement) → IsSpelled s → AreSpelled (inserted number (Some s))
+inserted_is number s h = All-cons LineIsSpelled (record { number = number; statement = s }) [] h (All-nil LineIsSpelled)
 
-splice_is : (lines : List Numbered) (position : ℕ) (goes : Bool) (comes : Option Statement) → AreSpelled lines
-    → ((number : ℕ) → AreSpelled (come number comes)) → AreSpelled (spliced lines position goes comes)
-splice_is lines position goes comes h c =
-    let number = number_in lines (cond goes (nth lines position) None) in
-    let behind = drop (cond goes position (position - 1)) lines in
-    All-append LineIsSpelled (take (position - 1) lines ++ come number comes) behind
-    (All-append LineIsSpelled (take (position - 1) lines) (come number comes) (All-take LineIsSpelled (position - 1) lines h) (c number))
-    (All-drop LineIsSpelled (cond goes position (position - 1)) lines h)
-
-text_gives : (r : Result Statement LineFault) (f : Statement → Listing) (u : Listing) → (or_refusal r >>= (λ s. checked (f s))) ≡ Ok u
-    → (s : Statement) × (r ≡ Ok s) × (f s ≡ u)
-text_gives (Ok s) f u h = (s, refl, checked_gives (f s) u h)
-text_gives (Err fault) f u h = absurd cc
+splice_is : (lines : List Numbered) (position : ℕ) (deletes : Bool) (inserts : Option Statement) → AreSpelled lines
+    → ((number : ℕ) → AreSpelled (inserted number inserts)) → AreSpelled (spliced lines position deletes inserts)
+splice_is lines position deletes inserts h c =
+    let number = number_in lines (cond deletes (nth lines position) None) in
+    let behind = drop (cond deletes position (position - 1)) lines in
+    All-append LineIsSpelled (take (position - 1) lines ++ inserted number inserts) behind
+    (All-append LineIsSpelled (take (position - 1) lines) (inserted number inserts) (All-take LineIsSpelled (position - 1) lines h) (c number))
+    (All-drop LineIsSpelled (cond deletes position (position - 1)) lines h)
 
 read_is : (text : List ℕ) (s : Statement) → edit_of text ≡ Ok s → IsSpelled s
 read_is text s e = (edit_lines text, (edits_are_read text s).0 e)
 
-text_is : (t u : Listing) (place : ℕ) (goes : Bool) (text : List ℕ)
-    → (spelled_by text >>= (λ s. checked (with_splice t place goes (Some s)))) ≡ Ok u → AreSpelled t.lines → AreSpelled u.lines
-text_is t u place goes text made h =
-    let g = text_gives (edit_of text) (λ s. with_splice t place goes (Some s)) u made in
-    subst (λ (v : Listing). AreSpelled v.lines) g.2
-    (splice_is t.lines place goes (Some g.0) h (λ number. come_is number g.0 (read_is text g.0 g.1)))
+text_is : (t u : Listing) (place : ℕ) (deletes : Bool) (text : List ℕ)
+    → (spelled_by text >>= (λ s. checked (with_splice t place deletes (Some s)))) ≡ Ok u → AreSpelled t.lines → AreSpelled u.lines
+text_is t u place deletes text made h =
+    let read = of_read (edit_of text) (λ s. checked (with_splice t place deletes (Some s))) u made in
+    let s = read.0 in
+    subst (λ (v : Listing). AreSpelled v.lines) (checked_gives (with_splice t place deletes (Some s)) u read.2)
+    (splice_is t.lines place deletes (Some s) h (λ number. inserted_is number s (read_is text s read.1)))
 
 -- ---- a capacity
 
@@ -103,7 +98,7 @@ capacity_is t u name amount (Some place) is made h =
     let line = storages_spell name amount (storage_named name 1 t.lines place is h) w.0 w.1 in
     let spelled : IsSpelled s = (_, spells_lines _ [] s s line (complete s refl)) in
     subst (λ (v : Listing). AreSpelled v.lines) (checked_gives (with_splice t place true (Some s)) u side.1)
-    (splice_is t.lines place true (Some s) h (λ number. come_is number s spelled))
+    (splice_is t.lines place true (Some s) h (λ number. inserted_is number s spelled))
 
 -- ---- an edit
 

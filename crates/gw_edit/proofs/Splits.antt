@@ -6,7 +6,7 @@ use Rattle.gw_meaning.specs.declared.statement.Statement.{Statement}
 use Rattle.gw_meaning.specs.declared.statement.Numbered.{Numbered}
 use Rattle.gw_meaning.specs.Listing.{nth}
 use Rattle.gw_model.specs.Faults.{is_outside}
-use Rattle.gw_model.specs.Spliced.{greatest_number, number_in, come, spliced}
+use Rattle.gw_model.specs.Spliced.{greatest_number, number_in, inserted, spliced}
 use Rattle.gw_model.proofs.Numbers.{nth_get, cut_at}
 
 -- a place that is not outside
@@ -22,7 +22,7 @@ get_between (z ∷ xs) ys (suc i) x within = get_between xs ys i x (omega arith)
 pub nth_between : {X : Type 0} (xs ys : List X) (place : ℕ) (x : X) → 1 ≤ place → place ≤ length xs + 1 → nth (take (place - 1) xs ++ x ∷ ys) place ≡ Some x
 nth_between xs ys place x least within = nth_get (take (place - 1) xs ++ x ∷ ys) place x least (get_between xs ys (place - 1) x (omega arith))
 
--- a statement comes in where none goes
+-- a statement is inserted where none is deleted
 abbrev pub fresh_line : List Numbered → Statement → Numbered
 fresh_line lines s = record { number = greatest_number lines + 1; statement = s }
 
@@ -30,15 +30,15 @@ pub come_parts : (lines : List Numbered) (place : ℕ) (s : Statement) → splic
     fresh_line lines s ∷ drop (place - 1) lines
 come_parts lines place s = append_assoc (take (place - 1) lines) (fresh_line lines s ∷ []) (drop (place - 1) lines)
 
--- a statement goes, and another one comes in, or none
-pub record IsGone (lines : List Numbered) (place : ℕ) (comes : Option Statement) (line : Numbered) : Type 0 where
+-- a statement is deleted, and another one is inserted, or none
+pub record IsGone (lines : List Numbered) (place : ℕ) (inserts : Option Statement) (line : Numbered) : Type 0 where
   pub found : nth lines place ≡ Some line
   pub old : lines ≡ take (place - 1) lines ++ line ∷ drop place lines
-  pub new : spliced lines place true comes ≡ take (place - 1) lines ++ (come line.number comes ++ drop place lines)
+  pub new : spliced lines place true inserts ≡ take (place - 1) lines ++ (inserted line.number inserts ++ drop place lines)
 
-pub gone_at : (lines : List Numbered) (place : ℕ) (comes : Option Statement) → 1 ≤ place → place ≤ length lines → (line : Numbered) ×
-    IsGone lines place comes line
-gone_at lines place comes least within =
+pub gone_at : (lines : List Numbered) (place : ℕ) (inserts : Option Statement) → 1 ≤ place → place ≤ length lines → (line : Numbered) ×
+    IsGone lines place inserts line
+gone_at lines place inserts least within =
     let i = place - 1 in
     let next : suc i ≡ place = omega arith in
     let cut = cut_at lines i (omega arith) in
@@ -48,7 +48,7 @@ gone_at lines place comes least within =
       record {
         found = found;
         old = subst (λ (p : ℕ). lines ≡ take i lines ++ line ∷ drop p lines) next cut.1.parts;
-        new = ap (λ (o : Option Numbered). take i lines ++ come (number_in lines o) comes ++ drop place lines) found ∙
-            append_assoc (take i lines) (come line.number comes) (drop place lines);
+        new = ap (λ (o : Option Numbered). take i lines ++ inserted (number_in lines o) inserts ++ drop place lines) found ∙
+            append_assoc (take i lines) (inserted line.number inserts) (drop place lines);
       },
     )

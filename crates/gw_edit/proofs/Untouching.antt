@@ -19,13 +19,13 @@ use Rattle.gw_edit.proofs.ByLines.{untouched_both, changed_line}
 use Rattle.gw_edit.proofs.LineLaws.{line_alike}
 use Rattle.gw_edit.proofs.ChangeLaws.{change_alike}
 use Rattle.gw_edit.proofs.Splits.{nth_between, fresh_line, come_parts, gone_at}
-use Rattle.gw_edit.proofs.Made.{gone, come_in, IsSpliced, IsLeft, made_by, one_seed}
+use Rattle.gw_edit.proofs.Made.{deleted_at, inserted_at, IsSpliced, IsLeft, made_by, one_seed}
 
 -- what two versions answer alike in a replication, where this is touched
 abbrev pub IsAlike : Listing → Listing → ℕ → List Probe → Type 0
 IsAlike t u r touched = (a b : ℕ) → seed_at t r ≡ Some a → seed_at u r ≡ Some b → (i : Item) → is_touched touched i ≡ false → ask u b i ≡ ask t a i
 
--- a statement comes in
+-- a statement is inserted
 insert_alike : (t : Listing) (place : ℕ) (s : Statement) (r : ℕ) → 1 ≤ place → place ≤ length t.lines + 1 →
     IsAlike t (with_splice t place false (Some s)) r (splice_probes t place None (nth (with_splice t place false (Some s)).lines place))
 insert_alike t place s r least last a b was is i h =
@@ -40,7 +40,7 @@ insert_alike t place s r least last a b was is i h =
     line_alike t place line back u t (record { has = new; lacks = old; horizon = refl; absent = absent }) a b (one_seed (seed_at t r) a b was is) i
     (subst (λ (o : Option Numbered). is_touched (splice_probes t place None o) i ≡ false) there h)
 
--- a statement goes out
+-- a statement is deleted
 delete_alike : (t : Listing) (place r : ℕ) → AreNumbered t.lines → 1 ≤ place → place ≤ length t.lines →
     IsAlike t (with_splice t place true None) r (splice_probes t place (nth t.lines place) None)
 delete_alike t place r numbered least last a b was is i h =
@@ -81,9 +81,9 @@ left_alike t e u r left a b was is i h =
     (λ time same. left.clock r time (subst (λ (j : Item). is_touched (touch_of t e u r) j ≡ false) same h))
 
 -- a splice
-splice_alike : (t : Listing) (place : ℕ) (goes : Bool) (comes : Option Statement) (r : ℕ) → AreNumbered t.lines → 1 ≤ place → place ≤ length t.lines + 1 →
-    (goes ≡ true → place ≤ length t.lines) → IsAlike t (with_splice t place goes comes) r
-    (splice_probes t place (gone t.lines place goes) (come_in (spliced t.lines place goes comes) place comes))
+splice_alike : (t : Listing) (place : ℕ) (deletes : Bool) (inserts : Option Statement) (r : ℕ) → AreNumbered t.lines → 1 ≤ place → place ≤ length t.lines + 1 →
+    (deletes ≡ true → place ≤ length t.lines) → IsAlike t (with_splice t place deletes inserts) r
+    (splice_probes t place (deleted_at t.lines place deletes) (inserted_at (spliced t.lines place deletes inserts) place inserts))
 splice_alike t place false None r numbered least last there = λ a b was is i h.
     let i' = place - 1 in
     lines_alike t (with_splice t place false None) a b (ap (λ xs. xs ++ drop i' t.lines) (append-nil (take i' t.lines)) ∙ take-append-drop i' t.lines) i
@@ -98,8 +98,8 @@ edit_alike t e u r numbered made = ⊎_elim spliced_alike (left_alike t e u r) (
   spliced_alike : IsSpliced t e u → IsAlike t u r (touch_of t e u r)
   spliced_alike s =
       subst (λ (ps : List Probe). IsAlike t u r ps) (sym (s.touch r))
-      (subst (λ (v : Listing). IsAlike t v r (splice_probes t s.place (gone t.lines s.place s.goes) (come_in v.lines s.place s.comes))) s.made
-      (splice_alike t s.place s.goes s.comes r numbered s.least s.last s.there))
+      (subst (λ (v : Listing). IsAlike t v r (splice_probes t s.place (deleted_at t.lines s.place s.deletes) (inserted_at v.lines s.place s.inserts))) s.made
+      (splice_alike t s.place s.deletes s.inserts r numbered s.least s.last s.there))
 
 pub untouched_alike : UntouchedAlike
 untouched_alike t e u r a b numbered made was is i h = edit_alike t e u r numbered made a b was is i h

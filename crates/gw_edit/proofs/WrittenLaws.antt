@@ -10,31 +10,25 @@ use Rattle.gw_model.specs.Faults.{is_outside}
 use Rattle.gw_model.specs.Spliced.{with_splice}
 use Rattle.gw_edit.specs.declared.fault.EditFault.{EditFault}
 use Rattle.gw_edit.specs.declared.fault.EditFault.TheVariants.{NoSuchPlace}
-use Rattle.gw_edit.specs.Applied.{checked, or_refusal, spelled_by}
+use Rattle.gw_edit.specs.Applied.{checked, spelled_by}
 use Rattle.gw_edit.specs.Faults.{of_line}
 use Rattle.gw_edit.specs.Written.{IsMadeOfText, InsertsAreSpelled, ChangesAreSpelled, InsertsAreRefused, ChangesAreRefused}
-use Rattle.gw_edit.proofs.Made.{other_side}
+use Rattle.gw_edit.proofs.Made.{of_read, other_side}
 
--- what was made of a text is made of the statement that was read
-of_read : (r : Result Statement LineFault) (f : Statement → Result Listing EditFault) (u : Listing) → (or_refusal r >>= f) ≡ Ok u
-    → (s : Statement) × (r ≡ Ok s) × (f s ≡ Ok u)
-of_read (Ok s) f u h = (s, refl, h)
-of_read (Err fault) f u h = absurd cc
-
-module _ (t : Listing) (places place : ℕ) (goes : Bool) (text : List ℕ) where
+module _ (t : Listing) (places place : ℕ) (deletes : Bool) (text : List ℕ) where
   abbrev put : Statement → Result Listing EditFault
-  put s = checked (with_splice t place goes (Some s))
+  put s = checked (with_splice t place deletes (Some s))
 
   abbrev written : Result Listing EditFault
   written = cond (is_outside 1 places place) (Err NoSuchPlace) (spelled_by text >>= put)
 
-  spelled : (u : Listing) → written ≡ Ok u → IsMadeOfText t u places place goes text
+  spelled : (u : Listing) → written ≡ Ok u → IsMadeOfText t u places place deletes text
   spelled u h =
       let side = other_side (is_outside 1 places place) _ _ u h in
       let read = of_read (edit_of text) put u side.1 in
       record { within = side.0; statement = read.0; spells = (edits_are_read text read.0).0 read.1; made = read.2 }
 
-  put_there : (u : Listing) → IsMadeOfText t u places place goes text → written ≡ Ok u
+  put_there : (u : Listing) → IsMadeOfText t u places place deletes text → written ≡ Ok u
   put_there u w = rw (w.within, (edits_are_read text w.statement).1 w.spells) w.made
 
   refused : (f : LineFault) → is_outside 1 places place ≡ false → FirstFaultOfEdit text f → written ≡ Err (of_line f)

@@ -31,22 +31,22 @@ front_of t (edits.Change place text) = lines_before t place
 front_of t (edits.Capacity name amount) = front_at t (storage_place name t)
 front_of t e = t.lines
 
--- what goes out there, of the version before, and what comes in, of the edited one
-abbrev pub goes_of : Listing → Edit → List Numbered
-goes_of t (edits.Delete place) = option_to_list (nth t.lines place)
-goes_of t (edits.Change place text) = option_to_list (nth t.lines place)
-goes_of t (edits.Capacity name amount) = line_there t (storage_place name t)
-goes_of t e = []
+-- what is deleted there, of the version before, and what is inserted, of the edited one
+abbrev pub deleted_of : Listing → Edit → List Numbered
+deleted_of t (edits.Delete place) = option_to_list (nth t.lines place)
+deleted_of t (edits.Change place text) = option_to_list (nth t.lines place)
+deleted_of t (edits.Capacity name amount) = line_there t (storage_place name t)
+deleted_of t e = []
 
-abbrev pub comes_of : Listing → Edit → Listing → List Numbered
-comes_of t (edits.Insert place text) u = option_to_list (nth u.lines place)
-comes_of t (edits.Change place text) u = option_to_list (nth u.lines place)
-comes_of t (edits.Capacity name amount) u = line_there u (storage_place name t)
-comes_of t e u = []
+abbrev pub inserted_of : Listing → Edit → Listing → List Numbered
+inserted_of t (edits.Insert place text) u = option_to_list (nth u.lines place)
+inserted_of t (edits.Change place text) u = option_to_list (nth u.lines place)
+inserted_of t (edits.Capacity name amount) u = line_there u (storage_place name t)
+inserted_of t e u = []
 
--- how positions move: behind the front they go back by a block that goes, and on by one that comes in
+-- how positions move: behind the front they go back by a deleted block, and on by an inserted one
 abbrev pub position_move : Listing → Edit → Listing → ℕ → ℕ
-position_move t e u = shifted (front_of t e) (goes_of t e) (comes_of t e u)
+position_move t e u = shifted (front_of t e) (deleted_of t e) (inserted_of t e u)
 
 -- an edit of t to u that touches no step below n leaves the run of n steps: it is the same state; told in positions it
 -- is the old one with its positions moved, and its steps read the old items moved

@@ -4,7 +4,7 @@ use Rattle.std.specs.Prelude.{ℕ, ℤ, ◌+◌, ◌-◌, Bool, ◌==◌, true, 
 use Rattle.std.specs.List.{list_any, filter_map}
 use Rattle.gw_meaning.specs.declared.item.Item.{Item}
 use Rattle.gw_meaning.specs.declared.item.Item.TheVariants.{After, Generates, Seed, Within}
-use Rattle.gw_meaning.specs.declared.item.Asked.TheVariants as questions
+use Rattle.gw_meaning.specs.declared.item.Asked.TheVariants as asking
 use Rattle.gw_meaning.specs.declared.item.Item.TheVariants as items
 use Rattle.std.specs.Ordering.{int_eq}
 use Rattle.std.specs.Str.{bytes_eq}
@@ -51,9 +51,9 @@ block_before t place = last_block None (lines_before t place)
 abbrev pub command_from : Listing → ℕ → ℕ
 command_from t place = length (filter is_command (lines_before t place)) + 1
 
--- the probes of a list of places that may be free
+-- the probes of a list of slots, of which some may be empty
 abbrev pub given : List (Option Probe) → List Probe
-given places = filter_map (λ place. place) places
+given slots = filter_map (λ slot. slot) slots
 
 -- an item, where it is wanted; what comes after a block, where there is one
 abbrev pub one_if : Bool → Item → Option Probe
@@ -66,55 +66,55 @@ behind (Some number) = Some (One (After number))
 -- the label of a statement, where it has one and it is wanted
 abbrev pub label_if : Bool → Option (List ℕ) → Option Probe
 label_if wanted None = None
-label_if wanted (Some name) = one_if wanted (items.Named questions.Label name)
+label_if wanted (Some name) = one_if wanted (items.Named asking.Label name)
 
--- a block that comes in or goes out: what comes after the block in front of it, itself and what comes after itself, the
--- list of GENERATEs where it is one, and its label. (Where it comes in, the version before had no block with its
+-- a block that is inserted or deleted: what comes after the block in front of it, itself and what comes after itself,
+-- the list of GENERATEs where it is one, and its label. (Where it is inserted, the version before had no block with its
 -- number, so that no step of a recorded run can have read the two of its own; they stand here since the versions answer
 -- them in two ways.)
-abbrev pub block_places : Option ℕ → Numbered → List (Option Probe)
-block_places front line =
+abbrev pub block_slots : Option ℕ → Numbered → List (Option Probe)
+block_slots front line =
     behind front ∷ Some (One (items.Block line.number)) ∷ Some (One (After line.number))
     ∷ one_if (is_generate line) Generates ∷ label_if true line.statement.label ∷ []
 
 abbrev pub block_probes : Listing → ℕ → Numbered → List Probe
-block_probes t place line = given (block_places (block_before t place) line)
+block_probes t place line = given (block_slots (block_before t place) line)
 
--- a definition that comes in or goes out touches what is asked of its name: of a STORAGE each amount and the capacity,
--- of an EQU the number, of a VARIABLE the expression, of a FUNCTION all of it
-abbrev pub definition_place : Option (List ℕ) → Option Definition → Option Probe
-definition_place (Some name) (Some (definitions.Storage capacity)) = Some (Amounts name None None)
-definition_place (Some name) (Some (definitions.Equ value)) = Some (One (items.Named questions.Number name))
-definition_place (Some name) (Some (definitions.Variable expression)) = Some (One (items.Named questions.Variable name))
-definition_place (Some name) (Some (definitions.Function function)) = Some (One (items.Named questions.Function name))
-definition_place label definition = None
+-- a definition that is inserted or deleted touches what is asked of its name: of a STORAGE each amount and the
+-- capacity, of an EQU the number, of a VARIABLE the expression, of a FUNCTION all of it
+abbrev pub definition_slot : Option (List ℕ) → Option Definition → Option Probe
+definition_slot (Some name) (Some (definitions.Storage capacity)) = Some (Amounts name None None)
+definition_slot (Some name) (Some (definitions.Equ value)) = Some (One (items.Named asking.Number name))
+definition_slot (Some name) (Some (definitions.Variable expression)) = Some (One (items.Named asking.Variable name))
+definition_slot (Some name) (Some (definitions.Function function)) = Some (One (items.Named asking.Function name))
+definition_slot label definition = None
 
 abbrev pub definition_probes : Numbered → List Probe
-definition_probes line = given (definition_place line.statement.label (definition_of line) ∷ [])
+definition_probes line = given (definition_slot line.statement.label (definition_of line) ∷ [])
 
--- a command that comes in or goes out: all commands from it on
+-- a command that is inserted or deleted: all commands from it on
 abbrev pub rest_probes : Listing → ℕ → Numbered → List Probe
 rest_probes t place line = if is_command line then CommandsFrom (command_from t place) ∷ [] else definition_probes line
 
--- a statement that comes in or goes out
+-- a statement that is inserted or deleted
 abbrev pub line_probes : Listing → ℕ → Numbered → List Probe
 line_probes t place line =
     if is_block line then block_probes t place line else rest_probes t place line
 
 -- a block that is another block: itself where the verb or the operands differ, and then the list of GENERATEs where one
 -- of the two is one
-abbrev pub change_places : Bool → Numbered → Numbered → List (Option Probe)
-change_places other old new =
+abbrev pub change_slots : Bool → Numbered → Numbered → List (Option Probe)
+change_slots other old new =
     one_if other (items.Block old.number) ∷ one_if (other && (is_generate old || is_generate new)) Generates ∷ []
 
 -- its label, and the one before, where they differ
-abbrev pub label_places : Bool → Numbered → Numbered → List (Option Probe)
-label_places other old new = label_if other old.statement.label ∷ label_if other new.statement.label ∷ []
+abbrev pub label_slots : Bool → Numbered → Numbered → List (Option Probe)
+label_slots other old new = label_if other old.statement.label ∷ label_if other new.statement.label ∷ []
 
 abbrev pub block_change : Numbered → Numbered → List Probe
 block_change old new =
-    given (change_places (not (same_statement old.statement new.statement)) old new)
-    ++ given (label_places (not (same_label old.statement.label new.statement.label)) old new)
+    given (change_slots (not (same_statement old.statement new.statement)) old new)
+    ++ given (label_slots (not (same_label old.statement.label new.statement.label)) old new)
 
 -- the name that two statements define, where it is one
 abbrev pub one_name : Option (List ℕ) → Option (List ℕ) → Option (List ℕ)
@@ -135,18 +135,18 @@ same_curve old new a b = bytes_eq old.operands new.operands && same_function a b
 
 -- a statement that is another one, of which not both are blocks: of a storage of one name the amounts that the two
 -- capacities answer in two ways, of an EQU of one name the number where it is another one, of a VARIABLE of one name
--- the expression and of a FUNCTION of one name the FUNCTION where it is another one; else what the one touches that
--- goes, and what the one that comes in
+-- the expression and of a FUNCTION of one name the FUNCTION where it is another one; else what the deleted one touches,
+-- and what the inserted one
 abbrev pub other_change :
     Option (List ℕ) → Option Definition → Option Definition → Listing → ℕ → Numbered → Numbered → List Probe
 other_change (Some name) (Some (definitions.Storage from)) (Some (definitions.Storage to)) t place old new =
     given (Some (Amounts name (Some from) (Some to)) ∷ [])
 other_change (Some name) (Some (definitions.Equ a)) (Some (definitions.Equ b)) t place old new =
-    given (one_if (not (same_number old.statement new.statement a b)) (items.Named questions.Number name) ∷ [])
+    given (one_if (not (same_number old.statement new.statement a b)) (items.Named asking.Number name) ∷ [])
 other_change (Some name) (Some (definitions.Variable a)) (Some (definitions.Variable b)) t place old new =
-    given (one_if (not (same_expression old.statement new.statement a b)) (items.Named questions.Variable name) ∷ [])
+    given (one_if (not (same_expression old.statement new.statement a b)) (items.Named asking.Variable name) ∷ [])
 other_change (Some name) (Some (definitions.Function a)) (Some (definitions.Function b)) t place old new =
-    given (one_if (not (same_curve old.statement new.statement a b)) (items.Named questions.Function name) ∷ [])
+    given (one_if (not (same_curve old.statement new.statement a b)) (items.Named asking.Function name) ∷ [])
 other_change name before behind t place old new = line_probes t place old ++ line_probes t place new
 
 -- of a statement, where there is one
@@ -154,13 +154,13 @@ abbrev pub probes_of : Listing → ℕ → Option Numbered → List Probe
 probes_of t place None = []
 probes_of t place (Some line) = line_probes t place line
 
--- a splice at a place, by the statement that goes, if any, and the one that comes in, if any
+-- a splice at a place, by the deleted statement, if any, and the inserted one, if any
 abbrev pub splice_probes : Listing → ℕ → Option Numbered → Option Numbered → List Probe
 splice_probes t place (Some old) (Some new) =
     if is_block old && is_block new then block_change old new
     else other_change (one_name old.statement.label new.statement.label) (definition_of old) (definition_of new) t place
     old new
-splice_probes t place goes comes = probes_of t place goes ++ probes_of t place comes
+splice_probes t place deleted inserted = probes_of t place deleted ++ probes_of t place inserted
 
 -- two seeds, of which either may be none
 abbrev pub same_seed : Option ℕ → Option ℕ → Bool
@@ -188,7 +188,7 @@ capacity_probes t None u = []
 capacity_probes t (Some place) u = splice_probes t place (nth t.lines place) (nth u.lines place)
 
 -- an edit of a version to another: the seed of its replication, and the clock steps beyond the lesser horizon. A
--- replication that comes in or goes out does not touch another one
+-- replication that is added or dropped does not touch another one
 abbrev pub touching_of : Listing → Edit → Listing → Touching
 touching_of t (edits.Insert place text) u = everywhere (splice_probes t place None (nth u.lines place))
 touching_of t (edits.Delete place) u = everywhere (splice_probes t place (nth t.lines place) None)

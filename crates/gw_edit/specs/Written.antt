@@ -11,11 +11,11 @@ use Rattle.gw_edit.specs.Applied.{applied, checked}
 use Rattle.gw_edit.specs.Faults.{of_line}
 
 -- the place is one of 1 to `places`, the text spells a statement, and the version with it has no fault
-pub record IsMadeOfText (t u : Listing) (places place : ℕ) (goes : Bool) (text : List ℕ) : Type 0 where
+pub record IsMadeOfText (t u : Listing) (places place : ℕ) (deletes : Bool) (text : List ℕ) : Type 0 where
   pub within : is_outside 1 places place ≡ false
   pub statement : Statement
   pub spells : SpellsEdit text statement
-  pub made : checked (with_splice t place goes (Some statement)) ≡ Ok u
+  pub made : checked (with_splice t place deletes (Some statement)) ≡ Ok u
 
 -- an insert has one place more than there are statements, a change has their places
 abbrev pub InsertsAreSpelled : Type 0

@@ -8,10 +8,10 @@ use std::alloc::{AllocError, Global};
 /// fault is E3.
 #[derive(Drop)]
 pub enum Edit {
-    /// The statement that `text` spells comes in at `place`, 1 to the number of statements and one; else it is
+    /// The statement that `text` spells is inserted at `place`, 1 to the number of statements and one; else it is
     /// E1. A text that spells none is E2.
     Insert { place: u64, text: Row<u8> },
-    /// The statement at `place`, 1 to the number of statements, goes out; else it is E1.
+    /// The statement at `place`, 1 to the number of statements, is deleted; else it is E1.
     Delete { place: u64 },
     /// The statement that `text` spells takes the place of another, and its id. The refusals are those of
     /// an insert.
@@ -21,10 +21,10 @@ pub enum Edit {
     Capacity { name: Name, amount: u64 },
     /// The replication has another seed, 1 to 2,147,483,646. One that is not there is E4.
     Seed { replication: u64, seed: u64 },
-    /// A replication, 1 to 1,000,000,000, comes in behind the others, of which at most 32 may be. One that is
+    /// A replication, 1 to 1,000,000,000, is added behind the others, of which at most 32 may be. One that is
     /// there is E5.
     Replicate { replication: u64, seed: u64 },
-    /// The replication goes out. One that is not there is E4.
+    /// The replication is dropped. One that is not there is E4.
     Drop { replication: u64 },
     /// The horizon is another one, 1 to 1,000,000,000,000.
     Horizon { time: u64 },

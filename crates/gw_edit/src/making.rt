@@ -138,15 +138,15 @@ fn splice(
     alloc: Global,
     version: &Version,
     place: u64,
-    goes: bool,
-    comes: Option<Statement>,
+    deletes: bool,
+    inserts: Option<Statement>,
 ) -> Result<Version, EditFault>
     requires first { 1 ≤ place }
     requires last { place ≤ length version.now.lines + 1 }
-    requires there { IsTrue goes → place ≤ length version.now.lines }
-    ensures { Gives result (checked (with_splice version.now place goes comes)) }
+    requires there { IsTrue deletes → place ≤ length version.now.lines }
+    ensures { Gives result (checked (with_splice version.now place deletes inserts)) }
 {
-    match version.with_splice(alloc, place, goes, comes) {
+    match version.with_splice(alloc, place, deletes, inserts) {
         Ok(new) => Ok(new),
         Err(fault) => Err(of_model(fault)),
     }

@@ -1,6 +1,6 @@
 ghost use Rattle.std.specs.Prelude.{◌≡◌, IfOk, ◌++◌, [], ◌∷◌, Some, None, option_copied};
 ghost use Rattle.gw_meaning.specs.Listing.{definition_of};
-ghost use Rattle.gw_edit.specs.Touching.{touching_of, capacity_probes, definition_place, other_change, one_name, same_number, same_expression, same_curve, rest_probes, seed_touching, seed_probes, everywhere, given, one_if, label_if, block_places, block_before, command_from, line_probes, probes_of, splice_probes, block_change, same_seed};
+ghost use Rattle.gw_edit.specs.Touching.{touching_of, capacity_probes, definition_slot, other_change, one_name, same_number, same_expression, same_curve, rest_probes, seed_touching, seed_probes, everywhere, given, one_if, label_if, block_slots, block_before, command_from, line_probes, probes_of, splice_probes, block_change, same_seed};
 
 use crate::edit::Edit;
 use crate::lines::{count_commands, last_block, line_at, lines_before, storage_place};
@@ -34,9 +34,9 @@ pub enum Probe {
 /// What an edit touches: at most ten probes in every replication, and the seed in one of them, if any.
 #[derive(Drop)]
 pub struct Touch {
-    // Those of the statement that goes, or of an edit of no statement.
+    // Those of the deleted statement, or of an edit of no statement.
     pub(crate) first: Probes,
-    // Those of the statement that comes in.
+    // Those of the inserted statement.
     pub(crate) rest: Probes,
     // The replication that has another seed.
     pub(crate) reseeded: Option<u64>,
@@ -78,7 +78,7 @@ pub fn touch_of(old: &Version, edit: &Edit, new: &Version) -> Result<Touch, Allo
     }
 }
 
-// The probes of a statement that goes, or of no statement, and those of one that comes in.
+// The probes of a deleted statement, or of no statement, and those of an inserted one.
 fn both(first: Probes, rest: Probes) -> Touch
     ensures { result ≡ everywhere (given first ++ given rest) }
 {
@@ -134,21 +134,21 @@ pub fn seed_probe(reseeded: Option<u64>, replication: u64) -> Option<Probe>
     }
 }
 
-// A line that goes at a place, if any, and one that comes in, if any.
+// A line that is deleted at a place, if any, and one that is inserted, if any.
 fn splice_touch(
     version: &Version,
     place: u64,
-    goes: Option<&Numbered>,
-    comes: Option<&Numbered>,
+    deleted: Option<&Numbered>,
+    inserted: Option<&Numbered>,
 ) -> Result<Touch, AllocError>
     ensures { IfOk result (λ touch. touch ≡ everywhere
-        (splice_probes version.now place (option_copied goes.entry) (option_copied comes.entry))) }
+        (splice_probes version.now place (option_copied deleted.entry) (option_copied inserted.entry))) }
 {
-    match (goes, comes) {
+    match (deleted, inserted) {
         (Some(old), Some(new)) => change_touch(version, place, old, new),
         _ => Ok(both(
-            probes_of(version, place, goes)?,
-            probes_of(version, place, comes)?,
+            probes_of(version, place, deleted)?,
+            probes_of(version, place, inserted)?,
         )),
     }
 }
@@ -172,7 +172,7 @@ fn line_probes(version: &Version, place: u64, line: &Numbered) -> Result<Probes,
     }
 }
 
-// A command or a definition that comes in or goes out.
+// A command or a definition that is inserted or deleted.
 fn rest_probes(version: &Version, place: u64, line: &Numbered) -> Result<Probes, AllocError>
     ensures { IfOk result (λ probes. given probes ≡ rest_probes version.now place line.now) }
 {
@@ -180,14 +180,14 @@ fn rest_probes(version: &Version, place: u64, line: &Numbered) -> Result<Probes,
         let commands = Probe::CommandsFrom(command_from(version, place));
         Ok(two(Some(commands), None))
     } else {
-        Ok(two(definition_place(line)?, None))
+        Ok(two(definition_slot(line)?, None))
     }
 }
 
-// What a definition that comes in or goes out touches: what is asked of its name.
-fn definition_place(line: &Numbered) -> Result<Option<Probe>, AllocError>
+// What a definition that is inserted or deleted touches: what is asked of its name.
+fn definition_slot(line: &Numbered) -> Result<Option<Probe>, AllocError>
     ensures { IfOk result (λ probe. probe ≡
-        definition_place line.now.statement.label (definition_of line.now)) }
+        definition_slot line.now.statement.label (definition_of line.now)) }
 {
     match (&line.statement.label, line.definition()) {
         (Some(name), Some(Definition::Storage { .. })) => Ok(Some(Probe::Amounts {
@@ -208,9 +208,9 @@ fn definition_place(line: &Numbered) -> Result<Option<Probe>, AllocError>
     }
 }
 
-// A block that comes in or goes out behind the block in front of it.
+// A block that is inserted or deleted behind the block in front of it.
 fn block_probes(front: Option<StatementId>, line: &Numbered) -> Result<Probes, AllocError>
-    ensures { IfOk result (λ probes. probes ≡ block_places front line.now) }
+    ensures { IfOk result (λ probes. probes ≡ block_slots front line.now) }
 {
     let label = label_if(true, &line.statement.label)?;
     Ok([
@@ -313,7 +313,7 @@ fn definition_change(
     }
 }
 
-// What the one touches that goes, and what the one that comes in.
+// What the deleted one touches, and what the inserted one.
 fn both_touch(
     version: &Version,
     place: u64,

@@ -8,6 +8,7 @@ use Rattle.gw_names.specs.declared.key.Key.TheVariants.{Num, Named, Defined}
 use Rattle.gw_names.specs.Keys.{key_eq, told_by}
 use Rattle.gw_entities.specs.Comings.{came, with_coming, AreOnce}
 use Rattle.std.proofs.lemmas.Cmp.{nat_eq_equiv}
+use Rattle.std.proofs.lemmas.Bool.{or_parts}
 use Rattle.gw_entities.proofs.Lookups.{Some_same}
 use Rattle.gw_entities.proofs.TableLaws.{key_eq_equiv}
 
@@ -31,10 +32,6 @@ key_same a b e = told_same a b ((bytes_eq-Decides (told_by a) (told_by b)).0 e)
 
 pub key_itself : (a : Key) → key_eq a a ≡ true
 key_itself a = (bytes_eq-Decides (told_by a) (told_by a)).1 refl
-
-neither : (a b : Bool) → (a || b) ≡ false → (a ≡ false) × (b ≡ false)
-neither true b e = absurd cc
-neither false b e = (refl, e)
 
 pub find_passes : {K : Type 0} (t : K → Bool) (qs : List K) (k : K) → Some k ≡ find t qs → t k ≡ true
 find_passes t [] k e = absurd cc
@@ -64,7 +61,7 @@ pub once_more :
     (cs : List (Key × ℕ)) (key : Key) (number : ℕ) → AreOnce cs → came cs key number ≡ false → AreOnce (cs ++ (key, number) ∷ [])
 once_more [] key number once none = (refl, tt)
 once_more (c ∷ cs) key number once none =
-    let parts = neither (key_eq key c.0 && nat_eq number c.1) (came cs key number) none in (
+    let parts = or_parts (key_eq key c.0 && nat_eq number c.1) (came cs key number) none in (
       came_append cs ((key, number) ∷ []) c.0 c.1
           ∙ nor_last (came cs c.0 c.1) (key_eq c.0 key && nat_eq c.1 number) once.0 (both_ways c.0 key c.1 number ∙ parts.0),
       once_more cs key number once.1 parts.1,

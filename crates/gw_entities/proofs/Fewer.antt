@@ -8,6 +8,7 @@ use Rattle.std.specs.List.{slice_get}
 use Rattle.std.specs.Option.{option_map}
 use Rattle.std.specs.Map.{lookup}
 use Rattle.std.proofs.lemmas.Option.{slice_get_read, slice_get_within, get_or_from_slice_get}
+use Rattle.std.specs.Prelude.{IfNone}
 use Rattle.indexmap.specs.IndexMap.{insert_entry, set_value_at}
 use Rattle.std.proofs.Common.{append-nil}
 use Rattle.gw_names.specs.declared.key.Key.{Key}
@@ -15,6 +16,11 @@ use Rattle.gw_names.specs.Keys.{key_eq}
 use Rattle.gw_entities.specs.Tables.{value_of, with_value}
 use Rattle.gw_entities.specs.Few.{StandsFirst}
 use Rattle.gw_entities.proofs.TableLaws.{insert_entry_is}
+
+-- where none is found, one thing and so another
+pub none_then : {A B : Type 0} (o : Option ℕ) → IfNone o A → (A → B) → IfNone o B
+none_then None h f = f h
+none_then (Some i) h f = tt
 
 one_later : (i : ℕ) → suc i ≡ i + 1
 one_later i = omega arith

@@ -8,6 +8,7 @@ use Rattle.std.proofs.lemmas.Bool.{eqb-true, eq-eqb}
 use Rattle.std.proofs.lemmas.Option.{slice_get_read, get_or_from_slice_get}
 use Rattle.std.proofs.lemmas.List.{get_or-set_same, get_or-set_other, get_or_append_left, take-append-le}
 use Rattle.std.proofs.Math.Seq.{take-append_seam, get_or-append_seam}
+use Rattle.std.proofs.Math.Bool.{and-true}
 use Rattle.indexmap.specs.IndexSet.{insert_key}
 use Rattle.gw_names.specs.declared.key.Key.{Key}
 use Rattle.gw_names.specs.Keys.{key_eq}
@@ -342,17 +343,13 @@ nothing (c ∷ cs) e = absurd (omega (arith, e))
 
 -- ---- pairs with the number 0
 
-bare_and : (a : Bool) → (a && true) ≡ a
-bare_and true = refl
-bare_and false = refl
-
 pub bare_any :
     (key : Key) (ps : List (Key × ℕ)) → AreBare ps → list_any (key_eq key) (map (λ (p : Key × ℕ). p.0) ps) ≡ came ps key 0
 bare_any key [] bare = refl
 bare_any key (p ∷ ps) bare =
     ap (λ r. key_eq key p.0 || r) (bare_any key ps bare.1)
     ∙ ap (λ b. b || came ps key 0)
-    (sym (ap (λ (n : ℕ). key_eq key p.0 && nat_eq 0 n) bare.0 ∙ bare_and (key_eq key p.0)))
+    (sym (ap (λ (n : ℕ). key_eq key p.0 && nat_eq 0 n) bare.0 ∙ and-true (key_eq key p.0)))
 
 pub none_bare :
     (key : Key) (ps : List (Key × ℕ)) (place : Option ℕ) → AreBare ps → IfNone place (came ps key 0 ≡ false) →

@@ -10,10 +10,8 @@ use Rattle.std.proofs.lemmas.List.{get_or_default}
 use Rattle.std.proofs.lemmas.Option.{slice_get_within}
 use Rattle.std.proofs.lemmas.Map.Entries.{length-keys_of}
 use Rattle.std.proofs.lemmas.Map.Keys.{IsDistinct-head, IsDistinct-tail}
+use Rattle.std.proofs.lemmas.Bool.{lt-ltb}
 use Rattle.indexmap.specs.IndexMap.{set_value_at, swap_remove_entry}
-
-lt_test : (m n : ℕ) → m < n → nat_lt m n ≡ true
-lt_test m n less = grind (arith, nat_tests)
 
 not_below : (n : ℕ) → nat_lt n n ≡ false
 not_below n = grind (arith, nat_tests)
@@ -93,7 +91,7 @@ module _ {K V : Type 0} (eq : K → K → Bool) (laws : IsEquivalence eq) where
   position_at es i key value apart at =
       let within : i < length (keys_of es) = omega (arith, slice_get_within es i (key, value) at, length-keys_of es) in
       ap (λ n. cond (nat_lt n (length (keys_of es))) (Some n) None) (place_at es i key value apart at)
-      ∙ ap (λ b. cond b (Some i) None) (lt_test i (length (keys_of es)) within)
+      ∙ ap (λ b. cond b (Some i) None) (lt-ltb i (length (keys_of es)) within)
 
   -- an entry that is removed at the index of its key
   pub removed_at :

@@ -113,7 +113,7 @@ impl<V: Copy> ByKey<V> {
         if self.behind.len() > 0 {
             return self.place_among_many(key);
         }
-        // A loop of its own: over a slice that is lent to `place_among` a step takes two instructions more.
+        // A loop of its own: over a slice that `place_among` borrows a step takes two instructions more.
         for index in 0..self.few.len() {
             if *key == self.few[index].0 {
                 return Some(index);

@@ -10,7 +10,7 @@ use Rattle.gw_expr.specs.Term.{Term, Label, Fraction, Defined}
 use Rattle.gw_streams.specs.declared.stream.Stream.{Stream}
 use Rattle.gw_meaning.specs.declared.asker.Asker.{Asker}
 use Rattle.gw_meaning.specs.declared.item.Item.{Item}
-use Rattle.gw_meaning.specs.declared.item.Asked.TheVariants as questions
+use Rattle.gw_meaning.specs.declared.item.Asked.TheVariants as asking
 use Rattle.gw_meaning.specs.declared.item.Item.TheVariants as items
 use Rattle.gw_meaning.specs.declared.statement.Block.{Block}
 use Rattle.gw_names.specs.declared.verb.BlockVerb.{BlockVerb}
@@ -227,12 +227,12 @@ module _ (t : Listing) (seed : ℕ) (s : Machine) where
       Decides t seed s (IsDecided t s) (enter_storage id name (store_at s.entities (keys.Defined name)) units large)
   enter_storage_decides id name units large named =
       keeps_stops (not large) _
-      (keeps_asks (items.Named (questions.Fits (beside units (store_at s.entities (keys.Defined name)).level.content)) name) refl (λ numbered there. tt)
+      (keeps_asks (items.Named (asking.Fits (beside units (store_at s.entities (keys.Defined name)).level.content)) name) refl (λ numbered there. tt)
       (enter_or_wait_decides id name units _ refl named))
 
   enter_decides : (q : Asker) (id : ℕ) (storage units : Option Term) → IsBlockId t id → Decides t seed s (IsDecided t s) (enter_prog s q id storage units)
   enter_decides q id (Some (Defined name)) units named = keeps_bind (units_decides t seed s q units)
-      (λ n h. keeps_asks (items.Named (questions.Fits n) name) refl (λ numbered there. tt) (enter_storage_decides id name n _ named))
+      (λ n h. keeps_asks (items.Named (asking.Fits n) name) refl (λ numbered there. tt) (enter_storage_decides id name n _ named))
   enter_decides q id (Some term) units named = keeps_ends
   enter_decides q id None units named = keeps_ends
 
@@ -242,7 +242,7 @@ module _ (t : Listing) (seed : ℕ) (s : Machine) where
   shares_decide name content before (x ∷ xs) =
       let fits = does_fit t name (beside x.asked content) in
       let rest = shares_of t name (in_use content x.asked fits) xs in
-      keeps_asks (items.Named (questions.Fits (beside x.asked content)) name) refl (λ numbered there. tt)
+      keeps_asks (items.Named (asking.Fits (beside x.asked content)) name) refl (λ numbered there. tt)
       (subst (λ ys. Decides t seed s (λ shares. shares ≡ ys) (shares_prog name (in_use content x.asked fits) (before ++ share_of x.asked fits ∷ []) xs))
       (append_assoc before (share_of x.asked fits ∷ []) rest)
       (shares_decide name (in_use content x.asked fits) (before ++ share_of x.asked fits ∷ []) xs))
@@ -273,7 +273,7 @@ module _ (t : Listing) (seed : ℕ) (s : Machine) where
 
   lead_to_decides : (id : ℕ) (label : Option Term) → IsBlockId t id → Decides t seed s (IsDecided t s) (lead_to id label)
   lead_to_decides id (Some (Label name)) named =
-      keeps_asks (items.Named questions.Label name) refl (λ numbered there. tt) (go_to_decides id name (label_at t name) refl named)
+      keeps_asks (items.Named asking.Label name) refl (λ numbered there. tt) (go_to_decides id name (label_at t name) refl named)
   lead_to_decides id (Some term) named = keeps_gives (named, tt, tt)
   lead_to_decides id None named = keeps_gives (named, tt, tt)
 
@@ -310,7 +310,7 @@ module _ (t : Listing) (seed : ℕ) (s : Machine) where
 
   loop_to_decides : (id : ℕ) (key : Key) (left : ℤ) (label : Option Term) → IsBlockId t id → Decides t seed s (IsDecided t s) (loop_to id key left label)
   loop_to_decides id key left (Some (Label name)) named =
-      keeps_asks (items.Named questions.Label name) refl (λ numbered there. tt) (loop_back_decides id key left name (label_at t name) refl named)
+      keeps_asks (items.Named asking.Label name) refl (λ numbered there. tt) (loop_back_decides id key left name (label_at t name) refl named)
   loop_to_decides id key left (Some term) named = keeps_ends
   loop_to_decides id key left None named = keeps_ends
 

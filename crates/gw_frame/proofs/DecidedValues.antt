@@ -16,7 +16,7 @@ use Rattle.gw_expr.specs.declared.attribute.Subject.{Subject}
 use Rattle.gw_expr.specs.declared.attribute.Subject.TheVariants as subjects
 use Rattle.gw_nums.specs.Millionths.{times}
 use Rattle.gw_meaning.specs.declared.asker.Asker.{Asker}
-use Rattle.gw_meaning.specs.declared.item.Asked.TheVariants as questions
+use Rattle.gw_meaning.specs.declared.item.Asked.TheVariants as asking
 use Rattle.gw_meaning.specs.declared.item.Item.TheVariants as items
 use Rattle.gw_meaning.specs.Listing.{Listing, capacity_at, label_at}
 use Rattle.gw_names.specs.declared.key.Key.{Key}
@@ -76,7 +76,7 @@ module _ (t : Listing) (seed : ℕ) (s : Machine) where
   subject_decides : (of : Subject) → Decides IsNoStorage (subject_prog of)
   subject_decides subjects.Own = keeps_ends
   subject_decides (subjects.Number n) = numbered_decides (pos n)
-  subject_decides (subjects.Name name) = keeps_asks (items.Named questions.Number name) refl (λ numbered named. tt) (named_decides name (number_at t name))
+  subject_decides (subjects.Name name) = keeps_asks (items.Named asking.Number name) refl (λ numbered named. tt) (named_decides name (number_at t name))
 
   storage_decides : (of : Subject) (f : Key → Eval ℤ) → ((key : Key) → Decides Whatever (f key)) → Decides Whatever (storage_prog of f)
   storage_decides subjects.Own f each = keeps_ends
@@ -86,7 +86,7 @@ module _ (t : Listing) (seed : ℕ) (s : Machine) where
   left_decides : (of : Subject) → Decides Whatever (left_prog s of)
   left_decides subjects.Own = keeps_ends
   left_decides (subjects.Number n) = keeps_ends
-  left_decides (subjects.Name name) = keeps_asks (items.Named questions.Storage name) refl (λ numbered named. tt)
+  left_decides (subjects.Name name) = keeps_asks (items.Named asking.Storage name) refl (λ numbered named. tt)
       (amount_decides (capacity_at t name - (store_at s.entities (keys.Defined name)).level.content))
 
   counted_decides : (o : Option ℕ) (f : ℕ → Eval ℤ) → ((id : ℕ) → Decides Whatever (f id)) → Decides Whatever (counted o f)
@@ -97,7 +97,7 @@ module _ (t : Listing) (seed : ℕ) (s : Machine) where
   block_count_decides subjects.Own f each = keeps_ends
   block_count_decides (subjects.Number n) f each = keeps_ends
   block_count_decides (subjects.Name name) f each =
-      keeps_asks (items.Named questions.Label name) refl (λ numbered named. tt) (counted_decides (label_at t name) f each)
+      keeps_asks (items.Named asking.Label name) refl (λ numbered named. tt) (counted_decides (label_at t name) f each)
 
   drawn_decides : (of : Subject) → Decides Whatever (drawn_prog of)
   drawn_decides subjects.Own = keeps_ends
@@ -174,11 +174,11 @@ module _ (t : Listing) (seed : ℕ) (s : Machine) where
 
   -- what is replied to a question, and so what comes of any evaluation
   reply_decides : (q : Asker) (question : Question) → Decides Whatever (reply_prog s q question)
-  reply_decides q (NumberOf name) = keeps_asks (items.Named questions.Number name) refl (λ numbered named. tt) (keeps_gives tt)
+  reply_decides q (NumberOf name) = keeps_asks (items.Named asking.Number name) refl (λ numbered named. tt) (keeps_gives tt)
   reply_decides q (AttributeOf class of) = attribute_decides q class of
   reply_decides q (PartOf of) = random_part_decides of
-  reply_decides q (VariableOf name) = keeps_asks (items.Named questions.Variable name) refl (λ numbered named. tt) (keeps_gives tt)
-  reply_decides q (FunctionOf name) = keeps_asks (items.Named questions.Function name) refl (λ numbered named. tt) (keeps_gives tt)
+  reply_decides q (VariableOf name) = keeps_asks (items.Named asking.Variable name) refl (λ numbered named. tt) (keeps_gives tt)
+  reply_decides q (FunctionOf name) = keeps_asks (items.Named asking.Function name) refl (λ numbered named. tt) (keeps_gives tt)
 
   evaluation_decides : {A : Type 0} (q : Asker) (p : Evaluation A) → Decides Whatever (evaluated s q p)
   evaluation_decides q (Yields a) = keeps_gives tt
@@ -206,7 +206,7 @@ module _ (t : Listing) (seed : ℕ) (s : Machine) where
 
   pub entity_decides : (q : Asker) (term : Option Term) → Decides IsNoStorage (entity_prog s q term)
   entity_decides q None = keeps_ends
-  entity_decides q (Some (Named name)) = keeps_asks (items.Named questions.Number name) refl (λ numbered named. tt) (named_decides name (number_at t name))
+  entity_decides q (Some (Named name)) = keeps_asks (items.Named asking.Number name) refl (λ numbered named. tt) (named_decides name (number_at t name))
   entity_decides q (Some term) = keeps_bind (value_decides q term) (λ n h. numbered_decides n)
 
   pub units_decides : (q : Asker) (term : Option Term) → Decides Whatever (units_prog s q term)

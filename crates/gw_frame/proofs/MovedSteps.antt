@@ -4,7 +4,7 @@ use Rattle.std.proofs.lemmas.List.{map-append, length-map}
 use Rattle.gw_nums.specs.Range.{is_negative, magnitude}
 use Rattle.gw_expr.specs.Term.{Term, Label, Fraction, Defined}
 use Rattle.gw_meaning.specs.declared.asker.Asker.{Asker}
-use Rattle.gw_meaning.specs.declared.item.Asked.TheVariants as questions
+use Rattle.gw_meaning.specs.declared.item.Asked.TheVariants as asking
 use Rattle.gw_meaning.specs.declared.item.Item.TheVariants as items
 use Rattle.gw_meaning.specs.declared.statement.Block.{Block}
 use Rattle.gw_names.specs.declared.verb.BlockVerb.{BlockVerb}
@@ -200,19 +200,19 @@ module _ (move : ℕ → ℕ) (is : IsMove move) where
   enter_storage_follows : (id : ℕ) (name : List ℕ) (store : Store) (units : ℕ) (large : Bool) →
       Follows move (moved_move move) (enter_storage id name store units large) (enter_storage (move id) name store units large)
   enter_storage_follows id name store units large = follows_stops (not large) _
-      (follows_asks (items.Named (questions.Fits (beside units store.level.content)) name) (enter_or_wait_follows id (keys.Defined name) store units))
+      (follows_asks (items.Named (asking.Fits (beside units store.level.content)) name) (enter_or_wait_follows id (keys.Defined name) store units))
 
   enter_follows : (s : Machine) (q : Asker) (id : ℕ) (storage units : Option Term) →
       Follows move (moved_move move) (enter_prog s q id storage units) (enter_prog (moved_machine move s) q (move id) storage units)
   enter_follows s q id (Some (Defined name)) units = follows_bind _ (units_follows move is s q units)
-      (λ n. follows_asks (items.Named (questions.Fits n) name) (enter_storage_follows id name (store_at s.entities (keys.Defined name)) n))
+      (λ n. follows_asks (items.Named (asking.Fits n) name) (enter_storage_follows id name (store_at s.entities (keys.Defined name)) n))
   enter_follows s q id (Some term) units = follows_ends
   enter_follows s q id None units = follows_ends
 
   shares_follow : (name : List ℕ) (content : ℕ) (shares : List (Option ℕ)) (chain : List Transaction) →
       Follows move same (shares_prog name content shares chain) (shares_prog name content shares (map (moved_transaction move) chain))
   shares_follow name content shares [] = follows_gives refl
-  shares_follow name content shares (x ∷ xs) = follows_asks (items.Named (questions.Fits (beside x.asked content)) name)
+  shares_follow name content shares (x ∷ xs) = follows_asks (items.Named (asking.Fits (beside x.asked content)) name)
       (λ fits. shares_follow name (in_use content x.asked fits) (shares ++ share_of x.asked fits ∷ []) xs)
 
   leave_for_follows : (id : ℕ) (key : Key) (store : Store) (units : ℕ) (shares : List (Option ℕ)) →
@@ -240,7 +240,7 @@ module _ (move : ℕ → ℕ) (is : IsMove move) where
   go_to_follows id (Some to) = follows_gives refl
 
   lead_to_follows : (id : ℕ) (label : Option Term) → Follows move (moved_move move) (lead_to id label) (lead_to (move id) label)
-  lead_to_follows id (Some (Label name)) = follows_asks (items.Named questions.Label name) (go_to_follows id)
+  lead_to_follows id (Some (Label name)) = follows_asks (items.Named asking.Label name) (go_to_follows id)
   lead_to_follows id (Some term) = follows_gives refl
   lead_to_follows id None = follows_gives refl
 
@@ -278,7 +278,7 @@ module _ (move : ℕ → ℕ) (is : IsMove move) where
 
   loop_to_follows : (id : ℕ) (key : Key) (left : ℤ) (label : Option Term) →
       Follows move (moved_move move) (loop_to id key left label) (loop_to (move id) key left label)
-  loop_to_follows id key left (Some (Label name)) = follows_asks (items.Named questions.Label name) (loop_back_follows id key left)
+  loop_to_follows id key left (Some (Label name)) = follows_asks (items.Named asking.Label name) (loop_back_follows id key left)
   loop_to_follows id key left (Some term) = follows_ends
   loop_to_follows id key left None = follows_ends
 

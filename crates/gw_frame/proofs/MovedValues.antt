@@ -14,7 +14,7 @@ use Rattle.gw_expr.specs.declared.attribute.Subject.{Subject}
 use Rattle.gw_expr.specs.declared.attribute.Subject.TheVariants as subjects
 use Rattle.gw_nums.specs.Millionths.{times}
 use Rattle.gw_meaning.specs.declared.asker.Asker.{Asker}
-use Rattle.gw_meaning.specs.declared.item.Asked.TheVariants as questions
+use Rattle.gw_meaning.specs.declared.item.Asked.TheVariants as asking
 use Rattle.gw_meaning.specs.declared.item.Item.TheVariants as items
 use Rattle.gw_names.specs.declared.key.Key.{Key}
 use Rattle.gw_names.specs.declared.key.Key.TheVariants as keys
@@ -55,7 +55,7 @@ module _ (move : ℕ → ℕ) (is : IsMove move) where
   subject_follows : (of : Subject) → Follows move same (subject_prog of) (subject_prog of)
   subject_follows subjects.Own = follows_ends
   subject_follows (subjects.Number n) = numbered_follows (pos n)
-  subject_follows (subjects.Name name) = follows_asks (items.Named questions.Number name) (named_follows name)
+  subject_follows (subjects.Name name) = follows_asks (items.Named asking.Number name) (named_follows name)
 
   storage_follows : (of : Subject) (f : Key → Eval ℤ) → ((key : Key) → Follows move same (f key) (f key)) →
       Follows move same (storage_prog of f) (storage_prog of f)
@@ -66,7 +66,7 @@ module _ (move : ℕ → ℕ) (is : IsMove move) where
   left_follows : (s : Machine) (of : Subject) → Follows move same (left_prog s of) (left_prog (moved_machine move s) of)
   left_follows s subjects.Own = follows_ends
   left_follows s (subjects.Number n) = follows_ends
-  left_follows s (subjects.Name name) = follows_asks (items.Named questions.Storage name)
+  left_follows s (subjects.Name name) = follows_asks (items.Named asking.Storage name)
       (λ capacity. amount_follows (capacity - (store_at s.entities (keys.Defined name)).level.content))
 
   counted_follows : (o : Option ℕ) (f g : ℕ → Eval ℤ) → ((id : ℕ) → Follows move same (f id) (g (move id))) →
@@ -78,7 +78,7 @@ module _ (move : ℕ → ℕ) (is : IsMove move) where
       Follows move same (block_count of f) (block_count of g)
   block_count_follows subjects.Own f g each = follows_ends
   block_count_follows (subjects.Number n) f g each = follows_ends
-  block_count_follows (subjects.Name name) f g each = follows_asks (items.Named questions.Label name) (λ id. counted_follows id f g each)
+  block_count_follows (subjects.Name name) f g each = follows_asks (items.Named asking.Label name) (λ id. counted_follows id f g each)
 
   drawn_follows : (of : Subject) → Follows move same (drawn_prog of) (drawn_prog of)
   drawn_follows subjects.Own = follows_ends
@@ -159,11 +159,11 @@ module _ (move : ℕ → ℕ) (is : IsMove move) where
   -- what is replied to a question, and so what comes of any evaluation
   reply_follows : (s : Machine) (q : Asker) (question : Question) →
       Follows move same (reply_prog s q question) (reply_prog (moved_machine move s) q question)
-  reply_follows s q (NumberOf name) = follows_asks (items.Named questions.Number name) (λ number. follows_gives refl)
+  reply_follows s q (NumberOf name) = follows_asks (items.Named asking.Number name) (λ number. follows_gives refl)
   reply_follows s q (AttributeOf class of) = attribute_follows s q class of
   reply_follows s q (PartOf of) = random_part_follows of
-  reply_follows s q (VariableOf name) = follows_asks (items.Named questions.Variable name) (λ expression. follows_gives refl)
-  reply_follows s q (FunctionOf name) = follows_asks (items.Named questions.Function name) (λ function. follows_gives refl)
+  reply_follows s q (VariableOf name) = follows_asks (items.Named asking.Variable name) (λ expression. follows_gives refl)
+  reply_follows s q (FunctionOf name) = follows_asks (items.Named asking.Function name) (λ function. follows_gives refl)
 
   evaluation_follows : {A : Type 0} (s : Machine) (q : Asker) (p : Evaluation A) →
       Follows move same (evaluated s q p) (evaluated (moved_machine move s) q p)
@@ -194,7 +194,7 @@ module _ (move : ℕ → ℕ) (is : IsMove move) where
 
   pub entity_follows : (s : Machine) (q : Asker) (term : Option Term) → Follows move same (entity_prog s q term) (entity_prog (moved_machine move s) q term)
   entity_follows s q None = follows_ends
-  entity_follows s q (Some (Named name)) = follows_asks (items.Named questions.Number name) (named_follows name)
+  entity_follows s q (Some (Named name)) = follows_asks (items.Named asking.Number name) (named_follows name)
   entity_follows s q (Some term) = follows_bind _ (value_follows s q term) numbered_follows
 
   pub units_follows : (s : Machine) (q : Asker) (term : Option Term) → Follows move same (units_prog s q term) (units_prog (moved_machine move s) q term)

@@ -77,22 +77,22 @@ goes_below t seed (suc n) s there j below =
     (record { from = last.before; to = s; there = last.there; goes = last.goes }) j (omega arith)
 
 pub frame_in_positions : FrameInPositions
-frame_in_positions t seed u new_seed n s front goes comes back splice first second there alike =
+frame_in_positions t seed u new_seed n s front deleted inserted back splice first second there alike =
     let unseen = unseen_reads t seed u new_seed n s there alike in
-    let move = shifted front goes comes in
-    let same = position_shifts t u front goes comes back splice first second in (
+    let move = shifted front deleted inserted in
+    let same = position_shifts t u front deleted inserted back splice first second in (
       unseen.0,
       state_same t u (position_of u) (position_of t) move same s (run_names t seed n s first there) (run_names u new_seed n s second unseen.0),
       λ j below. reads_same same unseen.0 j below (unseen.1 j below),
     ) where
-      reads_same : ((p : ℕ) → IsBlockId t p → IsBlockId u p → position_of u p ≡ shifted front goes comes (position_of t p)) →
+      reads_same : ((p : ℕ) → IsBlockId t p → IsBlockId u p → position_of u p ≡ shifted front deleted inserted (position_of t p)) →
           run u new_seed n ≡ Ok s → (j : ℕ) →
           j < n → reads u new_seed j ≡ reads t seed j → map (moved_item (position_of u)) (reads u new_seed j) ≡
-          map (moved_item (shifted front goes comes)) (map (moved_item (position_of t)) (reads t seed j))
+          map (moved_item (shifted front deleted inserted)) (map (moved_item (position_of t)) (reads t seed j))
       reads_same same also j below reads_alike =
           let old = goes_below t seed n s there j below in
           let new = goes_below u new_seed n s also j below in
           let named = reads_names t seed j old.from old.to first old.there old.goes in
           let renamed = subst (λ is. AllByRecursion (ItemNames u) is) reads_alike (reads_names u new_seed j new.from new.to second new.there new.goes) in
           ap (map (moved_item (position_of u))) reads_alike ∙
-          items_same t u (position_of u) (position_of t) (shifted front goes comes) same (reads t seed j) named renamed
+          items_same t u (position_of u) (position_of t) (shifted front deleted inserted) same (reads t seed j) named renamed

@@ -99,22 +99,22 @@ not_behind line lines back p x alone numbered is there =
     cc
 
 -- how a position moves
-pub record Shifts (b front goes comes : ℕ) (o n : Option ℕ) : Type 0 where
+pub record Shifts (b front deleted inserted : ℕ) (o n : Option ℕ) : Type 0 where
   pub from : ℕ
   pub to : ℕ
   pub old : o ≡ Some from
   pub new : n ≡ Some to
-  pub move : to ≡ cond (nat_le from (b + front)) from ((from - goes) + comes)
+  pub move : to ≡ cond (nat_le from (b + front)) from ((from - deleted) + inserted)
 
 one_block : (line : Numbered) (x : Block) → block_of line ≡ Some x → count_blocks (line ∷ []) ≡ 1
 one_block line x block = rw (ap is_some block) refl
 
-at_splice : (goes comes back : List Numbered) (b p : ℕ) (x y : Block) → AreNumbered (goes ++ back) → AreNumbered (comes ++ back) → IsLine goes p x ⊎
-    IsBehind goes back p x → IsLine comes p y ⊎ IsBehind comes back p y →
-    Shifts b 0 (count_blocks goes) (count_blocks comes) (position_in b (goes ++ back) p) (position_in b (comes ++ back) p)
-at_splice goes comes back b p x y first second (inl l) (inl m) =
-    let one : count_blocks goes ≡ 1 = ap count_blocks l.alone ∙ one_block l.line x l.block in
-    let other : count_blocks comes ≡ 1 = ap count_blocks m.alone ∙ one_block m.line y m.block in
+at_splice : (deleted inserted back : List Numbered) (b p : ℕ) (x y : Block) → AreNumbered (deleted ++ back) → AreNumbered (inserted ++ back) → IsLine deleted p x ⊎
+    IsBehind deleted back p x → IsLine inserted p y ⊎ IsBehind inserted back p y →
+    Shifts b 0 (count_blocks deleted) (count_blocks inserted) (position_in b (deleted ++ back) p) (position_in b (inserted ++ back) p)
+at_splice deleted inserted back b p x y first second (inl l) (inl m) =
+    let one : count_blocks deleted ≡ 1 = ap count_blocks l.alone ∙ one_block l.line x l.block in
+    let other : count_blocks inserted ≡ 1 = ap count_blocks m.alone ∙ one_block m.line y m.block in
     record {
       from = b + 1;
       to = b + 1;
@@ -124,16 +124,16 @@ at_splice goes comes back b p x y first second (inl l) (inl m) =
     } where
       kept : (b : ℕ) → b + 1 ≡ cond (nat_le (b + 1) (b + 0)) (b + 1) (((b + 1) - 1) + 1)
       kept b = grind (arith, nat_tests)
-at_splice goes comes back b p x y first second (inl l) (inr m) = absurd (not_behind l.line goes back p y l.alone first l.number m.there)
-at_splice goes comes back b p x y first second (inr l) (inl m) = absurd (not_behind m.line comes back p x m.alone second m.number l.there)
-at_splice goes comes back b p x y first second (inr l) (inr m) =
+at_splice deleted inserted back b p x y first second (inl l) (inr m) = absurd (not_behind l.line deleted back p y l.alone first l.number m.there)
+at_splice deleted inserted back b p x y first second (inr l) (inl m) = absurd (not_behind m.line inserted back p x m.alone second m.number l.there)
+at_splice deleted inserted back b p x y first second (inr l) (inr m) =
     let found = stands back p x l.there in
     record {
-      from = (b + count_blocks goes) + suc found.0;
-      to = (b + count_blocks comes) + suc found.0;
+      from = (b + count_blocks deleted) + suc found.0;
+      to = (b + count_blocks inserted) + suc found.0;
       old = l.stands b found.0 found.1;
       new = m.stands b found.0 found.1;
-      move = goes_on b (count_blocks goes) (count_blocks comes) found.0;
+      move = goes_on b (count_blocks deleted) (count_blocks inserted) found.0;
     } where
       goes_on : (b g c k : ℕ) → (b + c) + suc k ≡ cond (nat_le ((b + g) + suc k) (b + 0)) ((b + g) + suc k) ((((b + g) + suc k) - g) + c)
       goes_on b g c k = grind (arith, nat_tests)
@@ -141,46 +141,46 @@ at_splice goes comes back b p x y first second (inr l) (inr m) =
 numbered_behind : (line : Numbered) (lines : List Numbered) → AreNumbered (line ∷ lines) → AreNumbered lines
 numbered_behind line lines numbered = numbered.2
 
-module _ (goes comes back : List Numbered) (one : length goes ≤ 1) (other : length comes ≤ 1) (p : ℕ) (x y : Block) where
-  shifts_by : (line : Numbered) (front : List Numbered) (b : ℕ) → block_in (line ∷ front ++ (goes ++ back)) p ≡ Some x →
-      block_in (line ∷ front ++ (comes ++ back)) p ≡ Some y →
-      ((c : ℕ) → block_in (front ++ (goes ++ back)) p ≡ Some x → block_in (front ++ (comes ++ back)) p ≡ Some y →
-      Shifts c (count_blocks front) (count_blocks goes) (count_blocks comes) (position_in c (front ++ (goes ++ back)) p)
-      (position_in c (front ++ (comes ++ back)) p)) →
+module _ (deleted inserted back : List Numbered) (one : length deleted ≤ 1) (other : length inserted ≤ 1) (p : ℕ) (x y : Block) where
+  shifts_by : (line : Numbered) (front : List Numbered) (b : ℕ) → block_in (line ∷ front ++ (deleted ++ back)) p ≡ Some x →
+      block_in (line ∷ front ++ (inserted ++ back)) p ≡ Some y →
+      ((c : ℕ) → block_in (front ++ (deleted ++ back)) p ≡ Some x → block_in (front ++ (inserted ++ back)) p ≡ Some y →
+      Shifts c (count_blocks front) (count_blocks deleted) (count_blocks inserted) (position_in c (front ++ (deleted ++ back)) p)
+      (position_in c (front ++ (inserted ++ back)) p)) →
       (test : Bool) → nat_eq line.number p ≡ test →
-      Shifts b (count_blocks (line ∷ front)) (count_blocks goes) (count_blocks comes) (position_in b (line ∷ front ++ (goes ++ back)) p)
-      (position_in b (line ∷ front ++ (comes ++ back)) p)
+      Shifts b (count_blocks (line ∷ front)) (count_blocks deleted) (count_blocks inserted) (position_in b (line ∷ front ++ (deleted ++ back)) p)
+      (position_in b (line ∷ front ++ (inserted ++ back)) p)
   shifts_by line front b old new rest true is =
-      let block = here line (front ++ (goes ++ back)) p x is old in
+      let block = here line (front ++ (deleted ++ back)) p x is old in
       record {
         from = b + 1;
         to = b + 1;
-        old = position_here b line (front ++ (goes ++ back)) p x is block;
-        new = position_here b line (front ++ (comes ++ back)) p x is block;
-        move = stays (count_blocks (line ∷ front)) (count_blocks goes) (count_blocks comes)
+        old = position_here b line (front ++ (deleted ++ back)) p x is block;
+        new = position_here b line (front ++ (inserted ++ back)) p x is block;
+        move = stays (count_blocks (line ∷ front)) (count_blocks deleted) (count_blocks inserted)
             (let e : count_blocks (line ∷ front) ≡ suc (count_blocks front) = rw (ap is_some block) refl in omega arith);
       } where
         stays : (n g c : ℕ) → 1 ≤ n → b + 1 ≡ cond (nat_le (b + 1) (b + n)) (b + 1) (((b + 1) - g) + c)
         stays n g c some = grind (arith, nat_tests)
   shifts_by line front b old new rest false is =
       let before = cond (is_block line) (b + 1) b in
-      let h = rest before (further line (front ++ (goes ++ back)) p x is old) (further line (front ++ (comes ++ back)) p y is new) in
+      let h = rest before (further line (front ++ (deleted ++ back)) p x is old) (further line (front ++ (inserted ++ back)) p y is new) in
       record {
         from = h.from;
         to = h.to;
-        old = position_further b line (front ++ (goes ++ back)) p is ∙ h.old;
-        new = position_further b line (front ++ (comes ++ back)) p is ∙ h.new;
-        move = h.move ∙ ap (λ n. cond (nat_le h.from n) h.from ((h.from - count_blocks goes) + count_blocks comes)) (counted b line front);
+        old = position_further b line (front ++ (deleted ++ back)) p is ∙ h.old;
+        new = position_further b line (front ++ (inserted ++ back)) p is ∙ h.new;
+        move = h.move ∙ ap (λ n. cond (nat_le h.from n) h.from ((h.from - count_blocks deleted) + count_blocks inserted)) (counted b line front);
       }
 
-  shifts : (front : List Numbered) (b : ℕ) → AreNumbered (front ++ (goes ++ back)) → AreNumbered (front ++ (comes ++ back)) →
-      block_in (front ++ (goes ++ back)) p ≡ Some x → block_in (front ++ (comes ++ back)) p ≡ Some y →
-      Shifts b (count_blocks front) (count_blocks goes) (count_blocks comes) (position_in b (front ++ (goes ++ back)) p)
-      (position_in b (front ++ (comes ++ back)) p)
-  shifts [] b first second old new = at_splice goes comes back b p x y first second (line_or_back goes back p x one old) (line_or_back comes back p y other new)
+  shifts : (front : List Numbered) (b : ℕ) → AreNumbered (front ++ (deleted ++ back)) → AreNumbered (front ++ (inserted ++ back)) →
+      block_in (front ++ (deleted ++ back)) p ≡ Some x → block_in (front ++ (inserted ++ back)) p ≡ Some y →
+      Shifts b (count_blocks front) (count_blocks deleted) (count_blocks inserted) (position_in b (front ++ (deleted ++ back)) p)
+      (position_in b (front ++ (inserted ++ back)) p)
+  shifts [] b first second old new = at_splice deleted inserted back b p x y first second (line_or_back deleted back p x one old) (line_or_back inserted back p y other new)
   shifts (line ∷ front) b first second old new =
-      shifts_by line front b old new (λ c o n. shifts front c (numbered_behind line (front ++ (goes ++ back)) first)
-      (numbered_behind line (front ++ (comes ++ back)) second) o n) (nat_eq line.number p) refl
+      shifts_by line front b old new (λ c o n. shifts front c (numbered_behind line (front ++ (deleted ++ back)) first)
+      (numbered_behind line (front ++ (inserted ++ back)) second) o n) (nat_eq line.number p) refl
 
 -- what is no block has no position
 no_position : (b : ℕ) (lines : List Numbered) (p : ℕ) → line_in lines p ≡ None → position_in b lines p ≡ None
@@ -189,28 +189,28 @@ no_position b (line ∷ lines) p none =
     let parts = behind (nat_eq line.number p) line (line_in lines p) none in
     position_further b line lines p parts.0 ∙ no_position (cond (is_block line) (b + 1) b) lines p parts.1
 
-none_shifts : (front goes comes : List Numbered) → 0 ≡ shifted front goes comes 0
-none_shifts front goes comes = by_number (count_blocks front) (count_blocks goes) (count_blocks comes) where
+none_shifts : (front deleted inserted : List Numbered) → 0 ≡ shifted front deleted inserted 0
+none_shifts front deleted inserted = by_number (count_blocks front) (count_blocks deleted) (count_blocks inserted) where
   by_number : (n g c : ℕ) → 0 ≡ cond (nat_le 0 n) 0 ((0 - g) + c)
   by_number n g c = grind (arith, nat_tests)
 
 position_none : (t : Listing) (p : ℕ) → AreNumbered t.lines → p ≡ 0 → position_of t p ≡ 0
 position_none t p numbered is = ap (position_of t) is ∙ ap (λ o. unwrap_or o 0) (no_position 0 t.lines 0 (no_id t.lines numbered))
 
-pub position_shifts : (t u : Listing) (front goes comes back : List Numbered) → IsSplice t u front goes comes back → AreNumbered t.lines → AreNumbered u.lines →
-    (p : ℕ) → IsBlockId t p → IsBlockId u p → position_of u p ≡ shifted front goes comes (position_of t p)
-position_shifts t u front goes comes back splice first second p (inl is) there =
-    position_none u p second is ∙ (none_shifts front goes comes ∙ ap (shifted front goes comes) (sym (position_none t p first is)))
-position_shifts t u front goes comes back splice first second p (inr found) (inl is) =
-    position_none u p second is ∙ (none_shifts front goes comes ∙ ap (shifted front goes comes) (sym (position_none t p first is)))
-position_shifts t u front goes comes back splice first second p (inr found) (inr there) =
-    let old : block_in (front ++ (goes ++ back)) p ≡ Some found.0 = subst (λ ls. block_in ls p ≡ Some found.0) splice.old found.1 in
-    let new : block_in (front ++ (comes ++ back)) p ≡ Some there.0 = subst (λ ls. block_in ls p ≡ Some there.0) splice.new there.1 in
-    let h = shifts goes comes back splice.one_goes splice.one_comes p found.0 there.0 front 0 (subst (λ ls. AreNumbered ls) splice.old first)
+pub position_shifts : (t u : Listing) (front deleted inserted back : List Numbered) → IsSplice t u front deleted inserted back → AreNumbered t.lines → AreNumbered u.lines →
+    (p : ℕ) → IsBlockId t p → IsBlockId u p → position_of u p ≡ shifted front deleted inserted (position_of t p)
+position_shifts t u front deleted inserted back splice first second p (inl is) there =
+    position_none u p second is ∙ (none_shifts front deleted inserted ∙ ap (shifted front deleted inserted) (sym (position_none t p first is)))
+position_shifts t u front deleted inserted back splice first second p (inr found) (inl is) =
+    position_none u p second is ∙ (none_shifts front deleted inserted ∙ ap (shifted front deleted inserted) (sym (position_none t p first is)))
+position_shifts t u front deleted inserted back splice first second p (inr found) (inr there) =
+    let old : block_in (front ++ (deleted ++ back)) p ≡ Some found.0 = subst (λ ls. block_in ls p ≡ Some found.0) splice.old found.1 in
+    let new : block_in (front ++ (inserted ++ back)) p ≡ Some there.0 = subst (λ ls. block_in ls p ≡ Some there.0) splice.new there.1 in
+    let h = shifts deleted inserted back splice.one_deleted splice.one_inserted p found.0 there.0 front 0 (subst (λ ls. AreNumbered ls) splice.old first)
     (subst (λ ls. AreNumbered ls) splice.new second) old new in
     let from : position_of t p ≡ h.from = ap (λ ls. unwrap_or (position_in 0 ls p) 0) splice.old ∙ ap (λ o. unwrap_or o 0) h.old in
     let to : position_of u p ≡ h.to = ap (λ ls. unwrap_or (position_in 0 ls p) 0) splice.new ∙ ap (λ o. unwrap_or o 0) h.new in
     let same : 0 + count_blocks front ≡ count_blocks front = omega arith in
-    let moves : h.to ≡ shifted front goes comes h.from =
-    h.move ∙ ap (λ n. cond (nat_le h.from n) h.from ((h.from - count_blocks goes) + count_blocks comes)) same in
-    to ∙ (moves ∙ ap (shifted front goes comes) (sym from))
+    let moves : h.to ≡ shifted front deleted inserted h.from =
+    h.move ∙ ap (λ n. cond (nat_le h.from n) h.from ((h.from - count_blocks deleted) + count_blocks inserted)) same in
+    to ∙ (moves ∙ ap (shifted front deleted inserted) (sym from))

@@ -1,7 +1,7 @@
 -- A version with its ids renamed answers renamed, and two versions with the same statements are one renamed.
 use Rattle.std.proofs.Common.{◌≡◌, ℕ, ◌+◌, nat_eq, nat_le, Bool, true, false, cond, ◌&&◌, List, [], ◌∷◌, map, Option, Some, None, is_some, unwrap_or, option_map, option_and_then, filter_map, refl, ap, ap₂, ◌∙◌}
 use Rattle.std.specs.List.{cons_option}
-use Rattle.gw_meaning.specs.declared.item.Asked.TheVariants as questions
+use Rattle.gw_meaning.specs.declared.item.Asked.TheVariants as asking
 use Rattle.gw_meaning.specs.declared.item.Item.TheVariants as items
 use Rattle.gw_meaning.specs.declared.statement.Definition.{Definition}
 use Rattle.gw_meaning.specs.declared.statement.Statement.{Statement}
@@ -11,6 +11,10 @@ use Rattle.gw_meaning.specs.Questions.{ask}
 use Rattle.gw_frame.specs.Moved.{IsMove}
 use Rattle.gw_frame.specs.Renamed.{AreRenamed, RenamedAnswers}
 use Rattle.gw_frame.proofs.MovedLists.{eq_moved}
+
+-- a statement is a block, whatever its number
+pub same_kind : (l m : Numbered) → m.statement ≡ l.statement → is_block m ≡ is_block l
+same_kind l m e = ap (λ (s : Statement). is_some (block_of_body s.body)) e
 
 module _ (move : ℕ → ℕ) (is : IsMove move) where
   -- whether a line has a number, told of the renamed line and number
@@ -27,9 +31,6 @@ module _ (move : ℕ → ℕ) (is : IsMove move) where
       (elim (nat_eq l.number p) as (λ b. option_and_then block_of (cond b (Some m) (line_in ms (move p))) ≡
       option_and_then block_of (cond b (Some l) (line_in ls p)))
       [ true ↦ ap (λ (s : Statement). block_of_body s.body) r.1 | false ↦ block_renamed ls ms r.2 p ])
-
-  same_kind : (l m : Numbered) → m.statement ≡ l.statement → is_block m ≡ is_block l
-  same_kind l m e = ap (λ (s : Statement). is_some (block_of_body s.body)) e
 
   first_renamed : (ls ms : List Numbered) → AreRenamed move ls ms → first_block ms ≡ option_map move (first_block ls)
   first_renamed [] [] r = refl
@@ -101,14 +102,14 @@ commands_renamed move (l ∷ ls) (m ∷ ms) r = ap₂ cons_option (ap (λ (s : S
 pub renamed_answers : RenamedAnswers
 renamed_answers move t u seed r (items.Block id) = block_renamed move r.is_move t.lines u.lines r.lines id
 renamed_answers move t u seed r (items.After id) = after_renamed move r.is_move t.lines u.lines r.lines id
-renamed_answers move t u seed r (items.Named questions.Label name) = label_renamed move r.is_move name t.lines u.lines r.lines
-renamed_answers move t u seed r (items.Named questions.Number name) = said_renamed move r.is_move number_of name t.lines u.lines r.lines
-renamed_answers move t u seed r (items.Named (questions.Fits units) name) =
+renamed_answers move t u seed r (items.Named asking.Label name) = label_renamed move r.is_move name t.lines u.lines r.lines
+renamed_answers move t u seed r (items.Named asking.Number name) = said_renamed move r.is_move number_of name t.lines u.lines r.lines
+renamed_answers move t u seed r (items.Named (asking.Fits units) name) =
     ap (λ o. nat_le units (unwrap_or o 0)) (said_renamed move r.is_move units_of name t.lines u.lines r.lines)
-renamed_answers move t u seed r (items.Named questions.Storage name) =
+renamed_answers move t u seed r (items.Named asking.Storage name) =
     ap (λ o. unwrap_or o 0) (said_renamed move r.is_move units_of name t.lines u.lines r.lines)
-renamed_answers move t u seed r (items.Named questions.Variable name) = said_renamed move r.is_move expression_of name t.lines u.lines r.lines
-renamed_answers move t u seed r (items.Named questions.Function name) = said_renamed move r.is_move function_of name t.lines u.lines r.lines
+renamed_answers move t u seed r (items.Named asking.Variable name) = said_renamed move r.is_move expression_of name t.lines u.lines r.lines
+renamed_answers move t u seed r (items.Named asking.Function name) = said_renamed move r.is_move function_of name t.lines u.lines r.lines
 renamed_answers move t u seed r items.Generates = generates_renamed move r.is_move t.lines u.lines r.lines
 renamed_answers move t u seed r (items.Cmd i) = ap (λ cs. nth cs i) (commands_renamed move t.lines u.lines r.lines)
 renamed_answers move t u seed r item = ap (λ n. ask (record t { horizon = n }) seed item) r.horizon

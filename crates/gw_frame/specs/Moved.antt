@@ -3,7 +3,7 @@
 use Rattle.std.specs.Prelude.{◌≡◌, ℕ, List, map, option_map, Result, Ok, Err}
 use Rattle.gw_names.specs.declared.key.Key.{Key}
 use Rattle.gw_meaning.specs.declared.item.Item.{Item}
-use Rattle.gw_meaning.specs.declared.item.Asked.TheVariants as questions
+use Rattle.gw_meaning.specs.declared.item.Asked.TheVariants as asking
 use Rattle.gw_meaning.specs.declared.item.Item.TheVariants as items
 use Rattle.gw_meaning.specs.declared.item.End.{End}
 use Rattle.gw_meaning.specs.declared.transaction.Transaction.{Transaction}
@@ -28,7 +28,7 @@ module _ (move : ℕ → ℕ) where
   -- its answer: what comes after a block, the block with a label and the list of GENERATEs name ids, and no other does
   abbrev pub moved_answer : (i : Item) → Answer i → Answer (moved_item i)
   moved_answer (items.After id) after = option_map move after
-  moved_answer (items.Named questions.Label name) id = option_map move id
+  moved_answer (items.Named asking.Label name) id = option_map move id
   moved_answer items.Generates ids = map move ids
   moved_answer item answer = answer
 

@@ -32,7 +32,7 @@ pub fn ids_are_blocks()
     ensures steps { StepsReadBlocks }
 {}
 
-/// The frame law in positions: where a statement goes out of a version, or comes in, and the other version answers
+/// The frame law in positions: where a statement of a version is deleted, or one is inserted, and the other version answers
 /// alike all that the steps below n read, the run of n steps, told in positions, is the old one with its positions
 /// moved, and its steps read the old items moved.
 pub fn frame_in_positions()

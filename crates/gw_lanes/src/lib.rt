@@ -5,7 +5,5 @@
 #![tactic(auto)]
 
 mod lanes;
-#[cfg(test)]
-mod tests;
 
 pub use lanes::{first_at, least};

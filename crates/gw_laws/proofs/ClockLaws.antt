@@ -1,8 +1,7 @@
 -- The clock and the future chain, move by move and over a run.
-use Rattle.std.proofs.Common.{◌≡◌, ℕ, ◌≤◌, nat_le, true, min, not, List, [], ◌∷◌, ◌++◌, filter, Option, Some, None, Ok, refl, arith}
+use Rattle.std.proofs.Common.{◌≡◌, ℕ, ◌≤◌, min, not, List, [], ◌∷◌, ◌++◌, filter, Option, Some, None, Ok, refl, arith}
 use Rattle.std.specs.List.{AllByRecursion}
-use Rattle.std.proofs.lemmas.Bool.{cond_both}
-use Rattle.std.proofs.lemmas.Bool.Decides.{nat_tests}
+use Rattle.std.proofs.lemmas.Bool.{cond_both, leb-true}
 use Rattle.std.proofs.lemmas.List.Elements.{All-from_recursion}
 use Rattle.gw_meaning.specs.declared.transaction.Transaction.{Transaction}
 use Rattle.gw_meaning.specs.declared.transaction.Event.{Event}
@@ -85,9 +84,6 @@ fated_ahead (fates.Delayed until) x s decided h = all_with (λ (e : Event). s.cl
 fated_ahead (fates.Destroyed count) x s decided h = h
 
 -- each move
-fits : (time horizon : ℕ) → nat_le time horizon ≡ true → time ≤ horizon
-fits time horizon is = grind (arith, nat_tests)
-
 pub moved_goes_on : (t : Listing) (s : Machine) (m : Move) → IsDecided t s m → IsInTime t s → GoesOn t s.clock (moved s m)
 moved_goes_on t s (moves.Start count arrivals) decided h = (omega arith, (h.0, all_made_ahead t s arrivals (making_of s) decided.coming h.1))
 moved_goes_on t s moves.Command decided h = (omega arith, h)
@@ -106,7 +102,7 @@ moved_goes_on t s (moves.Refuse id key units) decided h =
 moved_goes_on t s moves.Pick decided h = picked_has (GoesOn t s.clock) s s.current (omega arith, h) (λ x xs is. (omega arith, h))
 moved_goes_on t s (moves.Clock time) decided h = (
   least_is_ahead s.clock s.future time decided.0 h.1,
-  (fits time t.horizon decided.1, rest_ahead time time s.future (least_is_least s.future time decided.0)),
+  (leb-true time t.horizon decided.1, rest_ahead time time s.future (least_is_least s.future time decided.0)),
 )
 
 -- over a run

@@ -1,9 +1,8 @@
 -- The owners of facilities and those who wait for them, move by move and over a run: the first of a delay chain takes the
 -- facility over, and nobody waits at a free one.
-use Rattle.std.proofs.Common.{◌≡◌, ℕ, suc, ◌<◌, ◌≤◌, true, false, cond, List, [], ◌∷◌, ◌++◌, length, Option, Some, None, is_some, refl, sym, ap, subst, ◌∙◌, inl, inr, arith}
+use Rattle.std.proofs.Common.{◌≡◌, ℕ, ◌<◌, ◌≤◌, true, false, cond, List, [], ◌∷◌, ◌++◌, length, Option, Some, None, is_some, refl, sym, ap, subst, ◌∙◌, inl, inr, arith}
 use Rattle.std.specs.Prelude.{Contains}
-use Rattle.std.proofs.lemmas.Bool.{cond_both, cases_Bool}
-use Rattle.gw_nums.specs.Range.{is_below}
+use Rattle.std.proofs.lemmas.Bool.{cases_Bool}
 use Rattle.gw_names.specs.declared.key.Key.{Key}
 use Rattle.gw_names.specs.declared.key.Key.TheVariants as keys
 use Rattle.gw_names.specs.Keys.{key_eq}
@@ -26,6 +25,7 @@ use Rattle.gw_meaning.specs.Machine.{Machine, delay_at}
 use Rattle.gw_meaning.specs.Changes.{lined_up, let_in, one_let_in, some_let_in, admitted, entering, placed, bound, refused, picked, moved}
 use Rattle.gw_meaning.specs.Step.{first_number}
 use Rattle.gw_meaning.proofs.Programs.{run_on}
+use Rattle.gw_meaning.proofs.Chains.{length_lined}
 use Rattle.gw_frame.proofs.Decided.{step_decides}
 use Rattle.gw_frame.proofs.Known.{IsDecidedDeed, IsDecidedChange, IsRefused, IsDecided}
 use Rattle.gw_frame.proofs.Moves.{settled, settled_is, with_active_has, entered_has, picked_has}
@@ -48,12 +48,6 @@ owner_there e key q f other =
     ap (λ (g : Ownership). g.owner) (at_with never_owned e.facilities key f q ∙ ap (λ b. cond b f (facility_at e q)) other)
 
 -- ---- who is let in
-
-longer : (x : Transaction) (ys : List Transaction) → length (lined_up x ys) ≡ suc (length ys)
-longer x [] = refl
-longer x (y ∷ ys) =
-    let rest = longer x ys in
-    cond_both (is_below y.priority x.priority) (x ∷ y ∷ ys) (y ∷ lined_up x ys) (λ zs. length zs ≡ suc (suc (length ys))) (λ _. refl) (λ _. omega arith)
 
 stands_in_block : (x : Transaction) (id : ℕ) (v : Machine) → x.destination ≡ Some id → Contains (let_in x x.destination v).current (placed x id)
 stands_in_block x id v is = rw is (lined_has (placed x id) v.current)
@@ -120,7 +114,7 @@ module _ (q : Key) where
   refused_lets : (s : Machine) (x : Transaction) (id : ℕ) (key : Key) (units : ℕ) → LetsIn s (refused s x id key units)
   refused_lets s x id key units =
       let R : List Transaction → List Transaction → Type 0 = λ xs ys. length xs ≤ length ys in
-      let more = longer (bound x id units) (delay_at s.delays key) in
+      let more = length_lined (bound x id units) (delay_at s.delays key) in
       nobody s (refused s x id key units)
       (set_has R (λ xs. omega arith) s.delays q key (lined_up (bound x id units) (delay_at s.delays key)) (omega arith))
 

@@ -3,6 +3,7 @@ use Rattle.std.proofs.Common.{◌≡◌, ℕ, ◌+◌, ◌-◌, ◌≤◌, ◌<�
 use Rattle.std.specs.List.{AllByRecursion}
 use Rattle.std.proofs.lemmas.Bool.Decides.{nat_tests}
 use Rattle.std.proofs.lemmas.List.Elements.{All-from_recursion}
+use Rattle.std.proofs.lemmas.Bool.{leb-true}
 use Rattle.gw_names.specs.declared.key.Key.{Key}
 use Rattle.gw_names.specs.declared.key.Key.TheVariants as keys
 use Rattle.gw_names.specs.Keys.{key_eq}
@@ -27,9 +28,6 @@ use Rattle.gw_frame.proofs.Running.{over_run}
 use Rattle.gw_laws.specs.Storages.{IsWithin, IsStored, StoragesAreWithin}
 use Rattle.gw_laws.proofs.Waiting.{let_in_is}
 use Rattle.gw_laws.proofs.ClockLaws.{IsInTime, moved_goes_on}
-
-fits_in : (n m : ℕ) → nat_le n m ≡ true → n ≤ m
-fits_in n m is = grind (arith, nat_tests)
 
 pub no_room : (n m : ℕ) → nat_le n m ≡ false → m < n
 no_room n m is = grind (arith, nat_tests)
@@ -89,7 +87,7 @@ module _ (t : Listing) (clock : ℕ) where
           IsSound (capacity_at t name) clock (all_entered (share_of x.asked fits ∷ shares_of t name (in_use content x.asked fits) xs) clock s)
       go false fits rest few = rest content s is few h
       go true fits rest few =
-          let room = fits_in (beside x.asked content) (capacity_at t name) fits in
+          let room = leb-true (beside x.asked content) (capacity_at t name) fits in
           rest (beside x.asked content) (entered x.asked clock s) (omega (arith, is)) (omega (arith, few))
           (entered_sound (capacity_at t name) clock x.asked s (omega (arith, is, room)) (omega (arith, few)) h)
 
@@ -145,7 +143,7 @@ enter_kept : (t : Listing) (s : Machine) (name : List ℕ) (units number : ℕ) 
     AreKept t s.clock s.entities.storages → AreKept t s.clock (done (keys.Defined name) (deeds.Enter units) s.clock number s.entities).storages
 enter_kept t s name units number h all =
     let store = store_at s.entities (keys.Defined name) in
-    let room = fits_in (beside units store.level.content) (capacity_at t name) h.0 in
+    let room = leb-true (beside units store.level.content) (capacity_at t name) h.0 in
     with_sound t s.clock s.entities.storages name (entered units s.clock store)
     (entered_sound (capacity_at t name) s.clock units store room h.1 (store_sound t s.clock s.entities.storages name all)) all
 

@@ -3,7 +3,7 @@ use Rattle.std.proofs.Common.{◌≡◌, ℕ, ◌==◌, ◌≤◌, Bool, true, f
 use Rattle.std.specs.Prelude.{nat_eq, nat_le, is_some}
 use Rattle.std.specs.List.{list_all, starts_with}
 use Rattle.std.specs.Char.{is_ascii_alphabetic, is_ascii_digit, to_ascii_uppercase}
-use Rattle.std.proofs.lemmas.Bool.{and_from, cases_Bool, eqb-true}
+use Rattle.std.proofs.lemmas.Bool.{and_from, cases_Bool, eqb-true, or_right, and_right}
 use Rattle.std.proofs.lemmas.Bool.Decides.{nat_tests, Decides-eqb}
 use Rattle.std.proofs.lemmas.Slice.Eq.{starts_is}
 use Rattle.std.proofs.lemmas.List.{append-nil, map-append}
@@ -22,7 +22,6 @@ use Rattle.gw_lines.specs.Numbers.{number_of, value_of, from_one}
 use Rattle.gw_lines.specs.Attributes.{scope_of, own_in, number_in, name_in, or_name, subject_of, of_class, or_atom, attribute_in, attribute_of}
 use Rattle.gw_lines.specs.Spelling.{Digits, Number, first_digit, next_digit, SpellsAttribute, alone, numbered_one, named_one, of_block, of_stream}
 use Rattle.gw_lines.proofs.Results.{some_is}
-use Rattle.gw_lines.proofs.Fronts.{and_false, or_true}
 use Rattle.gw_lines.proofs.Digits.{mapped, number_found, number_again, from_one_found, from_one_again}
 
 -- ---- the word of a class
@@ -53,7 +52,7 @@ behind class.Tg1 rest = record { read = λ of e. rw e refl; barred = λ h. rw h 
 behind class.M1 rest = record { read = λ of e. rw e refl; barred = λ h. rw h refl; value = refl; number = refl }
 behind class.Xn1 rest = record { read = λ of e. rw e refl; barred = λ h. rw h refl; value = refl; number = refl }
 behind class.Pr rest = record { read = λ of e. rw e refl; barred = λ h. rw h refl; value = refl; number = refl }
-behind class.P rest = record { read = λ of e. parameter_read rest of e; barred = λ h. rw h (or_true _ true refl); value = refl; number = refl }
+behind class.P rest = record { read = λ of e. parameter_read rest of e; barred = λ h. rw h (or_right _ true refl); value = refl; number = refl }
 behind class.F rest = record { read = λ of e. rw e refl; barred = λ h. rw h refl; value = refl; number = refl }
 behind class.Fc rest = record { read = λ of e. rw e refl; barred = λ h. rw h refl; value = refl; number = refl }
 behind class.S rest = record { read = λ of e. rw e refl; barred = λ h. rw h refl; value = refl; number = refl }
@@ -66,7 +65,7 @@ behind class.Qm rest = record { read = λ of e. rw e refl; barred = λ h. rw h r
 behind class.Qz rest = record { read = λ of e. rw e refl; barred = λ h. rw h refl; value = refl; number = refl }
 behind class.N rest = record { read = λ of e. rw e refl; barred = λ h. rw h refl; value = refl; number = refl }
 behind class.W rest = record { read = λ of e. rw e refl; barred = λ h. rw h refl; value = refl; number = refl }
-behind class.X rest = record { read = λ of e. absurd cc; barred = λ h. rw h (or_true _ true refl); value = refl; number = refl }
+behind class.X rest = record { read = λ of e. absurd cc; barred = λ h. rw h (or_right _ true refl); value = refl; number = refl }
 behind class.Ls rest = record { read = λ of e. absurd cc; barred = λ h. rw h refl; value = refl; number = refl }
 behind class.Ch rest = record { read = λ of e. absurd cc; barred = λ h. rw h refl; value = refl; number = refl }
 behind class.Cc rest = record { read = λ of e. absurd cc; barred = λ h. rw h refl; value = refl; number = refl }
@@ -184,7 +183,7 @@ nothing_read t e = cc
 barred_first : (text : List ℕ) → is_class (upper_of text) ≡ true → name_of text ≡ None
 unfolding name_of
 barred_first text h =
-    let b = or_true (is_some (verb_of (upper_of text))) (is_class (upper_of text)) h in
+    let b = or_right (is_some (verb_of (upper_of text))) (is_class (upper_of text)) h in
     elim (cases_Bool (is_name_text text)) [
       | inl holds ↦ rw (holds, b) refl
       | inr other ↦ rw other refl
@@ -192,14 +191,14 @@ barred_first text h =
 
 no_dollar : (bs word : List ℕ) → list_all is_name_byte (bs ++ 36 ∷ word) ≡ false
 no_dollar [] word = refl
-no_dollar (b ∷ bs) word = ap (λ (x : Bool). is_name_byte b && x) (no_dollar bs word) ∙ and_false (is_name_byte b)
+no_dollar (b ∷ bs) word = ap (λ (x : Bool). is_name_byte b && x) (no_dollar bs word) ∙ and_right (is_name_byte b) false refl
 
 dollar_text : (bs word : List ℕ) → is_name_text (bs ++ 36 ∷ word) ≡ false
 dollar_text [] word = refl
 dollar_text (b ∷ bs) word =
     ap (λ (x : Bool). is_ascii_alphabetic b && (nat_le (length (bs ++ 36 ∷ word)) 199 && x)) (no_dollar bs word)
-    ∙ ap (λ (x : Bool). is_ascii_alphabetic b && x) (and_false (nat_le (length (bs ++ 36 ∷ word)) 199))
-    ∙ and_false (is_ascii_alphabetic b)
+    ∙ ap (λ (x : Bool). is_ascii_alphabetic b && x) (and_right (nat_le (length (bs ++ 36 ∷ word)) 199) false refl)
+    ∙ and_right (is_ascii_alphabetic b) false refl
 
 -- `$` stands in no name
 dollar_first : (bs word : List ℕ) → name_of (bs ++ 36 ∷ word) ≡ None

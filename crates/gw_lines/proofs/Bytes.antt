@@ -1,15 +1,17 @@
 -- The bytes that a text is made of: a test that passes name bytes and `$` passes names, digits, attributes and values.
-use Rattle.std.proofs.Common.{◌≡◌, ℕ, ◌&&◌, Bool, true, List, [], ◌∷◌, ◌++◌, length, Some, refl, ◌∙◌, inl, inr, arith}
+use Rattle.std.proofs.Common.{◌≡◌, ℕ, ◌&&◌, Bool, true, List, [], ◌∷◌, ◌++◌, length, Some, refl, ◌∙◌, arith}
 use Rattle.std.specs.Prelude.{nat_le}
 use Rattle.std.specs.List.{list_all}
 use Rattle.std.specs.Char.{is_ascii_alphabetic, is_ascii_digit}
-use Rattle.std.proofs.lemmas.Bool.{and_from, and_parts, cases_Bool}
+use Rattle.std.proofs.lemmas.Bool.{and_from, and_parts}
 use Rattle.std.proofs.lemmas.Bool.Decides.{nat_tests}
 use Rattle.std.proofs.lemmas.List.Folds.{list_all-append}
 use Rattle.gw_names.specs.declared.class.Class.{Class}
 use Rattle.gw_names.specs.declared.class.Class.TheVariants as class
 use Rattle.gw_names.specs.Words.{class_word}
 use Rattle.gw_names.specs.Names.{name_of, is_name_byte, is_name_text}
+use Rattle.gw_names.proofs.SameHeads.{letter_is_name_byte}
+use Rattle.gw_names.proofs.InUpperCase.{is_text}
 use Rattle.gw_expr.specs.declared.atom.Atom.{Atom}
 use Rattle.gw_expr.specs.declared.attribute.Subject.{Subject}
 use Rattle.gw_lines.specs.Spelling.{Digits, first_digit, next_digit, SpellsAttribute, alone, numbered_one, named_one, of_block, of_stream, SpellsAtom, plain_number, plain_name, plain_attribute}
@@ -35,9 +37,6 @@ next_passes p b bs h k = and_from (p b) (list_all p bs) h k
 digit_is_named : (b : ℕ) → is_ascii_digit b ≡ true → is_name_byte b ≡ true
 digit_is_named b h = grind (arith, nat_tests)
 
-letter_is_named : (b : ℕ) → is_ascii_alphabetic b ≡ true → is_name_byte b ≡ true
-letter_is_named b h = grind (arith, nat_tests)
-
 pub digits_pass : {p : ℕ → Bool} → Takes p → {text : List ℕ} {n : ℕ} → Digits text n → Pass p text
 digits_pass {p} t (first_digit b h) = one_passes p b (t.name b (digit_is_named b h))
 digits_pass {p} t (next_digit text n b d h) =
@@ -54,15 +53,7 @@ text_passes t [] h = refl
 text_passes {p} t (b ∷ bs) h =
     let a = and_parts (is_ascii_alphabetic b) (nat_le (length bs) 199 && list_all is_name_byte bs) h in
     let c = and_parts (nat_le (length bs) 199) (list_all is_name_byte bs) a.1 in
-    next_passes p b bs (t.name b (letter_is_named b a.0)) (bytes_pass t bs c.1)
-
-pub is_text : (text name : List ℕ) → name_of text ≡ Some name → is_name_text text ≡ true
-unfolding name_of
-is_text text name e =
-    elim (cases_Bool (is_name_text text)) [
-      | inl holds ↦ holds
-      | inr other ↦ absurd (let f = rw other at e in cc)
-    ]
+    next_passes p b bs (t.name b (letter_is_name_byte b a.0)) (bytes_pass t bs c.1)
 
 pub named_passes : {p : ℕ → Bool} → Takes p → (text name : List ℕ) → name_of text ≡ Some name → Pass p text
 named_passes t text name e = text_passes t text (is_text text name e)

@@ -191,7 +191,7 @@ same_tokens : (rest : List ℕ) (depth : ℕ) (ps : List Pending) (a b : List To
     → outcome rest (behind depth ps a) ≡ outcome rest (behind depth ps b)
 same_tokens rest depth ps a b e = ap (λ (t : List Token). outcome rest (behind depth ps t)) e
 
-three : (ts a b c : List Token) → ((ts ++ a) ++ b) ++ c ≡ ts ++ (a ++ (b ++ c))
+pub three : (ts a b c : List Token) → ((ts ++ a) ++ b) ++ c ≡ ts ++ (a ++ (b ++ c))
 three ts a b c = append_assoc (ts ++ a) b c ∙ append_assoc ts a (b ++ c)
 
 pub deeper : (room depth : ℕ) → suc room + depth ≡ 32 → room + suc depth ≡ 32

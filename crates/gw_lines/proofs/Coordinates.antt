@@ -1,14 +1,13 @@
 -- The numbers of points: what is read is spelled so, and what is spelled so is read.
-use Rattle.std.proofs.Common.{◌≡◌, ℕ, ◌+◌, ◌-◌, ◌*◌, ◌==◌, true, false, List, [], ◌∷◌, ◌++◌, Option, Some, None, refl, sym, ap, subst, ◌∙◌, inl, inr, arith}
+use Rattle.std.proofs.Common.{◌≡◌, ℕ, ◌+◌, ◌-◌, ◌*◌, ◌==◌, false, List, [], ◌∷◌, ◌++◌, Option, Some, None, refl, sym, ap, subst, ◌∙◌, inl, inr}
 use Rattle.std.specs.Prelude.{ℤ, pos, neg_ℤ, nat_le}
 use Rattle.std.specs.Char.{is_ascii_digit}
 use Rattle.std.proofs.lemmas.Bool.{cases_Bool, eqb-true}
-use Rattle.std.proofs.lemmas.Bool.Decides.{nat_tests}
 use Rattle.gw_lines.specs.Numbers.{number_after, number_of, or_pointed, decimal_of, coordinate_of}
 use Rattle.gw_lines.specs.Spelling.{Digits}
 use Rattle.gw_lines.specs.Points.{Decimal, without_point, with_point, Coordinate, not_negative, negative}
 use Rattle.gw_lines.proofs.Results.{some_is}
-use Rattle.gw_lines.proofs.Digits.{begins, mapped, number_found, number_again}
+use Rattle.gw_lines.proofs.Digits.{begins, mapped, number_found, number_again, no_minus}
 use Rattle.gw_lines.proofs.Fractions.{fraction_found, fraction_again}
 
 -- ---- without a sign
@@ -66,11 +65,8 @@ record Starts (text : List ℕ) : Type 0 where
   is : text ≡ first ∷ others
   no_sign : (first == 45) ≡ false
 
-digit_no_sign : (b : ℕ) → is_ascii_digit b ≡ true → (b == 45) ≡ false
-digit_no_sign b h = grind (arith, nat_tests)
-
 digits_start : {text : List ℕ} {n : ℕ} → Digits text n → Starts text
-digits_start d = let b = begins d in record { first = b.first; others = b.others; is = b.is; no_sign = digit_no_sign b.first b.digit }
+digits_start d = let b = begins d in record { first = b.first; others = b.others; is = b.is; no_sign = no_minus b.first b.digit }
 
 pointed_starts : (whole decimals : List ℕ) → Starts (whole ++ decimals) → Starts (whole ++ 46 ∷ decimals)
 pointed_starts [] decimals s = record { first = 46; others = decimals; is = refl; no_sign = refl }

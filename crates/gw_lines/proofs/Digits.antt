@@ -2,7 +2,7 @@
 use Rattle.std.proofs.Common.{◌≡◌, ℕ, zero, suc, ◌+◌, ◌-◌, ◌*◌, ◌≤◌, ◌==◌, true, false, List, [], ◌∷◌, ◌++◌, Option, Some, None, refl, sym, ap, subst, ◌∙◌, append_assoc, inl, inr, arith}
 use Rattle.std.specs.Prelude.{ℤ, pos, neg_ℤ, nat_le, option_map}
 use Rattle.std.specs.Char.{is_ascii_digit}
-use Rattle.std.proofs.lemmas.Bool.{cases_Bool, eqb-true}
+use Rattle.std.proofs.lemmas.Bool.{cases_Bool, eqb-true, le-leb, leb-true}
 use Rattle.std.proofs.lemmas.Bool.Decides.{nat_tests}
 use Rattle.std.proofs.lemmas.List.{append-nil}
 use Rattle.gw_lines.proofs.Results.{some_is}
@@ -10,21 +10,15 @@ use Rattle.gw_lines.proofs.Fronts.{nonzero}
 use Rattle.gw_lines.specs.Numbers.{number_after, number_of, value_of, from_one}
 use Rattle.gw_lines.specs.Spelling.{Digits, first_digit, next_digit, Number, Value, without_sign, with_sign}
 
-fits : (n most : ℕ) → n ≤ most → nat_le n most ≡ true
-fits n most h = grind (arith, nat_tests)
-
-fits_back : (n most : ℕ) → nat_le n most ≡ true → n ≤ most
-fits_back n most h = grind (arith, nat_tests)
-
 none_before : (b : ℕ) → 0 * 10 + (b - 48) ≡ b - 48
 none_before b = omega arith
 
 pub number_on : {most : ℕ} {text : List ℕ} {n : ℕ} (d : Digits text n) (rest : List ℕ) → n ≤ most
     → number_after most 0 (text ++ rest) ≡ number_after most n rest
-number_on {most} (first_digit b h) rest small = rw (h, none_before b, fits (b - 48) most small) refl
+number_on {most} (first_digit b h) rest small = rw (h, none_before b, le-leb (b - 48) most small) refl
 number_on {most} (next_digit text n b d h) rest small =
     let e : number_after most n (b ∷ rest) ≡ number_after most (n * 10 + (b - 48)) rest =
-    rw (h, fits (n * 10 + (b - 48)) most small) refl in
+    rw (h, le-leb (n * 10 + (b - 48)) most small) refl in
     ap (number_after most 0) (append_assoc text (b ∷ []) rest) ∙ number_on d (b ∷ rest) (omega arith) ∙ e
 
 pub record Begins (text : List ℕ) : Type 0 where
@@ -60,7 +54,7 @@ number_taken most n front (b ∷ bs) m d small e =
         | inr large ↦ absurd (let f = rw (holds, large) at e in cc)
         | inl le ↦
             let rest = number_taken most (n * 10 + (b - 48)) (front ++ b ∷ []) bs m (next_digit front n b d holds)
-            (fits_back _ most le) (rw (holds, le) at e) in
+            (leb-true _ most le) (rw (holds, le) at e) in
             subst (λ (t : List ℕ). Number most t m) (append_assoc front (b ∷ []) bs) rest
       ]
     ]
@@ -73,7 +67,7 @@ number_found most (b ∷ bs) m e =
       | inl holds ↦ elim (cases_Bool (nat_le (b - 48) most)) [
         | inr large ↦ absurd (let f = rw (holds, none_before b, large) at e in cc)
         | inl le ↦
-            number_taken most (b - 48) (b ∷ []) bs m (first_digit b holds) (fits_back _ most le)
+            number_taken most (b - 48) (b ∷ []) bs m (first_digit b holds) (leb-true _ most le)
             (rw (holds, none_before b, le) at e)
       ]
     ]
@@ -95,14 +89,14 @@ value_found (b ∷ bs) z e =
           subst (λ (v : ℤ). Value (b ∷ bs) v) m.2 (without_sign (b ∷ bs) m.0 (number_found 1000000000 (b ∷ bs) m.0 m.1))
     ]
 
-no_sign : (b : ℕ) → is_ascii_digit b ≡ true → (b == 45) ≡ false
-no_sign b h = grind (arith, nat_tests)
+pub no_minus : (b : ℕ) → is_ascii_digit b ≡ true → (b == 45) ≡ false
+no_minus b h = grind (arith, nat_tests)
 
 plain_value : (text : List ℕ) (n : ℕ) → Begins text → number_of 1000000000 text ≡ Some n → value_of text ≡ Some (pos n)
 plain_value [] n h e = absurd cc
 plain_value (b ∷ bs) n h e =
     let same : b ≡ h.first = let i = h.is in cc in
-    let fails : (b == 45) ≡ false = no_sign b (subst (λ (c : ℕ). is_ascii_digit c ≡ true) (sym same) h.digit) in
+    let fails : (b == 45) ≡ false = no_minus b (subst (λ (c : ℕ). is_ascii_digit c ≡ true) (sym same) h.digit) in
     rw (fails, e) refl
 
 pub value_again : {text : List ℕ} {z : ℤ} → Value text z → value_of text ≡ Some z

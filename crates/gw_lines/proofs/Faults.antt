@@ -1,10 +1,9 @@
 -- The first fault of a line: what is answered is in the family, and what is in the family is answered.
-use Rattle.std.proofs.Common.{◌≡◌, ◌≢◌, ℕ, ◌<◌, not, true, false, List, [], ◌∷◌, ◌++◌, length, Option, Some, None, Result, Ok, Err, refl, sym, ap, subst, ◌∙◌, ◌⊎◌, inl, inr, arith}
-use Rattle.std.specs.Prelude.{IsSome, is_some, nat_lt}
+use Rattle.std.proofs.Common.{◌≡◌, ◌≢◌, ℕ, not, true, false, List, [], ◌∷◌, ◌++◌, length, Option, Some, None, Result, Ok, Err, refl, sym, ap, subst, ◌∙◌, ◌⊎◌, inl, inr}
+use Rattle.std.specs.Prelude.{IsSome, is_some}
 use Rattle.std.specs.List.{list_all}
-use Rattle.std.proofs.lemmas.Bool.Decides.{nat_tests}
 use Rattle.std.proofs.lemmas.List.{append-nil}
-use Rattle.std.proofs.lemmas.Bool.{and_parts, both_ways, cases_Bool}
+use Rattle.std.proofs.lemmas.Bool.{and_parts, both_ways, cases_Bool, or_right, lt-ltb}
 use Rattle.gw_names.specs.declared.verb.Verb.{Verb}
 use Rattle.gw_names.specs.Words.{upper_of}
 use Rattle.gw_names.specs.Names.{name_of}
@@ -19,7 +18,7 @@ use Rattle.gw_lines.specs.Bodies.{body_of}
 use Rattle.gw_lines.specs.Lines.{word_of, behind_word, verb_in, is_command, needs_label, or_bad_label, label_of, no_label_of, plain_of, by_first, by_second, coded_of, fault_without_verb, code_of, line_in, line_of, statement_of}
 use Rattle.gw_lines.specs.Spelling.{AreIn, Stops, Head, Label, no_label, named, ArePlain}
 use Rattle.gw_lines.specs.Faulty.{Verbless, one_word, two_words, WordsFault, byte_with_verb, byte_without_verb, no_verb, bad_first_word, bad_label, lacks_label, verb_to_come, operand_fault, FirstFault, too_long, no_statement, in_words}
-use Rattle.gw_lines.proofs.Fronts.{or_true, front_again, rest_again, parts, front_all, rest_stops}
+use Rattle.gw_lines.proofs.Fronts.{front_again, rest_again, parts, front_all, rest_stops}
 use Rattle.gw_lines.proofs.Results.{failed, err_is}
 use Rattle.gw_lines.proofs.Bodies.{body_fault, body_fault_again, body_to_come}
 use Rattle.gw_lines.proofs.Heads.{are_plain_upper, none_is, not_none, some_is_not, both_stop, no_word, blanks_before, two_are, two_again, head_first, head_second, at_head, head_is, label_again, free_again, labelled_head, plain_again}
@@ -241,7 +240,7 @@ unfolding fault_without_verb
 words_again (byte_with_verb words word verb kept h u) = head_is h ∙ bad_byte_is word verb kept u
 words_again (byte_without_verb words first second v p) = verbless_is v ∙ rw p refl
 words_again (no_verb words first second v p (inl e)) = verbless_is v ∙ rw (p, e) refl
-words_again (no_verb words first second v p (inr n)) = verbless_is v ∙ rw (p, or_true (is_nothing second) (is_some (name_of first)) n) refl
+words_again (no_verb words first second v p (inr n)) = verbless_is v ∙ rw (p, or_right (is_nothing second) (is_some (name_of first)) n) refl
 words_again (bad_first_word words first second v p some n) = verbless_is v ∙ rw (p, some_is_not second some, n) refl
 words_again (bad_label words word verb kept h p b) =
     head_is h ∙ step_on (plain_of word) _ word _ (plain_again word p.first)
@@ -257,9 +256,6 @@ words_again (operand_fault words word verb kept label f h p l o) =
 
 -- ---- lines
 
-long_again : (n : ℕ) → 250 < n → nat_lt 250 n ≡ true
-long_again n h = grind (arith, nat_tests)
-
 pub fault_found : (text : List ℕ) (f : LineFault) → statement_of text ≡ Err f → FirstFault text f
 unfolding statement_of
 fault_found text f e =
@@ -274,6 +270,6 @@ fault_found text f e =
 
 pub fault_again : {text : List ℕ} {f : LineFault} → FirstFault text f → statement_of text ≡ Err f
 unfolding statement_of line_of line_in
-fault_again (too_long text h) = rw (long_again (length text) h) refl
+fault_again (too_long text h) = rw (lt-ltb 250 (length text) h) refl
 fault_again (no_statement text code c r) = rw (short_again (length text) c.short, cut_is text code c, r) refl
 fault_again (in_words text words f h w) = words_are text words h ∙ words_again w

@@ -4,7 +4,7 @@ use Rattle.std.specs.Prelude.{codes, nat_le, nat_lt}
 use Rattle.std.specs.List.{list_all}
 use Rattle.std.specs.Char.{is_ascii_digit}
 use Rattle.std.proofs.Math.Nat.{one-le-pow, pow-suc, le-mul_of_pos_right}
-use Rattle.std.proofs.lemmas.Bool.{and_from, and_parts, cases_Bool, eqb-true}
+use Rattle.std.proofs.lemmas.Bool.{and_from, and_parts, cases_Bool, eqb-true, not-false, le-leb}
 use Rattle.std.proofs.lemmas.Bool.Decides.{nat_tests}
 use Rattle.std.proofs.lemmas.List.{length-append}
 use Rattle.std.proofs.lemmas.List.Folds.{list_all-append}
@@ -13,7 +13,7 @@ use Rattle.gw_lines.specs.Classes.{is_in, is_nothing, front_of, rest_of, tail_of
 use Rattle.gw_lines.specs.Numbers.{number_after, number_then, is_pointed, millionths_of, fraction_of}
 use Rattle.gw_lines.specs.Spelling.{AreIn, Stops, Digits, first_digit, next_digit, Number, Fraction}
 use Rattle.gw_lines.proofs.Results.{some, some_is}
-use Rattle.gw_lines.proofs.Fronts.{not_false, nonzero, front_again, rest_again, parts, rest_stops}
+use Rattle.gw_lines.proofs.Fronts.{nonzero, front_again, rest_again, parts, rest_stops}
 use Rattle.gw_lines.proofs.Digits.{Begins, begins, number_on, number_found, number_taken}
 
 -- ---- zeros behind digits
@@ -48,12 +48,9 @@ tens_by n p = omega arith
 tens : (n k : ℕ) → (n * 10 + 0) * 10 ^ k ≡ n * 10 ^ suc k
 tens n k = tens_by n (10 ^ k) ∙ ap (λ (p : ℕ). n * p) (sym (pow-suc 10 k))
 
-fits : (n most : ℕ) → n ≤ most → nat_le n most ≡ true
-fits n most h = grind (arith, nat_tests)
-
 zero_read : (most n : ℕ) (rest : List ℕ) → n * 10 + 0 ≤ most
     → number_after most n (48 ∷ rest) ≡ number_after most (n * 10 + 0) rest
-zero_read most n rest h = rw (fits (n * 10 + 0) most h) refl
+zero_read most n rest h = rw (le-leb (n * 10 + 0) most h) refl
 
 zeros_found : (most n k m : ℕ) → number_after most n (zeros k) ≡ Some m → m ≡ n * 10 ^ k
 zeros_found most n zero m e = sym (some_is n m e) ∙ sym (once n)
@@ -98,7 +95,7 @@ record Pointed (text : List ℕ) : Type 0 where
 
 begins_so : (rest : List ℕ) → Stops class.Whole rest → not (is_nothing rest) ≡ true → rest ≡ 46 ∷ tail_of rest
 begins_so [] s h = absurd cc
-begins_so (b ∷ bs) s h = ap (λ (x : ℕ). x ∷ bs) (eqb-true b 46 (not_false (b == 46) s))
+begins_so (b ∷ bs) s h = ap (λ (x : ℕ). x ∷ bs) (eqb-true b 46 (not-false (b == 46) s))
 
 at_most : (n : ℕ) → nat_le n 6 ≡ true → n ≤ 6
 at_most n h = grind (arith, nat_tests)

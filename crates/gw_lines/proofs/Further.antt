@@ -1,8 +1,7 @@
 -- A further line of a statement: what is read is spelled so, what is spelled so is read, and the same of its first fault.
 use Rattle.std.proofs.Common.{◌≡◌, ℕ, ◌<◌, true, false, List, ◌∷◌, ◌++◌, length, Some, None, Result, Ok, Err, refl, sym, ap, subst, ◌∙◌, ◌⊎◌, inl, inr, arith}
 use Rattle.std.specs.Prelude.{nat_lt}
-use Rattle.std.proofs.lemmas.Bool.{both_ways, cases_Bool}
-use Rattle.std.proofs.lemmas.Bool.Decides.{nat_tests}
+use Rattle.std.proofs.lemmas.Bool.{both_ways, cases_Bool, lt-ltb}
 use Rattle.gw_names.specs.Words.{upper_of}
 use Rattle.gw_expr.specs.declared.function.Function.{Function}
 use Rattle.gw_expr.specs.declared.function.Point.{Point}
@@ -61,12 +60,9 @@ kept_is line =
           ]
     ]
 
-long_again : (n : ℕ) → 250 < n → nat_lt 250 n ≡ true
-long_again n h = grind (arith, nat_tests)
-
 pub long_kept : (line : List ℕ) → 250 < length line → kept_of line ≡ Err faults.TooLong
 unfolding kept_of
-long_kept line h = rw (long_again (length line) h) refl
+long_kept line h = rw (lt-ltb 250 (length line) h) refl
 
 pub remark_kept : {line : List ℕ} → IsRemark line → kept_of line ≡ Ok None
 unfolding kept_of kept_in

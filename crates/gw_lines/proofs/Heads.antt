@@ -2,7 +2,7 @@
 use Rattle.std.proofs.Common.{◌≡◌, ◌≢◌, ℕ, not, true, false, List, [], ◌∷◌, ◌++◌, length, Option, Some, None, Result, Ok, Err, refl, sym, ap, subst, ◌∙◌, inl, inr, arith}
 use Rattle.std.specs.List.{list_all}
 use Rattle.std.specs.Char.{to_ascii_uppercase}
-use Rattle.std.proofs.lemmas.Bool.{and_parts, both_ways, cases_Bool, eqb-true}
+use Rattle.std.proofs.lemmas.Bool.{and_parts, both_ways, cases_Bool, eqb-true, or_right, not-true, not-false}
 use Rattle.std.proofs.lemmas.Bool.Decides.{nat_tests}
 use Rattle.std.proofs.lemmas.List.{nil_from_length}
 use Rattle.gw_names.specs.declared.verb.Verb.{Verb}
@@ -18,7 +18,7 @@ use Rattle.gw_lines.specs.Listed.{listed_of}
 use Rattle.gw_lines.specs.Bodies.{body_of}
 use Rattle.gw_lines.specs.Lines.{word_of, behind_word, verb_in, is_command, needs_label, or_bad_label, label_of, no_label_of, plain_of, operands_of, unlabelled_of, labelled_of, by_first, by_second, coded_of, behind_number}
 use Rattle.gw_lines.specs.Spelling.{AreIn, Stops, Behind, Head, first_word, second_word, Label, no_label, named, ArePlain, Numbering, unnumbered, numbered, Coded}
-use Rattle.gw_lines.proofs.Fronts.{or_true, nonzero, not_true, not_false, front_again, rest_again, parts, front_all, rest_stops, blank_no_mark}
+use Rattle.gw_lines.proofs.Fronts.{nonzero, front_again, rest_again, parts, front_all, rest_stops, blank_no_mark}
 use Rattle.gw_lines.proofs.Kept.{parted_of, behind_of}
 use Rattle.gw_lines.proofs.Results.{done, ok_is}
 use Rattle.gw_lines.proofs.Bodies.{body_found, body_again}
@@ -98,7 +98,7 @@ unfolding behind_number
 numbering_is (unnumbered digits rest h s t) =
     let none : is_nothing (front_of class.Blank (rest_of class.Digit (digits ++ rest))) ≡ true =
     ap is_nothing (ap (front_of class.Blank) (rest_again class.Digit digits rest h s) ∙ front_again class.Blank [] rest refl t) in
-    rw (or_true (is_nothing (front_of class.Digit (digits ++ rest))) _ none) refl
+    rw (or_right (is_nothing (front_of class.Digit (digits ++ rest))) _ none) refl
 numbering_is (numbered digits blanks rest h some k more t) =
     let s : Stops class.Digit (blanks ++ rest) = blank_no_digit blanks rest k more in
     let left : rest_of class.Digit (digits ++ (blanks ++ rest)) ≡ blanks ++ rest = rest_again class.Digit digits (blanks ++ rest) h s in
@@ -112,7 +112,7 @@ numbering_is (numbered digits blanks rest h some k more t) =
 
 pub both_stop : (text : List ℕ) → Stops class.Mark text → Stops class.Blank text → text ≡ []
 both_stop [] m s = refl
-both_stop (b ∷ bs) m s = absurd (both_ways (is_blank b) s (not_false (is_blank b) m))
+both_stop (b ∷ bs) m s = absurd (both_ways (is_blank b) s (not-false (is_blank b) m))
 
 behind_all : (bytes : List ℕ) → Stops class.Mark bytes → Behind bytes (listed_of true 0 (rest_of class.Blank bytes))
 behind_all bytes m =
@@ -314,7 +314,7 @@ behind_is b =
 
 mark_no_blank : (word behind : List ℕ) → AreIn class.Mark word → word ≢ [] → Stops class.Blank (word ++ behind)
 mark_no_blank [] behind h some = absurd (some refl)
-mark_no_blank (b ∷ bs) behind h some = not_true (is_blank b) (and_parts (not (is_blank b)) (list_all (is_in class.Mark) bs) h).0
+mark_no_blank (b ∷ bs) behind h some = not-true (is_blank b) (and_parts (not (is_blank b)) (list_all (is_in class.Mark) bs) h).0
 
 -- two words that were put together
 pub two_again : (first blanks second rest : List ℕ) → AreIn class.Mark first → AreIn class.Blank blanks → blanks ≢ [] → AreIn class.Mark second → second ≢ []

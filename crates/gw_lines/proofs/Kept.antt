@@ -1,13 +1,13 @@
 -- The operand list as it is written and as it is kept.
 use Rattle.std.proofs.Common.{◌≡◌, ℕ, zero, suc, ◌==◌, ◌&&◌, not, true, false, List, [], ◌∷◌, ◌++◌, refl, sym, ap, subst, ◌∙◌, inl, inr}
 use Rattle.std.specs.List.{list_all}
-use Rattle.std.proofs.lemmas.Bool.{and_from, and_parts, both_ways, cases_Bool, eqb-true}
+use Rattle.std.proofs.lemmas.Bool.{and_from, and_parts, both_ways, cases_Bool, eqb-true, not-true, not-false}
 use Rattle.std.proofs.lemmas.List.{append-nil}
 use Rattle.gw_lines.specs.declared.class.Class.TheVariants as class
 use Rattle.gw_lines.specs.Classes.{is_in, is_blank}
 use Rattle.gw_lines.specs.Listed.{listed_of}
 use Rattle.gw_lines.specs.Spelling.{AreIn, Stops, is_part, Part, nothing, mark, opening, closing, stray, inner_comma, inner_blank, Written, none_written, last_written, never_closed, more_written, Behind, verb_alone, verb_operands}
-use Rattle.gw_lines.proofs.Fronts.{not_true, not_false, blank_no_mark}
+use Rattle.gw_lines.proofs.Fronts.{blank_no_mark}
 
 -- ---- one byte
 
@@ -37,10 +37,10 @@ part_is b h =
     let c = and_parts (not (b == 44)) (not (b == 40) && not (b == 41)) a.1 in
     let d = and_parts (not (b == 40)) (not (b == 41)) c.1 in
     record {
-      blank = not_true (is_blank b) a.0;
-      comma = not_true (b == 44) c.0;
-      opens = not_true (b == 40) d.0;
-      closes = not_true (b == 41) d.1;
+      blank = not-true (is_blank b) a.0;
+      comma = not-true (b == 44) c.0;
+      opens = not-true (b == 40) d.0;
+      closes = not-true (b == 41) d.1;
     }
 
 part_kept : (depth b : ℕ) (bs : List ℕ) → is_part b ≡ true → listed_of false depth (b ∷ bs) ≡ b ∷ listed_of false depth bs
@@ -56,7 +56,7 @@ blanks_skipped (b ∷ bs) text h =
 
 ends : (comment : List ℕ) → Stops class.Mark comment → listed_of false 0 comment ≡ []
 ends [] h = refl
-ends (b ∷ bs) h = blank_ends b bs (not_false (is_blank b) h)
+ends (b ∷ bs) h = blank_ends b bs (not-false (is_blank b) h)
 
 -- a part is kept as it is, and what follows it is kept behind it
 then_kept : {depth end : ℕ} {text kept : List ℕ} → Part depth text kept end → (rest : List ℕ)
@@ -294,5 +294,5 @@ written_of text s = let o = (kept_so text).open_ in written_from text o.blanks o
 pub behind_of : (blanks text : List ℕ) → AreIn class.Blank blanks → Stops class.Mark (blanks ++ text) → Stops class.Blank text
     → Behind (blanks ++ text) (listed_of true 0 text)
 behind_of [] [] h m s = verb_alone
-behind_of [] (b ∷ bs) h m s = absurd (both_ways (is_blank b) s (not_false (is_blank b) m))
+behind_of [] (b ∷ bs) h m s = absurd (both_ways (is_blank b) s (not-false (is_blank b) m))
 behind_of (b ∷ bs) text h m s = verb_operands (b ∷ bs) text (listed_of true 0 text) h (λ e. absurd cc) (written_of text s)

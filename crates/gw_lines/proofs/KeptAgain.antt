@@ -2,8 +2,9 @@
 use Rattle.std.proofs.Common.{◌≡◌, ◌≢◌, ℕ, ◌+◌, ◌≤◌, true, List, [], ◌∷◌, ◌++◌, length, refl, sym, subst, arith}
 use Rattle.std.specs.Char.{to_ascii_uppercase}
 use Rattle.std.proofs.lemmas.Bool.Decides.{nat_tests}
-use Rattle.std.proofs.lemmas.List.{append-nil, length-append, length-map, map-append}
+use Rattle.std.proofs.lemmas.List.{append-nil, length-append, map-append}
 use Rattle.gw_names.specs.Words.{upper_of}
+use Rattle.gw_names.proofs.InUpperCase.{length-upper_of}
 use Rattle.gw_lines.specs.Spelling.{is_part, Part, nothing, mark, opening, closing, stray, inner_comma, inner_blank, Written, none_written, last_written, never_closed, more_written, Behind, verb_alone, verb_operands}
 
 -- ---- an operand list is kept as it is printed
@@ -49,9 +50,6 @@ behind_again (verb_operands blanks text kept h some w) = written_again w
 
 -- ---- it is no longer than what was read
 
-pub upper_length : (text : List ℕ) → length (upper_of text) ≡ length text
-upper_length text = length-map text to_ascii_uppercase
-
 pub part_shorter : {depth end : ℕ} {text kept : List ℕ} → Part depth text kept end → length kept ≤ length text
 part_shorter (nothing depth) = omega arith
 part_shorter (mark depth b text kept end h p) = let k = part_shorter p in omega arith
@@ -86,7 +84,7 @@ pub behind_shorter : {behind kept : List ℕ} → Behind behind kept → length 
 behind_shorter verb_alone = omega arith
 behind_shorter (verb_operands blanks text kept h some w) =
     let a = spaced_length (upper_of kept) in
-    let b = upper_length kept in
+    let b = length-upper_of kept in
     let c = written_shorter w in
     let d = some_length blanks some in
     let e = length-append blanks text in omega arith

@@ -1,16 +1,17 @@
 -- The lines of a model, one after the other.
-use Rattle.std.proofs.Common.{◌≡◌, ◌≢◌, ℕ, suc, ◌-◌, Bool, true, false, cond, ◌==◌, not, ◌&&◌, List, [], ◌∷◌, ◌++◌, length, take, drop, Result, Ok, refl, sym, ap, ◌∙◌, arith}
+use Rattle.std.proofs.Common.{◌≡◌, ◌≢◌, ℕ, suc, ◌-◌, true, false, cond, ◌==◌, not, ◌&&◌, List, [], ◌∷◌, ◌++◌, length, take, drop, Result, Ok, refl, sym, ap, ◌∙◌, arith}
 use Rattle.std.specs.Prelude.{nat_eq}
 use Rattle.std.specs.List.{list_all}
 use Rattle.std.specs.Cmp.Lexicographic.{pointwise}
-use Rattle.std.proofs.lemmas.Bool.{and_parts, eqb-true}
+use Rattle.std.proofs.lemmas.Bool.{and_parts, eqb-true, not-true, not-false, and_right}
 use Rattle.std.proofs.lemmas.List.{append-nil, nil_from_length}
+use Rattle.std.proofs.Math.Bool.{and-true}
 use Rattle.gw_meaning.specs.declared.statement.Statement.{Statement}
 use Rattle.gw_lines.specs.declared.class.Class.TheVariants as class
 use Rattle.gw_lines.specs.declared.fault.FaultyLine.{FaultyLine}
 use Rattle.gw_lines.specs.Classes.{is_in, front_of, rest_of, tail_of, with_byte}
 use Rattle.gw_lines.specs.Spelling.{AreIn, Stops}
-use Rattle.gw_lines.proofs.Fronts.{and_false, not_true, not_false, parts, front_all, rest_stops}
+use Rattle.gw_lines.proofs.Fronts.{parts, front_all, rest_stops}
 use Rattle.gw_lines.specs.Reading.{◌>>=◌}
 use Rattle.gw_lines.specs.Models.{lines_of, chomped, begins_line_feed}
 
@@ -27,7 +28,7 @@ one_more b bs e f = rw (e, f) refl
 none_first : (b : ℕ) (bs : List ℕ) → AreIn class.Line (b ∷ bs) → ((b == 10) ≡ false) × AreIn class.Line bs
 none_first b bs h =
     let a = and_parts (not (b == 10)) (list_all (is_in class.Line) bs) h in
-    (not_true (b == 10) a.0, a.1)
+    (not-true (b == 10) a.0, a.1)
 
 lines_front : (front rest : List ℕ) → AreIn class.Line front → lines_of (front ++ 10 ∷ rest) ≡ chomped front ∷ lines_of rest
 lines_front [] rest h = refl
@@ -41,15 +42,15 @@ lines_front (b ∷ []) rest h =
 lines_front (b ∷ c ∷ bs) rest h =
     let e = none_first b (c ∷ bs) h in
     let f = none_first c bs e.1 in
-    let g : (b == 13 && (c == 10)) ≡ false = rw f.0 (and_false (b == 13)) in
+    let g : (b == 13 && (c == 10)) ≡ false = rw f.0 (and_right (b == 13) false refl) in
     one_more b (c ∷ bs ++ 10 ∷ rest) e.0 g ∙ ap (with_byte b) (lines_front (c ∷ bs) rest e.1)
 
 lines_last : (b : ℕ) (bs : List ℕ) → AreIn class.Line (b ∷ bs) → lines_of (b ∷ bs) ≡ (b ∷ bs) ∷ []
-lines_last b [] h = one_more b [] (none_first b [] h).0 (and_false (b == 13))
+lines_last b [] h = one_more b [] (none_first b [] h).0 (and_right (b == 13) false refl)
 lines_last b (c ∷ bs) h =
     let e = none_first b (c ∷ bs) h in
     let f = none_first c bs e.1 in
-    let g : (b == 13 && (c == 10)) ≡ false = rw f.0 (and_false (b == 13)) in
+    let g : (b == 13 && (c == 10)) ≡ false = rw f.0 (and_right (b == 13) false refl) in
     one_more b (c ∷ bs) e.0 g ∙ ap (with_byte b) (lines_last c bs e.1)
 
 last_of : (bytes front : List ℕ) → bytes ≡ front → AreIn class.Line front → bytes ≢ [] → lines_of bytes ≡ front ∷ []
@@ -60,7 +61,7 @@ first_of : (bytes front rest : List ℕ) → bytes ≡ front ++ rest → AreIn c
     → lines_of bytes ≡ chomped front ∷ lines_of (tail_of rest)
 first_of bytes front [] e h s some = absurd cc
 first_of bytes front (b ∷ bs) e h s some =
-    let ten : b ≡ 10 = eqb-true b 10 (not_false (b == 10) s) in
+    let ten : b ≡ 10 = eqb-true b 10 (not-false (b == 10) s) in
     ap lines_of (e ∙ ap (λ (x : ℕ). front ++ x ∷ bs) ten) ∙ lines_front front bs h
 
 -- a last line that has no end
@@ -81,10 +82,6 @@ ended_line bytes some = first_of bytes (front_of class.Line bytes) (rest_of clas
 
 -- ---- the carriage return
 
-not_both : (a : Bool) → (a && true) ≡ false → a ≡ false
-not_both true h = absurd cc
-not_both false h = refl
-
 pub chomped_end : (line : List ℕ) → pointwise nat_eq (drop (length line - 1) line) (13 ∷ []) ≡ true → take (length line - 1) line ≡ chomped line
 chomped_end [] h = refl
 chomped_end (b ∷ []) h = rw (and_parts (b == 13) true h).0 refl
@@ -94,7 +91,7 @@ chomped_end (b ∷ c ∷ bs) h =
 
 pub whole_end : (line : List ℕ) → pointwise nat_eq (drop (length line - 1) line) (13 ∷ []) ≡ false → line ≡ chomped line
 whole_end [] h = refl
-whole_end (b ∷ []) h = rw (not_both (b == 13) h) refl
+whole_end (b ∷ []) h = rw (sym (and-true (b == 13)) ∙ h) refl
 whole_end (b ∷ c ∷ bs) h =
     let k : length (b ∷ c ∷ bs) - 1 ≡ suc (length (c ∷ bs) - 1) = omega arith in
     ap (λ (x : List ℕ). b ∷ x) (whole_end (c ∷ bs) (rw k at h))

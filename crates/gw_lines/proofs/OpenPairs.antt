@@ -1,7 +1,7 @@
 -- Pairs where any count may be meant: lines that are read so may be a FUNCTION's, and those that may be are read so.
 use Rattle.std.proofs.Common.{◌≡◌, ◌≢◌, ℕ, ◌<◌, ◌≤◌, ◌==◌, Bool, true, false, List, [], ◌∷◌, ◌++◌, length, None, Result, Ok, Err, refl, sym, ap, subst, ◌∙◌, inl, inr, arith}
 use Rattle.std.specs.Prelude.{All, nat_lt}
-use Rattle.std.proofs.lemmas.Bool.{and_parts, both_ways, cases_Bool}
+use Rattle.std.proofs.lemmas.Bool.{and_parts, both_ways, cases_Bool, ltb-true, lt-ltb}
 use Rattle.std.proofs.lemmas.Bool.Decides.{nat_tests}
 use Rattle.std.proofs.lemmas.List.{length_push}
 use Rattle.std.proofs.lemmas.List.Elements.{All-head, All-tail}
@@ -28,21 +28,15 @@ use Rattle.gw_lines.proofs.Further.{kept_is, is_long, is_none, is_wrong, is_kept
 
 -- ---- how many
 
-room_is : (m n : ℕ) → nat_lt m n ≡ true → m < n
-room_is m n h = grind (arith, nat_tests)
-
-room_again : (m n : ℕ) → m < n → nat_lt m n ≡ true
-room_again m n h = grind (arith, nat_tests)
-
 no_room : (n : ℕ) → nat_lt n n ≡ false
 no_room n = grind (arith, nat_tests)
 
 was_room : (count : ℕ) (points : List Point) (p : Point) → may_follow count points p ≡ true → length points < count
-was_room count points p h = room_is (length points) count (and_parts (nat_lt (length points) count) (is_above (last_of points) p.x) h).0
+was_room count points p h = ltb-true (length points) count (and_parts (nat_lt (length points) count) (is_above (last_of points) p.x) h).0
 
 follows_too : (count n : ℕ) (points : List Point) (p : Point) → may_follow count points p ≡ true → length points < n → may_follow n points p ≡ true
 follows_too count n points p h room =
-    rw (room_again (length points) n room, (and_parts (nat_lt (length points) count) (is_above (last_of points) p.x) h).1) refl
+    rw (lt-ltb (length points) n room, (and_parts (nat_lt (length points) count) (is_above (last_of points) p.x) h).1) refl
 
 -- pairs bring a point, and no more than there is room for
 longer : {count : ℕ} {points : List Point} {text : List ℕ} {all : List Point} → Pairs count points text all → length points < length all
@@ -160,7 +154,7 @@ grown points more text line lines has plain pairs o =
           let s' : Statement = record { label = s.label; body = body_of (record own { points = more }); operands = s.operands ++ 124 ∷ text } in
           let c = o.completes s' f refl in (
             c.0,
-            past_pairs s line lines s' c.0 (ap wants_in is ∙ room_again (length points) o.count (omega arith)) (record {
+            past_pairs s line lines s' c.0 (ap wants_in is ∙ lt-ltb (length points) o.count (omega arith)) (record {
               text = text;
               has_text = has;
               plain = plain;
@@ -185,7 +179,7 @@ past points line lines remark some o =
       completes = λ s f is. (
           let c = o.completes s f is in (
             c.0,
-            past_remark s line lines c.0 (ap wants_in is ∙ room_again (length points) o.count room) remark c.1,
+            past_remark s line lines c.0 (ap wants_in is ∙ lt-ltb (length points) o.count room) remark c.1,
           )
           );
     }

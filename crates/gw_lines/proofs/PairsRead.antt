@@ -1,7 +1,7 @@
 -- Pairs: what is read is spelled so, and what is spelled so is read.
 use Rattle.std.proofs.Common.{◌≡◌, ◌≢◌, ℕ, ◌==◌, true, List, [], ◌∷◌, ◌++◌, length, Option, Some, None, Result, Ok, Err, refl, sym, ap, subst, ◌∙◌, inl, inr}
 use Rattle.std.specs.Prelude.{ℤ}
-use Rattle.std.proofs.lemmas.Bool.{cases_Bool, eqb-true}
+use Rattle.std.proofs.lemmas.Bool.{cases_Bool, eqb-true, not-false}
 use Rattle.std.proofs.lemmas.List.{append-nil}
 use Rattle.gw_expr.specs.declared.function.Point.{Point}
 use Rattle.gw_lines.specs.declared.class.Class.TheVariants as class
@@ -14,7 +14,7 @@ use Rattle.gw_lines.specs.Spelling.{Stops}
 use Rattle.gw_lines.specs.Pairs.{point_with, pair_of, may_follow, with_point, with_pairs, points_with}
 use Rattle.gw_lines.specs.Points.{Pair, a_pair, Pairs, last_pair, ended_pair, more_pairs}
 use Rattle.gw_lines.proofs.Results.{failed, ok_is, err_is}
-use Rattle.gw_lines.proofs.Fronts.{nonzero, not_false, front_again, rest_again, parts, rest_stops}
+use Rattle.gw_lines.proofs.Fronts.{nonzero, front_again, rest_again, parts, rest_stops}
 use Rattle.gw_lines.proofs.Pieces.{first_part, alone, before}
 use Rattle.gw_lines.proofs.Coordinates.{coordinate_found, coordinate_again}
 use Rattle.gw_lines.proofs.PairBytes.{coordinate_passes, operand_bytes, pair_bytes, pair_passes}
@@ -40,7 +40,7 @@ comma_between : (text front rest : List ℕ) (p : Point) → text ≡ front ++ r
     → coordinate_of (tail_of rest) ≡ Some p.y → Pair text p
 comma_between text front [] p is s cx cy = absurd (nothing_read p.y cy)
 comma_between text front (b ∷ bs) p is s cx cy =
-    let comma : b ≡ 44 = eqb-true b 44 (not_false (b == 44) s) in
+    let comma : b ≡ 44 = eqb-true b 44 (not-false (b == 44) s) in
     subst (λ (t : List ℕ). Pair t p) (sym (is ∙ ap (λ (c : ℕ). front ++ c ∷ bs) comma))
     (a_pair front bs p (coordinate_found front p.x cx) (coordinate_found bs p.y cy))
 
@@ -98,13 +98,13 @@ behind count points texts text front [] p all is s left h m e on =
     subst (λ (a : List Point). Pairs count points text a) same (subst (λ (t : List ℕ). Pairs count points t (points ++ p ∷ [])) (sym whole)
     (last_pair count points front p h m))
 behind count points texts text front (b ∷ []) p all is s left h m e on =
-    let slash : b ≡ 47 = eqb-true b 47 (not_false (b == 47) s) in
+    let slash : b ≡ 47 = eqb-true b 47 (not-false (b == 47) s) in
     let same : points ++ p ∷ [] ≡ all = ok_is (points ++ p ∷ []) all (rw left at e) in
     subst (λ (a : List Point). Pairs count points text a) same
     (subst (λ (t : List ℕ). Pairs count points t (points ++ p ∷ [])) (sym (is ∙ ap (λ (c : ℕ). front ++ c ∷ []) slash))
     (ended_pair count points front p h m))
 behind count points texts text front (b ∷ c ∷ cs) p all is s left h m e on =
-    let slash : b ≡ 47 = eqb-true b 47 (not_false (b == 47) s) in
+    let slash : b ≡ 47 = eqb-true b 47 (not-false (b == 47) s) in
     subst (λ (t : List ℕ). Pairs count points t all) (sym (is ∙ ap (λ (d : ℕ). front ++ d ∷ c ∷ cs) slash))
     (more_pairs count points front p (c ∷ cs) all h m (on (c ∷ cs) (sym left) (λ n. absurd cc)))
 

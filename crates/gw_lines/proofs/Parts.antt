@@ -18,8 +18,8 @@ use Rattle.gw_lines.proofs.Fronts.{nonzero, put_before}
 abbrev pub behind : List ℕ → List (List ℕ)
 behind rest = left (not (is_nothing rest)) (tail_of rest)
 
-one_more : (b : ℕ) (bs : List ℕ) → (b == 44) ≡ false → split (b ∷ bs) ≡ with_byte b (split bs)
-one_more b bs e = rw e refl
+pub split_on : (b : ℕ) (bs : List ℕ) → (b == 44) ≡ false → split (b ∷ bs) ≡ with_byte b (split bs)
+split_on b bs e = rw e refl
 
 -- the first part of a text, and those behind it
 pub split_first : (text : List ℕ)
@@ -28,7 +28,7 @@ split_first [] = refl
 split_first (b ∷ bs) =
     elim (cases_Bool (b == 44)) [
       | inl comma ↦ rw (comma, nonzero (length bs)) refl
-      | inr other ↦ one_more b bs other ∙ ap (with_byte b) (split_first bs) ∙ sym (put_before class.Operand behind b bs (ap not other))
+      | inr other ↦ split_on b bs other ∙ ap (with_byte b) (split_first bs) ∙ sym (put_before class.Operand behind b bs (ap not other))
     ]
 
 -- what is left of a text that was not begun are its parts

@@ -2,7 +2,7 @@
 use Rattle.std.proofs.Common.{◌≡◌, ◌≢◌, ℕ, ◌≤◌, ◌==◌, Bool, true, false, not, List, [], ◌∷◌, ◌++◌, length, Option, Some, None, refl, sym, ap, subst, ◌∙◌, arith, append_assoc}
 use Rattle.std.specs.List.{list_all}
 use Rattle.std.specs.Char.{is_ascii_alphabetic, is_ascii_digit}
-use Rattle.std.proofs.lemmas.Bool.{and_parts}
+use Rattle.std.proofs.lemmas.Bool.{and_parts, not-true}
 use Rattle.std.proofs.lemmas.Bool.Decides.{nat_tests}
 use Rattle.std.proofs.lemmas.List.{append-nil, length-append, map-append}
 use Rattle.gw_names.specs.declared.verb.DefinitionVerb.TheVariants as definition_verbs
@@ -10,7 +10,7 @@ use Rattle.gw_names.specs.declared.verb.Verb.{Verb}
 use Rattle.gw_names.specs.declared.verb.Verb.TheVariants as verbs
 use Rattle.gw_names.specs.Words as words
 use Rattle.gw_names.specs.Words.{upper_of, verb_of, is_class}
-use Rattle.gw_names.proofs.InUpperCase.{upper_of-upper_of}
+use Rattle.gw_names.proofs.InUpperCase.{upper_of-upper_of, length-upper_of}
 use Rattle.gw_meaning.specs.declared.sign.Sign.{Sign}
 use Rattle.gw_meaning.specs.declared.statement.Definition.TheVariants as definitions
 use Rattle.gw_meaning.specs.declared.statement.Body.{Body}
@@ -39,12 +39,11 @@ use Rattle.gw_lines.specs.Printed.{IsSpelled, ModelsAreSpelled, with_ends, liste
 use Rattle.gw_lines.proofs.Bytes.{Pass, both_pass, next_passes, bytes_pass, named_passes}
 use Rattle.gw_lines.proofs.Heads.{are_plain_upper}
 use Rattle.gw_lines.proofs.OwnBytes.{is_own, operands_own, own, spelled_own}
-use Rattle.gw_lines.proofs.KeptAgain.{behind_again, behind_text, written_again, written_shorter, upper_length}
+use Rattle.gw_lines.proofs.KeptAgain.{behind_again, behind_text, written_again, written_shorter}
 use Rattle.gw_lines.proofs.Pieces as pieces
 use Rattle.gw_lines.proofs.PairBytes.{TakesNumbers, pairs_pass, pairs_own}
 use Rattle.gw_lines.proofs.PairsRead.{some_pairs}
 use Rattle.gw_names.specs.Names.{is_name_byte}
-use Rattle.gw_lines.proofs.Fronts.{not_true}
 use Rattle.gw_lines.proofs.Results.{some, some_is}
 use Rattle.gw_lines.proofs.PrintedWords.{marks, begins_letter, head_again, head_shorter, is_name, label_again, plain_again, printed, printed_is, verb_word}
 
@@ -214,11 +213,11 @@ star_bytes = record { takes = record { name = named_no_star; dollar = refl }; po
 
 marks_begin : (text : List ℕ) → Pass (is_in class.Mark) text → Stops class.Blank text
 marks_begin [] h = tt
-marks_begin (b ∷ bs) h = not_true (is_blank b) (and_parts (not (is_blank b)) (list_all (is_in class.Mark) bs) h).0
+marks_begin (b ∷ bs) h = not-true (is_blank b) (and_parts (not (is_blank b)) (list_all (is_in class.Mark) bs) h).0
 
 no_remark : (text : List ℕ) → text ≢ [] → Pass (λ b. not (b == 42)) text → is_remark text ≡ false
 no_remark [] some h = absurd (some refl)
-no_remark (b ∷ bs) some h = not_true (b == 42) (and_parts (not (b == 42)) (list_all (λ c. not (c == 42)) bs) h).0
+no_remark (b ∷ bs) some h = not-true (b == 42) (and_parts (not (b == 42)) (list_all (λ c. not (c == 42)) bs) h).0
 
 text_again : {s t : Statement} {line : List ℕ} (a : HasPairs s line t) → HasText a.text a.text
 text_again a =
@@ -227,7 +226,7 @@ text_again a =
     let upper : upper_of text ≡ text = ap upper_of has.upper ∙ upper_of-upper_of has.kept ∙ sym has.upper in
     let b = written_shorter has.written in
     let c = cut_shorter has.cut in
-    let d : length text ≡ length has.kept = ap length has.upper ∙ upper_length has.kept in
+    let d : length text ≡ length has.kept = ap length has.upper ∙ length-upper_of has.kept in
     let begins : Stops class.Blank text = marks_begin text (pairs_pass mark_bytes refl refl a.pairs) in
     record {
       code = text;

@@ -26,6 +26,7 @@ use Rattle.gw_lines.proofs.Fronts.{nonzero}
 use Rattle.gw_lines.proofs.KeptAgain.{behind_text, last_again, spaced_length}
 use Rattle.gw_lines.proofs.PrintedWords.{plains}
 use Rattle.gw_lines.proofs.Printed.{is_printed}
+use Rattle.gw_lines.proofs.Parts.{split_on}
 
 -- ---- a storage whose capacity is written in decimal digits
 
@@ -49,20 +50,14 @@ digits_upper (b ∷ bs) h =
     digit_upper : (b : ℕ) → is_ascii_digit b ≡ true → to_ascii_uppercase b ≡ b
     digit_upper b h = grind (arith, nat_tests)
 
+no_comma : (b : ℕ) → is_ascii_digit b ≡ true → (b == 44) ≡ false
+no_comma b h = grind (arith, nat_tests)
+
 pub digits_alone : (b : ℕ) (bs : List ℕ) → Pass is_ascii_digit (b ∷ bs) → split (b ∷ bs) ≡ (b ∷ bs) ∷ []
 digits_alone b [] h = let a = and_parts (is_ascii_digit b) true h in rw (no_comma b a.0) refl
-  where
-    no_comma : (b : ℕ) → is_ascii_digit b ≡ true → (b == 44) ≡ false
-    no_comma b h = grind (arith, nat_tests)
 digits_alone b (c ∷ cs) h =
     let a = and_parts (is_ascii_digit b) (list_all is_ascii_digit (c ∷ cs)) h in
     split_on b (c ∷ cs) (no_comma b a.0) ∙ ap (with_byte b) (digits_alone c cs a.1)
-  where
-    no_comma : (b : ℕ) → is_ascii_digit b ≡ true → (b == 44) ≡ false
-    no_comma b h = grind (arith, nat_tests)
-
-    split_on : (b : ℕ) (bs : List ℕ) → (b == 44) ≡ false → split (b ∷ bs) ≡ with_byte b (split bs)
-    split_on b bs e = rw e refl
 
 pub digits_given : (text : List ℕ) → 0 < length text → Pass is_ascii_digit text
     → (parts_of text ≡ text ∷ []) × (is_missing a_count text ≡ false)

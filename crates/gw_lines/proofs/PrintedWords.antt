@@ -16,15 +16,15 @@ use Rattle.gw_names.specs.declared.verb.Verb.TheVariants as verbs
 use Rattle.gw_names.specs.Words as words
 use Rattle.gw_names.specs.Words.{upper_of, verb_of, is_class}
 use Rattle.gw_names.specs.Names.{name_of, is_name_byte, is_name_text, is_barred}
-use Rattle.gw_names.proofs.InUpperCase.{name_of_upper}
+use Rattle.gw_names.proofs.InUpperCase.{name_of_upper, length-upper_of, is_text}
 use Rattle.gw_meaning.specs.Texts.{word_if_any}
 use Rattle.gw_lines.specs.declared.class.Class.TheVariants as class
 use Rattle.gw_lines.specs.Classes.{is_in, is_plain, are_plain}
 use Rattle.gw_lines.specs.Lines.{verb_in}
 use Rattle.gw_lines.specs.Spelling.{Written, Head, first_word, second_word, Label, no_label, named, ArePlain}
 use Rattle.gw_lines.proofs.Results.{some_is}
-use Rattle.gw_lines.proofs.Bytes.{Takes, bytes_pass, is_text, named_passes}
-use Rattle.gw_lines.proofs.KeptAgain.{behind_shorter, behind_text, some_length, spaced, upper_length}
+use Rattle.gw_lines.proofs.Bytes.{Takes, bytes_pass, named_passes}
+use Rattle.gw_lines.proofs.KeptAgain.{behind_shorter, behind_text, some_length, spaced}
 
 -- ---- the words before the operands
 
@@ -88,7 +88,7 @@ verb_letters word verb e =
     (found_so (λ v. bytes_eq (words.word_of v) (upper_of word)) words.verbs verb e)
 
 pub verb_length : (word : List ℕ) (verb : Verb) → verb_in word ≡ Some verb → length (words.word_of verb) ≡ length word
-verb_length word verb e = ap length (verb_letters word verb e) ∙ upper_length word
+verb_length word verb e = ap length (verb_letters word verb e) ∙ length-upper_of word
 
 pub record IsName (text name : List ℕ) : Type 0 where
   pub again : name_of name ≡ Some name
@@ -129,7 +129,7 @@ is_name text name e =
     }
 
 pub name_length : (text name : List ℕ) → name_of text ≡ Some name → length name ≡ length text
-name_length text name e = let n = is_name text name e in ap length n.upper ∙ upper_length text
+name_length text name e = let n = is_name text name e in ap length n.upper ∙ length-upper_of text
 
 -- ---- the words as they are printed
 

@@ -2,7 +2,7 @@
 use Rattle.std.proofs.Common.{◌≡◌, ℕ, ◌==◌, ◌&&◌, Bool, true, false, not, List, [], ◌∷◌, ◌++◌, Option, Some, None, refl, ◌∙◌, inl, inr, arith}
 use Rattle.std.specs.Prelude.{ℤ}
 use Rattle.std.specs.List.{list_all}
-use Rattle.std.proofs.lemmas.Bool.{and_from, and_parts, cases_Bool, eqb-true}
+use Rattle.std.proofs.lemmas.Bool.{and_from, and_parts, cases_Bool, eqb-true, not-true}
 use Rattle.std.proofs.lemmas.Bool.Decides.{nat_tests}
 use Rattle.std.proofs.lemmas.List.Folds.{list_all-append}
 use Rattle.gw_names.specs.Names.{is_name_byte}
@@ -16,7 +16,6 @@ use Rattle.gw_lines.specs.Atoms.{atom_of}
 use Rattle.gw_expr.specs.Symbols.{symbol_of}
 use Rattle.gw_lines.specs.Spelling.{Value, with_sign, without_sign, SpellsAtom, plain_number, plain_name, plain_attribute, Multiplies, times, quotient, remainder}
 use Rattle.gw_lines.proofs.Bytes.{Takes, atom_passes}
-use Rattle.gw_lines.proofs.Fronts.{not_true}
 use Rattle.gw_lines.proofs.Values.{Valued, signed, called, of_attribute, valued_found, valued_again}
 
 -- ---- symbols
@@ -85,13 +84,13 @@ no_symbol b h =
     let p4 = and_parts (not (b == 35)) _ p3.1 in
     let p5 = and_parts (not (b == 92)) _ p4.1 in
     record {
-      h0 = not_true (b == 40) p0.0;
-      h1 = not_true (b == 41) p1.0;
-      h2 = not_true (b == 43) p2.0;
-      h3 = not_true (b == 45) p3.0;
-      h4 = not_true (b == 35) p4.0;
-      h5 = not_true (b == 92) p5.0;
-      h6 = not_true (b == 64) p5.1;
+      h0 = not-true (b == 40) p0.0;
+      h1 = not-true (b == 41) p1.0;
+      h2 = not-true (b == 43) p2.0;
+      h3 = not-true (b == 45) p3.0;
+      h4 = not-true (b == 35) p4.0;
+      h5 = not-true (b == 92) p5.0;
+      h6 = not-true (b == 64) p5.1;
     }
 
 pub word_byte : (b : ℕ) → is_word b ≡ true → symbol_of b ≡ None

@@ -19,7 +19,7 @@ use Rattle.gw_lines.specs.Expressions.{State, before, behind, completed, settled
 use Rattle.gw_lines.specs.Spelling.{Multiplies, Adds, plus, minus, Rank, Factor, Product, Sum, SpellsExpression, a_single, with_minus, in_parentheses, a_factor, multiplied, a_product, summed}
 use Rattle.gw_lines.proofs.Results.{some, some_is}
 use Rattle.gw_lines.proofs.Symbols.{IsSymbol, opening, closing, adding, taking, multiplying, Kinds, a_symbol, a_byte, kind_of, is_word, AreWords, both_words, one_word, atom_found}
-use Rattle.gw_lines.proofs.Computed.{reading, deeper}
+use Rattle.gw_lines.proofs.Computed.{reading, deeper, three}
 
 -- ---- what waits for an operand
 
@@ -83,9 +83,6 @@ record Complete (most : ℕ) (room : ℕ) (text : List ℕ) (s : State) : Type 0
   ts : List Token
   is : s ≡ behind depth ps ts
   stands : Stands most room depth ps text ts
-
-three : (ts a b c : List Token) → ((ts ++ a) ++ b) ++ c ≡ ts ++ (a ++ (b ++ c))
-three ts a b c = append_assoc (ts ++ a) b c ∙ append_assoc ts a (b ++ c)
 
 apart : (text left : List ℕ) (b : ℕ) (f : List ℕ) → (text ++ (left ++ b ∷ [])) ++ f ≡ text ++ (left ++ b ∷ f)
 apart text left b f =

@@ -4,7 +4,7 @@ use Rattle.std.specs.Prelude.{Option, Some, None, Result, Ok, Err, IfOk, codes}
 use Rattle.std.proofs.lemmas.Bool.Decides.{nat_tests}
 use Rattle.clap.specs.Words.{Text}
 use Rattle.gw_request.specs.Numbers.{number_of}
-use Rattle.gw_main.specs.declared.words.Asked.{Asked}
+use Rattle.gw_main.specs.declared.words.Wanted.{Wanted}
 use Rattle.gw_main.specs.declared.words.Refusal.{Refusal}
 use Rattle.gw_main.specs.Words.{IsReadAs, said, within, word_of}
 
@@ -25,7 +25,7 @@ said_least : (least greatest usual n : ℕ) (word : Option Text) → least ≤ u
 said_least least greatest usual n None enough e = let same : usual ≡ n = cc in omega (arith, enough, same)
 said_least least greatest usual n (Some word) enough e = within_least least greatest n (number_of word) e
 
-pub spacing : (words : List Text) (meant : Result Asked Refusal) → IsReadAs words meant → IfOk meant (λ asked. 1 ≤ asked.options.every)
-spacing words (Ok asked) h =
-    said_least 1 1000000 1000 asked.options.every (word_of words (codes "every")) (omega arith) h.options.every
+pub spacing : (words : List Text) (meant : Result Wanted Refusal) → IsReadAs words meant → IfOk meant (λ wanted. 1 ≤ wanted.options.every)
+spacing words (Ok wanted) h =
+    said_least 1 1000000 1000 wanted.options.every (word_of words (codes "every")) (omega arith) h.options.every
 spacing words (Err refusal) h = tt

@@ -13,7 +13,7 @@ use Rattle.gw_io.proofs.Models.{no_lines, whole_part}
 use Rattle.gw_script.specs.declared.fault.Fault.TheVariants as faults
 use Rattle.gw_script.specs.declared.opening.Options.{Options}
 use Rattle.gw_script.specs.declared.opening.TheConstants as constants
-use Rattle.gw_main.specs.declared.words.Asked.{Asked}
+use Rattle.gw_main.specs.declared.words.Wanted.{Wanted}
 use Rattle.gw_main.specs.declared.words.ModelAt.{ModelAt}
 use Rattle.gw_main.specs.declared.words.ModelAt.TheVariants as places
 use Rattle.gw_main.specs.declared.words.Refusal.{Refusal}
@@ -64,11 +64,11 @@ usual_place places.Input h = refl
 usual_place (places.File path) h = absurd h
 
 -- words that are none ask for a run under the usual options, unless memory runs out
-is_usual : (meant : Result Asked Refusal) → IsReadAs [] meant →
-    ((asked : Asked) × (meant ≡ Ok asked) × (asked.model ≡ places.Input) × (asked.options ≡ constants.Options.USUAL)) ⊎ (meant ≡ Err refusals.Memory)
-is_usual (Ok asked) h =
-    let At : Option Text → Type 0 = λ w. IsModelAt w asked.model in
-    inl (asked, refl, usual_place asked.model (subst At (no_word (codes "model")) h.model), usual_options asked.options h.options)
+is_usual : (meant : Result Wanted Refusal) → IsReadAs [] meant →
+    ((wanted : Wanted) × (meant ≡ Ok wanted) × (wanted.model ≡ places.Input) × (wanted.options ≡ constants.Options.USUAL)) ⊎ (meant ≡ Err refusals.Memory)
+is_usual (Ok wanted) h =
+    let At : Option Text → Type 0 = λ w. IsModelAt w wanted.model in
+    inl (wanted, refl, usual_place wanted.model (subst At (no_word (codes "model")) h.model), usual_options wanted.options h.options)
 is_usual (Err (refusals.Help text)) h = let Among : Kinds → Type 0 = λ ks. IsAmong kinds.DisplayHelp ks in absurd (subst Among no_faults h)
 is_usual (Err (refusals.Bad text)) (inl line) = absurd (subst IsBadLine no_faults line).found
 is_usual (Err (refusals.Bad text)) (inr number) = absurd (no_bad_number number.1)
@@ -106,14 +106,14 @@ module _ {S K : Type 0} (took : S → List ℕ → S → Type 0) (ended : S → 
     pub usual_run : (words : List Text) → words ≡ [] → Does opens took_file ended_file reads_file took ended reads wrote writes told losses words reader reader'
         writer writer' errors errors' status → IsUsualRun
     usual_run words none d = go (is_usual d.meant (subst (λ (ws : List Text). IsReadAs ws d.meant) none d.reading)) where
-      Done : Result Asked Refusal → Type 0
+      Done : Result Wanted Refusal → Type 0
       Done meant =
           Proceeds opens took_file ended_file reads_file took ended reads wrote writes told losses meant reader reader' writer writer' errors errors' status
 
       At : ModelAt → Options → Type 0
       At m o = RunsAt opens took_file ended_file reads_file took ended reads wrote writes told losses m o reader reader' writer writer' errors errors' status
 
-      go : ((asked : Asked) × (d.meant ≡ Ok asked) × (asked.model ≡ places.Input) × (asked.options ≡ constants.Options.USUAL)) ⊎
+      go : ((wanted : Wanted) × (d.meant ≡ Ok wanted) × (wanted.model ≡ places.Input) × (wanted.options ≡ constants.Options.USUAL)) ⊎
           (d.meant ≡ Err refusals.Memory) → IsUsualRun
       go (inl h) = subst (At places.Input) h.3 (subst (λ (m : ModelAt). At m h.0.options) h.2 (subst Done h.1 d.done))
       go (inr memory) = unread_run (subst Done memory d.done)

@@ -4,7 +4,7 @@ use Rattle.std.specs.String.{string_bytes}
 use Rattle.gw_io.specs.Failures.{one_more, WritesPart}
 use Rattle.gw_io.specs.declared.budget.ReadFault.{ReadFault}
 use Rattle.gw_script.specs.declared.fault.Fault.TheVariants as faults
-use Rattle.gw_main.specs.declared.words.Asked.{Asked}
+use Rattle.gw_main.specs.declared.words.Wanted.{Wanted}
 use Rattle.gw_main.specs.declared.words.ModelAt.{ModelAt}
 use Rattle.gw_main.specs.declared.words.ModelAt.TheVariants as places
 use Rattle.gw_main.specs.declared.words.Refusal.{Refusal}
@@ -60,10 +60,10 @@ RunsAt {F} opens took_file ended_file reads_file took ended reads wrote writes t
 -- status 3
 abbrev pub Proceeds : {F S K E : Type 0} → (List ℕ → Result F ReadFault → Type 0) → (F → List ℕ → F → Type 0) →
     (F → Type 0) → (F → ℕ) → (S → List ℕ → S → Type 0) → (S → Type 0) → (S → ℕ) → (K → List ℕ → K → Type 0) → (K → ℕ) →
-    (E → List ℕ → E → Type 0) → (E → ℕ) → Result Asked Refusal → S → S → K → K → E → E → ℕ → Type 0
-Proceeds opens took_file ended_file reads_file took ended reads wrote writes told losses (Ok asked)
+    (E → List ℕ → E → Type 0) → (E → ℕ) → Result Wanted Refusal → S → S → K → K → E → E → ℕ → Type 0
+Proceeds opens took_file ended_file reads_file took ended reads wrote writes told losses (Ok wanted)
     reader reader' writer writer' errors errors' status =
-    RunsAt opens took_file ended_file reads_file took ended reads wrote writes told losses asked.model asked.options
+    RunsAt opens took_file ended_file reads_file took ended reads wrote writes told losses wanted.model wanted.options
     reader reader' writer writer' errors errors' status
 Proceeds opens took_file ended_file reads_file took ended reads wrote writes told losses (Err (refusals.Help text))
     reader reader' writer writer' errors errors' status =
@@ -80,7 +80,7 @@ pub record Does {F S K E : Type 0} (opens : List ℕ → Result F ReadFault → 
     (ended_file : F → Type 0) (reads_file : F → ℕ) (took : S → List ℕ → S → Type 0) (ended : S → Type 0) (reads : S → ℕ)
     (wrote : K → List ℕ → K → Type 0) (writes : K → ℕ) (told : E → List ℕ → E → Type 0) (losses : E → ℕ)
     (words : List (List ℕ)) (reader reader' : S) (writer writer' : K) (errors errors' : E) (status : ℕ) : Type 0 where
-  pub meant : Result Asked Refusal
+  pub meant : Result Wanted Refusal
   pub reading : IsReadAs words meant
   pub done : Proceeds opens took_file ended_file reads_file took ended reads wrote writes told losses meant reader
       reader' writer writer' errors errors' status

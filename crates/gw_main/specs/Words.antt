@@ -10,7 +10,7 @@ use Rattle.gw_request.specs.Numbers.{number_of}
 use Rattle.gw_script.specs.declared.opening.Options.{Options}
 use Rattle.gw_main.specs.declared.words.ModelAt.{ModelAt}
 use Rattle.gw_main.specs.declared.words.ModelAt.TheVariants as places
-use Rattle.gw_main.specs.declared.words.Asked.{Asked}
+use Rattle.gw_main.specs.declared.words.Wanted.{Wanted}
 use Rattle.gw_main.specs.declared.words.Refusal.{Refusal}
 use Rattle.gw_main.specs.declared.words.Refusal.TheVariants as refusals
 
@@ -87,10 +87,10 @@ IsModelAt (Some word) places.Input = word ≡ codes "-"
 IsModelAt (Some word) (places.File path) = (word ≢ codes "-") × (path.now ≡ word)
 
 -- the words ask for a run
-pub record Asks (words : List Text) (asked : Asked) : Type 0 where
+pub record Asks (words : List Text) (wanted : Wanted) : Type 0 where
   pub taken : faults_of words ≡ []
-  pub model : IsModelAt (word_of words (codes "model")) asked.model
-  pub options : SaysOptions (word_of words) asked.options
+  pub model : IsModelAt (word_of words (codes "model")) wanted.model
+  pub options : SaysOptions (word_of words) wanted.options
 
 -- clap finds something wrong that is no request for help
 pub record IsBadLine (faults : Kinds) : Type 0 where
@@ -107,8 +107,8 @@ IsRefusedBy words (refusals.Bad text) =
 IsRefusedBy words refusals.Memory = Unit {0}
 
 -- what the words come to
-abbrev pub IsReadAs : List Text → Result Asked Refusal → Type 0
-IsReadAs words (Ok asked) = Asks words asked
+abbrev pub IsReadAs : List Text → Result Wanted Refusal → Type 0
+IsReadAs words (Ok wanted) = Asks words wanted
 IsReadAs words (Err refusal) = IsRefusedBy words refusal
 
 -- a refusal for an error of clap's, by its kind

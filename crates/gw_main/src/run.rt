@@ -8,7 +8,7 @@ ghost use Rattle.gw_main.specs.Programs.{Does, Helps, Proceeds, RunsAt};
 
 use crate::complaint::{complain, say, status};
 use crate::conversation::{converse, converse_over_file};
-use crate::words::{Asked, ModelAt, Refusal, read_words};
+use crate::words::{ModelAt, Refusal, Wanted, read_words};
 use gw_script::{Fault, Options, Over, ReadFault, Sink, Source};
 use std::alloc::Global;
 use std::convert::AsStr;
@@ -73,20 +73,20 @@ pub fn not_opened(error: ErrorKind) -> ReadFault
 // Does what the words came to.
 fn proceed<F: Source + Drop, O: FnOnce(&str) -> Result<F, ReadFault>, S: Source, K: Sink, E: Sink>(
     alloc: Global,
-    meant: Result<Asked<'_>, Refusal>,
+    meant: Result<Wanted<'_>, Refusal>,
     opener: O,
     reader: &mut S,
     writer: &mut K,
     errors: &mut E,
 ) -> u8
     requires callable { O.IsAlwaysCallable opener }
-    requires every { IfOk meant (λ asked. 1 ≤ asked.options.every) }
+    requires every { IfOk meant (λ wanted. 1 ≤ wanted.options.every) }
     ensures { Proceeds (FnOnceReturnsAt O.FnOnce opener)
         F.took F.ended F.failures S.took S.ended S.failures K.wrote K.failures E.wrote E.failures meant.entry reader.old
         reader.new writer.old writer.new errors.old errors.new result }
 {
     match meant {
-        Ok(asked) => serve(alloc, asked, opener, reader, writer, errors),
+        Ok(wanted) => serve(alloc, wanted, opener, reader, writer, errors),
         Err(Refusal::Help(text)) => help(text.as_bytes(), writer, errors),
         Err(Refusal::Bad(text)) => decline(errors, text.as_bytes(), 2),
         Err(Refusal::Memory) => decline(errors, b"stopped: F6\n", 3),
@@ -96,27 +96,27 @@ fn proceed<F: Source + Drop, O: FnOnce(&str) -> Result<F, ReadFault>, S: Source,
 // Runs what was asked for.
 fn serve<F: Source + Drop, O: FnOnce(&str) -> Result<F, ReadFault>, S: Source, K: Sink, E: Sink>(
     alloc: Global,
-    asked: Asked<'_>,
+    wanted: Wanted<'_>,
     opener: O,
     reader: &mut S,
     writer: &mut K,
     errors: &mut E,
 ) -> u8
     requires callable { O.IsAlwaysCallable opener }
-    requires every { 1 ≤ asked.options.every }
+    requires every { 1 ≤ wanted.options.every }
     ensures { RunsAt (FnOnceReturnsAt O.FnOnce opener)
-        F.took F.ended F.failures S.took S.ended S.failures K.wrote K.failures E.wrote E.failures asked.entry.model
-        asked.entry.options reader.old reader.new writer.old writer.new errors.old errors.new result }
+        F.took F.ended F.failures S.took S.ended S.failures K.wrote K.failures E.wrote E.failures wanted.entry.model
+        wanted.entry.options reader.old reader.new writer.old writer.new errors.old errors.new result }
 {
-    match asked.model {
+    match wanted.model {
         ModelAt::Input => end(
             alloc,
-            converse(alloc, asked.options, reader, writer),
+            converse(alloc, wanted.options, reader, writer),
             errors,
         ),
         ModelAt::File(path) => {
             let opened = opener(path);
-            let over = converse_over_file(alloc, asked.options, opened, reader, writer);
+            let over = converse_over_file(alloc, wanted.options, opened, reader, writer);
             end(alloc, over, errors)
         }
     }

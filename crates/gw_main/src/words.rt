@@ -22,7 +22,7 @@ pub enum ModelAt<'a> {
 
 /// What the words ask for.
 #[derive(Clone, Copy)]
-pub struct Asked<'a> {
+pub struct Wanted<'a> {
     /// Where the model stands.
     pub model: ModelAt<'a>,
     /// What it is opened with.
@@ -60,7 +60,7 @@ impl From<AllocError> for Refusal {
 ///
 /// A [`Refusal`], as soon as one is known: clap's fault before a bad number. [`Refusal::Memory`] may come for any
 /// words.
-pub fn read_words<'a, W: AsStr>(alloc: Global, words: &'a [W]) -> Result<Asked<'a>, Refusal>
+pub fn read_words<'a, W: AsStr>(alloc: Global, words: &'a [W]) -> Result<Wanted<'a>, Refusal>
     ensures { IsReadAs (map W.text words.entry.now) result }
 {
     let mut command = command(alloc)?;
@@ -69,7 +69,7 @@ pub fn read_words<'a, W: AsStr>(alloc: Global, words: &'a [W]) -> Result<Asked<'
         Err(error) => return Err(refusal_of(alloc, &error)),
     };
     match options_of(&matches) {
-        Ok(options) => Ok(Asked {
+        Ok(options) => Ok(Wanted {
             model: model_at(matches.get_str("model")),
             options,
         }),

@@ -1,5 +1,5 @@
 -- A chain in order of priority stays in order, whoever lines up on it.
-use Rattle.std.proofs.Common.{◌≡◌, suc, ℤ, pos, negsuc, true, false, List, [], ◌∷◌, ◌++◌, refl, ap, arith}
+use Rattle.std.proofs.Common.{◌≡◌, suc, ℤ, pos, negsuc, true, false, List, [], ◌∷◌, ◌++◌, length, refl, ap, arith}
 use Rattle.std.specs.List.{AllByRecursion}
 use Rattle.std.proofs.lemmas.Bool.{cond_both}
 use Rattle.std.proofs.lemmas.Bool.Decides.{nat_tests}
@@ -87,3 +87,10 @@ pub lined_up_behind : (x : Transaction) (front : List Transaction) (y : Transact
 lined_up_behind x [] y back h above rest = rw above (ap (λ zs. y ∷ zs) rest)
 lined_up_behind x (z ∷ zs) y back h above rest =
     rw (not_below z.priority y.priority x.priority (not_above_last z zs y back h.0) above) (ap (λ ws. z ∷ ws) (lined_up_behind x zs y back h.1 above rest))
+
+-- one more stands on it
+pub length_lined : (x : Transaction) (ys : List Transaction) → length (lined_up x ys) ≡ suc (length ys)
+length_lined x [] = refl
+length_lined x (y ∷ ys) =
+    cond_both (is_below y.priority x.priority) (x ∷ y ∷ ys) (y ∷ lined_up x ys) (λ zs. length zs ≡ suc (suc (length ys))) (λ _. refl)
+    (λ _. ap suc (length_lined x ys))

@@ -21,7 +21,7 @@ use Rattle.gw_streams.specs.declared.stream.Stream.{Stream}
 use Rattle.gw_streams.specs.declared.stream.Stream.TheVariants as streams
 use Rattle.gw_streams.specs.Draws.{next_of, start_of, stream_at, with_stream}
 use Rattle.gw_meaning.specs.declared.item.Item.{Item}
-use Rattle.gw_meaning.specs.declared.item.Asked.TheVariants as questions
+use Rattle.gw_meaning.specs.declared.item.Asked.TheVariants as asking
 use Rattle.gw_meaning.specs.declared.item.Item.TheVariants as items
 use Rattle.gw_meaning.specs.declared.item.End.{End}
 use Rattle.gw_meaning.specs.declared.item.End.TheVariants as ends
@@ -115,7 +115,7 @@ named name (Some n) = numbered n
 abbrev pub subject_prog : Subject → Eval Key
 subject_prog subjects.Own = ends_with (ends.Error Range)
 subject_prog (subjects.Number n) = numbered (pos n)
-subject_prog (subjects.Name name) = asks (items.Named questions.Number name) (named name)
+subject_prog (subjects.Name name) = asks (items.Named asking.Number name) (named name)
 
 -- the storage that an attribute is of, which each version has
 abbrev pub storage_prog : Subject → (Key → Eval ℤ) → Eval ℤ
@@ -127,7 +127,7 @@ abbrev pub units_left : Machine → Key → ℕ → Eval ℤ
 units_left s key capacity = amount (capacity - (store_at s.entities key).level.content)
 
 abbrev pub left_prog : Machine → Subject → Eval ℤ
-left_prog s (subjects.Name name) = asks (items.Named questions.Storage name) (units_left s (keys.Defined name))
+left_prog s (subjects.Name name) = asks (items.Named asking.Storage name) (units_left s (keys.Defined name))
 left_prog s subject = ends_with (ends.Error Range)
 
 -- the block that an attribute is of, which each version has
@@ -136,7 +136,7 @@ counted None f = ends_with (ends.Error Range)
 counted (Some id) f = f id
 
 abbrev pub block_count : Subject → (ℕ → Eval ℤ) → Eval ℤ
-block_count (subjects.Name name) f = asks (items.Named questions.Label name) (λ id. counted id f)
+block_count (subjects.Name name) f = asks (items.Named asking.Label name) (λ id. counted id f)
 block_count subject f = ends_with (ends.Error Range)
 
 -- the number that is drawn from the stream that an attribute is of, 1 to 7
@@ -222,11 +222,11 @@ arithmetic (Err arithmetic_faults.ZeroDivisor) = ends_with (ends.Error ZeroDivis
 
 -- what a state replies to what an evaluation wants, for whoever asks: a version is asked for what it says
 abbrev pub reply_prog : Machine → Asker → (q : Question) → Eval (Reply q)
-reply_prog s q (NumberOf name) = asks (items.Named questions.Number name) (λ number. gives number)
+reply_prog s q (NumberOf name) = asks (items.Named asking.Number name) (λ number. gives number)
 reply_prog s q (AttributeOf class of) = attribute_prog s q class of
 reply_prog s q (PartOf of) = random_part of
-reply_prog s q (VariableOf name) = asks (items.Named questions.Variable name) (λ expression. gives expression)
-reply_prog s q (FunctionOf name) = asks (items.Named questions.Function name) (λ function. gives function)
+reply_prog s q (VariableOf name) = asks (items.Named asking.Variable name) (λ expression. gives expression)
+reply_prog s q (FunctionOf name) = asks (items.Named asking.Function name) (λ function. gives function)
 
 -- an evaluation in a state
 abbrev pub evaluated : {A : Type 0} → Machine → Asker → Evaluation A → Eval A
@@ -252,7 +252,7 @@ value_or_zero s q (Some term) = value_prog s q term
 -- form leaves it out)
 abbrev pub entity_prog : Machine → Asker → Option Term → Eval Key
 entity_prog s q None = ends_with (ends.Error Range)
-entity_prog s q (Some (Named name)) = asks (items.Named questions.Number name) (named name)
+entity_prog s q (Some (Named name)) = asks (items.Named asking.Number name) (named name)
 entity_prog s q (Some term) = value_prog s q term ~> numbered
 
 -- how many units an operand says: from 1, and 1 where it is absent

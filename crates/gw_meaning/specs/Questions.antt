@@ -4,7 +4,7 @@ use Rattle.std.specs.Prelude.{ℕ, ℤ, Bool, List, [], ◌∷◌, Option, Resul
 use Rattle.gw_expr.specs.Term.{Term}
 use Rattle.gw_expr.specs.declared.function.Function.{Function}
 use Rattle.gw_meaning.specs.declared.item.Item.{Item}
-use Rattle.gw_meaning.specs.declared.item.Asked.TheVariants as questions
+use Rattle.gw_meaning.specs.declared.item.Asked.TheVariants as asking
 use Rattle.gw_meaning.specs.declared.item.Item.TheVariants as items
 use Rattle.gw_meaning.specs.declared.item.End.{End}
 use Rattle.gw_meaning.specs.declared.statement.Block.{Block}
@@ -15,12 +15,12 @@ use Rattle.gw_meaning.specs.Listing.{Listing, block_at, after_at, label_at, capa
 abbrev pub Answer : Item → Type 0
 Answer (items.Block id) = Option Block
 Answer (items.After id) = Option ℕ
-Answer (items.Named questions.Label name) = Option ℕ
-Answer (items.Named questions.Number name) = Option ℤ
-Answer (items.Named (questions.Fits units) name) = Bool
-Answer (items.Named questions.Storage name) = ℕ
-Answer (items.Named questions.Variable name) = Option Term
-Answer (items.Named questions.Function name) = Option Function
+Answer (items.Named asking.Label name) = Option ℕ
+Answer (items.Named asking.Number name) = Option ℤ
+Answer (items.Named (asking.Fits units) name) = Bool
+Answer (items.Named asking.Storage name) = ℕ
+Answer (items.Named asking.Variable name) = Option Term
+Answer (items.Named asking.Function name) = Option Function
 Answer items.Generates = List ℕ
 Answer (items.Cmd i) = Option Command
 Answer items.Seed = ℕ
@@ -30,12 +30,12 @@ Answer (items.Within time) = Bool
 abbrev pub ask : Listing → ℕ → (i : Item) → Answer i
 ask t seed (items.Block id) = block_at t id
 ask t seed (items.After id) = after_at t id
-ask t seed (items.Named questions.Label name) = label_at t name
-ask t seed (items.Named questions.Number name) = number_at t name
-ask t seed (items.Named (questions.Fits units) name) = nat_le units (capacity_at t name)
-ask t seed (items.Named questions.Storage name) = capacity_at t name
-ask t seed (items.Named questions.Variable name) = variable_at t name
-ask t seed (items.Named questions.Function name) = function_at t name
+ask t seed (items.Named asking.Label name) = label_at t name
+ask t seed (items.Named asking.Number name) = number_at t name
+ask t seed (items.Named (asking.Fits units) name) = nat_le units (capacity_at t name)
+ask t seed (items.Named asking.Storage name) = capacity_at t name
+ask t seed (items.Named asking.Variable name) = variable_at t name
+ask t seed (items.Named asking.Function name) = function_at t name
 ask t seed items.Generates = generates_in t.lines
 ask t seed (items.Cmd i) = command_at t i
 ask t seed items.Seed = seed

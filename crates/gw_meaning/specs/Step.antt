@@ -14,7 +14,7 @@ use Rattle.gw_names.specs.declared.key.Key.TheVariants as keys
 use Rattle.gw_names.specs.declared.verb.BlockVerb.{BlockVerb}
 use Rattle.gw_names.specs.declared.verb.BlockVerb.TheVariants as blocks
 use Rattle.gw_meaning.specs.declared.item.Item.{Item}
-use Rattle.gw_meaning.specs.declared.item.Asked.TheVariants as questions
+use Rattle.gw_meaning.specs.declared.item.Asked.TheVariants as asking
 use Rattle.gw_meaning.specs.declared.item.Item.TheVariants as items
 use Rattle.gw_meaning.specs.declared.item.End.{End}
 use Rattle.gw_meaning.specs.declared.item.End.TheVariants as ends
@@ -217,12 +217,12 @@ enter_or_wait id key store units false = gives (moves.Refuse id key units)
 abbrev pub enter_storage : ℕ → List ℕ → Store → ℕ → Bool → Eval Move
 enter_storage id name store units large =
     stops_if (not large) TooManyUnits
-    (asks (items.Named (questions.Fits (beside units store.level.content)) name)
+    (asks (items.Named (asking.Fits (beside units store.level.content)) name)
     (enter_or_wait id (keys.Defined name) store units))
 
 abbrev pub enter_prog : Machine → Asker → ℕ → Option Term → Option Term → Eval Move
 enter_prog s q id (Some (Defined name)) units = units_prog s q units ~>
-    (λ n. asks (items.Named (questions.Fits n) name)
+    (λ n. asks (items.Named (asking.Fits n) name)
     (enter_storage id name (store_at s.entities (keys.Defined name)) n))
 enter_prog s q id storage units = ends_with (ends.Error Range)
 
@@ -236,7 +236,7 @@ in_use content units fits = if fits then beside units content else content
 
 abbrev pub shares_prog : List ℕ → ℕ → List (Option ℕ) → List Transaction → Eval (List (Option ℕ))
 shares_prog name content shares [] = gives shares
-shares_prog name content shares (x ∷ xs) = asks (items.Named (questions.Fits (beside x.asked content)) name)
+shares_prog name content shares (x ∷ xs) = asks (items.Named (asking.Fits (beside x.asked content)) name)
     (λ fits. shares_prog name (in_use content x.asked fits) (shares ++ share_of x.asked fits ∷ []) xs)
 
 -- the units of those who are let in
@@ -269,7 +269,7 @@ go_to id None = ends_with (ends.Error NoNextBlock)
 go_to id (Some to) = gives (moves.Enter id (changes.Transaction (own.Transfer to)) fates.Active)
 
 abbrev pub lead_to : ℕ → Option Term → Eval Move
-lead_to id (Some (Label name)) = asks (items.Named questions.Label name) (go_to id)
+lead_to id (Some (Label name)) = asks (items.Named asking.Label name) (go_to id)
 lead_to id label = gives (moves.Enter id changes.Nothing fates.Active)
 
 abbrev pub by_fraction : ℕ → ℕ → Option Term → Option Term → Eval Move
@@ -323,7 +323,7 @@ loop_back id key left None = ends_with (ends.Error NoNextBlock)
 loop_back id key left (Some to) = gives (moves.Enter id (changes.Transaction (own.Loop key left to)) fates.Active)
 
 abbrev pub loop_to : ℕ → Key → ℤ → Option Term → Eval Move
-loop_to id key left (Some (Label name)) = asks (items.Named questions.Label name) (loop_back id key left)
+loop_to id key left (Some (Label name)) = asks (items.Named asking.Label name) (loop_back id key left)
 loop_to id key left label = ends_with (ends.Error NoNextBlock)
 
 abbrev pub loop_with : ℕ → Key → ℤ → Option Term → Eval Move

@@ -1,22 +1,14 @@
 -- what the scans for a number or a label given twice find
-use Rattle.std.proofs.Common.{◌≡◌, ℕ, zero, suc, List, [], ◌∷◌, refl, Bool, true, false, arith, ◌<◌, Option, Some, None, ◌||◌, ◌≢◌, ◌==◌, sym, ap, ◌∙◌, subst}
+use Rattle.std.proofs.Common.{◌≡◌, ℕ, zero, suc, List, [], ◌∷◌, refl, Bool, true, false, arith, ◌<◌, Option, Some, None, ◌≢◌, ◌==◌, sym, ap, ◌∙◌, subst}
 use Rattle.std.specs.List.{list_any, slice_get}
 use Rattle.std.specs.Str.{bytes_eq}
-use Rattle.std.proofs.lemmas.Bool.{eq-eqb, ne_eqb, false≢true, both_ways, false_from_ne_true}
+use Rattle.std.proofs.lemmas.Bool.{eq-eqb, ne_eqb, both_ways, false_from_ne_true, or_parts, or_from}
 use Rattle.std.proofs.lemmas.Slice.Eq.{bytes_eq-Decides}
 use Rattle.gw_meaning.specs.Listing.{has_label}
 use Rattle.gw_meaning.specs.declared.statement.Numbered.{Numbered}
 use Rattle.gw_meaning.specs.declared.statement.Replication.{Replication}
 use Rattle.gw_model.specs.Listed.{counted_label}
 use Rattle.gw_model.specs.Faults.{has_number, has_number_twice, has_label_twice, is_labelled}
-
--- the two sides of an `or` that does not hold
-pub or_parts : (a b : Bool) → (a || b) ≡ false → (a ≡ false) × (b ≡ false)
-or_parts true b h = absurd (false≢true (sym h))
-or_parts false b h = (refl, h)
-
-pub or_from : (a b : Bool) → a ≡ false → b ≡ false → (a || b) ≡ false
-or_from a b h k = rw (h, k)
 
 pub none_of : {X : Type 0} (p : X → Bool) (xs : List X) → list_any p xs ≡ false → (i : ℕ) (x : X) → slice_get xs i ≡ Some x → p x ≡ false
 none_of p [] h i x e = cc
@@ -58,7 +50,7 @@ abbrev pub LabelsApart : List Numbered → Type 0
 LabelsApart lines = (i j : ℕ) (k l : Numbered) (m n : List ℕ) → i < j → slice_get lines i ≡ Some k → slice_get lines j ≡ Some l → counted_label k ≡ Some m →
     counted_label l ≡ Some n → m ≢ n
 
-same_bytes : (name : List ℕ) → bytes_eq name name ≡ true
+pub same_bytes : (name : List ℕ) → bytes_eq name name ≡ true
 same_bytes name = (bytes_eq-Decides name name).1 refl
 
 apart_bytes : (m n : List ℕ) → m ≢ n → bytes_eq m n ≡ false

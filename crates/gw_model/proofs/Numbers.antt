@@ -8,7 +8,7 @@ use Rattle.gw_meaning.specs.declared.statement.Numbered.{Numbered}
 use Rattle.gw_meaning.specs.Listing.{line_in, nth}
 use Rattle.gw_meaning.specs.Numbers.{AreNumbered}
 use Rattle.gw_model.specs.Listed.{numbered}
-use Rattle.gw_model.specs.Spliced.{greatest_number, number_in, come, spliced}
+use Rattle.gw_model.specs.Spliced.{greatest_number, number_in, inserted, spliced}
 
 -- a number that no line has: not the first one, and not those behind it
 pub absent_first : (line : Numbered) (lines : List Numbered) (k : ℕ) → line_in (line ∷ lines) k ≡ None → ((line.number == k) ≡ false) × (line_in lines k ≡ None)
@@ -22,7 +22,7 @@ absent_from line lines k other none = subst (λ (b : Bool). cond b (Some line) (
 pub other_way : (m n : ℕ) → (m == n) ≡ false → (n == m) ≡ false
 other_way m n h = ne_eqb n m (λ e. both_ways (m == n) h (eq-eqb m n (sym e)))
 
--- a line that comes in, and one that goes out
+-- a line that is inserted, and one that is deleted
 absent_with : (front back : List Numbered) (line : Numbered) (k : ℕ) → (line.number == k) ≡ false → line_in (front ++ back) k ≡ None →
     line_in (front ++ line ∷ back) k ≡ None
 absent_with [] back line k other none = absent_from line back k other none
@@ -52,7 +52,7 @@ apart_front : (x : Numbered) (front back : List Numbered) (line : Numbered) → 
 apart_front x [] back line none = other_way line.number x.number ((absent_first line back x.number none).0)
 apart_front x (y ∷ front) back line none = apart_front x front back line ((absent_first y (front ++ line ∷ back) x.number none).1)
 
--- the number of the line that goes out is gone, and is at least 1
+-- the number of the deleted line is gone, and is at least 1
 pub absent_gone : (front back : List Numbered) (line : Numbered) → AreNumbered (front ++ line ∷ back) → line_in (front ++ back) line.number ≡ None
 absent_gone [] back line apart = apart.1
 absent_gone (x ∷ front) back line apart =
@@ -80,11 +80,11 @@ cut_at [] i less = absurd (omega arith)
 cut_at (y ∷ ys) zero less = (y, record { found = refl; parts = refl })
 cut_at (y ∷ ys) (suc i) less = let rest = cut_at ys i (omega arith) in (rest.0, record { found = rest.1.found; parts = ap (λ zs. y ∷ zs) rest.1.parts })
 
--- what comes in between lines that have not its number
-come_between : (front back : List Numbered) (number : ℕ) (comes : Option Statement) → 1 ≤ number → AreNumbered (front ++ back) →
-    line_in (front ++ back) number ≡ None → AreNumbered (front ++ come number comes ++ back)
-come_between front back number None least apart none = rw append-nil apart
-come_between front back number (Some s) least apart none =
+-- what is inserted between lines that have not its number
+inserted_between : (front back : List Numbered) (number : ℕ) (inserts : Option Statement) → 1 ≤ number → AreNumbered (front ++ back) →
+    line_in (front ++ back) number ≡ None → AreNumbered (front ++ inserted number inserts ++ back)
+inserted_between front back number None least apart none = rw append-nil apart
+inserted_between front back number (Some s) least apart none =
     rw append_assoc (numbered_with front back (record { number = number; statement = s }) least apart none)
 
 -- the item at a position is the one at the index before
@@ -93,15 +93,15 @@ nth_get xs position x least h =
     let e : suc (position - 1) ≡ position = omega arith in
     subst (λ (p : ℕ). nth xs p ≡ Some x) e h
 
-pub numbered_spliced : (lines : List Numbered) (position : ℕ) (goes : Bool) (comes : Option Statement) → 1 ≤ position →
-    (goes ≡ true → position ≤ length lines) → AreNumbered lines → AreNumbered (spliced lines position goes comes)
-numbered_spliced lines position false comes least there apart =
+pub numbered_spliced : (lines : List Numbered) (position : ℕ) (deletes : Bool) (inserts : Option Statement) → 1 ≤ position →
+    (deletes ≡ true → position ≤ length lines) → AreNumbered lines → AreNumbered (spliced lines position deletes inserts)
+numbered_spliced lines position false inserts least there apart =
     let i = position - 1 in
     let whole : lines ≡ take i lines ++ drop i lines = sym (take-append-drop i lines) in
-    come_between (take i lines) (drop i lines) (greatest_number lines + 1) comes (omega arith)
+    inserted_between (take i lines) (drop i lines) (greatest_number lines + 1) inserts (omega arith)
     (subst (λ (ls : List Numbered). AreNumbered ls) whole apart)
     (subst (λ (ls : List Numbered). line_in ls (greatest_number lines + 1) ≡ None) whole (new_absent lines))
-numbered_spliced lines position true comes least there apart =
+numbered_spliced lines position true inserts least there apart =
     let i = position - 1 in
     let within : position ≤ length lines = there refl in
     let cut = cut_at lines i (omega arith) in
@@ -111,8 +111,8 @@ numbered_spliced lines position true comes least there apart =
     let next : suc i ≡ position = omega arith in
     let parts : lines ≡ front ++ line ∷ back = subst (λ (p : ℕ). lines ≡ front ++ line ∷ drop p lines) next cut.1.parts in
     let parted : AreNumbered (front ++ line ∷ back) = subst (λ (ls : List Numbered). AreNumbered ls) parts apart in
-    subst (λ (o : Option Numbered). AreNumbered (front ++ come (number_in lines o) comes ++ back)) (sym (nth_get lines position line least cut.1.found))
-    (come_between front back line.number comes (least_in front back line parted) (numbered_without front back line parted) (absent_gone front back line parted))
+    subst (λ (o : Option Numbered). AreNumbered (front ++ inserted (number_in lines o) inserts ++ back)) (sym (nth_get lines position line least cut.1.found))
+    (inserted_between front back line.number inserts (least_in front back line parted) (numbered_without front back line parted) (absent_gone front back line parted))
 
 -- numbers one after another
 absent_numbered : (first : ℕ) (statements : List Statement) (k : ℕ) → k < first → line_in (numbered first statements) k ≡ None

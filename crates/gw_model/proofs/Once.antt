@@ -92,7 +92,7 @@ pub function_once : (t : Listing) (name : List ℕ) → Well t → function_at t
 function_once t name well = said_once name function_of refl t.lines (labels_once t.lines well.labels_apart)
 
 -- where no statement is an EQU, no name stands for a number
-is_none : {X : Type 0} (o : Option X) → is_some o ≡ false → o ≡ None
+pub is_none : {X : Type 0} (o : Option X) → is_some o ≡ false → o ≡ None
 is_none None h = refl
 is_none (Some x) h = absurd cc
 

@@ -1,7 +1,7 @@
 -- a version without a fault is what a version may be, and the other way round
 use Rattle.std.proofs.Common.{◌≡◌, ℕ, refl, false, ◌≤◌, List, length, Option, None, nat_lt, inl, inr, ◌∙◌}
 use Rattle.std.specs.List.{list_any}
-use Rattle.std.proofs.lemmas.Bool.{ltb-false, le-ltb, cases_Bool}
+use Rattle.std.proofs.lemmas.Bool.{ltb-false, le-ltb, cases_Bool, or_parts, or_from}
 use Rattle.gw_meaning.specs.Listing.{Listing}
 use Rattle.gw_meaning.specs.declared.statement.Numbered.{Numbered}
 use Rattle.gw_meaning.specs.declared.statement.Replication.{Replication}
@@ -9,7 +9,7 @@ use Rattle.gw_model.specs.Faults.{fault_of, is_too_long, has_bad_replication, is
 use Rattle.gw_model.specs.declared.fault.ModelFault.{ModelFault}
 use Rattle.gw_model.specs.declared.fault.ModelFault.TheVariants.{TooMany, BadSeed, BadHorizon, LabelTwice, NoSuchLabel, NoSuchDefinition, EquNamedDefinition, Memory}
 use Rattle.gw_model.specs.Well.{Well, IsSeeded}
-use Rattle.gw_model.proofs.Apart.{or_parts, or_from, none_of, none_from, numbers_apart, numbers_once, labels_apart, labels_once}
+use Rattle.gw_model.proofs.Apart.{none_of, none_from, numbers_apart, numbers_once, labels_apart, labels_once}
 use Rattle.gw_model.proofs.Known.{labels_there, counts_there, contents_there, variables_there, functions_there, labels_known, storages_there, numbers_there, definitions_known, none_equ_named}
 
 -- a number in range

@@ -1,5 +1,5 @@
--- The one way in which a version's statements become others: at a position the statement there goes, or stays, and
--- another one comes in, or none. (Our own.)
+-- The one way in which a version's statements become others: at a position the statement there is deleted, or
+-- stays, and another one is inserted, or none. (Our own.)
 use Rattle.std.specs.Prelude.{ℕ, ◌+◌, ◌-◌, Bool, List, [], ◌∷◌, ◌++◌, Option, Some, None, if◌then◌else◌, take, drop, max}
 use Rattle.gw_meaning.specs.declared.statement.Statement.{Statement}
 use Rattle.gw_meaning.specs.declared.statement.Numbered.{Numbered}
@@ -10,23 +10,23 @@ abbrev pub greatest_number : List Numbered → ℕ
 greatest_number [] = 0
 greatest_number (line ∷ lines) = max line.number (greatest_number lines)
 
--- the number of the statement that comes in: that of the one that goes, else the one above all that are there
+-- the number of the inserted statement: that of the deleted one, else the one above all that are there
 abbrev pub number_in : List Numbered → Option Numbered → ℕ
 number_in lines None = greatest_number lines + 1
-number_in lines (Some gone) = gone.number
+number_in lines (Some deleted) = deleted.number
 
--- the statement that comes in, with its number
-abbrev pub come : ℕ → Option Statement → List Numbered
-come number None = []
-come number (Some statement) = record { number = number; statement = statement } ∷ []
+-- the inserted statement, with its number
+abbrev pub inserted : ℕ → Option Statement → List Numbered
+inserted number None = []
+inserted number (Some statement) = record { number = number; statement = statement } ∷ []
 
 -- the statements after a splice at a position, from 1
 abbrev pub spliced : List Numbered → ℕ → Bool → Option Statement → List Numbered
-spliced lines position goes comes =
+spliced lines position deletes inserts =
     take (position - 1) lines
-    ++ come (number_in lines (if goes then nth lines position else None)) comes
-    ++ drop (if goes then position else position - 1) lines
+    ++ inserted (number_in lines (if deletes then nth lines position else None)) inserts
+    ++ drop (if deletes then position else position - 1) lines
 
 -- the version with them
 abbrev pub with_splice : Listing → ℕ → Bool → Option Statement → Listing
-with_splice t position goes comes = record t { lines = spliced t.lines position goes comes }
+with_splice t position deletes inserts = record t { lines = spliced t.lines position deletes inserts }

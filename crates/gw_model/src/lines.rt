@@ -1,7 +1,7 @@
 ghost use Rattle.std.specs.Prelude.{◌≡◌, ◌≤◌, ◌+◌, ◌++◌, if◌then◌else◌, length, IsTrue, IfOk, IfSome, OnOk, Some, None, is_some, true};
 ghost use Rattle.gw_meaning.specs.Listing.{nth};
 ghost use Rattle.gw_model.specs.Listed.{numbered};
-ghost use Rattle.gw_model.specs.Spliced.{come, greatest_number, number_in, spliced};
+ghost use Rattle.gw_model.specs.Spliced.{inserted, greatest_number, number_in, spliced};
 
 use crate::lists::nth;
 use gw_meaning::{Numbered, Statement, StatementId};
@@ -19,42 +19,42 @@ pub fn number(alloc: Global, statements: Vec<Statement>) -> Result<Vec<Numbered>
     Ok(lines)
 }
 
-/// The lines with one splice at a position, from 1: the line there goes, or stays, and a statement comes in, or none.
-/// It keeps the number of the one that goes, and else gets the number above all of theirs.
+/// The lines with one splice at a position, from 1: the line there is deleted, or stays, and a statement is inserted, or
+/// none. It keeps the number of the deleted one, and else gets the number above all of theirs.
 pub fn spliced(
     alloc: Global,
     lines: &[Numbered],
     position: u64,
-    goes: bool,
-    comes: Option<Statement>,
+    deletes: bool,
+    inserts: Option<Statement>,
 ) -> Result<Vec<Numbered>, AllocError>
     requires first { 1 ≤ position }
     requires last { position ≤ length lines.now + 1 }
-    requires there { IsTrue goes → position ≤ length lines.now }
-    ensures { IfOk result (λ made. made.items ≡ spliced lines.now position goes comes) }
+    requires there { IsTrue deletes → position ≤ length lines.now }
+    ensures { IfOk result (λ made. made.items ≡ spliced lines.now position deletes inserts) }
 {
     let index = position as usize - 1;
-    let end = if goes { index + 1 } else { index };
+    let end = if deletes { index + 1 } else { index };
     let mut made = Vec::new(alloc);
-    let comes = copy_behind(alloc, &mut made, &lines[..index]).and(Ok(comes))?;
-    put_coming(&mut made, lines, position, goes, comes)?;
+    let inserts = copy_behind(alloc, &mut made, &lines[..index]).and(Ok(inserts))?;
+    put_inserted(&mut made, lines, position, deletes, inserts)?;
     copy_behind(alloc, &mut made, &lines[end..])?;
     Ok(made)
 }
 
-// Puts the statement that comes in, if any, behind those that are made, with its number.
-fn put_coming(
+// Puts the inserted statement, if any, behind those that are made, with its number.
+fn put_inserted(
     made: &mut Vec<Numbered>,
     lines: &[Numbered],
     position: u64,
-    goes: bool,
-    comes: Option<Statement>,
+    deletes: bool,
+    inserts: Option<Statement>,
 ) -> Result<(), AllocError>
     ensures { OnOk result (made.new.items ≡ made.old.items
-        ++ come (number_in lines.now (if goes then nth lines.now position else None)) comes) }
+        ++ inserted (number_in lines.now (if deletes then nth lines.now position else None)) inserts) }
 {
-    match comes {
-        Some(statement) => put(made, number_in(lines, position, goes), statement),
+    match inserts {
+        Some(statement) => put(made, number_in(lines, position, deletes), statement),
         None => Ok(()),
     }
 }
@@ -66,19 +66,19 @@ fn put(
     statement: Statement,
 ) -> Result<(), AllocError>
     ensures some { OnOk result (is_some number ≡ true) }
-    ensures behind { IfSome number (λ n. OnOk result (made.new.items ≡ made.old.items ++ come n (Some statement))) }
+    ensures behind { IfSome number (λ n. OnOk result (made.new.items ≡ made.old.items ++ inserted n (Some statement))) }
 {
     let (number, statement) = number.zip(Some(statement)).ok_or(AllocError)?;
     made.push(Numbered { number, statement })
         .or(Err(AllocError))
 }
 
-// The number of the statement that comes in at a position, if there is a number for it.
-fn number_in(lines: &[Numbered], position: u64, goes: bool) -> Option<StatementId>
-    ensures { IfSome result (λ n. n ≡ number_in lines.now (if goes then nth lines.now position else None)) }
+// The number of the statement that is inserted at a position, if there is a number for it.
+fn number_in(lines: &[Numbered], position: u64, deletes: bool) -> Option<StatementId>
+    ensures { IfSome result (λ n. n ≡ number_in lines.now (if deletes then nth lines.now position else None)) }
 {
-    let gone = if goes { nth(lines, position) } else { None };
-    match gone {
+    let deleted = if deletes { nth(lines, position) } else { None };
+    match deleted {
         Some(line) => Some(line.number),
         None => StatementId::new(greatest_number(lines).checked_add(1)?),
     }

@@ -71,26 +71,32 @@ impl Version {
         Version::from_lines(alloc, lines, horizon, replications, limit)
     }
 
-    /// The version with one splice of its statements at a position, from 1: the statement there goes, or stays, and
-    /// another one comes in, or none. That keeps the number of the one that goes, and else gets the number above all
-    /// that are there. The faults are those of `new`. The version itself stays as it is.
+    /// The version with one splice of its statements at a position, from 1: the statement there is deleted, or stays,
+    /// and another one is inserted, or none. That keeps the number of the deleted one, and else gets the number above
+    /// all that are there. The faults are those of `new`. The version itself stays as it is.
     pub fn with_splice(
         &self,
         alloc: Global,
         position: u64,
-        goes: bool,
-        comes: Option<Statement>,
+        deletes: bool,
+        inserts: Option<Statement>,
     ) -> Result<Version, ModelFault>
         requires first { 1 ≤ position }
         requires last { position ≤ length self.now.lines + 1 }
-        requires there { IsTrue goes → position ≤ length self.now.lines }
-        ensures value { IfOk result (λ v. v ≡ with_splice self.now position goes comes) }
+        requires there { IsTrue deletes → position ≤ length self.now.lines }
+        ensures value { IfOk result (λ v. v ≡ with_splice self.now position deletes inserts) }
         ensures found { IfOk result (λ v. Well v) }
-        ensures none { OnOk result (fault_of (with_splice self.now position goes comes) ≡ None) }
-        ensures fault { IfErr result (λ f. IsFault (fault_of (with_splice self.now position goes comes)) f) }
-        ensures only { Well (with_splice self.now position goes comes) → IfErr result (λ f. f ≡ Memory) }
+        ensures none { OnOk result (fault_of (with_splice self.now position deletes inserts) ≡ None) }
+        ensures fault { IfErr result (λ f. IsFault (fault_of (with_splice self.now position deletes inserts)) f) }
+        ensures only { Well (with_splice self.now position deletes inserts) → IfErr result (λ f. f ≡ Memory) }
     {
-        let lines = spliced(alloc, self.tabled.lines.as_slice(), position, goes, comes)?;
+        let lines = spliced(
+            alloc,
+            self.tabled.lines.as_slice(),
+            position,
+            deletes,
+            inserts,
+        )?;
         let replications = Vec::from_slice(alloc, self.replications.as_slice())?;
         Version::from_lines(alloc, lines, self.horizon.ticks(), replications, self.limit)
     }

@@ -5,12 +5,12 @@ use Rattle.std.specs.List.{list_all}
 use Rattle.std.specs.Ordering.{nat_cmp, ordering_reverse}
 use Rattle.std.specs.Cmp.Lexicographic.{slice_cmp}
 use Rattle.std.proofs.lemmas.Bool.Decides.{nat_tests}
-use Rattle.std.proofs.lemmas.Bool.{cases_order}
+use Rattle.std.proofs.lemmas.Bool.{cases_order, and_parts}
 use Rattle.std.proofs.lemmas.Cmp.{nat_list_cmp_total, tied_itself}
 use Rattle.std.proofs.lemmas.Slice.Eq.{bytes_eq-Decides}
 use Rattle.gw_names.specs.Names.{name_of, is_name_byte}
 use Rattle.gw_names.specs.Heads.{bytes_from, head_of}
-use Rattle.gw_names.proofs.SameHeads.{both, above_zero, below_256, bytes_of_name, short_by_heads}
+use Rattle.gw_names.proofs.SameHeads.{above_zero, below_256, bytes_of_name, short_by_heads}
 
 -- the number that bytes read as behind a number read so far: each is a further digit in base 256
 read : ℕ → List ℕ → ℕ
@@ -67,14 +67,14 @@ less_by_bytes so_far [] [] n a b less = absurd (omega arith)
 less_by_bytes so_far [] (y ∷ ys) n a b less = refl
 less_by_bytes so_far (x ∷ xs) [] zero a b less = absurd (omega arith)
 less_by_bytes so_far (x ∷ xs) [] (suc n) a b less =
-    let above = above_zero x (both _ _ a).0 in
+    let above = above_zero x (and_parts _ _ a).0 in
     let more = stays_less [] (x ∷ xs) (below_256 [] b) n 1 1 (so_far * 256 + 0) (so_far * 256 + x) (omega arith) in
     absurd (omega arith)
 less_by_bytes so_far (x ∷ xs) (y ∷ ys) zero a b less = absurd (omega arith)
 less_by_bytes so_far (x ∷ xs) (y ∷ ys) (suc n) a b less =
     let behind = rw (behind_first x xs 0 n, behind_first y ys 0 n) at less in
-    let rest_a = (both _ _ a).1 in
-    let rest_b = (both _ _ b).1 in
+    let rest_a = (and_parts _ _ a).1 in
+    let rest_b = (and_parts _ _ b).1 in
     by_first so_far x y xs ys n rest_b behind (λ same. less_by_bytes (so_far * 256 + y) xs ys n rest_a rest_b (rw same at behind))
 
 -- eight digits in base 256, each with its power, are the number that they read as one behind the other

@@ -1,22 +1,17 @@
 -- Names whose heads differ are two; a name of fewer than eight bytes is told by its head.
-use Rattle.std.proofs.Common.{◌≡◌, ◌≢◌, ℕ, zero, suc, ◌<◌, ◌+◌, Bool, true, false, ◌&&◌, ap, refl, sym, ◌∙◌, arith, rules}
+use Rattle.std.proofs.Common.{◌≡◌, ◌≢◌, ℕ, zero, suc, ◌<◌, ◌+◌, true, false, ap, refl, sym, ◌∙◌, arith, rules}
 use Rattle.std.proofs.Common.{List, [], ◌∷◌, Some, length, get_or, drop}
 use Rattle.std.specs.List.{list_all}
 use Rattle.std.specs.Str.{bytes_eq}
 use Rattle.std.specs.Char.{is_ascii_alphabetic}
-use Rattle.std.proofs.lemmas.Bool.{false_from_ne_true}
+use Rattle.std.proofs.lemmas.Bool.{false_from_ne_true, and_parts}
 use Rattle.std.proofs.lemmas.Bool.Decides.{nat_tests}
 use Rattle.std.proofs.lemmas.Nat.{be_bytes_8}
 use Rattle.std.proofs.lemmas.Slice.Eq.{bytes_eq-Decides}
 use Rattle.gw_names.specs.Names.{name_of, is_name_text, is_name_byte}
 use Rattle.gw_names.specs.Heads.{bytes_from, head_of}
 
-pub both : (p q : Bool) → (p && q) ≡ true → (p ≡ true) × (q ≡ true)
-both true true e = (refl, refl)
-both true false e = cc
-both false q e = cc
-
-letter_is_name_byte : (b : ℕ) → is_ascii_alphabetic b ≡ true → is_name_byte b ≡ true
+pub letter_is_name_byte : (b : ℕ) → is_ascii_alphabetic b ≡ true → is_name_byte b ≡ true
 letter_is_name_byte b e = grind (arith, nat_tests)
 
 pub above_zero : (b : ℕ) → is_name_byte b ≡ true → 0 < b
@@ -29,8 +24,8 @@ in_a_byte b e = grind (arith, nat_tests)
 name_bytes : (text : List ℕ) → is_name_text text ≡ true → list_all is_name_byte text ≡ true
 name_bytes [] e = cc
 name_bytes (b ∷ bs) e =
-    let first : is_ascii_alphabetic b ≡ true = (both _ _ e).0 in
-    let others : list_all is_name_byte bs ≡ true = (both _ _ (both _ _ e).1).1 in
+    let first : is_ascii_alphabetic b ≡ true = (and_parts _ _ e).0 in
+    let others : list_all is_name_byte bs ≡ true = (and_parts _ _ (and_parts _ _ e).1).1 in
     rw (letter_is_name_byte b first, others) refl
 
 pub bytes_of_name : (bytes : List ℕ) → name_of bytes ≡ Some bytes → list_all is_name_byte bytes ≡ true
@@ -39,21 +34,21 @@ bytes_of_name bytes is_name = search (rules, name_bytes)
 
 pub below_256 : (bs : List ℕ) → list_all is_name_byte bs ≡ true → (i : ℕ) → get_or bs i 0 < 256
 below_256 [] e i = omega arith
-below_256 (b ∷ bs) e zero = in_a_byte b (both _ _ e).0
-below_256 (b ∷ bs) e (suc i) = below_256 bs (both _ _ e).1 i
+below_256 (b ∷ bs) e zero = in_a_byte b (and_parts _ _ e).0
+below_256 (b ∷ bs) e (suc i) = below_256 bs (and_parts _ _ e).1 i
 
 -- two lists of name bytes that agree below a bound are one, where the first is shorter than that
 alike : (xs ys : List ℕ) (n : ℕ) → length xs < n → list_all is_name_byte xs ≡ true → list_all is_name_byte ys ≡ true
     → ((i : ℕ) → i < n → get_or xs i 0 ≡ get_or ys i 0) → xs ≡ ys
 alike [] [] n short a b same = refl
 alike [] (y ∷ ys) n short a b same =
-    let above = above_zero y (both _ _ b).0 in let here = same 0 short in absurd (omega arith)
+    let above = above_zero y (and_parts _ _ b).0 in let here = same 0 short in absurd (omega arith)
 alike (x ∷ xs) [] n short a b same =
-    let above = above_zero x (both _ _ a).0 in let here = same 0 (omega arith) in absurd (omega arith)
+    let above = above_zero x (and_parts _ _ a).0 in let here = same 0 (omega arith) in absurd (omega arith)
 alike (x ∷ xs) (y ∷ ys) zero short a b same = absurd (omega arith)
 alike (x ∷ xs) (y ∷ ys) (suc n) short a b same =
     let here : x ≡ y = same 0 (omega arith) in
-    let rest : xs ≡ ys = alike xs ys n (omega arith) (both _ _ a).1 (both _ _ b).1 (λ i small. same (suc i) (omega arith)) in
+    let rest : xs ≡ ys = alike xs ys n (omega arith) (and_parts _ _ a).1 (and_parts _ _ b).1 (λ i small. same (suc i) (omega arith)) in
     rw (here, rest) refl
 
 from_below_256 : (text : List ℕ) → ((i : ℕ) → get_or text i 0 < 256) → (i n j : ℕ) → get_or (bytes_from text i n) j 0 < 256

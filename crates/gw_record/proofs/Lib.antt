@@ -1,3 +1,4 @@
+pub mod Blank
 pub mod RecordLaws
 pub mod KeepLaws
 pub mod ReachLaws

@@ -31,36 +31,12 @@ use Rattle.gw_record.specs.declared.kept.Kept.{Kept}
 use Rattle.gw_uses.specs.declared.first_uses.FirstUses.{FirstUses}
 use Rattle.gw_uses.specs.Steps.{below, AreBelow}
 use Rattle.gw_uses.specs.Uses.{first_in}
-use Rattle.gw_record.specs.Tape.{Tape, blank, from_tip, Records, IsKeptUp, IsStartEnd, IsWanted, IsThere, IsOfRun, IsEndThere, IsStateIn}
+use Rattle.gw_record.specs.Tape.{Tape, from_tip, Records, IsKeptUp, IsStartEnd, IsWanted, IsThere, IsOfRun, IsEndThere, IsStateIn}
 use Rattle.gw_record.specs.Parting.{AreInOrder}
 use Rattle.gw_record.specs.Lookups.{IsStateAt}
 use Rattle.gw_uses.proofs.UseLaws.{reading_cut}
 use Rattle.gw_meaning.specs.declared.item.Item.TheVariants as items
-use Rattle.gw_uses.specs.Uses.{nothing_used, first_in, AreFirstUses}
-
--- nothing is used yet
-nothing_yet : (item : Item) → first_in nothing_used item ≡ None
-nothing_yet (items.Block id) = refl
-nothing_yet item = refl
-
-pub blank_firsts : (t : Listing) (seed : ℕ) → AreFirstUses t seed 0 nothing_used
-blank_firsts t seed = record { each = nothing_yet; clock = λ i d less. absurd (omega (arith, less)) }
-
--- the run of no steps
-pub blank_records : (t : Listing) (seed every : ℕ) → Records t seed (blank every)
-blank_records t seed every = record {
-  tip = refl;
-  from = omega arith;
-  within = omega arith;
-  kept = λ i e is. absurd cc;
-  rising = λ i j d before within. absurd (omega (arith, within));
-  all_kept = λ m from less want. absurd (omega (arith, less));
-  ends = λ i m is. absurd cc;
-  ends_rise = λ i j d before within. absurd (omega (arith, within));
-  all_ends = λ m u less is. absurd (omega (arith, less));
-  tip_end = omega arith;
-  firsts = blank_firsts t seed;
-}
+use Rattle.gw_uses.specs.Uses.{first_in}
 
 -- the last of a longer list, or one of those before
 pushed_at :

@@ -1,7 +1,7 @@
 //! Recorded runs: a run from zero with states kept on its way from a start on, and for each item the first step that
 //! uses it.
 //!
-//! [`Recorded::extend`] makes the steps of the definitions. Every state that a recorded run lends is the state of
+//! [`Recorded::extend`] makes the steps of the definitions. Every state that a recorded run returns is the state of
 //! the run from zero at that moment, and [`Recorded::first_use`] is the first step that uses an item, no earlier
 //! and no later. [`Recorded::cut`] goes back to the last kept moment, without memory.
 #![tactic(auto)]

@@ -53,7 +53,7 @@ impl Model for Recorded {
 
 impl Recorded {
     /// The run of no steps, which starts at 0, and is to keep the states at the multiples of `every` (1 to 1,000,000).
-    #[tactic(auto, using(crate::proofs::RecordLaws::blank_firsts))]
+    #[tactic(auto, using(crate::proofs::Blank::blank_firsts))]
     pub fn new(alloc: Global, every: u64) -> Recorded
         requires { 1 ≤ every }
         ensures value { result ≡ blank every }

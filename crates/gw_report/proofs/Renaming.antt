@@ -1,5 +1,5 @@
 -- The report of a version with its ids renamed is the report.
-use Rattle.std.proofs.Common.{◌≡◌, ℕ, ℤ, suc, ◌-◌, true, false, cond, ◌&&◌, List, [], ◌∷◌, ◌++◌, map, filter, length, Option, Some, None, is_some, option_map, option_to_list, unwrap_or, refl, ap, ap₂, ◌∙◌}
+use Rattle.std.proofs.Common.{◌≡◌, ℕ, ℤ, suc, ◌-◌, true, false, cond, List, [], ◌∷◌, ◌++◌, map, filter, length, Option, Some, None, option_map, option_to_list, unwrap_or, refl, ap, ap₂, ◌∙◌}
 use Rattle.std.specs.Prelude.{decimal, nat_le}
 use Rattle.std.specs.List.{flat_map}
 use Rattle.std.proofs.lemmas.List.{length-map}
@@ -12,13 +12,13 @@ use Rattle.gw_meaning.specs.declared.statement.Statement.{Statement}
 use Rattle.gw_meaning.specs.declared.statement.Numbered.{Numbered}
 use Rattle.gw_meaning.specs.declared.transaction.Transaction.{Transaction}
 use Rattle.gw_meaning.specs.declared.transaction.Event.{Event}
-use Rattle.gw_meaning.specs.Listing.{Listing, block_of, block_of_body, operands_of_body, is_block, has_label, labelled_in, label_at, units_of, number_of, number_at, seed_in}
+use Rattle.gw_meaning.specs.Listing.{Listing, block_of, block_of_body, operands_of_body, is_block, label_at, units_of, number_of, number_at, seed_in}
 use Rattle.gw_meaning.specs.Machine.{Machine, count_at, delay_at}
 use Rattle.gw_frame.specs.Moved.{moved_machine, moved_transaction, moved_event, moved_count}
 use Rattle.gw_frame.specs.Renamed.{AreRenamed, IsRenamed}
 use Rattle.gw_frame.proofs.Delays.{delay_at_moved}
 use Rattle.gw_frame.proofs.MovedLists.{count_at_moved, cond_under}
-use Rattle.gw_frame.proofs.Renaming.{after_renamed, position_renamed, said_renamed}
+use Rattle.gw_frame.proofs.Renaming.{after_renamed, position_renamed, said_renamed, label_renamed, same_kind}
 use Rattle.gw_report.specs.Layout.{section_of, table_of}
 use Rattle.gw_report.specs.Cells.{signed}
 use Rattle.gw_report.specs.Chains.{position_of, next_number, line_of, put_by, by_time, current_line, future_line, current_columns, future_columns, current_text, future_text}
@@ -87,14 +87,6 @@ module _ (move : ℕ → ℕ) (t u : Listing) (r : IsRenamed move t u) where
   future_renamed s = ap (section_of future_columns) (ap (map (future_line u)) (order_renamed s.future) ∙ events_renamed (by_time s.future))
 
   -- the names, and their values
-  label_renamed : (name : List ℕ) (ls ms : List Numbered) → AreRenamed move ls ms → labelled_in name ms ≡ option_map move (labelled_in name ls)
-  label_renamed name [] [] h = refl
-  label_renamed name [] (m ∷ ms) h = absurd h
-  label_renamed name (l ∷ ls) [] h = absurd h
-  label_renamed name (l ∷ ls) (m ∷ ms) h =
-      ap (λ (x : Statement). cond (is_some (block_of_body x.body) && has_label name x.label) (Some m.number) (labelled_in name ms)) h.1 ∙
-      cond_under (option_map move) (is_block l && has_label name l.statement.label) _ _ _ _ (ap Some h.0) (label_renamed name ls ms h.2)
-
   value_renamed : (next : ℕ) (o : Option ℕ) → value_by u next (option_map move o) ≡ value_by t next o
   value_renamed next None = refl
   value_renamed next (Some p) = id_renamed p
@@ -114,7 +106,7 @@ module _ (move : ℕ → ℕ) (t u : Listing) (r : IsRenamed move t u) where
   name_lines_renamed : (next : ℕ) (names : List (List ℕ)) → name_lines u next names ≡ name_lines t next names
   name_lines_renamed next [] = refl
   name_lines_renamed next (name ∷ names) =
-      let label = label_renamed name t.lines u.lines r.lines in
+      let label = label_renamed move r.is_move name t.lines u.lines r.lines in
       let number = said_renamed move r.is_move number_of name t.lines u.lines r.lines in
       let value = ap₂ (value_text u next) number label ∙ text_renamed next (number_at t name) (label_at t name) in
       let behind = ap₂ (next_behind next) number label ∙ behind_renamed next (number_at t name) (label_at t name) in
@@ -160,15 +152,12 @@ module _ (move : ℕ → ℕ) (t u : Listing) (r : IsRenamed move t u) where
   blocks_renamed s (l ∷ ls) (m ∷ ms) h = ap₂ ◌++◌ (block_renamed s l m h.0 h.1) (blocks_renamed s ls ms h.2)
 
 -- as many blocks
-kind : (l m : Numbered) → m.statement ≡ l.statement → is_block m ≡ is_block l
-kind l m statement = ap (λ (x : Statement). is_some (block_of_body x.body)) statement
-
 blocks_counted : (move : ℕ → ℕ) (ls ms : List Numbered) → AreRenamed move ls ms → length (filter is_block ms) ≡ length (filter is_block ls)
 blocks_counted move [] [] h = refl
 blocks_counted move [] (m ∷ ms) h = absurd h
 blocks_counted move (l ∷ ls) [] h = absurd h
 blocks_counted move (l ∷ ls) (m ∷ ms) h =
-    rw (kind l m h.1)
+    rw (same_kind l m h.1)
     (elim (is_block l) as (λ b. length (cond b (m ∷ filter is_block ms) (filter is_block ms)) ≡ length (cond b (l ∷ filter is_block ls) (filter is_block ls)))
     [ true ↦ ap suc (blocks_counted move ls ms h.2) | false ↦ blocks_counted move ls ms h.2 ])
 

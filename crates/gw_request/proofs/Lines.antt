@@ -7,7 +7,9 @@ use Rattle.std.specs.Char.{is_ascii_digit, is_ascii_alphabetic}
 use Rattle.std.proofs.lemmas.Bool.{cases_Bool}
 use Rattle.std.proofs.lemmas.Bool.Decides.{nat_tests}
 use Rattle.std.proofs.lemmas.Slice.Eq.{bytes_eq-Decides}
+use Rattle.std.proofs.lemmas.Option.{same_Some}
 use Rattle.gw_names.specs.Names.{name_of, is_name_text, is_name_byte}
+use Rattle.gw_names.proofs.InUpperCase.{is_text}
 use Rattle.gw_request.specs.declared.command.Command.{Command}
 use Rattle.gw_request.specs.declared.command.Command.TheVariants.{Bare, Single, Pair, Text, Capacity}
 use Rattle.gw_request.specs.declared.command.Bare.TheVariants as bares
@@ -25,9 +27,6 @@ use Rattle.gw_request.specs.Requests.{request_with, request_of}
 use Rattle.gw_request.specs.Asking.{Behind, nothing, number, two_numbers, number_and_text, name_and_number, AsksFor, is_asked, LinesAsk}
 use Rattle.gw_request.proofs.Cuts.{IsCut, cut_found, Solid, cut_again, cut_none, no_blank, solid_all}
 
-some_is : {A : Type 0} (x y : A) → Some x ≡ Some y → x ≡ y
-some_is x y e = cc
-
 -- what has an answer, where another follows
 then_some : {A B : Type 0} (o : Option A) (k : A → Option B) (y : B) → option_and_then k o ≡ Some y → (x : A) × (o ≡ Some x) × (k x ≡ Some y)
 then_some (Some x) k y e = (x, refl, e)
@@ -37,7 +36,7 @@ then_some None k y e = absurd cc
 
 passes_by : {X : Type 0} (p : X → Bool) (y : X) (ys : List X) (x : X) → (find p ys ≡ Some x → p x ≡ true) → (b : Bool) → p y ≡ b →
     cond b (Some y) (find p ys) ≡ Some x → p x ≡ true
-passes_by p y ys x on true is e = subst (λ z. p z ≡ true) (some_is y x e) is
+passes_by p y ys x on true is e = subst (λ z. p z ≡ true) (same_Some y x e) is
 passes_by p y ys x on false is e = on e
 
 find_passes : {X : Type 0} (p : X → Bool) (xs : List X) (x : X) → find p xs ≡ Some x → p x ≡ true
@@ -111,13 +110,6 @@ digits_only digits n e = go (length digits == 0) (nat_lt 18 (length digits)) (li
 solid_number : (digits : List ℕ) (n : ℕ) → number_of digits ≡ Some n → Solid digits
 solid_number digits n e = solid_all is_ascii_digit refl refl digits (digits_only digits n e)
 
-name_text : (spelling name : List ℕ) → name_of spelling ≡ Some name → is_name_text spelling ≡ true
-unfolding name_of
-name_text spelling name e = go (is_name_text spelling) refl where
-  go : (b : Bool) → is_name_text spelling ≡ b → is_name_text spelling ≡ true
-  go true h = h
-  go false h = absurd (let k = rw h at e in cc)
-
 and_parts : (a b d : Bool) → (a && (b && d)) ≡ true → (a ≡ true) × (d ≡ true)
 and_parts true true d h = (refl, h)
 and_parts true false d h = absurd cc
@@ -130,12 +122,12 @@ solid_text (b ∷ bs) h =
     (no_blank is_ascii_alphabetic refl refl b parts.0, solid_all is_name_byte refl refl bs parts.1)
 
 solid_name : (spelling name : List ℕ) → name_of spelling ≡ Some name → Solid spelling
-solid_name spelling name e = solid_text spelling (name_text spelling name e)
+solid_name spelling name e = solid_text spelling (is_text spelling name e)
 
 -- ---- what stands behind a word
 
 alone_found : (f : Form) (r : Request) → asked_alone f ≡ Some r → Behind f [] r
-alone_found (Alone q) r e = subst (Behind (Alone q) []) (some_is q r e) (nothing q)
+alone_found (Alone q) r e = subst (Behind (Alone q) []) (same_Some q r e) (nothing q)
 alone_found (Number f) r e = absurd cc
 alone_found (TwoNumbers f) r e = absurd cc
 alone_found (NumberAndText f) r e = absurd cc
@@ -151,25 +143,25 @@ next_found : (words : List ℕ) (p : ℕ × List ℕ) → next_number words ≡ 
 next_found words p e =
     let c = then_some (cut words) _ p e in
     let n = then_some (number_of c.0.0) _ p c.2 in
-    subst (IsNext words) (some_is (n.0, c.0.1) p n.2) (record { digits = c.0.0; cut = cut_found words c.0 c.1; number = n.1 })
+    subst (IsNext words) (same_Some (n.0, c.0.1) p n.2) (record { digits = c.0.0; cut = cut_found words c.0 c.1; number = n.1 })
 
 with_found : (f : Form) (b : ℕ) (words : List ℕ) (r : Request) → is_blank b ≡ true → asked_with f words ≡ Some r → Behind f (b ∷ words) r
 with_found (Alone q) b words r blank e = absurd cc
 with_found (Number f) b words r blank e =
     let n = then_some (number_of words) _ r e in
-    subst (Behind (Number f) (b ∷ words)) (some_is (f n.0) r n.2) (number f b words n.0 blank n.1)
+    subst (Behind (Number f) (b ∷ words)) (same_Some (f n.0) r n.2) (number f b words n.0 blank n.1)
 with_found (TwoNumbers f) b words r blank e =
     let p = then_some (next_number words) _ r e in
     let n = then_some (number_of p.0.1) _ r p.2 in
     let h = next_found words p.0 p.1 in
     subst (λ w. Behind (TwoNumbers f) (b ∷ w) r) (sym h.cut.whole)
-    (subst (Behind (TwoNumbers f) (b ∷ (h.digits ++ h.cut.blank ∷ p.0.1))) (some_is (f p.0.0 n.0) r n.2)
+    (subst (Behind (TwoNumbers f) (b ∷ (h.digits ++ h.cut.blank ∷ p.0.1))) (same_Some (f p.0.0 n.0) r n.2)
     (two_numbers f b h.digits h.cut.blank p.0.1 p.0.0 n.0 blank h.number h.cut.is n.1))
 with_found (NumberAndText f) b words r blank e =
     let p = then_some (next_number words) _ r e in
     let h = next_found words p.0 p.1 in
     subst (λ w. Behind (NumberAndText f) (b ∷ w) r) (sym h.cut.whole)
-    (subst (Behind (NumberAndText f) (b ∷ (h.digits ++ h.cut.blank ∷ p.0.1))) (some_is (f p.0.0 p.0.1) r p.2)
+    (subst (Behind (NumberAndText f) (b ∷ (h.digits ++ h.cut.blank ∷ p.0.1))) (same_Some (f p.0.0 p.0.1) r p.2)
     (number_and_text f b h.digits h.cut.blank p.0.1 p.0.0 blank h.number h.cut.is))
 with_found (NameAndNumber f) b words r blank e =
     let p = then_some (cut words) _ r e in
@@ -177,7 +169,7 @@ with_found (NameAndNumber f) b words r blank e =
     let name = then_some (name_of p.0.0) _ r n.2 in
     let h = cut_found words p.0 p.1 in
     subst (λ w. Behind (NameAndNumber f) (b ∷ w) r) (sym h.whole)
-    (subst (Behind (NameAndNumber f) (b ∷ (p.0.0 ++ h.blank ∷ p.0.1))) (some_is (f name.0 n.0) r name.2)
+    (subst (Behind (NameAndNumber f) (b ∷ (p.0.0 ++ h.blank ∷ p.0.1))) (same_Some (f name.0 n.0) r name.2)
     (name_and_number f b p.0.0 h.blank p.0.1 name.0 n.0 blank name.1 h.is n.1))
 
 -- what is read behind a word: nothing, or words behind a blank

@@ -10,7 +10,7 @@ use Rattle.gw_expr.specs.Worlds.{Says, Evaluates, yields, stops, refused, replie
 use Rattle.gw_meaning.specs.declared.asker.Asker.{Asker}
 use Rattle.gw_meaning.specs.declared.item.End.TheVariants as ends
 use Rattle.gw_meaning.specs.declared.item.Item.{Item}
-use Rattle.gw_meaning.specs.declared.item.Asked.TheVariants as questions
+use Rattle.gw_meaning.specs.declared.item.Asked.TheVariants as asking
 use Rattle.gw_meaning.specs.declared.item.Item.TheVariants as items
 use Rattle.gw_meaning.specs.Evaluation.{Eval, gives, ends_with, reply_prog, evaluated, value_prog}
 use Rattle.gw_meaning.specs.Listing.{Listing, variable_at, function_at}
@@ -42,10 +42,10 @@ module _ (t : Listing) (seed : ℕ) (s : Machine) (q : Asker) where
       decides_then t seed (reply_prog s q (PartOf of)) (λ x. evaluated s q (k x)) reply r old between new there rest
   reply_goes (VariableOf name) k reply r old between new said there rest =
       let here = subst (λ (x : Option Term). Decides t seed (evaluated s q (k x)) r between new) said rest in
-      decides_asked t seed (items.Named questions.Variable name) (λ x. evaluated s q (k x)) r old between new there here
+      decides_asked t seed (items.Named asking.Variable name) (λ x. evaluated s q (k x)) r old between new there here
   reply_goes (FunctionOf name) k reply r old between new said there rest =
       let here = subst (λ (x : Option Function). Decides t seed (evaluated s q (k x)) r between new) said rest in
-      decides_asked t seed (items.Named questions.Function name) (λ x. evaluated s q (k x)) r old between new there here
+      decides_asked t seed (items.Named asking.Function name) (λ x. evaluated s q (k x)) r old between new there here
 
   -- a question that got none; where memory is refused, nothing is noted
   mark_fails : {A : Type 0} (B : Type 0) (i : Item) (p : Eval A) (fault : Fault) (old new : Noted) → Marks {A = B} i old (Err fault) new →
@@ -62,9 +62,9 @@ module _ (t : Listing) (seed : ℕ) (s : Machine) (q : Asker) where
   reply_fails (PartOf of) k fault old new there =
       decides_halt t seed (reply_prog s q (PartOf of)) (λ x. evaluated s q (k x)) (why_of_fault fault) old new there
   reply_fails (VariableOf name) k fault old new there =
-      mark_fails (Option Term) (items.Named questions.Variable name) (evaluated s q (Wants (VariableOf name) k)) fault old new there
+      mark_fails (Option Term) (items.Named asking.Variable name) (evaluated s q (Wants (VariableOf name) k)) fault old new there
   reply_fails (FunctionOf name) k fault old new there =
-      mark_fails (Option Function) (items.Named questions.Function name) (evaluated s q (Wants (FunctionOf name) k)) fault old new there
+      mark_fails (Option Function) (items.Named asking.Function name) (evaluated s q (Wants (FunctionOf name) k)) fault old new there
 
   evaluation_decides : {A : Type 0} {p : Evaluation A} {r : Result A Fault} {old new : Noted} →
       Evaluates (Replying t) (Replied t seed s q) p r old new → Decides t seed (evaluated s q p) (halted r) old new
@@ -89,7 +89,7 @@ module _ {says : (question : Question) → Reply question → Type 0} where
       )
   noted (failed question k fault old new (there, still)) = (failed question k fault _ _ there, still)
 
--- what an evaluation over what is seen came to, where the notes are lent to it up to here
+-- what an evaluation over what is seen came to, where it borrows the notes up to here
 pub seen_decides : {A : Type 0} {p : Evaluation A} {r : Result A Fault} {old new : Seen} {notes : Noted} →
     Evaluates (Replying old.case.version.now) Replies p r old new →
     (old.notes.ghost_name ≡ new.notes.ghost_name → notes ≡ new.notes.now) →

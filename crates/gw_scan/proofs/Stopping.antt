@@ -17,7 +17,7 @@ use Rattle.gw_meaning.specs.declared.asker.Asker.{Asker}
 use Rattle.gw_meaning.specs.declared.item.End.{End}
 use Rattle.gw_meaning.specs.declared.item.End.TheVariants as ends
 use Rattle.gw_meaning.specs.declared.item.Item.{Item}
-use Rattle.gw_meaning.specs.declared.item.Asked.TheVariants as questions
+use Rattle.gw_meaning.specs.declared.item.Asked.TheVariants as asking
 use Rattle.gw_meaning.specs.declared.item.Item.TheVariants as items
 use Rattle.gw_meaning.specs.Listing.{Listing}
 use Rattle.gw_meaning.specs.Machine.{Machine}
@@ -115,7 +115,7 @@ named_stops name (Some n) = numbered_stops n
 subject_stops : (of : Subject) → Stopping (subject_prog of)
 subject_stops subjects.Own = stopping_ends Range
 subject_stops (subjects.Number n) = numbered_stops (pos n)
-subject_stops (subjects.Name name) = stopping_asks (items.Named questions.Number name) (named name) (named_stops name)
+subject_stops (subjects.Name name) = stopping_asks (items.Named asking.Number name) (named name) (named_stops name)
 
 held_stops : (v : Option ℤ) → Stopping (value_held v)
 held_stops None = stopping_ends NoParameter
@@ -150,7 +150,7 @@ storages_stop s class (subjects.Name name) = storage_stops s class (keys.Defined
 left_stops : (s : Machine) (of : Subject) → Stopping (left_prog s of)
 left_stops s subjects.Own = stopping_ends Range
 left_stops s (subjects.Number n) = stopping_ends Range
-left_stops s (subjects.Name name) = stopping_asks (items.Named questions.Storage name) _ (λ capacity. amount_stops _)
+left_stops s (subjects.Name name) = stopping_asks (items.Named asking.Storage name) _ (λ capacity. amount_stops _)
 
 block_stops : (s : Machine) (of : Class) (id : ℕ) → Stopping (block_value s of id)
 block_stops s class.N id = amount_stops _
@@ -164,7 +164,7 @@ counted_stops s class (Some id) = block_stops s class id
 blocks_stop : (s : Machine) (class : Class) (of : Subject) → Stopping (block_count of (λ id. block_value s class id))
 blocks_stop s class subjects.Own = stopping_ends Range
 blocks_stop s class (subjects.Number n) = stopping_ends Range
-blocks_stop s class (subjects.Name name) = stopping_asks (items.Named questions.Label name) _ (counted_stops s class)
+blocks_stop s class (subjects.Name name) = stopping_asks (items.Named asking.Label name) _ (counted_stops s class)
 
 attribute_stops : (s : Machine) (q : Asker) (class : Class) (of : Subject) → Stopping (attribute_prog s q class of)
 unfolding attribute_prog

@@ -5,7 +5,7 @@ use Rattle.gw_expr.specs.declared.eval_fault.Fault.TheVariants as faults
 use Rattle.gw_expr.specs.Evaluation.{Question, NumberOf, AttributeOf, PartOf, VariableOf, FunctionOf, Reply}
 use Rattle.gw_meaning.specs.declared.asker.Asker.{Asker}
 use Rattle.gw_meaning.specs.declared.item.Item.{Item}
-use Rattle.gw_meaning.specs.declared.item.Asked.TheVariants as questions
+use Rattle.gw_meaning.specs.declared.item.Asked.TheVariants as asking
 use Rattle.gw_meaning.specs.declared.item.Item.TheVariants as items
 use Rattle.gw_meaning.specs.Evaluation.{reply_prog}
 use Rattle.gw_meaning.specs.Listing.{Listing}
@@ -29,8 +29,8 @@ Replied t seed s q (NumberOf name) old result new =
 Replied t seed s q (AttributeOf class of) old result new =
     Decides t seed (reply_prog s q (AttributeOf class of)) (halted result) old new
 Replied t seed s q (PartOf of) old result new = Decides t seed (reply_prog s q (PartOf of)) (halted result) old new
-Replied t seed s q (VariableOf name) old result new = Marks (items.Named questions.Variable name) old result new
-Replied t seed s q (FunctionOf name) old result new = Marks (items.Named questions.Function name) old result new
+Replied t seed s q (VariableOf name) old result new = Marks (items.Named asking.Variable name) old result new
+Replied t seed s q (FunctionOf name) old result new = Marks (items.Named asking.Function name) old result new
 
 -- the state, who asks, the version and the seed, and where it is noted, are the same
 abbrev pub IsStill : Seen → Seen → Type 0

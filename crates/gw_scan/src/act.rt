@@ -1,6 +1,6 @@
 // A step, decided and made.
 //
-// Each verb, and each command, is decided and made in one function: it asks, draws and tests while it is lent the
+// Each verb, and each command, is decided and made in one function: it asks, draws and tests while it borrows the
 // state, reserves all that grows, and changes last. So no move is laid out in memory. Where a run ends is found by a
 // step of a copy (`end_at`).
 ghost use Rattle.std.specs.Prelude.{◌≡◌, Some, IsSome};

@@ -43,7 +43,7 @@ impl State {
         self.assign_entity(case, notes, id, block, parameter)
     }
 
-    // The same, of the parameter that was named: a name lends its key, and a number makes one here.
+    // The same, of the parameter that was named: a name has its key, and a number makes one here.
     #[inline(always)]
     fn assign_entity(
         &mut self,

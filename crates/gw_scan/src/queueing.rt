@@ -36,7 +36,7 @@ impl State {
         self.with_draws(come, notes)
     }
 
-    // So many units come to the entity that was named: a name lends its key, and a number makes one here.
+    // So many units come to the entity that was named: a name has its key, and a number makes one here.
     #[inline(always)]
     fn come_to_entity(&mut self, id: StatementId, entity: EntityRef, units: u32) -> Result<(), Halt>
         requires { IsSome self.old.active }

@@ -35,7 +35,7 @@ impl State {
         self.with_draws(seized, notes)
     }
 
-    // The same, of the entity that was named: a name lends its key, and a number makes one here. So `seize` is inlined
+    // The same, of the entity that was named: a name has its key, and a number makes one here. So `seize` is inlined
     // twice, and no key is cloned.
     #[inline(always)]
     fn seize_entity(&mut self, id: StatementId, entity: EntityRef) -> Result<(), Halt>

@@ -4,7 +4,7 @@ ghost use Rattle.gw_expr.specs.Term.{Defined};
 ghost use Rattle.gw_names.specs.declared.key.Key.TheVariants as keys;
 ghost use Rattle.gw_entities.specs.Tables.{IsPlace};
 ghost use Rattle.gw_meaning.specs.declared.entity_change.Deed.TheVariants as deeds;
-ghost use Rattle.gw_meaning.specs.declared.item.Asked.TheVariants as questions;
+ghost use Rattle.gw_meaning.specs.declared.item.Asked.TheVariants as asking;
 ghost use Rattle.gw_meaning.specs.declared.item.Item.TheVariants as items;
 ghost use Rattle.gw_meaning.specs.declared.moves.Change.TheVariants as changes;
 ghost use Rattle.gw_meaning.specs.declared.moves.Fate.TheVariants as fates;
@@ -97,7 +97,7 @@ impl State {
     ) -> Result<(), Halt>
         requires { IsSome self.old.active }
         ensures { (x : Transaction) → self.old.active ≡ Some x →
-            Acts case.entry.version.now case.entry.seed (asks (items.Named (questions.Fits units) name.now)
+            Acts case.entry.version.now case.entry.seed (asks (items.Named (asking.Fits units) name.now)
             (enter_storage id name.now (store_at self.old.entities (keys.Defined name.now)) units))
             result self.old self.new notes.old notes.new }
     {
@@ -261,7 +261,7 @@ impl State {
         self.with_draws(left, notes)
     }
 
-    // Units are given back, and nobody comes in.
+    // Units are given back, and nobody is let in.
     #[inline(always)]
     fn leave_alone(
         &mut self,
@@ -290,7 +290,7 @@ impl State {
         Ok(())
     }
 
-    // Units are given back, and those who have a share come in.
+    // Units are given back, and those who have a share are let in.
     #[inline(always)]
     fn leave_for(
         &mut self,

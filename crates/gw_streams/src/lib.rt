@@ -7,8 +7,6 @@
 
 mod stream;
 mod streams;
-#[cfg(test)]
-mod tests;
 
 pub use stream::Stream;
 pub use streams::Streams;

@@ -9,7 +9,5 @@
 #![tactic(auto)]
 
 mod table;
-#[cfg(test)]
-mod tests;
 
 pub use table::Table;

@@ -4,13 +4,13 @@ use mathlib.Core.Bool.{true≢false}
 use Rattle.std.specs.List.{list_any, slice_get, IsDistinct}
 use Rattle.std.specs.Str.{bytes_eq}
 use Rattle.std.specs.Map.{keys_of}
-use Rattle.std.proofs.lemmas.Bool.{cases_Bool, and_parts}
+use Rattle.std.proofs.lemmas.Bool.{cases_Bool, and_parts, or_right}
 use Rattle.std.proofs.lemmas.Bool.Decides.{nat_tests}
 use Rattle.std.proofs.lemmas.Slice.Eq.{bytes_eq-Decides}
 use Rattle.std.proofs.lemmas.Map.Entries.{lookup_from_place}
 use Rattle.gw_meaning.specs.declared.item.Item.{Item}
 use Rattle.gw_meaning.specs.declared.item.Asked.{Asked}
-use Rattle.gw_meaning.specs.declared.item.Asked.TheVariants as questions
+use Rattle.gw_meaning.specs.declared.item.Asked.TheVariants as asking
 use Rattle.gw_meaning.specs.declared.item.Item.TheVariants as items
 use Rattle.gw_meaning.specs.contracts.item.ItemEq.TheImpl.Laws as laws
 use Rattle.gw_meaning.specs.Listing.{Listing}
@@ -102,8 +102,8 @@ least_is p (e ∷ es) = least_with p e es (p e.0) (least_in p es) refl (least_is
 
 -- what two capacities answer in two ways equals nothing but itself
 told_apart : (from to : Option ℕ) (b a : Asked) → answers_differ from to b ≡ true → same_asked a b ≡ true → a ≡ b
-told_apart from to (questions.Fits n) (questions.Fits m) differ h = ap (λ k. questions.Fits k) (grind (arith, nat_tests, h))
-told_apart from to questions.Storage questions.Storage differ h = refl
+told_apart from to (asking.Fits n) (asking.Fits m) differ h = ap (λ k. asking.Fits k) (grind (arith, nat_tests, h))
+told_apart from to asking.Storage asking.Storage differ h = refl
 told_apart from to b a differ h = absurd cc
 
 -- so is the item that asks it of a name
@@ -129,10 +129,6 @@ pub asked_noted : (name : List ℕ) (from to : Option ℕ) (f : FirstUses) (q : 
 asked_noted name from to f (items.Named asked other) asks = refl
 asked_noted name from to f q asks = absurd cc
 
-or_true : (b c : Bool) → c ≡ true → (b || c) ≡ true
-or_true true c h = refl
-or_true false c h = h
-
 module _ (name : List ℕ) (from to : Option ℕ) where
   abbrev asks_it : Item → Bool
   asks_it = is_ask name from to
@@ -147,7 +143,7 @@ module _ (name : List ℕ) (from to : Option ℕ) where
     go true e h rest =
         let used : is_use item item ≡ true = asked_use name from to item item e ∙ laws.laws-law.refl item in
         (item, e, ap (λ b. b || list_any (is_use item) read) used)
-    go false e h rest = let (q, asks, used) = rest h in (q, asks, or_true (is_use q item) _ used)
+    go false e h rest = let (q, asks, used) = rest h in (q, asks, or_right (is_use q item) _ used)
 
   ask_by : (q : Item) → asks_it q ≡ true → (read : List Item) → list_any (is_use q) read ≡ true → list_any asks_it read ≡ true
   ask_by q asks [] h = absurd (true≢false (sym h))
@@ -158,7 +154,7 @@ module _ (name : List ℕ) (from to : Option ℕ) where
         let same : item ≡ q = asked_same name from to q item asks (sym (asked_use name from to q item asks) ∙ e) in
         let here : asks_it item ≡ true = ap asks_it same ∙ asks in
         ap (λ b. b || list_any asks_it read) here
-    go false e h rest = or_true (asks_it item) _ (rest h)
+    go false e h rest = or_right (asks_it item) _ (rest h)
 
   -- the entry that is noted for an item
   looked_up : (es : List (Item × ℕ)) (q : Item) (n : ℕ) → step_of es q ≡ Some n →

@@ -4,7 +4,7 @@ use Rattle.std.specs.Prelude.{ℕ, Bool, true, false, not, ◌==◌, ◌&&◌, L
 use Rattle.std.specs.Str.{bytes_eq}
 use Rattle.gw_meaning.specs.declared.item.Item.{Item}
 use Rattle.gw_meaning.specs.declared.item.Asked.{Asked}
-use Rattle.gw_meaning.specs.declared.item.Asked.TheVariants as questions
+use Rattle.gw_meaning.specs.declared.item.Asked.TheVariants as asking
 use Rattle.gw_meaning.specs.declared.item.Item.TheVariants as items
 
 -- whether two capacities answer an amount in two ways; where there is no storage before or behind, every amount counts
@@ -19,8 +19,8 @@ is_other from to = true
 
 -- whether two capacities answer this in two ways, where it is asked of their storage
 abbrev pub answers_differ : Option ℕ → Option ℕ → Asked → Bool
-answers_differ from to (questions.Fits amount) = differs from to amount
-answers_differ from to questions.Storage = is_other from to
+answers_differ from to (asking.Fits amount) = differs from to amount
+answers_differ from to asking.Storage = is_other from to
 answers_differ from to asked = false
 
 -- whether such a thing is asked of the storage of this name

@@ -1,5 +1,5 @@
 use Rattle.std.proofs.Common.{◌≡◌, ℕ, ◌+◌, ◌<◌, Bool, List, [], ◌∷◌, ◌++◌, Option, Ok, drop, length, sym, ap, subst, arith, drop_of_length-le}
-use Rattle.gw_meaning.specs.declared.item.Asked.TheVariants as questions
+use Rattle.gw_meaning.specs.declared.item.Asked.TheVariants as asking
 use Rattle.gw_meaning.specs.declared.item.Item.TheVariants as items
 use Rattle.gw_meaning.specs.Evaluation.{Eval, asks}
 use Rattle.gw_meaning.specs.Step.{beside, share_of, in_use, shares_prog}
@@ -24,13 +24,13 @@ loop-i-preserved c = λ r all rest.
     let h : i < length F = omega arith in
     let rest_of : Bool → Eval (List (Option ℕ)) =
     λ fits. shares_prog name (in_use content x.asked fits) (shares ++ share_of x.asked fits ∷ []) (drop (i + 1) F) in
-    let whole : shares_prog name content shares (drop i F) ≡ asks (items.Named (questions.Fits (beside x.asked content)) name) rest_of =
+    let whole : shares_prog name content shares (drop i F) ≡ asks (items.Named (asking.Fits (beside x.asked content)) name) rest_of =
     ap (shares_prog name content shares) (item_drop F i x h c.in-Some.ensures.1) in
     let noted = rw (c.beside.ensures, c.from-asked.ensures) at c.in_ok-fits.ensures.ok in
     let answer = rw (c.beside.ensures, c.from-asked.ensures, c.capacity-capacity.ensures) at c.in_ok-fits.ensures.answer in
     let next = rw (c.in_use-content.ensures, c.in_ok-push.ensures.items, c.share_of.ensures, c.from-asked.ensures, answer) at rest in
     c.loop-i.invariant r all (subst (λ (p : Eval (List (Option ℕ))). Decides t seed p r c.loop-i.notes all) (sym whole)
-    (decides_asked t seed (items.Named (questions.Fits (beside x.asked content)) name) rest_of r c.loop-i.notes c.ask_fits.new.notes all noted next))
+    (decides_asked t seed (items.Named (asking.Fits (beside x.asked content)) name) rest_of r c.loop-i.notes c.ask_fits.new.notes all noted next))
 
 pub returns : goal.returns
 returns c =

@@ -1,13 +1,9 @@
-use Rattle.std.proofs.Common.{Option, None, Some, ap, ◌∙◌, sym}
-use Rattle.std.specs.Prelude.{ℕ, IfNone}
+use Rattle.std.proofs.Common.{ap, ◌∙◌, sym}
 use Rattle.std.specs.List.{list_any}
 use Rattle.gw_names.specs.Keys.{key_eq}
 use Rattle.gw_entities.proofs.Entries.{none_of_keys}
 use Rattle.gw_entities.proofs.by_key.place_behind.Goals as goal
-
-none_then : {A B : Type 0} (o : Option ℕ) → IfNone o A → (A → B) → IfNone o B
-none_then None h f = f h
-none_then (Some i) h f = tt
+use Rattle.gw_entities.proofs.Fewer.{none_then}
 
 pub returns-in-Some-clause-none : goal.returns-in-Some-clause-none
 returns-in-Some-clause-none g c =

@@ -1,11 +1,8 @@
-use Rattle.std.proofs.Common.{◌≡◌, Bool, true, false, not, sym, refl, ◌∙◌, rules}
+use Rattle.std.proofs.Common.{sym, ◌∙◌, rules}
 use Rattle.std.specs.VecDeque.{deque_len}
+use Rattle.std.proofs.lemmas.Bool.{not-true}
 use Rattle.gw_chains.proofs.ChainLaws.{lined_up_last}
 use Rattle.gw_chains.proofs.chain.PriorityChain.goes_last.Goals as goal
-
-not_true : (b : Bool) → not b ≡ true → b ≡ false
-not_true true is = absurd cc
-not_true false is = refl
 
 pub returns-in-Some : goal.returns-in-Some
 returns-in-Some c = λ yes.
@@ -13,4 +10,4 @@ returns-in-Some c = λ yes.
     rw (← c.self.view_is)
     (lined_up_last c.args.x.now xs (deque_len c.self.inside.transactions) c.in-Some.last.now c.self.invariant
     (search rules) (search rules) c.in-Some.ensures.lookup
-    (sym c.is_below.ensures ∙ not_true _ yes))
+    (sym c.is_below.ensures ∙ not-true _ yes))

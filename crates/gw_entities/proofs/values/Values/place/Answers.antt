@@ -1,14 +1,9 @@
-use Rattle.std.proofs.Common.{Option, None, Some, ap, ◌∙◌}
-use Rattle.std.specs.Prelude.{ℕ, IfNone}
+use Rattle.std.proofs.Common.{ap, ◌∙◌}
 use Rattle.std.proofs.lemmas.Option.{IfSome_then}
 use Rattle.gw_names.specs.Keys.{key_eq}
 use Rattle.gw_entities.specs.Tables.{value_of}
-use Rattle.gw_entities.proofs.Fewer.{stands_before, first_few}
+use Rattle.gw_entities.proofs.Fewer.{stands_before, first_few, none_then}
 use Rattle.gw_entities.proofs.values.Values.place.Goals as goal
-
-none_then : {A B : Type 0} (o : Option ℕ) → IfNone o A → (A → B) → IfNone o B
-none_then None h f = f h
-none_then (Some i) h f = tt
 
 pub returns-clause-there : goal.returns-clause-there
 returns-clause-there c =

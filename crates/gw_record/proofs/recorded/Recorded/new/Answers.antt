@@ -1,6 +1,6 @@
 use Rattle.std.proofs.Common.{◌≡◌, subst, rules}
 use Rattle.gw_record.specs.Tape.{Tape, blank, Records}
-use Rattle.gw_record.proofs.RecordLaws.{blank_records}
+use Rattle.gw_record.proofs.Blank.{blank_records}
 use Rattle.gw_record.proofs.recorded.Recorded.new.Goals as goal
 
 pub returns-clause-records : goal.returns-clause-records

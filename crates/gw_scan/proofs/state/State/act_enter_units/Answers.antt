@@ -1,5 +1,5 @@
 use Rattle.std.proofs.Common.{Bool, subst}
-use Rattle.gw_meaning.specs.declared.item.Asked.TheVariants as questions
+use Rattle.gw_meaning.specs.declared.item.Asked.TheVariants as asking
 use Rattle.gw_meaning.specs.declared.item.Item.TheVariants as items
 use Rattle.gw_names.specs.declared.key.Key.TheVariants as keys
 use Rattle.gw_meaning.specs.Entities.{store_at}
@@ -20,4 +20,4 @@ returns c x is =
     let answer = rw (c.if-not-large.false, c.from.ensures, c.capacity-capacity.ensures, c.name.ensures) at c.in_ok-large.ensures.answer in
     let F : Bool → Type 0 = λ large. Acts t seed (enters large) c.act_enter_storage.result s c.act_enter_storage.new.self
     c.ask_fits.new.notes c.act_enter_storage.new.notes in
-    acts_asked t seed (items.Named (questions.Fits units) name) enters _ s _ _ _ _ noted (subst F answer (c.act_enter_storage.ensures x is))
+    acts_asked t seed (items.Named (asking.Fits units) name) enters _ s _ _ _ _ noted (subst F answer (c.act_enter_storage.ensures x is))

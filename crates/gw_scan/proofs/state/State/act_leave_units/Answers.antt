@@ -27,14 +27,14 @@ returns-in_default c x is =
     let name = c.args.name.now in
     let key = keys.Defined name in
     let store = store_at s.entities key in
-    let lent : c.key-key.result.now ≡ key = c.key-key.ensures in
-    let held : c.look_for_storage-place.result.1 ≡ store = search (rules, lent) in
+    let borrowed : c.key-key.result.now ≡ key = c.key-key.ensures in
+    let held : c.look_for_storage-place.result.1 ≡ store = search (rules, borrowed) in
     let content : c.content-content.result ≡ store.level.content = search (rules, held) in
     let enough : nat_lt store.level.content units ≡ false = rw (← content) (grind (arith, nat_tests)) in
     let shares = shares_prog name (store.level.content - units) [] (delay_at s.delays key) in
     let rest : List (Option ℕ) → Eval Move = λ given. leave_for id key store units given in
     let enters : leave_units s id name store units ≡ (shares ~> rest) = rw enough refl in
-    let none : [] ≡ delay_at s.delays key = rw lent at c.in_default.ensures in
+    let none : [] ≡ delay_at s.delays key = rw borrowed at c.in_default.ensures in
     let alone : (shares ~> rest) ≡ rest [] =
     ap (λ (line : List Transaction). shares_prog name (store.level.content - units) [] line ~> rest) (sym none) in
     let whole : leave_units s id name store c.args.units ≡ rest [] =
@@ -43,7 +43,7 @@ returns-in_default c x is =
     let G : Store → Type 0 = λ st. Goes (leave_for id c.key-key.result.now st units []) c.leave_alone-left.result s
     c.leave_alone-left.new.self in
     let H : Key → Type 0 = λ k. Goes (leave_for id k store units []) c.leave_alone-left.result s c.leave_alone-left.new.self in
-    let goes = subst H lent (subst G held went) in
+    let goes = subst H borrowed (subst G held went) in
     rw whole (c.with_draws.ensures t seed (rest []) s goes)
 
 pub returns-in_err-shares : goal.returns-in_err-shares
@@ -56,16 +56,16 @@ returns-in_err-shares c x is =
     let name = c.args.name.now in
     let key = keys.Defined name in
     let store = store_at s.entities key in
-    let lent : c.key-key.result.now ≡ key = c.key-key.ensures in
+    let borrowed : c.key-key.result.now ≡ key = c.key-key.ensures in
     let named : c.name.result.now ≡ name = c.name.ensures in
-    let held : c.look_for_storage-place.result.1 ≡ store = search (rules, lent) in
+    let held : c.look_for_storage-place.result.1 ≡ store = search (rules, borrowed) in
     let content : c.content-content.result ≡ store.level.content = search (rules, held) in
     let enough : nat_lt store.level.content units ≡ false = rw (← content) (grind (arith, nat_tests)) in
     let shares = shares_prog name (store.level.content - units) [] (delay_at s.delays key) in
     let rest : List (Option ℕ) → Eval Move = λ given. leave_for id key store units given in
     let enters : leave_units s id name store units ≡ (shares ~> rest) = rw enough refl in
     let whole : leave_units s id name store c.args.units ≡ (shares ~> rest) = ap (leave_units s id name store) (sym c.from-units.ensures) ∙ enters in
-    let line : c.in-Some.chain.now.items ≡ delay_at s.delays key = rw lent at c.in-Some.ensures in
+    let line : c.in-Some.chain.now.items ≡ delay_at s.delays key = rw borrowed at c.in-Some.ensures in
     let asked : shares_prog c.name.result.now (c.content-content.result - units) [] c.in-Some.chain.now.items ≡ shares =
     ap (λ (n : List ℕ). shares_prog n (c.content-content.result - units) [] c.in-Some.chain.now.items) named ∙
     ap (λ n. shares_prog name (n - units) [] c.in-Some.chain.now.items) content ∙
@@ -86,16 +86,16 @@ returns c x is =
     let key = keys.Defined name in
     let store = store_at s.entities key in
     let given = c.in_ok-shares.shares in
-    let lent : c.key-key.result.now ≡ key = c.key-key.ensures in
+    let borrowed : c.key-key.result.now ≡ key = c.key-key.ensures in
     let named : c.name.result.now ≡ name = c.name.ensures in
-    let held : c.look_for_storage-place.result.1 ≡ store = search (rules, lent) in
+    let held : c.look_for_storage-place.result.1 ≡ store = search (rules, borrowed) in
     let content : c.content-content.result ≡ store.level.content = search (rules, held) in
     let enough : nat_lt store.level.content units ≡ false = rw (← content) (grind (arith, nat_tests)) in
     let shares = shares_prog name (store.level.content - units) [] (delay_at s.delays key) in
     let rest : List (Option ℕ) → Eval Move = λ given. leave_for id key store units given in
     let enters : leave_units s id name store units ≡ (shares ~> rest) = rw enough refl in
     let whole : leave_units s id name store c.args.units ≡ (shares ~> rest) = ap (leave_units s id name store) (sym c.from-units.ensures) ∙ enters in
-    let line : c.in-Some.chain.now.items ≡ delay_at s.delays key = rw lent at c.in-Some.ensures in
+    let line : c.in-Some.chain.now.items ≡ delay_at s.delays key = rw borrowed at c.in-Some.ensures in
     let asked : shares_prog c.name.result.now (c.content-content.result - units) [] c.in-Some.chain.now.items ≡ shares =
     ap (λ (n : List ℕ). shares_prog n (c.content-content.result - units) [] c.in-Some.chain.now.items) named ∙
     ap (λ n. shares_prog name (n - units) [] c.in-Some.chain.now.items) content ∙
@@ -111,5 +111,5 @@ returns c x is =
     let G : Store → Type 0 = λ st. Goes (leave_for id c.key-key.result.now st units given) c.leave_for-left.result s
     c.leave_for-left.new.self in
     let H : Key → Type 0 = λ k. Goes (leave_for id k store units given) c.leave_for-left.result s c.leave_for-left.new.self in
-    let goes = subst H lent (subst G held (subst E sliced went)) in
+    let goes = subst H borrowed (subst G held (subst E sliced went)) in
     rw whole (acts_then t seed shares rest given _ s _ _ _ _ noted (c.with_draws-2.ensures t seed (rest given) s goes))

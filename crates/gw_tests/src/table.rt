@@ -1,7 +1,7 @@
 ghost use Rattle.std.specs.Prelude.{◌≡◌, OnOk, OnErr};
 ghost use Rattle.gw_table.specs.Pairs.{with_value};
 
-use crate::Table;
+use gw_table::Table;
 use std::alloc::AllocError;
 use std::test::Fail;
 

@@ -1,4 +1,4 @@
-use crate::{first_at, least};
+use gw_lanes::{first_at, least};
 use std::test::Fail;
 
 #[test]

@@ -1,4 +1,4 @@
-use crate::Streams;
+use gw_streams::Streams;
 
 #[test]
 fn first_numbers_of_seed_1(rt: HostRuntime) {
