@@ -36,7 +36,7 @@ const WHYS: [Why; 16] = [
     Why::End(End::Dry),
 ];
 
-/// A [`Why`] as one number, so that a result that may be a halt is handed back in registers. A stop has the number that
+/// A [`Why`] as one number, so that a result that may be a halt is returned in registers. A stop has the number that
 /// a report prints behind an X.
 #[derive(Drop)]
 pub struct Halt {
@@ -59,7 +59,7 @@ impl Halt {
     /// A growth was refused.
     pub const MEMORY: Halt = Halt { number: 0 };
 
-    /// X1: a sampled time is below 0.
+    /// X1: a sampled time, a half range or a time to the first transaction is below 0.
     pub const NEGATIVE_TIME: Halt = Halt { number: 1 };
 
     /// X2: a RELEASE by a transaction that does not own the facility.
@@ -77,7 +77,7 @@ impl Halt {
     /// X6: a divisor of 0.
     pub const ZERO_DIVISOR: Halt = Halt { number: 6 };
 
-    /// X7: a result outside the range of values.
+    /// X7: a value outside its range, or the number of an entity or a parameter below 1.
     pub const RANGE: Halt = Halt { number: 7 };
 
     /// X8: there is no next block, or it is a GENERATE.
@@ -112,7 +112,7 @@ impl Halt {
         }
     }
 
-    /// As a fault of an evaluation, which has the same number: of out of memory and of a stop alone.
+    /// The halt as a fault of an evaluation, which has the same number: out of memory and the stops alone are one.
     #[inline(always)]
     #[tactic(auto, using(crate::proofs::Halting::same_halt, crate::proofs::Halting::fault_number))]
     pub fn fault(&self) -> EvalFault

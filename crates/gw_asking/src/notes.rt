@@ -14,7 +14,7 @@ use std::alloc::{AllocError, Global};
 use std::marker::Model;
 use std::mem;
 
-/// The last step that may read: what comes behind it stands for none.
+/// The last number that a step may have; the next one stands for no step.
 const LAST: u64 = u64::MAX - 1;
 
 /// What steps note on their way: for each item the first step that read it, and the streams behind their draws.

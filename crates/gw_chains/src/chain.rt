@@ -67,8 +67,8 @@ impl PriorityChain {
         self.transactions.get(index)
     }
 
-    /// Makes room for so many more, and for twice as many where it has to grow: each clock step makes room for all of
-    /// the future chain, which may have grown by one, and an empty chain would grow by no more than that.
+    /// Makes room for so many more; where it has to grow, for twice as many, since each clock step asks for room for
+    /// the whole future chain, which may have grown by one.
     #[inline(always)]
     pub fn reserve(&mut self, count: usize) -> Result<(), AllocError>
         ensures ok { OnOk result (count ≤ self.new.room) }

@@ -118,7 +118,7 @@ impl Counts {
         self.table.set(id.number(), count);
     }
 
-    /// Equal counts.
+    /// A copy.
     pub fn copy(&self) -> Result<Counts, AllocError>
         ensures { IfOk result (λ c. c.entries ≡ self.now.entries) }
     {

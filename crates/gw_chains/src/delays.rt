@@ -284,7 +284,7 @@ impl DelayChains {
         self.keys.get_ready()
     }
 
-    /// Equal chains. The copy is not ready.
+    /// A copy, which is not ready.
     pub fn copy(&self) -> Result<DelayChains, AllocError>
         ensures { IfOk result (λ d. delays_of d.chains ≡ delays_of self.now.chains) }
     {

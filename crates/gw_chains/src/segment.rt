@@ -306,7 +306,7 @@ fn take_first(events: &mut Vec<Event>, earliest: &mut Earliest, current: &mut Pr
     events.truncate(last);
 }
 
-// The one at an index is gone, and those behind it move up by one: gives the least time of all these.
+// The one at an index is gone, and those behind it move up by one. Returns the least time of all these.
 #[inline(always)]
 fn close_up(events: &mut [Event], index: usize, front: Least) -> Earliest
     requires within { index < length events.old }

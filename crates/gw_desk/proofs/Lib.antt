@@ -1,4 +1,5 @@
 pub mod PointsFound
+pub mod TellingLaws
 pub mod Looks
 pub mod BookLaws
 pub mod PeekLaws

@@ -30,8 +30,8 @@ pub record IsPrinted (t u : Listing) : Type 0 where
   pub spelled : SpellsModel (listed_text (statements_of t.lines)) statements
   pub opens : u ≡ listed statements t.horizon t.replications t.limit
 
--- a query of a version behind n accepted edits is answered as one that is so of it, run from zero; or memory was
--- refused
+-- a query of a version behind n accepted edits is answered as one that is so of it, run from zero; or out of
+-- memory
 abbrev pub IsRight : (Listing → Listing → Type 0) → Listing → ℕ → ℕ → ℕ → Answer → Type 0
 IsRight so t n rep k answers.Memory = Unit {0}
 IsRight so t n rep k answer = (u : Listing) × so t u × (answer ≡ answer_of u n rep k)

@@ -4,6 +4,7 @@ pub mod Ending
 pub mod Looking
 pub mod Book
 pub mod Replies
+pub mod Telling
 pub mod Anew
 pub mod Peeking
 pub mod Finishing

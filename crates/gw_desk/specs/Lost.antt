@@ -1,4 +1,4 @@
--- The laws of a keeper, at a desk: any call may be answered that memory was refused, and an answer may be lost. (An
+-- The laws of a keeper, at a desk: any call may be answered out of memory, and an answer may be lost. (An
 -- `impl` names only what stands in specs/, so they stand here.)
 use Rattle.std.proofs.Common.{◌≡◌, ℕ, Some, inr, refl, sym, ap}
 use Rattle.std.proofs.Math.Nat.{le_refl, le_trans, not-suc-le_self, sub_self}
@@ -35,7 +35,7 @@ finishes_none b rep k = record {
   steps = λ seed a with_seed there. goes_nowhere b rep k seed a there;
 }
 
--- each call may be answered that memory was refused
+-- each call may be answered out of memory
 pub does_nothing : (b : Book) (event : Event) → Does b event (wants_memory event) b
 does_nothing b (events.Edit e) = (λ desk. desk, (refl, tt))
 does_nothing b (events.Peek rep k) = (λ desk. desk, (refl, tt))

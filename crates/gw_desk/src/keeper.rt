@@ -16,7 +16,7 @@ use std::alloc::Global;
 
 /// Keeps a version of a model open, edits it and answers queries of it.
 ///
-/// `version a` is the version that is seen at the moment `a`, and `does a event reply b` says that an event may be
+/// `version a` is the version of a keeper in the state `a`, and `does a event reply b` says that an event may be
 /// answered so, and what that leaves. A [`Desk`] does what its own calls do, and no one else edits it.
 pub trait Keeper {
     ghost use Rattle.gw_desk.specs.declared.answer.Answer.{Answer};
@@ -35,7 +35,7 @@ pub trait Keeper {
     fn replications(&self) -> &[Replication]
         ensures { result.now ≡ (version self.now).replications };
 
-    /// Edits the version, and gives the number of accepted edits.
+    /// Edits the version, and returns the number of accepted edits.
     ///
     /// # Errors
     ///
@@ -52,7 +52,7 @@ pub trait Keeper {
     fn finish(&mut self, alloc: Global, rep: u64, k: u64) -> Answer
         ensures { does self.old (events.Finish rep k) (replies.Answered result) self.new };
 
-    // Any call may be answered that memory was refused, with nothing changed.
+    // Any call may be answered out of memory, with nothing changed.
     ghost in_vain: { (a : Self) (event : Event) → does a event (wants_memory event) a };
 
     // An answer may be lost where memory is refused for telling it.

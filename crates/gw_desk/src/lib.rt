@@ -20,5 +20,5 @@ mod recording;
 pub use answer::{Answer, Report};
 pub use desk::Desk;
 pub use keeper::Keeper;
-pub use laws::{numbers_do_not_matter, points_are_found, reports_are_right};
+pub use laws::{answers_tell, numbers_do_not_matter, points_are_found, reports_are_right};
 pub use play::{Event, Reply};

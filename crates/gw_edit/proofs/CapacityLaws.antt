@@ -68,16 +68,16 @@ gives name n (line ∷ lines) place h = go (defines name line) refl h (gives nam
   }
 
 -- what is touched where such a statement gives it others
-record IsStorage (name : List ℕ) (from : ℕ) (label : Option (List ℕ)) (body : Body) : Type 0 where
-  label_is : label ≡ Some name
-  body_is : body ≡ bodies.Definition (definitions.Storage from)
+pub record IsStorageOf (name : List ℕ) (from : ℕ) (label : Option (List ℕ)) (body : Body) : Type 0 where
+  pub label_is : label ≡ Some name
+  pub body_is : body ≡ bodies.Definition (definitions.Storage from)
 
-is_storage : (name : List ℕ) (from : ℕ) (label : Option (List ℕ)) (body : Body) →
-    definition_if (has_label name label) (definition_of_body body) ≡ Some (definitions.Storage from) → IsStorage name from label body
+pub is_storage : (name : List ℕ) (from : ℕ) (label : Option (List ℕ)) (body : Body) →
+    definition_if (has_label name label) (definition_of_body body) ≡ Some (definitions.Storage from) → IsStorageOf name from label body
 is_storage name from None body h = absurd cc
 is_storage name from (Some other) body h = go (bytes_eq other name) refl body h where
   go : (b : Bool) → bytes_eq other name ≡ b → (body : Body) → definition_if b (definition_of_body body) ≡ Some (definitions.Storage from) →
-      IsStorage name from (Some other) body
+      IsStorageOf name from (Some other) body
   go false is body k = absurd cc
   go true is (bodies.Block block) k = absurd cc
   go true is (bodies.Command command) k = absurd cc
@@ -86,7 +86,7 @@ is_storage name from (Some other) body h = go (bytes_eq other name) refl body h 
       record { label_is = ap (λ l. Some l) ((bytes_eq-Decides other name).0 is); body_is = ap (λ d. bodies.Definition d) same }
 
 touched_there : (t : Listing) (place : ℕ) (name : List ℕ) (from amount number : ℕ) (line : Numbered) →
-    IsStorage name from line.statement.label line.statement.body →
+    IsStorageOf name from line.statement.label line.statement.body →
     splice_probes t place (Some line) (Some (record { number = number; statement = storage_of name amount })) ≡ Amounts name (Some from) (Some amount) ∷ []
 touched_there t place name from amount number line is = rw (is.body_is, is.label_is, same_bytes name) refl
 

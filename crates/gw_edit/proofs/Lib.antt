@@ -15,3 +15,4 @@ pub mod RebaseLaws
 pub mod PositionLaws
 pub mod SpelledLaws
 pub mod WrittenLaws
+pub mod OutcomeLaws

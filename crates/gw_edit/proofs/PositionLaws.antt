@@ -54,7 +54,8 @@ new_parts lines place deletes (Some s) least last =
     let there : nth (spliced lines place deletes (Some s)) place ≡ Some line = ap (λ ls. nth ls place) parts ∙ nth_between lines back place line least last in
     parts ∙ ap (λ o. take i lines ++ (option_to_list o ++ back)) (sym there)
 
-spliced_edited : (t : Listing) (e : Edit) (u : Listing) → AreNumbered t.lines → IsSpliced t e u → IsEdited t u (front_of t e) (deleted_of t e) (inserted_of t e u)
+spliced_edited : (t : Listing) (e : Edit) (u : Listing) → AreNumbered t.lines → IsSpliced t e u →
+    IsEdited t u (front_of t e) (deleted_of t e) (inserted_of t e u)
 spliced_edited t e u numbered s =
     rw (s.front, s.deleted, s.inserted)
     (subst (λ (v : Listing). IsEdited t v (lines_before t s.place) (option_to_list (deleted_at t.lines s.place s.deletes))

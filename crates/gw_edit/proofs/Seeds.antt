@@ -24,7 +24,7 @@ seed_reseeded (r ∷ rs) number seed other apart = go (r.number == number) refl 
   go false differs rest = ap (λ o. cond (r.number == other) (Some r.seed) o) rest
 
 -- one is dropped: its number has no seed, and the others have theirs
-seed_gone : (rs : List Replication) (number : ℕ) → seed_in (without_number number rs) number ≡ None
+pub seed_gone : (rs : List Replication) (number : ℕ) → seed_in (without_number number rs) number ≡ None
 seed_gone [] number = refl
 seed_gone (r ∷ rs) number =
     ⊎_elim
@@ -35,7 +35,7 @@ seed_gone (r ∷ rs) number =
     (subst (λ (b : Bool). cond b (Some r.seed) (seed_in (without_number number rs) number) ≡ None) (sym other) (seed_gone rs number)))
     (cases_Bool (r.number == number))
 
-seed_left : (rs : List Replication) (gone number : ℕ) → (gone == number) ≡ false → seed_in (without_number gone rs) number ≡ seed_in rs number
+pub seed_left : (rs : List Replication) (gone number : ℕ) → (gone == number) ≡ false → seed_in (without_number gone rs) number ≡ seed_in rs number
 seed_left [] gone number other = refl
 seed_left (r ∷ rs) gone number other =
     ⊎_elim

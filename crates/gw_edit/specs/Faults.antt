@@ -29,12 +29,12 @@ abbrev pub of_model : ModelFault → EditFault
 of_model models.Memory = Memory
 of_model fault = BadModel fault
 
--- the refusal is the one that is wanted, or memory was refused
+-- the refusal is the one that is wanted, or out of memory
 abbrev pub Refuses : {X : Type 0} → EditFault → Result X EditFault → Type 0
 Refuses Memory wanted = Unit {0}
 Refuses fault wanted = wanted ≡ Err fault
 
--- what was answered is what is wanted, or memory was refused
+-- what was answered is what is wanted, or out of memory
 abbrev pub Gives : {X : Type 0} → Result X EditFault → Result X EditFault → Type 0
 Gives (Ok x) wanted = wanted ≡ Ok x
 Gives (Err fault) wanted = Refuses fault wanted

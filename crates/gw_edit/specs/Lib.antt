@@ -1,6 +1,7 @@
 pub mod Faults
 pub mod Applied
 pub mod Written
+pub mod Outcomes
 pub mod Same
 pub mod Touching
 pub mod Touched

@@ -28,7 +28,7 @@ pub enum EditFault {
     /// E6: there is no storage with this name.
     #[error("there is no such storage")]
     NoSuchStorage,
-    /// E7: memory was refused.
+    /// E7: out of memory.
     #[error("out of memory")]
     Memory,
     /// E8: no further edit is taken.

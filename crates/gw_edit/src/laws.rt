@@ -1,6 +1,7 @@
 // The laws above the definitions of what an edit makes and touches.
 ghost use Rattle.gw_edit.specs.Capacities.{CapacityTouchesWhatDiffers};
 ghost use Rattle.gw_edit.specs.InPositions.{EditInPositions};
+ghost use Rattle.gw_edit.specs.Outcomes.{EditsMake};
 ghost use Rattle.gw_edit.specs.Spelled.{EditsAreSpelled};
 ghost use Rattle.gw_edit.specs.Untouched.{UntouchedAlike};
 ghost use Rattle.gw_edit.specs.Written.{ChangesAreRefused, ChangesAreSpelled, InsertsAreRefused, InsertsAreSpelled};
@@ -12,6 +13,12 @@ pub fn texts_are_spelled()
     ensures changes { ChangesAreSpelled }
     ensures inserts_refused { InsertsAreRefused }
     ensures changes_refused { ChangesAreRefused }
+{}
+
+/// Each of the other edits changes of a version what it names and leaves the rest: the changed version is made where it
+/// has no fault, and refused for its first one, and where there is nothing to change it is refused for that.
+pub fn edits_make()
+    ensures { EditsMake }
 {}
 
 /// What an edit does not touch, a version and its edited version answer alike, in each replication that both

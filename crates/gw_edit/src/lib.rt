@@ -1,9 +1,9 @@
 //! Edits of a version.
 //!
-//! [`apply`] gives the version that an edit makes of a version, or its refusal. What the edit touches ([`touch_of`]) is
-//! a list of probes in each replication: what else the two versions are asked, they answer alike ([`untouched`]). So a
-//! recorded run stands as far as it asked for nothing that is touched ([`touched`]), and [`rebase`] makes it the run of
-//! the edited version.
+//! [`apply`] returns the version that an edit makes of a version, or its refusal ([`edits_make`] and
+//! [`texts_are_spelled`] say which). What the edit touches ([`touch_of`]) is a list of probes in each replication: what
+//! else the two versions are asked, they answer alike ([`untouched`]). So a recorded run stands as far as it asked for
+//! nothing that is touched ([`touched`]), and [`rebase`] makes it the run of the edited version.
 #![tactic(auto)]
 
 mod edit;
@@ -21,8 +21,8 @@ mod touched_step;
 pub use edit::Edit;
 pub use fault::EditFault;
 pub use laws::{
-    capacity_touches_what_differs, edit_in_positions, edits_are_spelled, texts_are_spelled,
-    untouched,
+    capacity_touches_what_differs, edit_in_positions, edits_are_spelled, edits_make,
+    texts_are_spelled, untouched,
 };
 pub use making::apply;
 pub use rebasing::rebase;

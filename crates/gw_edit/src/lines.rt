@@ -24,7 +24,7 @@ pub fn lines_before(lines: &[Numbered], place: u64) -> &[Numbered]
     &lines[..end]
 }
 
-/// The number of the last block.
+/// The id of the last block.
 pub fn last_block(lines: &[Numbered]) -> Option<StatementId>
     ensures { result ≡ last_block None lines.now }
 {
@@ -37,7 +37,7 @@ pub fn last_block(lines: &[Numbered]) -> Option<StatementId>
     last
 }
 
-/// The number of commands.
+/// How many commands there are.
 pub fn count_commands(lines: &[Numbered]) -> u64
     ensures { result ≡ length (filter is_command lines.now) }
 {

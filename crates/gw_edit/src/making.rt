@@ -20,7 +20,7 @@ use std::alloc::{AllocError, Global};
 /// The edited version, or the first refusal, in the order E1, E4, E5, E6, E2, E3. E7 may come in place of any.
 /// The version itself stays as it is.
 pub fn apply(alloc: Global, version: &Version, edit: &Edit) -> Result<Version, EditFault>
-    // What is answered is what the edit makes, or memory was refused.
+    // What is answered is what the edit makes, or out of memory.
     ensures { Gives result (applied version.now edit.now) }
 {
     match edit {

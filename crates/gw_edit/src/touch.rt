@@ -18,7 +18,7 @@ use std::marker::Model;
 pub enum Probe {
     /// This item.
     One(Item),
-    /// This command and all behind it, by their positions from 1.
+    /// The command of this number, from 1, and all behind it.
     CommandsFrom(u64),
     /// The clock steps beyond this time.
     Beyond(Time),

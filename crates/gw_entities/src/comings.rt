@@ -176,7 +176,7 @@ impl Comings {
         self.many.get_ready()
     }
 
-    /// The same comings. Many are shared.
+    /// A copy. Many comings are shared.
     pub fn copy(&self) -> Result<Comings, AllocError>
         ensures { IfOk result (λ c. c.comings ≡ self.now.comings) }
     {

@@ -115,7 +115,7 @@ impl KeySet {
         set.add(key, 0);
     }
 
-    /// The same keys, which are shared. The copy is not ready.
+    /// A copy, which shares the keys and is not ready.
     pub fn copy(&self) -> Result<KeySet, AllocError>
         ensures { IfOk result (λ s. s.keys ≡ self.now.keys) }
     {

@@ -175,7 +175,7 @@ impl Parameters {
         self.spare = values;
     }
 
-    /// The same parameters.
+    /// A copy.
     pub fn copy(&self) -> Result<Parameters, AllocError>
         ensures { IfOk result (λ p. p ≡ self.now) }
     {

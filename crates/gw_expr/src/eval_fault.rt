@@ -14,7 +14,7 @@ pub enum Fault {
     Stop(Stop),
 }
 
-/// A [`Fault`] as one number, so that a result that may be a fault is handed back in registers. A stop has the number
+/// A [`Fault`] as one number, so that a result that may be a fault is returned in registers. A stop has the number
 /// that a report prints behind an X.
 #[derive(Drop)]
 pub struct EvalFault {

@@ -13,8 +13,8 @@ use std::marker::Model;
 // How many values may wait. No expression on a line of 250 bytes, with parentheses 32 deep, has more than 67 that do.
 const MOST: usize = 128;
 
-// The values of an expression that wait for their operator, the last one first, where they may be many. They wait in
-// place; where there is none left, that is out of memory.
+// The values of an expression that wait for their operator, the last one first, where they may be many. They lie in
+// an array; one more than it holds is out of memory.
 #[derive(Drop)]
 pub struct ManyValues {
     values: ArrayVec<Val, MOST>,

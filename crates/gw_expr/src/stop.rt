@@ -24,7 +24,7 @@ pub enum Stop {
     /// X6: a division by 0.
     #[error("a divisor is 0")]
     ZeroDivisor,
-    /// X7: a value outside its range, or a computed entity number below 1.
+    /// X7: a value outside its range, or the number of an entity or a parameter below 1.
     #[error("a value is out of range")]
     Range,
     /// X8: there is no next block, or it is a GENERATE that the transaction did not come from.

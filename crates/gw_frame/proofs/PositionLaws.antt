@@ -109,8 +109,8 @@ pub record Shifts (b front deleted inserted : ℕ) (o n : Option ℕ) : Type 0 w
 one_block : (line : Numbered) (x : Block) → block_of line ≡ Some x → count_blocks (line ∷ []) ≡ 1
 one_block line x block = rw (ap is_some block) refl
 
-at_splice : (deleted inserted back : List Numbered) (b p : ℕ) (x y : Block) → AreNumbered (deleted ++ back) → AreNumbered (inserted ++ back) → IsLine deleted p x ⊎
-    IsBehind deleted back p x → IsLine inserted p y ⊎ IsBehind inserted back p y →
+at_splice : (deleted inserted back : List Numbered) (b p : ℕ) (x y : Block) → AreNumbered (deleted ++ back) → AreNumbered (inserted ++ back) →
+    IsLine deleted p x ⊎ IsBehind deleted back p x → IsLine inserted p y ⊎ IsBehind inserted back p y →
     Shifts b 0 (count_blocks deleted) (count_blocks inserted) (position_in b (deleted ++ back) p) (position_in b (inserted ++ back) p)
 at_splice deleted inserted back b p x y first second (inl l) (inl m) =
     let one : count_blocks deleted ≡ 1 = ap count_blocks l.alone ∙ one_block l.line x l.block in
@@ -177,7 +177,8 @@ module _ (deleted inserted back : List Numbered) (one : length deleted ≤ 1) (o
       block_in (front ++ (deleted ++ back)) p ≡ Some x → block_in (front ++ (inserted ++ back)) p ≡ Some y →
       Shifts b (count_blocks front) (count_blocks deleted) (count_blocks inserted) (position_in b (front ++ (deleted ++ back)) p)
       (position_in b (front ++ (inserted ++ back)) p)
-  shifts [] b first second old new = at_splice deleted inserted back b p x y first second (line_or_back deleted back p x one old) (line_or_back inserted back p y other new)
+  shifts [] b first second old new =
+      at_splice deleted inserted back b p x y first second (line_or_back deleted back p x one old) (line_or_back inserted back p y other new)
   shifts (line ∷ front) b first second old new =
       shifts_by line front b old new (λ c o n. shifts front c (numbered_behind line (front ++ (deleted ++ back)) first)
       (numbered_behind line (front ++ (inserted ++ back)) second) o n) (nat_eq line.number p) refl
@@ -197,7 +198,8 @@ none_shifts front deleted inserted = by_number (count_blocks front) (count_block
 position_none : (t : Listing) (p : ℕ) → AreNumbered t.lines → p ≡ 0 → position_of t p ≡ 0
 position_none t p numbered is = ap (position_of t) is ∙ ap (λ o. unwrap_or o 0) (no_position 0 t.lines 0 (no_id t.lines numbered))
 
-pub position_shifts : (t u : Listing) (front deleted inserted back : List Numbered) → IsSplice t u front deleted inserted back → AreNumbered t.lines → AreNumbered u.lines →
+pub position_shifts : (t u : Listing) (front deleted inserted back : List Numbered) → IsSplice t u front deleted inserted back →
+    AreNumbered t.lines → AreNumbered u.lines →
     (p : ℕ) → IsBlockId t p → IsBlockId u p → position_of u p ≡ shifted front deleted inserted (position_of t p)
 position_shifts t u front deleted inserted back splice first second p (inl is) there =
     position_none u p second is ∙ (none_shifts front deleted inserted ∙ ap (shifted front deleted inserted) (sym (position_none t p first is)))

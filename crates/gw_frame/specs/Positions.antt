@@ -1,6 +1,6 @@
--- The frame law in positions. A state names a block by the number of its statement, which edits leave alone; a version
--- tells its position. Where statements of a version are deleted and others are inserted between those that stay, the
--- positions behind them move, and nothing else of a run does that answers alike. (Manual: positions. Our own: numbers.)
+-- The frame law in positions. A state names a block by its statement id, which edits leave alone; a version tells its
+-- position. Where statements of a version are deleted and others are inserted between those that stay, the positions
+-- behind them move, and nothing else of a run does that answers alike. (Manual: positions. Our own: statement ids.)
 use Rattle.std.specs.Prelude.{ℕ, ◌≡◌, ◌+◌, ◌-◌, ◌<◌, ◌≤◌, List, ◌++◌, length, map, filter, Ok, if◌then◌else◌, nat_le, unwrap_or}
 use Rattle.gw_meaning.specs.declared.statement.Numbered.{Numbered}
 use Rattle.gw_meaning.specs.Listing.{Listing, is_block, position_at}
@@ -34,11 +34,13 @@ shifted front deleted inserted position =
 -- positions it is the old one with its positions moved, and its steps read the old items moved
 abbrev pub FrameInPositions : Type 0
 FrameInPositions =
-    (t : Listing) (seed : ℕ) (u : Listing) (new_seed n : ℕ) (s : Machine) (front deleted inserted back : List Numbered) →
+    (t : Listing) (seed : ℕ) (u : Listing) (new_seed n : ℕ) (s : Machine)
+    (front deleted inserted back : List Numbered) →
     IsSplice t u front deleted inserted back → AreNumbered t.lines → AreNumbered u.lines → run t seed n ≡ Ok s →
     ((j : ℕ) → j < n → AnswersAlike t seed u new_seed (reads t seed j)) →
     (run u new_seed n ≡ Ok s)
-    × (moved_machine (position_of u) s ≡ moved_machine (shifted front deleted inserted) (moved_machine (position_of t) s))
+    × (moved_machine (position_of u) s
+    ≡ moved_machine (shifted front deleted inserted) (moved_machine (position_of t) s))
     × ((j : ℕ) → j < n →
     map (moved_item (position_of u)) (reads u new_seed j)
     ≡ map (moved_item (shifted front deleted inserted)) (map (moved_item (position_of t)) (reads t seed j)))

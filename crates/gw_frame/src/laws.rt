@@ -32,15 +32,15 @@ pub fn ids_are_blocks()
     ensures steps { StepsReadBlocks }
 {}
 
-/// The frame law in positions: where a statement of a version is deleted, or one is inserted, and the other version answers
-/// alike all that the steps below n read, the run of n steps, told in positions, is the old one with its positions
-/// moved, and its steps read the old items moved.
+/// The frame law in positions: where a statement of a version is deleted, or one is inserted, and the other version
+/// answers alike all that the steps below n read, the run of n steps, told in positions, is the old one with its
+/// positions moved, and its steps read the old items moved.
 pub fn frame_in_positions()
     ensures { FrameInPositions }
 {}
 
-/// The numbers of statements do not matter: where two versions have the same statements in order, each under a number
-/// of its own, one is the other with its ids renamed, and so are its answers, its steps and its run.
+/// Statement ids do not matter: where two versions have the same statements in order, each under an id of its own, one
+/// is the other with its ids renamed, and so are its answers, its steps and its run.
 pub fn renamed()
     ensures found { HasRenaming }
     ensures answers { RenamedAnswers }

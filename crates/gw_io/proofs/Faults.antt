@@ -23,7 +23,7 @@ behind took failures onward P Q a b c x k m n fault t p f whole h = record {
   limit = h.limit;
 }
 
--- the memory ran out behind the bytes x, after `idle` calls that gave none
+-- out of memory behind the bytes x, after `idle` calls that gave none
 pub out_of_memory : {S : Type 0} (took : S → List ℕ → S → Type 0) (failures : S → ℕ) (P : List ℕ → Type 0) (a b : S) (x : List ℕ) (k n idle : ℕ)
     (fault : ReadFault) → fault ≡ Memory → idle ≤ 1 → took a x b → k ≡ n + (length x + idle) → failures b ≡ failures a → P x →
     Breaks took failures P a b k n fault

@@ -24,7 +24,7 @@ impl Model for Budget {
     ghost invariant = { λ b. b.calls ≤ 16777216 };
 }
 
-/// Why a reading stopped.
+/// Why a reading ended early.
 #[derive(Clone, Copy, Debug, PartialEq, Eq, Error)]
 pub enum ReadFault {
     /// The source failed.
@@ -33,7 +33,7 @@ pub enum ReadFault {
     /// No call of [`Source::read`] was left.
     #[error("the input is too long")]
     Limit,
-    /// No memory was left for the bytes.
+    /// Out of memory.
     #[error("out of memory")]
     Memory,
 }

@@ -5,7 +5,7 @@ use crate::source::Failed;
 
 /// A sink of bytes.
 ///
-/// `wrote a bytes b` says that between the moments `a` and `b` just these bytes were written, and `failures`
+/// `wrote a bytes b` says that between the states `a` and `b` just these bytes were written, and `failures`
 /// counts the calls that failed, up to `u64::MAX`.
 pub trait Sink {
     ghost wrote: { Self → List ℕ → Self → Type 0 };
@@ -22,7 +22,7 @@ pub trait Sink {
         ensures uncounted { OnOk result (failures self.new ≡ failures self.old) }
         ensures counted { OnErr result (failures self.new ≡ one_more (failures self.old)) };
 
-    // Nothing was written between a moment and itself.
+    // Nothing was written between a state and itself.
     ghost nothing: { (a : Self) → wrote a [] a };
 
     // What was written first stands before what was written next.

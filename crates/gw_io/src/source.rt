@@ -17,7 +17,7 @@ impl Failed {
 
 /// A source of bytes that are read one at a time.
 ///
-/// `took a bytes b` says that between the moments `a` and `b` just these bytes were read, `ended` that the
+/// `took a bytes b` says that between the states `a` and `b` just these bytes were read, `ended` that the
 /// input has no more of them, and `failures` counts the calls that failed, up to `u64::MAX`.
 pub trait Source {
     ghost took: { Self → List ℕ → Self → Type 0 };
@@ -34,7 +34,7 @@ pub trait Source {
         ensures uncounted { OnOk result (failures self.new ≡ failures self.old) }
         ensures counted { OnErr result (failures self.new ≡ one_more (failures self.old)) };
 
-    // Nothing was read between a moment and itself.
+    // Nothing was read between a state and itself.
     ghost nothing: { (a : Self) → took a [] a };
 
     // What was read first stands before what was read next.

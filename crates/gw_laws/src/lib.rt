@@ -1,13 +1,13 @@
 //! What holds of every run from zero, whatever its version: laws above the definition of a step.
 //!
-//! The current chain and each delay chain are in order of priority. The current chain and those of facilities are first
-//! in first out within. At a storage, whoever goes on waiting keeps his place. Nobody waits at a free facility, nor at
-//! a storage that has room for what he asks. No two transactions have one number, none is given twice, and each stands
-//! in exactly one place. A block's content is the number of the transactions that stand in it. The clock never goes
-//! back, and stays within the horizon. No facility has more captures than steps were made. No count of a queue passes
-//! its limit. No storage has more units in use than its capacity. Parameters are kept of living transactions alone. A
-//! transaction's parameters, priority and mark time change only in steps in which it is active. Nobody but its owner
-//! gives a facility back.
+//! The current chain and each delay chain are in order of priority. Within a priority the current chain and those of
+//! facilities are first in first out. At a storage, whoever goes on waiting keeps his place. Nobody waits at a free
+//! facility, nor at a storage that has room for what he asks. No two transactions have one number, none is given twice,
+//! and each stands in exactly one place. A block's content is the number of the transactions that stand in it. The
+//! clock never goes back, and stays within the horizon. No facility has more captures than steps were made. No count of
+//! a queue passes its limit. No storage has more units in use than its capacity. Parameters are kept of living
+//! transactions alone. A transaction's parameters, priority and mark time change only in steps in which it is active.
+//! Nobody but its owner gives a facility back.
 #![tactic(auto)]
 
 mod laws;

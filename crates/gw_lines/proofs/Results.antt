@@ -27,7 +27,7 @@ err_is {A} r f g h k = let e : failed {A = A} f ≡ failed g = sym h ∙ k in cc
 pub not_both : {A B : Type 0} (r : Result A LineFault) (x : A) (f : LineFault) → r ≡ Ok x → r ≡ Err f → B
 not_both r x f h k = absurd (let e : done x ≡ Err f = sym h ∙ k in cc)
 
--- what follows from a fact follows unless memory ran out
+-- what follows from a fact follows, or out of memory
 pub or_memory : (f : LineFault) {P Q : Type 0} → (P → Q) → OrMemory f P → OrMemory f Q
 or_memory faults.Memory on h = tt
 or_memory faults.TooLong on h = on h

@@ -89,7 +89,7 @@ pub data FaultOfLines : List (List ℕ) → LineFault → Type 0 where
 abbrev pub FirstFaultOfEdit : List ℕ → LineFault → Type 0
 FirstFaultOfEdit text f = FaultOfLines (edit_lines text) f
 
--- a fault that was answered is the first one, or memory ran out
+-- a fault that was answered is the first one, or out of memory
 abbrev pub AnswersEdit : List ℕ → LineFault → Type 0
 AnswersEdit text f = OrMemory f (FirstFaultOfEdit text f)
 

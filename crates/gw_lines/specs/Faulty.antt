@@ -97,6 +97,6 @@ pub data FirstFault : List ℕ → LineFault → Type 0 where
   no_statement : (text code : List ℕ) → Cut text code → is_remark code ≡ true → FirstFault text faults.UnknownVerb
   in_words : (text words : List ℕ) (f : LineFault) → HasWords text words → WordsFault words f → FirstFault text f
 
--- a fault that was answered is the first one, or memory ran out
+-- a fault that was answered is the first one, or out of memory
 abbrev pub Answers : List ℕ → LineFault → Type 0
 Answers text f = OrMemory f (FirstFault text f)

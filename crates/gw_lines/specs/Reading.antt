@@ -10,21 +10,21 @@ abbrev pub ◌>>=◌ : {A B E : Type 0} → Result A E → (A → Result B E) �
 (Ok x) >>= f = f x
 (Err e) >>= f = Err e
 
--- memory ran out, or the fact holds of the fault
+-- the fault is out of memory, or the fact holds of it
 abbrev pub OrMemory : LineFault → Type 0 → Type 0
 OrMemory faults.Memory P = Unit {0}
 OrMemory f P = P
 
--- the fault f is what reading gives, unless memory ran out
+-- the fault f is what reading gives, unless it is out of memory
 abbrev pub Fails : {Y : Type 0} → LineFault → Result Y LineFault → Type 0
 Fails f read = OrMemory f (read ≡ Err f)
 
--- what a function returned, seen by view, is what reading gives, unless memory ran out
+-- what a function returned, seen by view, is what reading gives, unless it is out of memory
 abbrev pub Gives : {X Y : Type 0} → (X → Y) → Result X LineFault → Result Y LineFault → Type 0
 Gives view (Ok x) read = read ≡ Ok (view x)
 Gives view (Err f) read = Fails f read
 
--- a fault found alone is this one, unless memory ran out
+-- a fault found alone is this one, unless it is out of memory
 abbrev pub IsFault : LineFault → LineFault → Type 0
 IsFault e f = OrMemory e (f ≡ e)
 

@@ -50,7 +50,7 @@ SpellsModel bytes statements = OfLines (lines_of bytes) statements
 abbrev pub FirstFaultOf : List ℕ → FaultyLine → Type 0
 FirstFaultOf bytes e = FirstFaulty None 1 (lines_of bytes) e
 
--- a faulty line that was answered is the first one, or memory ran out
+-- a faulty line that was answered is the first one, or out of memory
 abbrev pub AnswersAt : List ℕ → ℕ → LineFault → Type 0
 AnswersAt bytes line f =
     OrMemory f (FirstFaultOf bytes (record { line = line; fault = f }))

@@ -24,11 +24,11 @@ pub fn read_edit(alloc: Global, text: &[u8]) -> Result<Statement, LineFault>
     ensures found { IfOk result (λ s. SpellsEdit text.now s) }
     // It wants no more pairs.
     ensures whole { IfOk result (λ s. wants_pairs s ≡ false) }
-    // What is spelled so is read, unless memory runs out.
+    // What is spelled so is read, unless it is out of memory.
     ensures only { (s : Statement) → SpellsEdit text.now s → Gives (λ s. s) result (Ok s) }
-    // The fault that is answered is the first one, or memory ran out.
+    // The fault that is answered is the first one, or out of memory.
     ensures fault { IfErr result (λ f. AnswersEdit text.now f) }
-    // A text with a first fault is answered with it, unless memory runs out.
+    // A text with a first fault is answered with it, unless it is out of memory.
     ensures faulty { (f : LineFault) → FirstFaultOfEdit text.now f → Gives (λ s. s) result (Err f) }
     // What reading line by line gives.
     ensures exact { Gives (λ s. s) result (edit_of text.now) }
@@ -40,11 +40,11 @@ pub fn read_edit(alloc: Global, text: &[u8]) -> Result<Statement, LineFault>
 pub fn read_statement(alloc: Global, line: &[u8]) -> Result<Statement, LineFault>
     // What is read is spelled so.
     ensures found { IfOk result (λ s. SpellsLines (line.now ∷ []) s) }
-    // What is spelled so is read, unless memory runs out.
+    // What is spelled so is read, unless it is out of memory.
     ensures only { (s : Statement) → SpellsLines (line.now ∷ []) s → Gives (λ s. s) result (Ok s) }
-    // The fault that is answered is the first one, or memory ran out.
+    // The fault that is answered is the first one, or out of memory.
     ensures fault { IfErr result (λ f. OrMemory f (FaultOfLines (line.now ∷ []) f)) }
-    // A line with a first fault is answered with it, unless memory runs out.
+    // A line with a first fault is answered with it, unless it is out of memory.
     ensures faulty { (f : LineFault) → FaultOfLines (line.now ∷ []) f → Gives (λ s. s) result (Err f) }
 {
     read_alone(alloc, line)

@@ -20,7 +20,7 @@ pub enum LineFault {
     /// L4: the word before the verb is no lawful name, or the verb takes no label, or it lacks one that it needs.
     #[error("the label is not lawful")]
     BadLabel,
-    /// L5: the operand with this number, from 1, is not of a lawful form.
+    /// L5: the operand with this number (A is 1) is not of a lawful form.
     #[error("operand {0} is not lawful")]
     BadOperand(u8),
     /// L6: the operand with this number is absent and is needed.
@@ -32,8 +32,8 @@ pub enum LineFault {
     /// L8: a FUNCTION's pairs are not lawful or are missing, or lines stand behind a statement that wants none.
     #[error("the lines behind the statement are not lawful")]
     BadPairs,
-    /// L9: memory ran out.
-    #[error("memory ran out")]
+    /// L9: out of memory.
+    #[error("out of memory")]
     Memory,
 }
 

@@ -18,11 +18,11 @@ pub const LONGEST: usize = 250;
 pub fn read_first(alloc: Global, text: &[u8]) -> Result<Statement, LineFault>
     // What is read is spelled so.
     ensures found { IfOk result (λ s. Spells text.now s) }
-    // What is spelled so is read, unless memory runs out.
+    // What is spelled so is read, unless it is out of memory.
     ensures only { (s : Statement) → Spells text.now s → Gives (λ s. s) result (Ok s) }
-    // The fault that is answered is the first one, or memory ran out.
+    // The fault that is answered is the first one, or out of memory.
     ensures fault { IfErr result (λ f. Answers text.now f) }
-    // A text with a first fault is answered with it, unless memory runs out.
+    // A text with a first fault is answered with it, unless it is out of memory.
     ensures faulty { (f : LineFault) → FirstFault text.now f → Gives (λ s. s) result (Err f) }
     // What reading from left to right gives.
     ensures exact { Gives (λ s. s) result (statement_of text.now) }

@@ -18,11 +18,11 @@ pub fn read_model(alloc: Global, bytes: &[u8]) -> Result<Vec<Statement>, FaultyL
     ensures found { IfOk result (λ v. SpellsModel bytes.now v.items) }
     // None of them wants more pairs.
     ensures whole { IfOk result (λ v. All (λ s. wants_pairs s ≡ false) v.items) }
-    // What is spelled so is read, unless memory runs out.
+    // What is spelled so is read, unless it is out of memory.
     ensures only { (ss : List Statement) → SpellsModel bytes.now ss → GivesModel (λ v. v.items) result (Ok ss) }
-    // The fault that is answered is the first one, or memory ran out.
+    // The fault that is answered is the first one, or out of memory.
     ensures fault { IfErr result (λ e. AnswersAt bytes.now e.line e.fault) }
-    // A model with a first faulty line is answered with it, unless memory runs out.
+    // A model with a first faulty line is answered with it, unless it is out of memory.
     ensures faulty { (e : FaultyLine) → FirstFaultOf bytes.now e → GivesModel (λ v. v.items) result (Err e) }
     // What reading line by line gives.
     ensures exact { GivesModel (λ v. v.items) result (model_of bytes.now) }

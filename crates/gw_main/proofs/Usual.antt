@@ -63,7 +63,7 @@ usual_place : (m : ModelAt) → IsModelAt None m → m ≡ places.Input
 usual_place places.Input h = refl
 usual_place (places.File path) h = absurd h
 
--- words that are none ask for a run under the usual options, unless memory runs out
+-- words that are none ask for a run under the usual options, or out of memory
 is_usual : (meant : Result Wanted Refusal) → IsReadAs [] meant →
     ((wanted : Wanted) × (meant ≡ Ok wanted) × (wanted.model ≡ places.Input) × (wanted.options ≡ constants.Options.USUAL)) ⊎ (meant ≡ Err refusals.Memory)
 is_usual (Ok wanted) h =

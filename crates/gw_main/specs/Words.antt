@@ -98,8 +98,8 @@ pub record IsBadLine (faults : Kinds) : Type 0 where
   pub found : IsAmong kind faults
   pub no_help : kind ≢ kinds.DisplayHelp
 
--- why the words ask for no run: they ask for help; clap does not take them, or it does and a number is bad; or memory
--- ran out
+-- why the words ask for no run: they ask for help; clap does not take them, or it does and a number is bad; or out of
+-- memory
 abbrev pub IsRefusedBy : List Text → Refusal → Type 0
 IsRefusedBy words (refusals.Help text) = IsAmong kinds.DisplayHelp (faults_of words)
 IsRefusedBy words (refusals.Bad text) =

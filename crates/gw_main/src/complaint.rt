@@ -8,8 +8,8 @@ use gw_nums::put_decimal;
 use gw_script::{Fault, Sink};
 use std::alloc::{AllocError, Global};
 
-/// Tells standard error of a fault, as far as it takes that, and gives the fault that was told: a faulty line for whose
-/// text no memory was left is told as out of memory.
+/// Tells standard error of a fault, as far as it takes that, and returns the fault that was told: out of memory, where
+/// there was none for the text of a faulty line.
 pub fn complain<E: Sink>(alloc: Global, fault: Fault, errors: &mut E) -> Fault
     ensures told { IsToldAs fault result }
     ensures text { Tells E.wrote E.failures (complaint_of result) errors.old errors.new }

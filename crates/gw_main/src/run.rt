@@ -18,7 +18,8 @@ use std::io::ErrorKind;
 /// script behind it, or in a file, which `opener` opens by its name, with the script on the reader.
 ///
 /// The status is 0 where the script was served, or help was asked for; 1 where the model is refused; 2 where the words
-/// are; 3 where reading, writing or memory failed. Why it is not 0 is told to `errors`, as far as that takes it.
+/// are; 3 where reading or writing failed, there were too many reads, or it is out of memory. Why it is not 0 is told
+/// to `errors`, as far as that takes it.
 pub fn run<
     W: AsStr,
     F: Source + Drop,
@@ -44,7 +45,7 @@ pub fn run<
 const NO_TEXT: &[u8] =
     b"error: invalid UTF-8 was detected in one or more arguments\n\nFor more information, try '--help'.\n";
 
-/// Tells why the program could not begin, and gives its status: 3 for out of memory, and 2 for a word that is no text.
+/// Tells why the program could not begin, and returns its status: 3 for out of memory, 2 for a word that is no text.
 pub fn not_begun<E: Sink>(error: ErrorKind, errors: &mut E) -> u8
     ensures memory { error ≡ ErrorKind.OutOfMemory → (result ≡ 3) ×
         Tells E.wrote E.failures (codes "stopped: F6\n") errors.old errors.new }
@@ -122,7 +123,7 @@ fn serve<F: Source + Drop, O: FnOnce(&str) -> Result<F, ReadFault>, S: Source, K
     }
 }
 
-// Tells how a conversation ended, and gives the status.
+// Tells how a conversation ended, and returns the status.
 fn end<E: Sink>(alloc: Global, over: Result<Over, Fault>, errors: &mut E) -> u8
     ensures { MatchResult over (λ _. (errors.new ≡ errors.old) × (result ≡ 0))
         (λ fault. (told : Fault) × IsToldAs fault told ×
@@ -144,7 +145,7 @@ fn help<K: Sink, E: Sink>(text: &[u8], writer: &mut K, errors: &mut E) -> u8
     }
 }
 
-// Tells why the program goes no further, and gives its status.
+// Tells why the program goes no further, and returns its status.
 fn decline<E: Sink>(errors: &mut E, text: &[u8], status: u8) -> u8
     ensures status { result ≡ status }
     ensures tells { Tells E.wrote E.failures text.now errors.old errors.new }

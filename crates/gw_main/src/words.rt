@@ -36,7 +36,7 @@ pub enum Refusal {
     Help(String),
     /// They are no lawful words.
     Bad(String),
-    /// There was no memory to read them.
+    /// Out of memory.
     Memory,
 }
 

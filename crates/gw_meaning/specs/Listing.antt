@@ -1,6 +1,6 @@
--- What a version says: its statements in order with the numbers of their own, the horizon, the replications and the
+-- What a version says: its statements in order with ids of their own, the horizon, the replications and the
 -- step limit; and what it answers when it is asked for a block, a command, a label or a definition. (Manual: blocks and
--- commands in order. Our own: numbers, replications and the step limit.)
+-- commands in order. Our own: statement ids, replications and the step limit.)
 use Rattle.std.specs.Prelude.{ℕ, ℤ, zero, suc, ◌+◌, Bool, true, false, ◌==◌, ◌&&◌, List, [], ◌∷◌, Option, Some, None, is_some, if◌then◌else◌, option_and_then, option_map, filter, length, unwrap_or, slice_get, get_or}
 use Rattle.std.specs.List.{filter_map}
 use Rattle.std.specs.Str.{bytes_eq}

@@ -27,7 +27,7 @@ same_asked = asking.ghosts.eq
 abbrev pub same_item : Item → Item → Bool
 same_item = comparison.ghosts.eq
 
--- whether an item is used where another is read: it is that item; a time is used by each Clock step to a later one
+-- whether an item is used where another is read: it is that item; a time is used by each clock step to a later one
 abbrev pub is_use : Item → Item → Bool
 is_use (items.Within time) (items.Within other) = nat_lt time other
 is_use item other = same_item other item

@@ -1,9 +1,9 @@
 //! What the language means: statements, a version's answers, the state, the questions of a step, the run.
 //!
 //! The definitions stand in `specs/`, in this order: Statements and Texts (verbs, how a statement is listed), Listing
-//! and Numbers (what a version says), Machine (the state), Questions (what a step may ask), Evaluation (values and
-//! draws), Changes (what a move does to a state), Step (which move it is, and the run), Reads (what a run read), Point
-//! (where a report is taken). The types here are the plain data that they speak of.
+//! and Numbers (what a version says), Places, Entities and Machine (the state), Questions (what a step may ask),
+//! Evaluation (values and draws), Changes (what a move does to a state), Step (which move it is, and the run), Reads
+//! (what a run read), Point (where a report is taken). The types here are the plain data that they speak of.
 #![tactic(auto)]
 
 mod asker;

@@ -30,7 +30,7 @@ pub enum Body {
 #[derive(Drop)]
 pub struct Block {
     pub verb: BlockVerb,
-    /// Behind A, where the verb takes one there.
+    /// The sign behind operand A, where the verb takes one.
     pub sign: Sign,
     pub operands: Row<Option<Expr>>,
 }

@@ -7,7 +7,7 @@ use std::alloc::AllocError;
 
 impl Statement {
     /// Appends the statement as `list` prints it: its label, its verb in upper case and its operands, with one
-    /// blank between and none at the end. Where memory runs out, the text is as it was.
+    /// blank between and none at the end. Where it is out of memory, the text is as it was.
     pub fn put_text(&self, text: &mut Vec<u8>) -> Result<(), AllocError>
         ensures value { OnOk result (text.new.items ≡ text.old.items ++ text_of self.now) }
         ensures err { OnErr result (text.new.items ≡ text.old.items) }

@@ -112,7 +112,8 @@ numbered_spliced lines position true inserts least there apart =
     let parts : lines ≡ front ++ line ∷ back = subst (λ (p : ℕ). lines ≡ front ++ line ∷ drop p lines) next cut.1.parts in
     let parted : AreNumbered (front ++ line ∷ back) = subst (λ (ls : List Numbered). AreNumbered ls) parts apart in
     subst (λ (o : Option Numbered). AreNumbered (front ++ inserted (number_in lines o) inserts ++ back)) (sym (nth_get lines position line least cut.1.found))
-    (inserted_between front back line.number inserts (least_in front back line parted) (numbered_without front back line parted) (absent_gone front back line parted))
+    (inserted_between front back line.number inserts (least_in front back line parted) (numbered_without front back line parted)
+    (absent_gone front back line parted))
 
 -- numbers one after another
 absent_numbered : (first : ℕ) (statements : List Statement) (k : ℕ) → k < first → line_in (numbered first statements) k ≡ None

@@ -185,7 +185,7 @@ fault_of t =
     else (if has_bad_replication t.replications then Some BadSeed
     else (if is_bad_horizon t.horizon t.limit then Some BadHorizon else label_fault_of t.lines))
 
--- the fault is the first one, or memory was refused
+-- the fault is the first one, or out of memory
 abbrev pub IsFault : Option ModelFault → ModelFault → Type 0
 IsFault first Memory = Unit {0}
 IsFault first fault = first ≡ Some fault

@@ -6,7 +6,7 @@ use Rattle.gw_model.specs.Well.{Well}
 use Rattle.gw_model.specs.declared.fault.ModelFault.{ModelFault}
 use Rattle.gw_model.specs.declared.fault.ModelFault.TheVariants.{Memory}
 
--- this version, which is well-formed and has no fault; or its first fault, or that memory was refused
+-- this version, which is well-formed and has no fault; or its first fault, or out of memory
 pub record Makes (t : Listing) (result : Result Listing ModelFault) : Type 0 where
   pub value : IfOk result (λ v. v ≡ t)
   pub found : IfOk result (λ v. Well v)

@@ -30,7 +30,7 @@ pub enum ModelFault {
     /// M4: an operand of a block names a definition that is no storage's, but an EQU's.
     #[error("a storage is named whose name an EQU defines")]
     EquNamedDefinition,
-    /// M8: memory was refused.
+    /// M8: out of memory.
     #[error("out of memory")]
     Memory,
 }

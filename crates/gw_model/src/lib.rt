@@ -1,5 +1,5 @@
-//! A version of a model, as a type: its statements with the numbers of their own, the horizon, the
-//! replications and the step limit, all well-formed, and what it answers.
+//! A version of a model, as a type: its statements with ids of their own, the horizon, the replications and the step
+//! limit, all well-formed, and what it answers.
 #![tactic(auto)]
 
 mod by_name;

@@ -7,7 +7,7 @@ use crate::lists::nth;
 use gw_meaning::{Numbered, Statement, StatementId};
 use std::alloc::{AllocError, Global};
 
-/// The statements with the numbers 1, 2, 3 and so on.
+/// The statements with the ids 1, 2, 3 and so on.
 pub fn number(alloc: Global, statements: Vec<Statement>) -> Result<Vec<Numbered>, AllocError>
     ensures { IfOk result (λ lines. lines.items ≡ numbered 1 statements.items) }
 {
@@ -19,47 +19,47 @@ pub fn number(alloc: Global, statements: Vec<Statement>) -> Result<Vec<Numbered>
     Ok(lines)
 }
 
-/// The lines with one splice at a position, from 1: the line there is deleted, or stays, and a statement is inserted, or
-/// none. It keeps the number of the deleted one, and else gets the number above all of theirs.
+/// The lines with one splice at a place, from 1: the line there is deleted, or stays, and a statement is inserted, or
+/// none. It keeps the id of the deleted one, and else gets the id above all of theirs.
 pub fn spliced(
     alloc: Global,
     lines: &[Numbered],
-    position: u64,
+    place: u64,
     deletes: bool,
     inserts: Option<Statement>,
 ) -> Result<Vec<Numbered>, AllocError>
-    requires first { 1 ≤ position }
-    requires last { position ≤ length lines.now + 1 }
-    requires there { IsTrue deletes → position ≤ length lines.now }
-    ensures { IfOk result (λ made. made.items ≡ spliced lines.now position deletes inserts) }
+    requires first { 1 ≤ place }
+    requires last { place ≤ length lines.now + 1 }
+    requires there { IsTrue deletes → place ≤ length lines.now }
+    ensures { IfOk result (λ made. made.items ≡ spliced lines.now place deletes inserts) }
 {
-    let index = position as usize - 1;
+    let index = place as usize - 1;
     let end = if deletes { index + 1 } else { index };
     let mut made = Vec::new(alloc);
     let inserts = copy_behind(alloc, &mut made, &lines[..index]).and(Ok(inserts))?;
-    put_inserted(&mut made, lines, position, deletes, inserts)?;
+    put_inserted(&mut made, lines, place, deletes, inserts)?;
     copy_behind(alloc, &mut made, &lines[end..])?;
     Ok(made)
 }
 
-// Puts the inserted statement, if any, behind those that are made, with its number.
+// Puts the inserted statement, if any, behind those that are made, with its id.
 fn put_inserted(
     made: &mut Vec<Numbered>,
     lines: &[Numbered],
-    position: u64,
+    place: u64,
     deletes: bool,
     inserts: Option<Statement>,
 ) -> Result<(), AllocError>
     ensures { OnOk result (made.new.items ≡ made.old.items
-        ++ inserted (number_in lines.now (if deletes then nth lines.now position else None)) inserts) }
+        ++ inserted (number_in lines.now (if deletes then nth lines.now place else None)) inserts) }
 {
     match inserts {
-        Some(statement) => put(made, number_in(lines, position, deletes), statement),
+        Some(statement) => put(made, number_in(lines, place, deletes), statement),
         None => Ok(()),
     }
 }
 
-// Puts a statement behind those that are made, with its number, if there is one for it.
+// Puts a statement behind those that are made, with its id, if there is one for it.
 fn put(
     made: &mut Vec<Numbered>,
     number: Option<StatementId>,
@@ -73,18 +73,18 @@ fn put(
         .or(Err(AllocError))
 }
 
-// The number of the statement that is inserted at a position, if there is a number for it.
-fn number_in(lines: &[Numbered], position: u64, deletes: bool) -> Option<StatementId>
-    ensures { IfSome result (λ n. n ≡ number_in lines.now (if deletes then nth lines.now position else None)) }
+// The id of the statement that is inserted at a place, if there is one for it.
+fn number_in(lines: &[Numbered], place: u64, deletes: bool) -> Option<StatementId>
+    ensures { IfSome result (λ n. n ≡ number_in lines.now (if deletes then nth lines.now place else None)) }
 {
-    let deleted = if deletes { nth(lines, position) } else { None };
+    let deleted = if deletes { nth(lines, place) } else { None };
     match deleted {
         Some(line) => Some(line.number),
         None => StatementId::new(greatest_number(lines).checked_add(1)?),
     }
 }
 
-// The greatest number, 0 where there is no line.
+// The greatest id, 0 where there is no line.
 fn greatest_number(lines: &[Numbered]) -> u64
     ensures { result ≡ greatest_number lines.now }
 {

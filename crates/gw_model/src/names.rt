@@ -19,14 +19,14 @@ use std::collections::BTreeMap;
 /// What the labels of blocks and definitions stand for.
 #[derive(Drop)]
 pub struct Names {
-    /// The number of the block with each label.
+    /// The id of the block with each label.
     pub labels: BTreeMap<Name, StatementId>,
     /// What each name is defined as.
     pub definitions: BTreeMap<Name, Definition>,
 }
 
-/// What the labels of these lines stand for. No two blocks or definitions may have one label, and what an operand of a
-/// block names must be there: a label must be that of a block, and a definition must be of its kind.
+/// What the labels of these lines stand for. No two blocks or definitions may have one label, and what an operand that
+/// is evaluated names must be there: a label must be that of a block, and a definition must be of its kind.
 pub fn sound_names(alloc: Global, lines: &[Numbered]) -> Result<Names, ModelFault>
     ensures labels { IfOk result (λ names. (name : List ℕ) →
         tree.get (slice_cmp nat_cmp) names.labels name ≡ labelled_in name lines.now) }

@@ -13,17 +13,17 @@ use std::alloc::Global;
 /// What a version looks its answers up in.
 #[derive(Drop)]
 pub struct Tables {
-    /// For each number the place of its block.
+    /// For each id the place of its block.
     pub places: Vec<Place>,
-    /// The number of blocks.
+    /// How many blocks there are.
     pub blocks: u64,
     /// The commands, in order.
     pub commands: Vec<Command>,
-    /// The number of STARTs.
+    /// How many STARTs there are.
     pub starts: u64,
     /// The ids of the GENERATEs, in order.
     pub generates: Vec<StatementId>,
-    /// The number of the block with each label.
+    /// The id of the block with each label.
     pub labels: ByName<StatementId>,
     /// Whether a statement is an EQU: where none is, no name stands for a number.
     pub has_equ: bool,

@@ -16,8 +16,8 @@ use std::alloc::{AllocError, Global};
 use std::marker::Model;
 use std::sync::Arc;
 
-/// A version of a model: at most 2,000 statements with the numbers of their own, from 1, of which no two are one; a
-/// horizon; at most 32 replications with their seeds; and a step limit. Each version has no model fault.
+/// A version of a model: at most 2,000 statements with ids of their own, from 1, of which no two are one; a horizon; at
+/// most 32 replications with their seeds; and a step limit. Each version has no model fault.
 #[derive(Drop)]
 pub struct Version {
     tabled: Arc<Tabled>,
@@ -50,7 +50,7 @@ impl Version {
     ghost use Rattle.gw_model.specs.Made.{Makes};
     ghost use Rattle.gw_model.specs.Spliced.{with_splice};
 
-    /// The version with these statements, which get the numbers 1, 2, 3 and so on, and these replications in
+    /// The version with these statements, which get the ids 1, 2, 3 and so on, and these replications in
     /// the order of adding; or the first fault, in the order M5, M6, M7, M1, M2, M3, M4. M8 may come in place of any.
     pub fn new(
         alloc: Global,
@@ -71,32 +71,26 @@ impl Version {
         Version::from_lines(alloc, lines, horizon, replications, limit)
     }
 
-    /// The version with one splice of its statements at a position, from 1: the statement there is deleted, or stays,
-    /// and another one is inserted, or none. That keeps the number of the deleted one, and else gets the number above
-    /// all that are there. The faults are those of `new`. The version itself stays as it is.
+    /// The version with one splice of its statements at a place, from 1: the statement there is deleted, or stays, and
+    /// another one is inserted, or none. That keeps the id of the deleted one, and else gets the id above all that are
+    /// there. The faults are those of `new`. The version itself stays as it is.
     pub fn with_splice(
         &self,
         alloc: Global,
-        position: u64,
+        place: u64,
         deletes: bool,
         inserts: Option<Statement>,
     ) -> Result<Version, ModelFault>
-        requires first { 1 ≤ position }
-        requires last { position ≤ length self.now.lines + 1 }
-        requires there { IsTrue deletes → position ≤ length self.now.lines }
-        ensures value { IfOk result (λ v. v ≡ with_splice self.now position deletes inserts) }
+        requires first { 1 ≤ place }
+        requires last { place ≤ length self.now.lines + 1 }
+        requires there { IsTrue deletes → place ≤ length self.now.lines }
+        ensures value { IfOk result (λ v. v ≡ with_splice self.now place deletes inserts) }
         ensures found { IfOk result (λ v. Well v) }
-        ensures none { OnOk result (fault_of (with_splice self.now position deletes inserts) ≡ None) }
-        ensures fault { IfErr result (λ f. IsFault (fault_of (with_splice self.now position deletes inserts)) f) }
-        ensures only { Well (with_splice self.now position deletes inserts) → IfErr result (λ f. f ≡ Memory) }
+        ensures none { OnOk result (fault_of (with_splice self.now place deletes inserts) ≡ None) }
+        ensures fault { IfErr result (λ f. IsFault (fault_of (with_splice self.now place deletes inserts)) f) }
+        ensures only { Well (with_splice self.now place deletes inserts) → IfErr result (λ f. f ≡ Memory) }
     {
-        let lines = spliced(
-            alloc,
-            self.tabled.lines.as_slice(),
-            position,
-            deletes,
-            inserts,
-        )?;
+        let lines = spliced(alloc, self.tabled.lines.as_slice(), place, deletes, inserts)?;
         let replications = Vec::from_slice(alloc, self.replications.as_slice())?;
         Version::from_lines(alloc, lines, self.horizon.ticks(), replications, self.limit)
     }
@@ -280,7 +274,7 @@ impl Version {
         self.tabled.lines.len()
     }
 
-    /// The statements with their numbers, in order.
+    /// The statements with their ids, in order.
     pub fn lines(&self) -> &[Numbered]
         ensures value { result.now ≡ self.now.lines }
         ensures well { Well self.now }
@@ -288,7 +282,7 @@ impl Version {
         self.tabled.lines.as_slice()
     }
 
-    /// Each statement has a number of its own, from 1.
+    /// Each statement has an id of its own, from 1.
     pub fn numbered(&self)
         ensures { AreNumbered self.now.lines }
     {

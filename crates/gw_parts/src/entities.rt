@@ -236,7 +236,7 @@ impl Entities {
         self.comings.get_ready()
     }
 
-    /// Equal entities.
+    /// A copy.
     pub fn copy(&self) -> Result<Entities, AllocError>
         ensures { IfOk result (λ e. entities_of e ≡ entities_of self.now) }
     {

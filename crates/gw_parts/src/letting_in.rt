@@ -11,7 +11,7 @@ use gw_meaning::Transaction;
 use gw_names::Key;
 use std::alloc::AllocError;
 
-/// Makes room to let in the first of the delay chain at a place, and gives its number where somebody waits. Room for
+/// Makes room to let in the first of the delay chain at a place, and returns its number where somebody waits. Room for
 /// one more stays on the current chain, for the active transaction.
 #[inline(always)]
 pub fn reserve_first(
@@ -89,7 +89,7 @@ fn reserve_shares(
     current.reserve(count)
 }
 
-// Makes room for the counts of the blocks at which those with a share wait. How many they are, and one more.
+// Makes room for the counts of the blocks at which those with a share wait. Returns how many they are, and one more.
 fn reserve_blocks(
     chain: &PriorityChain,
     shares: &[Option<u64>],

@@ -75,7 +75,7 @@ impl Recorded {
         Ok(turn)
     }
 
-    // One step further: the next multiple of the spacing comes one step nearer. At one there is a state to keep.
+    // One step further: the next multiple of the spacing comes one step nearer. At a multiple a state is to be kept.
     #[inline(always)]
     fn move_on(&mut self)
         requires { self.old.moment < 1000000 }

@@ -18,7 +18,7 @@ pub struct Recorded {
     // From this moment on states are kept.
     pub(crate) start: u64,
     pub(crate) moment: u64,
-    // How many steps the tip stands before the next multiple of the spacing: all of the spacing at one.
+    // How many steps lead from the tip to the next multiple of the spacing: the whole spacing at a multiple.
     pub(crate) ahead: u64,
     // While fewer STARTs than these are complete, nothing is left to keep: one more than are noted, or 0 where the
     // start or a multiple of the spacing may not be kept yet.

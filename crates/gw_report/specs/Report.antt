@@ -14,7 +14,7 @@ use Rattle.gw_report.specs.Queues.{queues_text}
 use Rattle.gw_report.specs.Storages.{storages_text}
 use Rattle.gw_report.specs.Chains.{current_text, future_text}
 
--- how the run of a START stands, as a word; an error with its number behind an X
+-- how the run of a START stands, as a word; a stop with its number behind an X
 unfoldable pub outcome_text : Outcome → List ℕ
 outcome_text Complete = codes "COMPLETE"
 outcome_text Horizon = codes "HORIZON"

@@ -1,9 +1,11 @@
 -- A line is cut at its first blank, and what has no blank is not cut.
-use Rattle.std.proofs.Common.{◌≡◌, ℕ, suc, ◌+◌, ◌==◌, ◌&&◌, Bool, true, false, cond, List, [], ◌∷◌, ◌++◌, length, Option, Some, None, option_map, refl, ap, sym, subst, ◌∙◌, arith}
+use Rattle.std.proofs.Common.{◌≡◌, ℕ, suc, ◌+◌, ◌==◌, Bool, true, false, cond, List, [], ◌∷◌, ◌++◌, length, Option, Some, None, option_map, refl, ap, sym, subst, ◌∙◌, arith}
 use Rattle.std.specs.Prelude.{position, nat_lt}
-use Rattle.std.specs.List.{list_all, position_or_len}
+use Rattle.std.specs.List.{list_all, position_or_len, AllByRecursion}
 use Rattle.std.proofs.lemmas.Bool.{eqb-true}
 use Rattle.std.proofs.lemmas.Bool.Decides.{nat_tests}
+use Rattle.std.proofs.lemmas.List.Elements.{All-weaker, recursion_from_All}
+use Rattle.std.proofs.lemmas.List.Sums.{AllPass-from_list_all}
 use Rattle.gw_request.specs.Words.{is_blank, cut_at, cut}
 
 -- a line with one byte more in front, which is no blank, is cut one place further
@@ -35,38 +37,39 @@ cut_further x line h = ap (cut_at (x ∷ line)) (blank_further x line h) ∙ one
 cut_here : (x : ℕ) (line : List ℕ) → is_blank x ≡ true → cut (x ∷ line) ≡ Some ([], line)
 cut_here x line h = rw (h, first_less (length line)) refl
 
+-- no blank among bytes
+abbrev pub Solid : List ℕ → Type 0
+Solid bytes = AllByRecursion (λ b. is_blank b ≡ false) bytes
+
 -- what a line is cut into
 pub record IsCut (line : List ℕ) (p : List ℕ × List ℕ) : Type 0 where
   pub blank : ℕ
   pub is : is_blank blank ≡ true
   pub whole : line ≡ p.0 ++ blank ∷ p.1
+  pub solid : Solid p.0
 
 same_cut : (o p : List ℕ × List ℕ) → Some o ≡ Some p → o ≡ p
 same_cut o p h = cc
 
-found_further : (x : ℕ) (line : List ℕ) (o : Option (List ℕ × List ℕ)) (p : List ℕ × List ℕ) →
+found_further : (x : ℕ) (line : List ℕ) (o : Option (List ℕ × List ℕ)) (p : List ℕ × List ℕ) → is_blank x ≡ false →
     ((q : List ℕ × List ℕ) → o ≡ Some q → IsCut line q) →
     with_front x o ≡ Some p → IsCut (x ∷ line) p
-found_further x line None p on h = absurd cc
-found_further x line (Some q) p on h =
+found_further x line None p out on h = absurd cc
+found_further x line (Some q) p out on h =
     let c = on q refl in
-    subst (IsCut (x ∷ line)) (same_cut (x ∷ q.0, q.1) p h) (record { blank = c.blank; is = c.is; whole = ap (λ l. x ∷ l) c.whole })
+    subst (IsCut (x ∷ line)) (same_cut (x ∷ q.0, q.1) p h)
+    (record { blank = c.blank; is = c.is; whole = ap (λ l. x ∷ l) c.whole; solid = (out, c.solid) })
 
 found_by : (x : ℕ) (line : List ℕ) (p : List ℕ × List ℕ) → cut (x ∷ line) ≡ Some p →
     ((q : List ℕ × List ℕ) → cut line ≡ Some q → IsCut line q) →
     (b : Bool) → is_blank x ≡ b → IsCut (x ∷ line) p
 found_by x line p e on true h =
-    subst (IsCut (x ∷ line)) (same_cut ([], line) p (sym (cut_here x line h) ∙ e)) (record { blank = x; is = h; whole = refl })
-found_by x line p e on false h = found_further x line (cut line) p on (sym (cut_further x line h) ∙ e)
+    subst (IsCut (x ∷ line)) (same_cut ([], line) p (sym (cut_here x line h) ∙ e)) (record { blank = x; is = h; whole = refl; solid = tt })
+found_by x line p e on false h = found_further x line (cut line) p h on (sym (cut_further x line h) ∙ e)
 
 pub cut_found : (line : List ℕ) (p : List ℕ × List ℕ) → cut line ≡ Some p → IsCut line p
 cut_found [] p e = absurd cc
 cut_found (x ∷ line) p e = found_by x line p e (λ q h. cut_found line q h) (is_blank x) refl
-
--- no blank among bytes
-abbrev pub Solid : List ℕ → Type 0
-Solid [] = Unit {0}
-Solid (x ∷ xs) = (is_blank x ≡ false) × Solid xs
 
 pub cut_again : (word : List ℕ) (b : ℕ) (rest : List ℕ) → Solid word → is_blank b ≡ true → cut (word ++ b ∷ rest) ≡ Some (word, rest)
 cut_again [] b rest solid h = cut_here b rest h
@@ -75,6 +78,17 @@ cut_again (x ∷ word) b rest solid h = cut_further x (word ++ b ∷ rest) solid
 pub cut_none : (word : List ℕ) → Solid word → cut word ≡ None
 cut_none [] solid = refl
 cut_none (x ∷ word) solid = cut_further x word solid.0 ∙ ap (with_front x) (cut_none word solid.1)
+
+uncut_by : (x : ℕ) (line : List ℕ) → cut (x ∷ line) ≡ None → (cut line ≡ None → Solid line) → (b : Bool) → is_blank x ≡ b → Solid (x ∷ line)
+uncut_by x line e on true h = absurd (let f = sym (cut_here x line h) ∙ e in cc)
+uncut_by x line e on false h = (h, on (uncut (cut line) (sym (cut_further x line h) ∙ e))) where
+  uncut : (o : Option (List ℕ × List ℕ)) → with_front x o ≡ None → o ≡ None
+  uncut None f = refl
+  uncut (Some p) f = absurd cc
+
+pub uncut_solid : (line : List ℕ) → cut line ≡ None → Solid line
+uncut_solid [] e = tt
+uncut_solid (x ∷ line) e = uncut_by x line e (uncut_solid line) (is_blank x) refl
 
 -- bytes of a kind that has no blank
 clash : (p : ℕ → Bool) (a b : ℕ) → p a ≡ false → p b ≡ true → a ≡ b → ⊥
@@ -87,11 +101,7 @@ no_blank p space tab b h = go (b == 32) (b == 9) refl refl where
   go false true hs ht = absurd (clash p 9 b tab h (sym (eqb-true b 9 ht)))
   go false false hs ht = rw (hs, ht) refl
 
-solid_by : (p : ℕ → Bool) → p 32 ≡ false → p 9 ≡ false → (x : ℕ) (xs : List ℕ) → (list_all p xs ≡ true → Solid xs) →
-    (b : Bool) → p x ≡ b → (b && list_all p xs) ≡ true → Solid (x ∷ xs)
-solid_by p space tab x xs on true is h = (no_blank p space tab x is, on h)
-solid_by p space tab x xs on false is h = absurd cc
-
 pub solid_all : (p : ℕ → Bool) → p 32 ≡ false → p 9 ≡ false → (xs : List ℕ) → list_all p xs ≡ true → Solid xs
-solid_all p space tab [] h = tt
-solid_all p space tab (x ∷ xs) h = solid_by p space tab x xs (solid_all p space tab xs) (p x) refl h
+solid_all p space tab xs h =
+    recursion_from_All (λ b. is_blank b ≡ false) xs
+    (All-weaker (λ b. p b ≡ true) (λ b. is_blank b ≡ false) (no_blank p space tab) xs (AllPass-from_list_all p xs h))

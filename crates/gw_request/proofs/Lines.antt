@@ -1,11 +1,11 @@
 -- A line is read as a request of a command exactly where it asks for that.
-use Rattle.std.proofs.Common.{◌≡◌, ◌≤◌, ℕ, ◌==◌, ◌&&◌, ◌||◌, not, Bool, true, false, cond, List, [], ◌∷◌, ◌++◌, length, Option, Some, None, option_and_then, unwrap_or, refl, ap, sym, subst, ◌∙◌, ◌⊎◌, inl, inr, arith}
+use Rattle.std.proofs.Common.{◌≡◌, ◌≤◌, ℕ, ◌&&◌, Bool, true, false, cond, List, [], ◌∷◌, ◌++◌, length, Option, Some, None, option_and_then, unwrap_or, refl, ap, sym, subst, ◌∙◌, ◌⊎◌, inl, inr}
 use Rattle.std.specs.Prelude.{find, nat_lt, nat_le}
 use Rattle.std.specs.List.{list_all}
 use Rattle.std.specs.Str.{bytes_eq}
 use Rattle.std.specs.Char.{is_ascii_digit, is_ascii_alphabetic}
-use Rattle.std.proofs.lemmas.Bool.{cases_Bool}
-use Rattle.std.proofs.lemmas.Bool.Decides.{nat_tests}
+use Rattle.std.proofs.lemmas.Bool.{cases_Bool, ltb-false, le-ltb}
+use Rattle.std.proofs.lemmas.List.{append-nil}
 use Rattle.std.proofs.lemmas.Slice.Eq.{bytes_eq-Decides}
 use Rattle.std.proofs.lemmas.Option.{same_Some}
 use Rattle.gw_names.specs.Names.{name_of, is_name_text, is_name_byte}
@@ -20,11 +20,12 @@ use Rattle.gw_request.specs.declared.request.Request.{Request}
 use Rattle.gw_request.specs.declared.request.Request.TheVariants as requests
 use Rattle.gw_request.specs.declared.request.Reason.TheVariants as reasons
 use Rattle.gw_request.specs.Words.{is_blank, cut, word_at, first_word}
-use Rattle.gw_request.specs.Numbers.{number_of, next_number, value_of}
+use Rattle.gw_request.specs.Numbers.{number_of, next_number}
 use Rattle.gw_request.specs.Commands.{Form, Alone, Number, TwoNumbers, NumberAndText, NameAndNumber, word_of, form_of, commands, command_of}
 use Rattle.gw_request.specs.Arguments.{asked_with, asked_alone, request_in}
 use Rattle.gw_request.specs.Requests.{request_with, request_of}
-use Rattle.gw_request.specs.Asking.{Behind, nothing, number, two_numbers, number_and_text, name_and_number, AsksFor, is_asked, LinesAsk}
+use Rattle.gw_request.specs.Asking.{IsNumber, Behind, nothing, number, two_numbers, number_and_text, name_and_number, AsksFor, is_asked, LinesAsk}
+use Rattle.gw_request.proofs.Spelled.{are_digits, number_again, number_found}
 use Rattle.gw_request.proofs.Cuts.{IsCut, cut_found, Solid, cut_again, cut_none, no_blank, solid_all}
 
 -- what has an answer, where another follows
@@ -43,11 +44,11 @@ find_passes : {X : Type 0} (p : X → Bool) (xs : List X) (x : X) → find p xs 
 find_passes p [] x e = absurd cc
 find_passes p (y ∷ ys) x e = passes_by p y ys x (find_passes p ys x) (p y) refl e
 
-command_found : (word : List ℕ) (c : Command) → command_of word ≡ Some c → word_of c ≡ word
+pub command_found : (word : List ℕ) (c : Command) → command_of word ≡ Some c → word_of c ≡ word
 unfolding command_of
 command_found word c e = (bytes_eq-Decides (word_of c) word).0 (find_passes (λ d. bytes_eq (word_of d) word) commands c e)
 
-command_again : (c : Command) → command_of (word_of c) ≡ Some c
+pub command_again : (c : Command) → command_of (word_of c) ≡ Some c
 unfolding command_of
 command_again (Text texts.Insert) = refl
 command_again (Single singles.Delete) = refl
@@ -98,17 +99,8 @@ not_blank (Bare bares.Quit) behind = refl
 
 -- ---- numbers and names have no blank
 
-digits_only : (digits : List ℕ) (n : ℕ) → number_of digits ≡ Some n → list_all is_ascii_digit digits ≡ true
-digits_only digits n e = go (length digits == 0) (nat_lt 18 (length digits)) (list_all is_ascii_digit digits) refl e where
-  go : (a b d : Bool) → list_all is_ascii_digit digits ≡ d → cond (a || (b || not d)) None (Some (value_of 0 digits)) ≡ Some n →
-      list_all is_ascii_digit digits ≡ true
-  go a b true h k = h
-  go true b false h k = absurd cc
-  go false true false h k = absurd cc
-  go false false false h k = absurd cc
-
-solid_number : (digits : List ℕ) (n : ℕ) → number_of digits ≡ Some n → Solid digits
-solid_number digits n e = solid_all is_ascii_digit refl refl digits (digits_only digits n e)
+solid_number : (digits : List ℕ) (n : ℕ) → IsNumber digits n → Solid digits
+solid_number digits n h = solid_all is_ascii_digit refl refl digits (are_digits h.spelled)
 
 and_parts : (a b d : Bool) → (a && (b && d)) ≡ true → (a ≡ true) × (d ≡ true)
 and_parts true true d h = (refl, h)
@@ -137,26 +129,26 @@ alone_found (NameAndNumber f) r e = absurd cc
 pub record IsNext (words : List ℕ) (p : ℕ × List ℕ) : Type 0 where
   pub digits : List ℕ
   pub cut : IsCut words (digits, p.1)
-  pub number : number_of digits ≡ Some p.0
+  pub number : IsNumber digits p.0
 
 next_found : (words : List ℕ) (p : ℕ × List ℕ) → next_number words ≡ Some p → IsNext words p
 next_found words p e =
     let c = then_some (cut words) _ p e in
     let n = then_some (number_of c.0.0) _ p c.2 in
-    subst (IsNext words) (same_Some (n.0, c.0.1) p n.2) (record { digits = c.0.0; cut = cut_found words c.0 c.1; number = n.1 })
+    subst (IsNext words) (same_Some (n.0, c.0.1) p n.2) (record { digits = c.0.0; cut = cut_found words c.0 c.1; number = number_found c.0.0 n.0 n.1 })
 
 with_found : (f : Form) (b : ℕ) (words : List ℕ) (r : Request) → is_blank b ≡ true → asked_with f words ≡ Some r → Behind f (b ∷ words) r
 with_found (Alone q) b words r blank e = absurd cc
 with_found (Number f) b words r blank e =
     let n = then_some (number_of words) _ r e in
-    subst (Behind (Number f) (b ∷ words)) (same_Some (f n.0) r n.2) (number f b words n.0 blank n.1)
+    subst (Behind (Number f) (b ∷ words)) (same_Some (f n.0) r n.2) (number f b words n.0 blank (number_found words n.0 n.1))
 with_found (TwoNumbers f) b words r blank e =
     let p = then_some (next_number words) _ r e in
     let n = then_some (number_of p.0.1) _ r p.2 in
     let h = next_found words p.0 p.1 in
     subst (λ w. Behind (TwoNumbers f) (b ∷ w) r) (sym h.cut.whole)
     (subst (Behind (TwoNumbers f) (b ∷ (h.digits ++ h.cut.blank ∷ p.0.1))) (same_Some (f p.0.0 n.0) r n.2)
-    (two_numbers f b h.digits h.cut.blank p.0.1 p.0.0 n.0 blank h.number h.cut.is n.1))
+    (two_numbers f b h.digits h.cut.blank p.0.1 p.0.0 n.0 blank h.number h.cut.is (number_found p.0.1 n.0 n.1)))
 with_found (NumberAndText f) b words r blank e =
     let p = then_some (next_number words) _ r e in
     let h = next_found words p.0 p.1 in
@@ -170,7 +162,7 @@ with_found (NameAndNumber f) b words r blank e =
     let h = cut_found words p.0 p.1 in
     subst (λ w. Behind (NameAndNumber f) (b ∷ w) r) (sym h.whole)
     (subst (Behind (NameAndNumber f) (b ∷ (p.0.0 ++ h.blank ∷ p.0.1))) (same_Some (f name.0 n.0) r name.2)
-    (name_and_number f b p.0.0 h.blank p.0.1 name.0 n.0 blank name.1 h.is n.1))
+    (name_and_number f b p.0.0 h.blank p.0.1 name.0 n.0 blank name.1 h.is (number_found p.0.1 n.0 n.1)))
 
 -- what is read behind a word: nothing, or words behind a blank
 abbrev Reads : Form → List ℕ → Request → Type 0
@@ -179,13 +171,25 @@ Reads f behind r = ((behind ≡ []) × (asked_alone f ≡ Some r)) ⊎
 
 behind_again : {f : Form} {behind : List ℕ} {r : Request} → Behind f behind r → Reads f behind r
 behind_again (nothing r) = inl (refl, refl)
-behind_again (number f b digits n blank is) = inr (b, digits, refl, blank, rw is refl)
+behind_again (number f b digits n blank is) = inr (b, digits, refl, blank, rw (number_again digits n is) refl)
 behind_again (two_numbers f b first d second m n blank one is two) =
-    inr (b, first ++ d ∷ second, refl, blank, rw (cut_again first d second (solid_number first m one) is, one, two) refl)
+    inr (
+      b,
+      first ++ d ∷ second,
+      refl,
+      blank,
+      rw (cut_again first d second (solid_number first m one) is, number_again first m one, number_again second n two) refl,
+    )
 behind_again (number_and_text f b digits d text n blank one is) =
-    inr (b, digits ++ d ∷ text, refl, blank, rw (cut_again digits d text (solid_number digits n one) is, one) refl)
+    inr (b, digits ++ d ∷ text, refl, blank, rw (cut_again digits d text (solid_number digits n one) is, number_again digits n one) refl)
 behind_again (name_and_number f b spelling d digits name n blank one is two) =
-    inr (b, spelling ++ d ∷ digits, refl, blank, rw (cut_again spelling d digits (solid_name spelling name one) is, two, one) refl)
+    inr (
+      b,
+      spelling ++ d ∷ digits,
+      refl,
+      blank,
+      rw (cut_again spelling d digits (solid_name spelling name one) is, number_again digits n two, one) refl,
+    )
 
 -- ---- requests of commands
 
@@ -233,36 +237,31 @@ with_command : (o : Option Command) (words : Option (List ℕ)) (r : Request) �
 with_command None words r e asked = absurd (not_asked (requests.Bad reasons.Command) r e refl asked)
 with_command (Some c) words r e asked = (c, refl, arguments_found c (request_in c words) r e asked)
 
-by_word : (line : List ℕ) (r : Request) (o : Option (List ℕ × List ℕ)) → cut line ≡ o → length line ≤ 65536 →
-    request_with (command_of (word_at line o).0) (word_at line o).1 ≡ r → is_asked r ≡ true → AsksFor line r
-by_word line r None there short e asked =
-    let c = with_command (command_of line) None r e asked in
-    record {
-      short = short;
-      command = c.0;
-      behind = [];
-      spelled = sym (command_found line c.0 c.1) ∙ ends (word_of c.0);
-      asks = alone_found (form_of c.0) r c.2;
-    } where
-      ends : (xs : List ℕ) → xs ≡ xs ++ []
-      ends [] = refl
-      ends (x ∷ xs) = ap (λ l. x ∷ l) (ends xs)
-by_word line r (Some p) there short e asked =
-    let c = with_command (command_of p.0) (Some p.1) r e asked in
+-- a line with a command's first word asks for what is read behind that
+pub asks_by : (line : List ℕ) (r : Request) (o : Option (List ℕ × List ℕ)) → cut line ≡ o → length line ≤ 65536 →
+    (c : Command) → command_of (word_at line o).0 ≡ Some c → request_in c (word_at line o).1 ≡ Some r → AsksFor line r
+asks_by line r None there short c is asks = record {
+  short = short;
+  command = c;
+  behind = [];
+  spelled = sym (command_found line c is) ∙ sym (append-nil (word_of c));
+  asks = alone_found (form_of c) r asks;
+}
+asks_by line r (Some p) there short c is asks =
     let h = cut_found line p there in
     record {
       short = short;
-      command = c.0;
+      command = c;
       behind = h.blank ∷ p.1;
-      spelled = h.whole ∙ ap (λ w. w ++ h.blank ∷ p.1) (sym (command_found p.0 c.0 c.1));
-      asks = with_found (form_of c.0) h.blank p.1 r h.is c.2;
+      spelled = h.whole ∙ ap (λ w. w ++ h.blank ∷ p.1) (sym (command_found p.0 c is));
+      asks = with_found (form_of c) h.blank p.1 r h.is asks;
     }
 
-short_is : (n : ℕ) → nat_lt 65536 n ≡ false → n ≤ 65536
-short_is n h = grind (arith, nat_tests)
-
-short_again : (n : ℕ) → n ≤ 65536 → nat_lt 65536 n ≡ false
-short_again n h = grind (arith, nat_tests)
+by_word : (line : List ℕ) (r : Request) → length line ≤ 65536 →
+    request_with (command_of (first_word line).0) (first_word line).1 ≡ r → is_asked r ≡ true → AsksFor line r
+by_word line r short e asked =
+    let c = with_command (command_of (first_word line).0) (first_word line).1 r e asked in
+    asks_by line r (cut line) refl short c.0 c.1 c.2
 
 line_found : (line : List ℕ) (r : Request) → request_of line ≡ r → is_asked r ≡ true → AsksFor line r
 unfolding request_of
@@ -271,7 +270,7 @@ line_found line r e asked =
       | inl long ↦ absurd (not_asked (requests.Bad reasons.Long) r (rw long at e) refl asked)
       | inr short ↦ elim (cases_Bool (list_all is_blank line)) [
         | inl blank ↦ absurd (not_asked requests.Nothing r (rw (short, blank) at e) refl asked)
-        | inr some ↦ by_word line r (cut line) refl (short_is (length line) short) (rw (short, some) at e) asked
+        | inr some ↦ by_word line r (ltb-false 65536 (length line) short) (rw (short, some) at e) asked
       ]
     ]
 
@@ -280,18 +279,15 @@ read_again : (c : Command) (line behind : List ℕ) (r : Request) (words : Optio
 unfolding request_of
 read_again c line behind r words spelled short first asks =
     let solid : list_all is_blank line ≡ false = ap (list_all is_blank) spelled ∙ not_blank c behind in
-    rw (short_again (length line) short, solid, first, command_again c, asks) refl
+    rw (le-ltb 65536 (length line) short, solid, first, command_again c, asks) refl
 
 line_again : (line : List ℕ) (r : Request) → AsksFor line r → request_of line ≡ r
 line_again line r h = go (behind_again h.asks) where
   go : Reads (form_of h.command) h.behind r → request_of line ≡ r
   go (inl parts) =
-      let alone : line ≡ word_of h.command = h.spelled ∙ (ap (λ l. word_of h.command ++ l) parts.0 ∙ ends (word_of h.command)) in
+      let alone : line ≡ word_of h.command = h.spelled ∙ (ap (λ l. word_of h.command ++ l) parts.0 ∙ append-nil (word_of h.command)) in
       read_again h.command line h.behind r None h.spelled h.short
-      (ap first_word alone ∙ ap (word_at (word_of h.command)) (cut_none (word_of h.command) (solid_word h.command))) parts.1 where
-        ends : (xs : List ℕ) → xs ++ [] ≡ xs
-        ends [] = refl
-        ends (x ∷ xs) = ap (λ l. x ∷ l) (ends xs)
+      (ap first_word alone ∙ ap (word_at (word_of h.command)) (cut_none (word_of h.command) (solid_word h.command))) parts.1
   go (inr (b, words, is, blank, asks)) =
       let cuts : line ≡ word_of h.command ++ b ∷ words = h.spelled ∙ ap (λ l. word_of h.command ++ l) is in
       read_again h.command line h.behind r (Some words) h.spelled h.short

@@ -52,7 +52,7 @@ Goes p (Ok u) before after = (m : Move) × (p ≡ gives m) × (after ≡ moved b
 Goes p (Err (whys.End end)) before after = (p ≡ ends_with end) × (after ≡ before)
 Goes p (Err whys.Memory) before after = after ≡ before
 
--- no step was made: the run ends here, or memory was refused
+-- no step was made: the run ends here, or out of memory
 abbrev pub Halts : {E : Type 0} → Why → Result Turn E → Type 0
 Halts (whys.End end) (Ok turn) = turn ≡ turns.Ended end
 Halts whys.Memory (Err error) = Unit {0}

@@ -69,7 +69,7 @@ impl State {
 }
 
 // It enters a block and stays active: the counts of the block that it leaves and of the one that it enters are crossed.
-// Gives its number.
+// Returns its number.
 #[inline(always)]
 pub fn enter_active(active: &mut Active, counts: &mut Counts, id: StatementId) -> u64
     requires there { IsSome active.old }

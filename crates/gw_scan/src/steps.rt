@@ -21,8 +21,8 @@ pub enum Turn {
 }
 
 /// Makes the step of the version with this seed, notes the items that it reads and counts it; or says why
-/// none follows. An end, and a refused growth, changes nothing, and nothing stays noted of the step. What was noted
-/// stands where the state does: between steps both have the same streams.
+/// none follows. An end, and a refused growth, changes nothing, and nothing stays noted of the step. Between
+/// steps the notes and the state have the same streams.
 #[inline(always)]
 pub fn step(
     alloc: Global,

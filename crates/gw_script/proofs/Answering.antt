@@ -19,7 +19,7 @@ use Rattle.gw_script.specs.Changes.{refuses, refusal_of}
 use Rattle.gw_script.specs.Replying.{Replies, Untold, untold_of}
 use Rattle.gw_script.specs.Turns.{BreaksOff, BreaksBy, BreaksRefused, not_begun, begun}
 
--- how it is told that memory was refused for an edit
+-- how an edit is told to be out of memory
 pub memory_told : codes "refused E7\n" ≡ refusal_of refusals.Memory
 memory_told = let seven : 7 < 10 = omega arith in rw (decimal_digit 7 seven) refl
 
@@ -48,14 +48,24 @@ if_err_at {A} r P e f is same h =
     let F : Result A Fault → Type 0 = λ q. IfErr q P in
     subst F (sym (is ∙ ap (λ x. Err x) same)) h
 
+write_is_not_memory : (fault : Fault) → fault ≡ faults.Write → fault ≡ faults.Memory → ⊥
+write_is_not_memory fault failed memory = absurd (let both : faults.Write ≡ faults.Memory = sym failed ∙ memory in cc)
+
 -- writing an answer broke off
-pub broken_sending : {D K : Type 0} (wrote : K → List ℕ → K → Type 0) (writes_of : K → ℕ) (A : List ℕ → D → Type 0) (old new : K) (text : List ℕ) (after : D)
-    (fault : Fault) → A text after → WritesPart wrote old text new → fault ≡ faults.Write → writes_of new ≡ one_more (writes_of old) →
-    BreaksOff wrote writes_of A old new after fault
-broken_sending wrote writes_of A old new text after fault is part failed counted =
+pub broken_sending : {D K : Type 0} (wrote : K → List ℕ → K → Type 0) (writes_of : K → ℕ) (A : List ℕ → D → Type 0) (untold : Option (List ℕ)) (before : D)
+    (old new : K) (text : List ℕ) (after : D) (fault : Fault) → A text after → WritesPart wrote old text new → fault ≡ faults.Write →
+    writes_of new ≡ one_more (writes_of old) → BreaksOff wrote writes_of A untold before old new after fault
+broken_sending wrote writes_of A untold before old new text after fault is part failed counted =
     let T : List ℕ → Type 0 = λ x. A x after in
     let C : Fault → Type 0 = λ f. BreaksBy f (writes_of old) (writes_of new) in
-    record { front = part.front; left = part.left; answers = subst T part.parts is; written = part.written; cause = subst C (sym failed) counted }
+    record {
+      front = part.front;
+      left = part.left;
+      answers = subst T part.parts is;
+      written = part.written;
+      cause = subst C (sym failed) counted;
+      silent = λ memory. absurd (write_is_not_memory fault failed memory);
+    }
 
 -- what was answered where a growth was refused is an answer
 pub untold_replies : {D : Type 0} (version : D → Listing) (does : D → Event → Reply → D → Type 0) (d after : D) (n : ℕ) (request : Request) (text : List ℕ) →
@@ -66,7 +76,7 @@ untold_replies version does d after n request text is untold = rw is at untold
 pub broken_refused : {D K : Type 0} (wrote : K → List ℕ → K → Type 0) (writes_of : K → ℕ) (wrote_none : (a : K) → wrote a [] a) (version : D → Listing)
     (does : D → Event → Reply → D → Type 0) (in_vain : (d : D) (event : Event) → does d event (wants_memory event) d) (d after : D) (n : ℕ) (request : Request)
     (old new : K) (fault : Fault) → Untold version does d n request after → BreaksRefused wrote writes_of (untold_of request) old new fault →
-    BreaksOff wrote writes_of (Replies version does d n request) old new after fault
+    BreaksOff wrote writes_of (Replies version does d n request) (untold_of request) d old new after fault
 broken_refused {D} {K} wrote writes_of wrote_none version does in_vain d after n request old new fault untold (not_begun other memory same) =
     let W : K → Type 0 = λ k. wrote old [] k in
     let C : Fault → Type 0 = λ f. BreaksBy f (writes_of old) (writes_of new) in
@@ -78,8 +88,8 @@ broken_refused {D} {K} wrote writes_of wrote_none version does in_vain d after n
       left = some.0;
       answers = subst R (sym still) some.1;
       written = subst W (sym same) (wrote_none old);
-      cause =
-          subst C (sym memory) (ap writes_of same);
+      cause = subst C (sym memory) (ap writes_of same);
+      silent = λ again. record { unanswered = other; unwritten = refl; unchanged = still };
     }
 broken_refused {D} {K} wrote writes_of wrote_none version does in_vain d after n request old new fault untold (begun front left asks written failed counted) =
     let C : Fault → Type 0 = λ f. BreaksBy f (writes_of old) (writes_of new) in
@@ -88,17 +98,18 @@ broken_refused {D} {K} wrote writes_of wrote_none version does in_vain d after n
       left = left;
       answers = untold_replies version does d after n request (front ++ left) asks untold;
       written = written;
-      cause =
-          subst C (sym failed) counted;
+      cause = subst C (sym failed) counted;
+      silent = λ memory. absurd (write_is_not_memory fault failed memory);
     }
 
 -- likewise, where the text was the whole answer
-pub broken_if : {A D K : Type 0} (r : Result A Fault) (wrote : K → List ℕ → K → Type 0) (writes_of : K → ℕ) (Says : List ℕ → D → Type 0) (old new : K)
-    (text : List ℕ) (after : D) → Says text after → IfErr r (λ f. f ≡ faults.Write) → OnErr r (WritesPart wrote old text new) →
-    OnErr r (writes_of new ≡ one_more (writes_of old)) → IfErr r (λ f. BreaksOff wrote writes_of Says old new after f)
-broken_if (Ok x) wrote writes_of Says old new text after is failed part counted = failed
-broken_if (Err f) wrote writes_of Says old new text after is failed part counted =
-    broken_sending wrote writes_of Says old new text after f is part failed counted
+pub broken_if : {A D K : Type 0} (r : Result A Fault) (wrote : K → List ℕ → K → Type 0) (writes_of : K → ℕ) (Says : List ℕ → D → Type 0)
+    (untold : Option (List ℕ)) (before : D) (old new : K) (text : List ℕ) (after : D) → Says text after → IfErr r (λ f. f ≡ faults.Write) →
+    OnErr r (WritesPart wrote old text new) → OnErr r (writes_of new ≡ one_more (writes_of old)) →
+    IfErr r (λ f. BreaksOff wrote writes_of Says untold before old new after f)
+broken_if (Ok x) wrote writes_of Says untold before old new text after is failed part counted = failed
+broken_if (Err f) wrote writes_of Says untold before old new text after is failed part counted =
+    broken_sending wrote writes_of Says untold before old new text after f is part failed counted
 
 -- saying that a growth was refused broke off, where that may be said
 pub refused_if : {A K : Type 0} (r : Result A Fault) (wrote : K → List ℕ → K → Type 0) (writes_of : K → ℕ) (untold : Option (List ℕ)) (old new : K)

@@ -4,3 +4,4 @@ pub mod Reporting
 pub mod Turning
 pub mod Refusing
 pub mod Opened
+pub mod Showing

@@ -10,9 +10,9 @@ use Rattle.gw_script.specs.declared.fault.Over.{Over}
 use Rattle.gw_script.specs.declared.fault.Over.TheVariants as overs
 use Rattle.gw_script.specs.declared.fault.Fault.{Fault}
 use Rattle.gw_script.specs.declared.fault.Fault.TheVariants as faults
-use Rattle.gw_script.specs.Replying.{is_quit}
-use Rattle.gw_script.specs.Sessions.{Says, nothing, line, last, quit, last_quit, IsAllRead, end_calls, Serves, Stops, StopsBy, AreFed, in_reading, in_answering}
-use Rattle.gw_script.specs.Turns.{Writes, BreaksOff, BreaksBy, stopped_by, over_if}
+use Rattle.gw_script.specs.Replying.{is_quit, untold_of}
+use Rattle.gw_script.specs.Sessions.{Says, nothing, line, last, quit, last_quit, IsAllRead, end_calls, Serves, Stops, StopsBy, AreFed, IsLastLine, IsUnanswered, in_reading, in_answering}
+use Rattle.gw_script.specs.Turns.{Writes, BreaksOff, BreaksBy, IsSilent, stopped_by, over_if}
 
 -- after some lines over the keeper b, before line n over the keeper d
 pub record Turned {D S K : Type 0} (answers : D → ℕ → List ℕ → List ℕ → D → Type 0) (took : S → List ℕ → S → Type 0) (wrote : K → List ℕ → K → Type 0) (b d : D)
@@ -120,6 +120,23 @@ module _ {D S K : Type 0} (answers : D → ℕ → List ℕ → List ℕ → D �
     few = omega (arith, before.few, spent);
   }
 
+  -- a line to which no answer says that it is out of memory
+  unanswered_at : {b d after : D} {n left : ℕ} {source s : S} {sink k : K} (before : Turned answers took wrote b d n left source s sink k)
+      (bytes text : List ℕ) → ((earlier : List ℕ) → IsLastLine earlier text (earlier ++ bytes)) → (front : List ℕ) →
+      IsSilent (untold_of (request_of text)) front d after → IsUnanswered answers b (before.input ++ bytes) (before.output ++ front) after
+  unanswered_at {b} {d} {after} {n} before bytes text last_line front silent =
+      let I : List ℕ → Type 0 = λ i. Says answers b 1 i (before.output ++ []) overs.InputEnd d in
+      let O : List ℕ → Type 0 = λ o. Says answers b 1 before.input (before.output ++ o) overs.InputEnd d in
+      let A : D → Type 0 = λ e. Says answers b 1 before.input (before.output ++ front) overs.InputEnd e in
+      let before_it = subst I (append-nil before.input) (before.onward [] [] overs.InputEnd d (nothing d n)) in
+      record {
+        earlier = before.input;
+        line = text;
+        last = last_line before.input;
+        untold = silent.unanswered;
+        says = subst A (sym silent.unchanged) (subst O (sym silent.unwritten) before_it);
+      }
+
   module _ (reads_of : S → ℕ) (writes_of : K → ℕ) {b d : D} {n left : ℕ} {source s s' : S} {sink k : K}
       (before : Turned answers took wrote b d n left source s sink k) where
     -- the last turn: something is said to what it reads, and it is written
@@ -159,14 +176,17 @@ module _ {D S K : Type 0} (answers : D → ℕ → List ℕ → List ℕ → D �
           place = in_reading fault refl before.fed broken.part refl refl;
           cause = read_cause fault (reads_of source) (reads_of s) (reads_of s') (writes_of sink) (writes_of k) left' broken.idle
               (length (before.input ++ broken.bytes)) same written total broken.idle_calls broken.counted broken.limit;
+          silent = λ memory. inl refl;
         }
 
     -- answering a line that was read whole broke off
-    pub stops_answering : (ended : S → Type 0) {k' : K} {after : D} (bytes text : List ℕ) → AreFed bytes ⊎ ended s' → (over : Over) (fault : Fault) →
+    pub stops_answering : (ended : S → Type 0) {k' : K} {after : D} (bytes text : List ℕ) → AreFed bytes ⊎ ended s' →
+        ((earlier : List ℕ) → IsLastLine earlier text (earlier ++ bytes)) → (over : Over) (fault : Fault) →
         reads_of s' ≡ reads_of source → writes_of k ≡ writes_of sink → length bytes ≤ left → took s bytes s' →
-        (broken : BreaksOff wrote writes_of (answers d n text) k k' after fault) → Says answers d n bytes (broken.front ++ broken.left) over after →
+        (broken : BreaksOff wrote writes_of (answers d n text) (untold_of (request_of text)) d k k' after fault) →
+        Says answers d n bytes (broken.front ++ broken.left) over after →
         Stops answers took ended reads_of wrote writes_of b source s' sink k' after fault
-    stops_answering ended {k'} {after} bytes text whole over fault read_well same fits taken broken says =
+    stops_answering ended {k'} {after} bytes text whole last_line over fault read_well same fits taken broken says =
         let input : List ℕ = before.input ++ bytes in
         let C : ℕ → Type 0 = λ w. BreaksBy fault w (writes_of k') in
         let O : List ℕ → Type 0 = λ o. Says answers b 1 input o over after in
@@ -186,6 +206,7 @@ module _ {D S K : Type 0} (answers : D → ℕ → List ℕ → List ℕ → D �
           place = in_answering (answer_fault fault (writes_of k) (writes_of k') broken.cause) (fed_or_ended before.input bytes (ended s') whole) refl;
           cause = subst L (sym (append-nil input))
               (stop_cause fault (reads_of source) (reads_of s') (writes_of sink) (writes_of k') (length input) read_well few (subst C same broken.cause));
+          silent = λ memory. inr (unanswered_at before bytes text last_line broken.front (broken.silent memory));
         }
 
 -- the end of the input was found, however the session ends behind it

@@ -1,8 +1,9 @@
--- What `list` is answered. (The table of script lines.)
-use Rattle.std.specs.Prelude.{ℕ, ◌+◌, List, [], ◌∷◌, ◌++◌, length, codes, decimal}
+-- What `list` is answered, and that it shows the statements as the headline reads them. (The table of script lines.)
+use Rattle.std.specs.Prelude.{ℕ, ◌≡◌, ◌+◌, List, [], ◌∷◌, ◌++◌, length, map, codes, decimal}
 use Rattle.gw_meaning.specs.declared.statement.Statement.{Statement}
 use Rattle.gw_meaning.specs.declared.statement.Numbered.{Numbered}
 use Rattle.gw_meaning.specs.Texts.{text_of}
+use Rattle.gw_lines.specs.Printed.{with_ends, listed_text}
 
 -- a statement behind its place
 abbrev pub line_of : ℕ → Statement → List ℕ
@@ -16,3 +17,22 @@ lines_from place (line ∷ lines) = line_of place line.statement ++ lines_from (
 -- how many statements there are, and all of them
 abbrev pub list_answer : List Numbered → List ℕ
 list_answer lines = codes "list " ++ decimal (length lines) ++ codes "\n" ++ lines_from 1 lines
+
+-- lines behind their places, the first of which stands at this one, and the same lines without, where `|` ends a line
+pub data ArePlaced : ℕ → List ℕ → List ℕ → Type 0 where
+  none : (place : ℕ) → ArePlaced place [] []
+  more : (place : ℕ) (text placed plain : List ℕ) → ArePlaced (place + 1) placed plain →
+      ArePlaced place (decimal place ++ codes " " ++ text ++ codes "\n" ++ placed) (with_ends text ++ 10 ∷ plain)
+
+-- the statements, whatever their numbers
+abbrev pub statements_in : List Numbered → List Statement
+statements_in lines = map (λ (line : Numbered). line.statement) lines
+
+-- `list` shows behind their places the lines that the headline reads, and no statement's number
+pub record Shows (lines : List Numbered) : Type 0 where
+  pub placed : List ℕ
+  pub is : list_answer lines ≡ codes "list " ++ decimal (length lines) ++ codes "\n" ++ placed
+  pub shows : ArePlaced 1 placed (listed_text (statements_in lines))
+
+abbrev pub ListsShowStatements : Type 0
+ListsShowStatements = (lines : List Numbered) → Shows lines

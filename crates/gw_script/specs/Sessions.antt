@@ -1,6 +1,6 @@
 -- What a session writes to a script: one answer for each line, in order, up to `quit` or the end of the input. (Our
 -- own.)
-use Rattle.std.specs.Prelude.{◌≡◌, ℕ, ◌+◌, ◌<◌, ◌≤◌, ◌⊎◌, true, false, List, [], ◌∷◌, ◌++◌, length}
+use Rattle.std.specs.Prelude.{◌≡◌, ℕ, ◌+◌, ◌<◌, ◌≤◌, ◌⊎◌, true, false, None, List, [], ◌∷◌, ◌++◌, length}
 use Rattle.gw_io.specs.declared.budget.ReadFault.{ReadFault}
 use Rattle.gw_io.specs.Failures.{one_more}
 use Rattle.gw_io.specs.Line.{IsUnended, without_cr_of}
@@ -9,7 +9,7 @@ use Rattle.gw_script.specs.declared.fault.Over.{Over}
 use Rattle.gw_script.specs.declared.fault.Over.TheVariants as overs
 use Rattle.gw_script.specs.declared.fault.Fault.{Fault}
 use Rattle.gw_script.specs.declared.fault.Fault.TheVariants as faults
-use Rattle.gw_script.specs.Replying.{is_quit}
+use Rattle.gw_script.specs.Replying.{is_quit, untold_of}
 use Rattle.gw_script.specs.Turns.{stopped_by}
 
 -- To this input from line n on, this is written, so the session ends, and this it leaves of the keeper. Each line is
@@ -79,9 +79,26 @@ pub data StopsAt (ended : Type 0) (input broken left : List ℕ) (over : Over) (
   in_answering : (fault ≡ faults.Write) ⊎ (fault ≡ faults.Memory) → AreFed input ⊎ ended → broken ≡ [] →
       StopsAt ended input broken left over fault
 
+-- the last line of an input, and what stands in front of it
+pub data IsLastLine : List ℕ → List ℕ → List ℕ → Type 0 where
+  with_line_feed : (earlier line : List ℕ) → IsUnended line →
+      IsLastLine earlier (without_cr_of line) (earlier ++ (line ++ 10 ∷ []))
+  without_line_feed : (earlier line : List ℕ) → IsUnended line → IsLastLine earlier line (earlier ++ line)
+
+-- the last line of an input got no answer: it is neither a query nor an edit, nothing of an answer to it was written,
+-- and the keeper is as the lines in front of it left it
+pub record IsUnanswered {D : Type 0} (answers : D → ℕ → List ℕ → List ℕ → D → Type 0) (d : D) (input output : List ℕ)
+    (d' : D) : Type 0 where
+  pub earlier : List ℕ
+  pub line : List ℕ
+  pub last : IsLastLine earlier line input
+  pub untold : untold_of (request_of line) ≡ None
+  pub says : Says answers d 1 earlier output overs.InputEnd d'
+
 -- a session stopped: it read whole lines, `input`, and of the next one a part, `broken`, or nothing. What it wrote is
 -- the front of what is said to the whole lines, and it left the keeper as they leave it: a part of a line is never
--- answered, and changes nothing
+-- answered, and changes nothing. Out of memory stops it while it reads, or at a line that is neither a query nor an
+-- edit
 pub record Stops {D S K : Type 0} (answers : D → ℕ → List ℕ → List ℕ → D → Type 0)
     (took : S → List ℕ → S → Type 0) (ended : S → Type 0) (reads : S → ℕ) (wrote : K → List ℕ → K → Type 0)
     (writes : K → ℕ)
@@ -96,3 +113,4 @@ pub record Stops {D S K : Type 0} (answers : D → ℕ → List ℕ → List ℕ
   pub says : Says answers d 1 input (output ++ left) over d'
   pub place : StopsAt (ended source') input broken left over fault
   pub cause : StopsBy fault (reads source) (reads source') (writes sink) (writes sink') (length (input ++ broken))
+  pub silent : fault ≡ faults.Memory → (left ≡ []) ⊎ IsUnanswered answers d input output d'

@@ -1,5 +1,5 @@
 -- What answering one line leaves. (Our own.)
-use Rattle.std.specs.Prelude.{◌≡◌, ℕ, Bool, true, false, List, ◌++◌, Option, Some, None}
+use Rattle.std.specs.Prelude.{◌≡◌, ℕ, Bool, true, false, List, [], ◌++◌, Option, Some, None}
 use Rattle.gw_io.specs.declared.budget.ReadFault.{ReadFault}
 use Rattle.gw_io.specs.declared.budget.ReadFault.TheVariants as reads
 use Rattle.gw_io.specs.Failures.{one_more}
@@ -30,14 +30,22 @@ BreaksBy faults.Write writes writes' = writes' ≡ one_more writes
 BreaksBy faults.ReadLimit writes writes' = ⊥
 BreaksBy faults.Memory writes writes' = writes' ≡ writes
 
--- a front part of an answer was written: bytes that may be answered, which leave the keeper so, begin with it
+-- out of memory at a line: no answer says so to it, nothing was written, and the keeper is as it was
+pub record IsSilent {D : Type 0} (untold : Option (List ℕ)) (front : List ℕ) (before after : D) : Type 0 where
+  pub unanswered : untold ≡ None
+  pub unwritten : front ≡ []
+  pub unchanged : after ≡ before
+
+-- a front part of an answer was written: bytes that may be answered, which leave the keeper so, begin with it. Where it
+-- broke off out of memory, that is before anything was written of a line to which no answer says so
 pub record BreaksOff {D K : Type 0} (wrote : K → List ℕ → K → Type 0) (writes : K → ℕ) (A : List ℕ → D → Type 0)
-    (old new : K) (after : D) (fault : Fault) : Type 0 where
+    (untold : Option (List ℕ)) (before : D) (old new : K) (after : D) (fault : Fault) : Type 0 where
   pub front : List ℕ
   pub left : List ℕ
   pub answers : A (front ++ left) after
   pub written : wrote old front new
   pub cause : BreaksBy fault (writes old) (writes new)
+  pub silent : fault ≡ faults.Memory → IsSilent untold front before after
 
 -- saying that a growth was refused broke off; where a line has no such answer, nothing was written
 pub data BreaksRefused {K : Type 0} (wrote : K → List ℕ → K → Type 0) (writes : K → ℕ) (untold : Option (List ℕ))

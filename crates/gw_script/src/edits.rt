@@ -10,7 +10,7 @@ use std::alloc::{AllocError, Global};
 // The room that an answer takes at most.
 const ROOM: usize = 73;
 
-/// Edits the version, and gives what that is answered. The room for the answer comes first: where it is refused,
+/// Edits the version, and returns what that is answered. The room for the answer comes first: where it is refused,
 /// nothing is done.
 pub fn edit<D: Keeper>(alloc: Global, keeper: &mut D, edit: Edit) -> Result<Vec<u8>, AllocError>
     ensures ok { IfOk result (λ v. Edits D.does keeper.old edit v.items keeper.new) }

@@ -20,6 +20,6 @@ pub use gw_desk::{Desk, Keeper, points_are_found};
 pub use gw_io::{
     Budget, Failed, FromRead, READ_LIMIT, ReadFault, Sink, Source, ToWrite, split_model,
 };
-pub use laws::opened_is_spelled;
+pub use laws::{lists_show_statements, opened_is_spelled};
 pub use opening::{Options, open, open_version};
 pub use sessions::{session, session_on};

@@ -4,7 +4,7 @@ ghost use Rattle.gw_io.specs.Failures.{one_more, WritesPart};
 ghost use Rattle.gw_desk.specs.Book.{Book};
 ghost use Rattle.gw_request.specs.Requests.{request_of};
 ghost use Rattle.gw_script.specs.Opening.{Opens, Refuses};
-ghost use Rattle.gw_script.specs.Replying.{Answers, DeskAnswers, Replies, is_quit};
+ghost use Rattle.gw_script.specs.Replying.{Answers, DeskAnswers, Replies, is_quit, untold_of};
 ghost use Rattle.gw_script.specs.Sessions.{Serves, Stops};
 ghost use Rattle.gw_script.specs.Turns.{Writes, BreaksOff, BreaksRefused, over_if};
 
@@ -95,7 +95,7 @@ fn reply<D: Keeper, K: Sink>(
         sink.old sink.new keeper.new) }
     ensures same { OnOk result (K.failures sink.new ≡ K.failures sink.old) }
     ensures err { IfErr result (λ f. BreaksOff K.wrote K.failures (Answers D.version D.does keeper.old n line.now)
-        sink.old sink.new keeper.new f) }
+        (untold_of (request_of line.now)) keeper.old sink.old sink.new keeper.new f) }
 {
     match request_of(alloc, line) {
         Ok(request) => fulfil(alloc, keeper, n, request, sink),
@@ -130,7 +130,7 @@ fn fulfil<D: Keeper, K: Sink>(
         sink.old sink.new keeper.new) }
     ensures same { OnOk result (K.failures sink.new ≡ K.failures sink.old) }
     ensures err { IfErr result (λ f. BreaksOff K.wrote K.failures (Replies D.version D.does keeper.old n request)
-        sink.old sink.new keeper.new f) }
+        (untold_of request) keeper.old sink.old sink.new keeper.new f) }
 {
     let quit = is_quit(&request);
     let untold = untold(&request);

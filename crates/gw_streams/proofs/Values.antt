@@ -1,8 +1,22 @@
--- Streams set to one value more.
+-- Where streams stand at the beginning, and streams set to one value more.
 use Rattle.std.proofs.Common.{◌≡◌, ℕ, zero, suc, ◌+◌, List, [], ◌∷◌, take, get_or, Option, Some, None, refl, ap, add-one}
 use Rattle.gw_streams.specs.declared.stream.Stream.{Stream}
 use Rattle.gw_streams.specs.declared.stream.Stream.TheVariants.{Set}
-use Rattle.gw_streams.specs.Draws.{with_stream, set_stream, all_set}
+use Rattle.gw_streams.specs.Draws.{untouched, stream_at, with_stream, set_stream, all_set}
+
+-- at the beginning each stream is set to its number
+pub set_to_numbers : (j : ℕ) → stream_at untouched j ≡ Set j
+set_to_numbers zero = refl
+set_to_numbers (suc zero) = refl
+set_to_numbers (suc (suc zero)) = refl
+set_to_numbers (suc (suc (suc zero))) = refl
+set_to_numbers (suc (suc (suc (suc zero)))) = refl
+set_to_numbers (suc (suc (suc (suc (suc zero))))) = refl
+set_to_numbers (suc (suc (suc (suc (suc (suc zero)))))) = refl
+set_to_numbers (suc (suc (suc (suc (suc (suc (suc j))))))) = last j where
+  last : (j : ℕ) → stream_at untouched (suc (suc (suc (suc (suc (suc (suc j))))))) ≡ Set (suc (suc (suc (suc (suc (suc (suc j)))))))
+  last zero = refl
+  last (suc j) = refl
 
 some_more : (ss : List Stream) (values : List (Option ℕ)) (i value : ℕ) → get_or values i None ≡ Some value
     → all_set ss (take (suc i) values) ≡ with_stream (all_set ss (take i values)) (suc i) (Set value)

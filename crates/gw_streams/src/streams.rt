@@ -1,4 +1,4 @@
-ghost use Rattle.std.specs.Prelude.{◌≡◌};
+ghost use Rattle.std.specs.Prelude.{◌≡◌, ℕ};
 ghost use Rattle.gw_streams.specs.Draws.{next_of, start_of, drawn_of, is_set, untouched, kept_at, stream_at, with_stream, all_set};
 
 use crate::stream::Stream;
@@ -27,7 +27,8 @@ impl Model for Streams {
 impl Streams {
     /// The streams at the beginning, each set to its number.
     pub fn new() -> Streams
-        ensures { result ≡ untouched }
+        ensures value { result ≡ untouched }
+        ensures each { (j : ℕ) → stream_at result j ≡ Stream.Set j }
     {
         Streams {
             streams: [

@@ -36,7 +36,7 @@ abbrev pub below : ℕ → Option ℕ → Option ℕ
 below n None = None
 below n (Some step) = below_of n step
 
--- the first of these Clock steps to a time later than another
+-- the first of these clock steps to a time later than another
 abbrev pub first_beyond : ℕ → List ClockStep → Option ℕ
 first_beyond time [] = None
 first_beyond time (s ∷ steps) = if nat_lt time s.time then Some s.step else first_beyond time steps

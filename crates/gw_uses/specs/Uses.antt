@@ -11,7 +11,7 @@ use Rattle.gw_uses.specs.Steps.{step_at, step_of, first_beyond, AreBelow}
 abbrev pub nothing_used : FirstUses
 nothing_used = record { blocks = []; afters = []; commands = []; clock_steps = []; others = [] }
 
--- the step that is noted for an item: there is a table by statement id, one by command, the Clock steps, and a map for
+-- the step that is noted for an item: there is a table by statement id, one by command, the clock steps, and a map for
 -- all other items
 abbrev pub first_in : FirstUses → Item → Option ℕ
 first_in f (items.Block id) = step_at f.blocks id

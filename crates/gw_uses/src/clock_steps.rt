@@ -9,14 +9,14 @@ use gw_nums::Time;
 use std::alloc::{AllocError, Global};
 use std::marker::Model;
 
-/// A Clock step: its number in the run, and the time to which it set the clock.
+/// A clock step: its number in the run, and the time to which it set the clock.
 #[derive(Clone, Copy)]
 pub struct ClockStep {
     pub step: u64,
     pub time: Time,
 }
 
-/// The Clock steps of a run that set the clock later than all before them, in order.
+/// The clock steps of a run that set the clock later than all before them, in order.
 #[derive(Drop)]
 pub struct ClockSteps {
     steps: Vec<ClockStep>,
@@ -35,7 +35,7 @@ impl Model for ClockSteps {
 }
 
 impl ClockSteps {
-    /// No Clock step yet.
+    /// No clock step yet.
     pub fn new(alloc: Global) -> ClockSteps
         ensures { result ≡ [] }
     {
@@ -44,7 +44,7 @@ impl ClockSteps {
         }
     }
 
-    /// The first Clock step to a time later than this one, if there is one.
+    /// The first clock step to a time later than this one, if there is one.
     pub fn first_beyond(&self, time: Time) -> Option<u64>
         ensures { result ≡ first_beyond time self.now }
     {
@@ -52,7 +52,7 @@ impl ClockSteps {
         step_of(steps, count_until(steps, time))
     }
 
-    /// Notes a Clock step no earlier in the run than those that are noted. Where memory is refused, nothing
+    /// Notes a clock step no earlier in the run than those that are noted. Where memory is refused, nothing
     /// changes.
     #[inline(always)]
     pub fn note(&mut self, step: u64, time: Time) -> Result<(), AllocError>
@@ -90,7 +90,7 @@ impl ClockSteps {
     }
 }
 
-// How many of these Clock steps are to no time later than this one.
+// How many of these clock steps are to no time later than this one.
 fn count_until(steps: &[ClockStep], time: Time) -> usize
     requires { IsNonDecreasingBy (λ (s : ClockStep). s.time) steps.now }
     ensures { AreUpTo steps.now time result }
@@ -98,7 +98,7 @@ fn count_until(steps: &[ClockStep], time: Time) -> usize
     steps.partition_point(|s| s.time <= time)
 }
 
-// How many of these Clock steps lie below a step.
+// How many of these clock steps lie below a step.
 fn count_below(steps: &[ClockStep], step: u64) -> usize
     requires { IsNonDecreasingBy (λ (s : ClockStep). s.step) steps.now }
     ensures { AreFirst steps.now step result }
@@ -106,7 +106,7 @@ fn count_below(steps: &[ClockStep], step: u64) -> usize
     steps.partition_point(|s| s.step < step)
 }
 
-// The step of the Clock step at an index.
+// The step of the clock step at an index.
 fn step_of(steps: &[ClockStep], at: usize) -> Option<u64>
     ensures { result ≡ option_map (λ (s : ClockStep). s.step) (slice_get steps.now at) }
 {

@@ -4,7 +4,7 @@ use Rattle.gw_io.specs.Line.{without_cr_of}
 use Rattle.gw_request.specs.Requests.{request_of}
 use Rattle.gw_script.specs.declared.fault.Over.TheVariants as overs
 use Rattle.gw_script.specs.Replying.{Answers, is_quit}
-use Rattle.gw_script.specs.Sessions.{nothing, quit, Stops}
+use Rattle.gw_script.specs.Sessions.{nothing, quit, with_line_feed, without_line_feed, Stops}
 use Rattle.gw_script.specs.Turns.{over_if, stopped_by}
 use Rattle.gw_script.proofs.Answering.{if_err_at}
 use Rattle.gw_script.proofs.Turning.{turned_none, turned_line, serves_last, stops_reading, stops_answering, says_whole, says_last, all_read_if, end_calls_if}
@@ -44,7 +44,8 @@ returns-in_err-reply-in-Whole-clause-stops g c =
     let b = rw w at c.in_err-reply-in-Whole.ensures.err in
     let said = says_whole answers c.lines.keeper c.reply.new.keeper (c.lines.n + 1) text (b.front ++ b.left) at.line b.answers in
     let stops = stops_answering answers g.S.Source.took g.K.Sink.wrote g.met.S.Source.onward g.met.K.Sink.onward g.S.Source.failures g.K.Sink.failures
-    known.turned g.S.Source.ended (text ++ 10 ∷ []) (without_cr_of text) (inl (text, refl)) said.0 fault (at.uncounted ∙ known.reads) known.writes
+    known.turned g.S.Source.ended (text ++ 10 ∷ []) (without_cr_of text) (inl (text, refl)) (λ earlier. with_line_feed earlier text at.line)
+    said.0 fault (at.uncounted ∙ known.reads) known.writes
     (omega (arith, at.spent, length-append text (10 ∷ []))) at.taken b said.1 in
     if_err_at exit.result (Stops answers g.S.Source.took g.S.Source.ended g.S.Source.failures g.K.Sink.wrote g.K.Sink.failures c.args.keeper.now
     c.args.source.now c.read_line.new.source c.args.sink.now c.reply.new.sink c.reply.new.keeper) p.0 fault p.1 p.2 stops
@@ -100,7 +101,8 @@ returns-in_err-quit-in-Last-clause-stops g c =
     let b = rw c.deref-in-Last.ensures.value at c.in_err-quit-in-Last.ensures.err in
     let said = says_last answers c.lines.keeper c.reply-in-Last.new.keeper (c.lines.n + 1) text (b.front ++ b.left) at.line.0 b.answers in
     let stops = stops_answering answers g.S.Source.took g.K.Sink.wrote g.met.S.Source.onward g.met.K.Sink.onward g.S.Source.failures g.K.Sink.failures
-    known.turned g.S.Source.ended text text (inr at.line.2) (over_if (is_quit (request_of text))) fault (at.uncounted ∙ known.reads) known.writes
+    known.turned g.S.Source.ended text text (inr at.line.2) (λ earlier. without_line_feed earlier text at.line.0)
+    (over_if (is_quit (request_of text))) fault (at.uncounted ∙ known.reads) known.writes
     (omega (arith, at.spent)) at.taken b said in
     if_err_at exit.result (Stops answers g.S.Source.took g.S.Source.ended g.S.Source.failures g.K.Sink.wrote g.K.Sink.failures c.args.keeper.now
     c.args.source.now c.read_line.new.source c.args.sink.now c.reply-in-Last.new.sink c.reply-in-Last.new.keeper) p.0 fault p.1 p.2 stops
