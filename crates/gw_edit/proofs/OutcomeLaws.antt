@@ -15,11 +15,12 @@ use Rattle.gw_frame.specs.Renamed.{statements_of}
 use Rattle.gw_lines.specs.declared.fault.LineFault.TheVariants as faults
 use Rattle.gw_lines.specs.Printed.{storage_of}
 use Rattle.gw_model.specs.declared.fault.ModelFault.{ModelFault}
+use Rattle.gw_model.specs.declared.fault.ModelFault.TheVariants as models
 use Rattle.gw_model.specs.Faults.{fault_of, is_outside}
 use Rattle.gw_model.specs.Spliced.{inserted, number_in, spliced, with_splice}
 use Rattle.gw_model.proofs.Apart.{same_bytes}
 use Rattle.gw_edit.specs.declared.fault.EditFault.{EditFault}
-use Rattle.gw_edit.specs.declared.fault.EditFault.TheVariants.{NoSuchPlace, BadStatement, NoSuchReplication, ReplicationTwice}
+use Rattle.gw_edit.specs.declared.fault.EditFault.TheVariants.{NoSuchPlace, BadStatement, BadModel, NoSuchReplication, ReplicationTwice}
 use Rattle.gw_edit.specs.Applied.{capacity_at, checked, is_capacity, reseeded, storage_in, unless_faulty, with_seed, without_number}
 use Rattle.gw_edit.specs.Faults.{of_model}
 use Rattle.gw_edit.specs.Outcomes.{ChangesTo, IsDeleted, DeleteMakes, IsStorage, HasNoStorage, FirstStorage, IsReplaced, CapacityMakes, IsReseeded, SeedMakes, IsAdded, ReplicateMakes, IsDropped, DropMakes, HasHorizon, EditsMake}
@@ -28,20 +29,24 @@ use Rattle.gw_edit.proofs.Seeds.{seed_gone, seed_left, seed_reseeded}
 
 -- ---- a changed version is made, or refused for its fault
 
+bad_model : (f : ModelFault) → f ≢ models.Memory → of_model f ≡ BadModel f
+bad_model models.Memory other = absurd (other refl)
+bad_model f other = refl
+
 none_made : (v : Listing) → fault_of v ≡ None → checked v ≡ Ok v
 unfolding checked
 none_made v h = ap (λ o. unless_faulty o v) h
 
-fault_refused : (v : Listing) (f : ModelFault) → fault_of v ≡ Some f → checked v ≡ Err (of_model f)
+fault_refused : (v : Listing) (f : ModelFault) → fault_of v ≡ Some f → f ≢ models.Memory → checked v ≡ Err (BadModel f)
 unfolding checked
-fault_refused v f h = ap (λ o. unless_faulty o v) h
+fault_refused v f h other = ap (λ o. unless_faulty o v) h ∙ ap (λ (e : EditFault). Err e) (bad_model f other)
 
 changes_to : (facts : Listing → Type 0) (v : Listing) (answer : Result Listing EditFault) → facts v → answer ≡ checked v → ChangesTo facts answer
 changes_to facts v answer holds is = record {
   version = v;
   changed = holds;
   made = λ h. is ∙ none_made v h;
-  refused = λ f h. is ∙ fault_refused v f h;
+  refused = λ f h other. is ∙ fault_refused v f h other;
 }
 
 -- ---- a number within or outside of 1 to the last one

@@ -9,19 +9,20 @@ use Rattle.gw_frame.specs.Renamed.{statements_of}
 use Rattle.gw_lines.specs.declared.fault.LineFault.TheVariants as faults
 use Rattle.gw_lines.specs.Printed.{storage_of}
 use Rattle.gw_model.specs.declared.fault.ModelFault.{ModelFault}
+use Rattle.gw_model.specs.declared.fault.ModelFault.TheVariants as models
 use Rattle.gw_model.specs.Faults.{fault_of}
 use Rattle.gw_edit.specs.declared.edit.Edit.TheVariants as edits
 use Rattle.gw_edit.specs.declared.fault.EditFault.{EditFault}
-use Rattle.gw_edit.specs.declared.fault.EditFault.TheVariants.{NoSuchPlace, BadStatement, NoSuchReplication, ReplicationTwice, NoSuchStorage}
+use Rattle.gw_edit.specs.declared.fault.EditFault.TheVariants.{NoSuchPlace, BadStatement, BadModel, NoSuchReplication, ReplicationTwice, NoSuchStorage}
 use Rattle.gw_edit.specs.Applied.{applied}
-use Rattle.gw_edit.specs.Faults.{of_model}
 
--- the changed version, of which these facts hold, is the answer where it has no fault; else its first fault is
+-- the changed version, of which these facts hold, is the answer where it has no fault; else its first fault is (which
+-- out of memory is never)
 pub record ChangesTo (facts : Listing → Type 0) (answer : Result Listing EditFault) : Type 0 where
   pub version : Listing
   pub changed : facts version
   pub made : fault_of version ≡ None → answer ≡ Ok version
-  pub refused : (f : ModelFault) → fault_of version ≡ Some f → answer ≡ Err (of_model f)
+  pub refused : (f : ModelFault) → fault_of version ≡ Some f → f ≢ models.Memory → answer ≡ Err (BadModel f)
 
 -- what an edit of the statements leaves, and what one of the replications leaves
 pub record LeavesRuns (t u : Listing) : Type 0 where
@@ -122,7 +123,7 @@ pub record HasHorizon (t : Listing) (time : ℕ) (u : Listing) : Type 0 where
   pub limit : u.limit ≡ t.limit
 
 -- what the edits make of a version
-pub record Makes (t : Listing) : Type 0 where
+pub record EachEditMakes (t : Listing) : Type 0 where
   pub deletes : (place : ℕ) → DeleteMakes t place
   pub capacities : (name : List ℕ) (amount : ℕ) → CapacityMakes t name amount
   pub seeds : (number seed : ℕ) → SeedMakes t number seed
@@ -131,4 +132,4 @@ pub record Makes (t : Listing) : Type 0 where
   pub horizons : (time : ℕ) → ChangesTo (HasHorizon t time) (applied t (edits.Horizon time))
 
 abbrev pub EditsMake : Type 0
-EditsMake = (t : Listing) → Makes t
+EditsMake = (t : Listing) → EachEditMakes t

@@ -38,7 +38,7 @@ ahead_of_less low high [] less h = tt
 ahead_of_less low high (e ∷ es) less h = (omega (arith, h.0), ahead_of_less low high es less h.1)
 
 -- the least time: none lies before it, and it lies before none that all lie ahead of
-never_none : (time : ℕ) (o : Option ℕ) → sooner time o ≡ None → ⊥
+pub never_none : (time : ℕ) (o : Option ℕ) → sooner time o ≡ None → ⊥
 never_none time None is = absurd cc
 never_none time (Some other) is = absurd cc
 

@@ -22,4 +22,12 @@ pub mod FacilityLaws
 pub mod QueueLaws
 pub mod StorageLaws
 pub mod ShareLaws
+pub mod Trying
+pub mod Attempts
+pub mod EndLaws
+pub mod PickLaws
+pub mod Tried
+pub mod StartLaws
+pub mod FutureLaws
+pub mod DestinationLaws
 pub mod VerbLaws

@@ -22,7 +22,7 @@ both_parts true true = refl
 both_parts true false = refl
 both_parts false b = refl
 
-many_parts : (f g : Transaction → Bool) (xs : List Transaction) →
+pub many_parts : (f g : Transaction → Bool) (xs : List Transaction) →
     many (λ (x : Transaction). f x && g x) xs + many (λ (x : Transaction). f x && not (g x)) xs ≡ many f xs
 many_parts f g [] = refl
 many_parts f g (x ∷ xs) =

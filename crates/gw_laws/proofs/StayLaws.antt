@@ -19,8 +19,8 @@ use Rattle.gw_meaning.proofs.Chains.{IsOrdered}
 use Rattle.gw_frame.proofs.Decided.{step_decides}
 use Rattle.gw_frame.proofs.Known.{IsDecided}
 use Rattle.gw_frame.proofs.Moves.{settled, settled_is, with_active_has, entered_has, picked_has}
-use Rattle.gw_laws.specs.Chain.{numbers_of, is_in}
-use Rattle.gw_laws.specs.Delays.{KeepPlaces, WhoWaitsKeepsHisPlace, IsBound, IsLetIn, WhoLeavesIsLetIn}
+use Rattle.gw_laws.specs.Chain.{numbers_of, is_in, KeepPlaces}
+use Rattle.gw_laws.specs.Delays.{WhoWaitsKeepsHisPlace, IsBound, IsLetIn, WhoLeavesIsLetIn}
 use Rattle.gw_laws.proofs.Waiting.{let_in_as, let_in_is, lined_keeps, lined_has}
 use Rattle.gw_laws.proofs.LettingIn.{set_here, set_there, set_has}
 use Rattle.gw_laws.proofs.Crowd.{one, many, many_without, active_crowd, waiting_with}
@@ -44,15 +44,15 @@ filter_both f g (k ∷ ks) =
     ]
 
 -- some stay, or others come behind all
-some_stay : (before after : List ℕ) (stays : ℕ → Bool) → after ≡ filter stays before → KeepPlaces before after
+pub some_stay : (before after : List ℕ) (stays : ℕ → Bool) → after ≡ filter stays before → KeepPlaces before after
 some_stay before after stays is =
     (stays, [], is ∙ sym (append-nil (filter stays before)), All-from_recursion (λ k. is_in before k ≡ false) [] tt)
 
-others_come : (before come : List ℕ) → AllByRecursion (λ k. is_in before k ≡ false) come → KeepPlaces before (before ++ come)
+pub others_come : (before come : List ℕ) → AllByRecursion (λ k. is_in before k ≡ false) come → KeepPlaces before (before ++ come)
 others_come before come new =
     ((λ k. true), come, ap (λ ks. ks ++ come) (sym (filter_all before)), All-from_recursion (λ k. is_in before k ≡ false) come new)
 
-all_stay : (ks : List ℕ) → KeepPlaces ks ks
+pub all_stay : (ks : List ℕ) → KeepPlaces ks ks
 all_stay ks = some_stay ks ks (λ k. true) (sym (filter_all ks))
 
 module _ (priority : ℤ) where

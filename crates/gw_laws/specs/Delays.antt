@@ -1,6 +1,6 @@
 -- The delay chains over every run from zero: in which order transactions wait for a facility or a storage, and where
 -- they stand who wait no longer. (Manual.)
-use Rattle.std.specs.Prelude.{◌≡◌, ℕ, suc, ◌≤◌, ◌<◌, ◌⊎◌, ℤ, Bool, true, false, List, [], ◌∷◌, ◌++◌, Some, None, Ok, All, Contains, filter, length}
+use Rattle.std.specs.Prelude.{◌≡◌, ℕ, suc, ◌≤◌, ◌<◌, ◌⊎◌, ℤ, Bool, true, false, [], ◌∷◌, Some, None, Ok, All, Contains, length}
 use Rattle.gw_names.specs.declared.key.Key.{Key}
 use Rattle.gw_names.specs.declared.key.Key.TheVariants as keys
 use Rattle.gw_meaning.specs.declared.transaction.Transaction.{Transaction}
@@ -10,7 +10,7 @@ use Rattle.gw_meaning.specs.Machine.{Machine, AreInOrder, delay_at}
 use Rattle.gw_meaning.specs.Changes.{placed}
 use Rattle.gw_meaning.specs.Step.{run}
 use Rattle.gw_model.specs.Well.{Well}
-use Rattle.gw_laws.specs.Chain.{numbers_of, is_in, IsFirstInFirstOut}
+use Rattle.gw_laws.specs.Chain.{numbers_of, IsFirstInFirstOut, KeepPlaces}
 
 -- no transaction stands behind one of lower priority
 abbrev pub DelaysAreInOrder : Type 0
@@ -30,13 +30,7 @@ DelaysAreFirstInFirstOut =
     run t seed n ≡ Ok s → run t seed (suc n) ≡ Ok v → (key : Key) (priority : ℤ) → is_storage key ≡ false →
     IsFirstInFirstOut (numbers_of priority (delay_at s.delays key)) (numbers_of priority (delay_at v.delays key))
 
--- places are kept: some stay, in the order in which they were there, and others come behind these
-abbrev pub KeepPlaces : List ℕ → List ℕ → Type 0
-KeepPlaces before after =
-    (stays : ℕ → Bool) × (come : List ℕ) × (after ≡ filter stays before ++ come)
-    × All (λ number. is_in before number ≡ false) come
-
--- so it is, for each priority, of whoever goes on waiting, also where LEAVE lets in some from between them
+-- whoever goes on waiting keeps his place, for each priority, also where LEAVE lets in some from between them
 abbrev pub WhoWaitsKeepsHisPlace : Type 0
 WhoWaitsKeepsHisPlace =
     (t : Listing) (seed n : ℕ) (s v : Machine) → Well t → n ≤ t.limit →

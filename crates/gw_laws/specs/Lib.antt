@@ -1,5 +1,6 @@
 pub mod Living
 pub mod Places
+pub mod Destinations
 pub mod Chain
 pub mod Delays
 pub mod Numbering
@@ -7,10 +8,12 @@ pub mod Parameters
 pub mod Priorities
 pub mod Contents
 pub mod Clock
+pub mod Ends
 pub mod Facilities
 pub mod Owners
 pub mod Queues
 pub mod Storages
+pub mod Starts
 pub mod Verbs
 pub use Rattle.gw_meaning.specs.Step
 pub use Rattle.gw_model.specs.Well

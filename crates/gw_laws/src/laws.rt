@@ -1,9 +1,15 @@
 // Laws of every run from zero.
-ghost use Rattle.gw_laws.specs.Chain.{ChainIsInOrder, ChainIsFirstInFirstOut, FirstBecomesActive, AllOfATimeCome};
+ghost use Rattle.gw_laws.specs.Chain.{ChainIsInOrder, ChainIsFirstInFirstOut};
+ghost use Rattle.gw_laws.specs.Chain.{FirstBecomesActive, TheFirstIsPicked, AllOfATimeCome};
+ghost use Rattle.gw_laws.specs.Chain.{FutureKeepsItsOrder, NobodyLeavesBeforeHisTime};
 ghost use Rattle.gw_laws.specs.Clock.{ClockNeverGoesBack, ClockStaysWithin, NothingIsOverdue};
+ghost use Rattle.gw_laws.specs.Clock.{ClockMovesOnlyWhenItMust, ClockMovesWhenItMust};
 ghost use Rattle.gw_laws.specs.Contents.{ContentsAreCounts};
 ghost use Rattle.gw_laws.specs.Delays.{DelaysAreInOrder, DelaysAreFirstInFirstOut, WhoWaitsKeepsHisPlace};
 ghost use Rattle.gw_laws.specs.Delays.{WhoWaitsIsBound, WhoLeavesIsLetIn, FirstTakesOver, NobodyWaitsAtAFreeFacility};
+ghost use Rattle.gw_laws.specs.Destinations.{GoesToItsDestination, OthersStayInTheirBlocks};
+ghost use Rattle.gw_laws.specs.Ends.{EndsBehindALastState, EndsForGood};
+ghost use Rattle.gw_laws.specs.Ends.{EndsDone, EndsDry, EndsAtHorizon, ErrorsAreOfAttempts};
 ghost use Rattle.gw_laws.specs.Facilities.{FacilitiesAreUsed};
 ghost use Rattle.gw_laws.specs.Numbering.{NumbersAreApart, NumbersAreGiven, NumbersAreGivenOnce, OnlyTheActiveGoes};
 ghost use Rattle.gw_laws.specs.Owners.{OnlyTheOwnerGivesBack, TheFirstIsGivenIt, OnlyTheActiveTakes};
@@ -11,17 +17,23 @@ ghost use Rattle.gw_laws.specs.Parameters.{ParametersAreOfTheLiving, ParametersA
 ghost use Rattle.gw_laws.specs.Places.{EachHasAPlace, EachHasOnePlace};
 ghost use Rattle.gw_laws.specs.Priorities.{PrioritiesAreOnesOwn};
 ghost use Rattle.gw_laws.specs.Queues.{QueuesAreWithin};
+ghost use Rattle.gw_laws.specs.Starts.{StartsAreDoneInOrder, NoMoreStartsThanThereAre};
 ghost use Rattle.gw_laws.specs.Storages.{StoragesAreWithin, NobodyWaitsAtRoom};
 ghost use Rattle.gw_laws.specs.Verbs.{EachVerbIsEvaluated};
 
 /// The current chain is in order of priority. Of one priority, the first transactions leave it in a step, those that
-/// stay keep their order, and those that come stand behind them. Whoever becomes active was the first of all. Where the
-/// clock moves on, all transactions of its new time come, in the order in which they came onto the future chain.
+/// stay keep their order, and those that come stand behind them. Whoever becomes active was the first of all, and where
+/// none is active while a START is under way, the first becomes so. Where the clock moves on, all transactions of its
+/// new time come, in the order in which they came onto the future chain. On that chain, whoever stays in a step keeps
+/// his place, and whoever comes stands behind. Nobody leaves it but at his time.
 pub fn chain_in_order()
     ensures order { ChainIsInOrder }
     ensures turn { ChainIsFirstInFirstOut }
     ensures first { FirstBecomesActive }
+    ensures picked { TheFirstIsPicked }
     ensures come { AllOfATimeCome }
+    ensures future { FutureKeepsItsOrder }
+    ensures time { NobodyLeavesBeforeHisTime }
 {}
 
 /// Each delay chain is in order of priority. Of one priority, those that go on waiting keep their places in a step, and
@@ -67,16 +79,41 @@ pub fn each_has_one_place()
     ensures one { EachHasOnePlace }
 {}
 
+/// The active transaction goes to its destination where it has one, and else to the block behind its own: in a step it
+/// enters that block, or waits to enter it. Whoever is on the current or the future chain stays in his block, with his
+/// destination.
+pub fn goes_where_it_is_sent()
+    ensures goes { GoesToItsDestination }
+    ensures stays { OthersStayInTheirBlocks }
+{}
+
 /// A block's content is the number of the transactions that stand in it.
 pub fn contents_are_counts()
     ensures { ContentsAreCounts }
 {}
 
-/// The clock never goes back and stays within the horizon, and no time on the future chain lies before it.
+/// The clock never goes back and stays within the horizon, and no time on the future chain lies before it. It moves on
+/// only where no transaction was active or on the current chain, and only to the least time of the future chain. While
+/// a START is under way, it does so there, where that time lies within the horizon.
 pub fn clock_goes_on()
     ensures clock { ClockNeverGoesBack }
     ensures within { ClockStaysWithin }
     ensures future { NothingIsOverdue }
+    ensures must { ClockMovesOnlyWhenItMust }
+    ensures moves { ClockMovesWhenItMust }
+{}
+
+/// A run that ended has a last state, from which no step follows, and stays ended. It ends where no START is under way
+/// and no command is left; where a START is under way and there is no transaction to move; and where those that are to
+/// move stand on the future chain, each at a time above the horizon. It ends so nowhere else. By an error it ends only
+/// in the attempt of the active transaction, or in priming.
+pub fn runs_end()
+    ensures last { EndsBehindALastState }
+    ensures stays { EndsForGood }
+    ensures done { EndsDone }
+    ensures dry { EndsDry }
+    ensures horizon { EndsAtHorizon }
+    ensures error { ErrorsAreOfAttempts }
 {}
 
 /// A facility has no more captures than steps were made. Its content is 1 while it is owned and 0 while it is free. It
@@ -105,6 +142,13 @@ pub fn queues_are_within()
 pub fn storages_are_within()
     ensures within { StoragesAreWithin }
     ensures room { NobodyWaitsAtRoom }
+{}
+
+/// STARTs are done in the order of the commands, and each is counted once: those that are complete, and the one under
+/// way, are those among the commands that are done. No more are complete than there are.
+pub fn starts_are_counted()
+    ensures order { StartsAreDoneInOrder }
+    ensures few { NoMoreStartsThanThereAre }
 {}
 
 /// No verb of a block that is read is left out of the evaluation: some block of it is entered in some state.

@@ -4,10 +4,12 @@
 //! facilities are first in first out. At a storage, whoever goes on waiting keeps his place. Nobody waits at a free
 //! facility, nor at a storage that has room for what he asks. No two transactions have one number, none is given twice,
 //! and each stands in exactly one place. A block's content is the number of the transactions that stand in it. The
-//! clock never goes back, and stays within the horizon. No facility has more captures than steps were made. No count of
-//! a queue passes its limit. No storage has more units in use than its capacity. Parameters are kept of living
-//! transactions alone. A transaction's parameters, priority and mark time change only in steps in which it is active.
-//! Nobody but its owner gives a facility back.
+//! clock never goes back, stays within the horizon, and moves on only when it must. A run ends only for the reason that
+//! its end says. No facility has more captures than steps were made. No count of a queue passes its limit. No storage
+//! has more units in use than its capacity. Parameters are kept of living transactions alone. A transaction's
+//! parameters, priority and mark time change only in steps in which it is active. Nobody but its owner gives a facility
+//! back. STARTs are done in order, and each is counted once. The future chain is in the order of coming onto it. The
+//! active transaction goes to its destination, or else to the next block.
 #![tactic(auto)]
 
 mod laws;
@@ -15,5 +17,6 @@ mod laws;
 pub use laws::{
     chain_in_order, clock_goes_on, contents_are_counts, delays_in_order, each_has_one_place,
     each_keeps_his_own, each_verb_is_evaluated, facilities_are_used, facilities_have_owners,
-    numbers_apart, parameters_are_of_the_living, queues_are_within, storages_are_within,
+    goes_where_it_is_sent, numbers_apart, parameters_are_of_the_living, queues_are_within,
+    runs_end, starts_are_counted, storages_are_within,
 };

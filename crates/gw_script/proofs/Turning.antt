@@ -133,6 +133,7 @@ module _ {D S K : Type 0} (answers : D → ℕ → List ℕ → List ℕ → D �
         earlier = before.input;
         line = text;
         last = last_line before.input;
+        whole = before.fed;
         untold = silent.unanswered;
         says = subst A (sym silent.unchanged) (subst O (sym silent.unwritten) before_it);
       }

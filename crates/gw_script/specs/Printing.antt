@@ -18,21 +18,24 @@ lines_from place (line ∷ lines) = line_of place line.statement ++ lines_from (
 abbrev pub list_answer : List Numbered → List ℕ
 list_answer lines = codes "list " ++ decimal (length lines) ++ codes "\n" ++ lines_from 1 lines
 
--- lines behind their places, the first of which stands at this one, and the same lines without, where `|` ends a line
-pub data ArePlaced : ℕ → List ℕ → List ℕ → Type 0 where
-  none : (place : ℕ) → ArePlaced place [] []
-  more : (place : ℕ) (text placed plain : List ℕ) → ArePlaced (place + 1) placed plain →
-      ArePlaced place (decimal place ++ codes " " ++ text ++ codes "\n" ++ placed) (with_ends text ++ 10 ∷ plain)
+-- statements behind their places, the first of which stands at this one, and the same without, where `|` ends a line
+pub data ArePlaced : ℕ → List Statement → List ℕ → List ℕ → Type 0 where
+  none : (place : ℕ) → ArePlaced place [] [] []
+  more : (place : ℕ) (s : Statement) (statements : List Statement) (placed plain : List ℕ) →
+      ArePlaced (place + 1) statements placed plain →
+      ArePlaced place (s ∷ statements) (decimal place ++ codes " " ++ text_of s ++ codes "\n" ++ placed)
+      (with_ends (text_of s) ++ 10 ∷ plain)
 
--- the statements, whatever their numbers
+-- the statements, whatever their ids
 abbrev pub statements_in : List Numbered → List Statement
 statements_in lines = map (λ (line : Numbered). line.statement) lines
 
--- `list` shows behind their places the lines that the headline reads, and no statement's number
+-- `list` shows how many statements there are, and each of them behind its place, and no statement id: the lines that
+-- the headline reads
 pub record Shows (lines : List Numbered) : Type 0 where
   pub placed : List ℕ
-  pub is : list_answer lines ≡ codes "list " ++ decimal (length lines) ++ codes "\n" ++ placed
-  pub shows : ArePlaced 1 placed (listed_text (statements_in lines))
+  pub is : list_answer lines ≡ codes "list " ++ decimal (length (statements_in lines)) ++ codes "\n" ++ placed
+  pub shows : ArePlaced 1 (statements_in lines) placed (listed_text (statements_in lines))
 
 abbrev pub ListsShowStatements : Type 0
 ListsShowStatements = (lines : List Numbered) → Shows lines

@@ -92,6 +92,7 @@ pub record IsUnanswered {D : Type 0} (answers : D → ℕ → List ℕ → List 
   pub earlier : List ℕ
   pub line : List ℕ
   pub last : IsLastLine earlier line input
+  pub whole : (earlier ≡ []) ⊎ AreFed earlier
   pub untold : untold_of (request_of line) ≡ None
   pub says : Says answers d 1 earlier output overs.InputEnd d'
 

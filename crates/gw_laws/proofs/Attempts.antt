@@ -1,0 +1,236 @@
+-- However its questions are answered, an attempt gives a move in which the block that is tried is entered, or refuses; and a START
+-- gives a command's move; or they end with an error.
+use Rattle.std.proofs.Common.{◌≡◌, ℕ, ◌+◌, ◌-◌, nat_eq, nat_le, nat_lt, not, ◌&&◌, ◌||◌, Bool, true, false, cond, List, [], ◌∷◌, ◌++◌, Option, Some, None, is_some, ℤ, pos, refl}
+use Rattle.gw_nums.specs.Range.{is_negative, magnitude}
+use Rattle.gw_nums.specs.declared.val.ArithmeticFault.TheVariants as arithmetic_faults
+use Rattle.gw_expr.specs.Arithmetic.{applied}
+use Rattle.gw_expr.specs.declared.token.Operator.TheVariants as operators
+use Rattle.gw_expr.specs.declared.attribute.Subject.TheVariants as subjects
+use Rattle.gw_expr.specs.Term.{Term, Label, Fraction, Defined}
+use Rattle.gw_names.specs.declared.class.Class.TheVariants as class
+use Rattle.gw_names.specs.declared.key.Key.{Key}
+use Rattle.gw_names.specs.declared.key.Key.TheVariants as keys
+use Rattle.gw_names.specs.declared.verb.BlockVerb.{BlockVerb}
+use Rattle.gw_names.specs.declared.verb.BlockVerb.TheVariants as blocks
+use Rattle.gw_streams.specs.declared.stream.Stream.TheVariants as streams
+use Rattle.gw_entities.specs.Comings.{came}
+use Rattle.gw_entities.specs.Parameters.{parameter_at}
+use Rattle.gw_entities.specs.Records.{Line, Store}
+use Rattle.gw_meaning.specs.declared.asker.Asker.{Asker}
+use Rattle.gw_meaning.specs.declared.item.End.TheVariants as ends
+use Rattle.gw_meaning.specs.declared.item.Asked.TheVariants as asking
+use Rattle.gw_meaning.specs.declared.item.Item.TheVariants as items
+use Rattle.gw_meaning.specs.declared.moves.Arrival.{Arrival}
+use Rattle.gw_meaning.specs.declared.moves.Move.{Move}
+use Rattle.gw_meaning.specs.declared.moves.Move.TheVariants as moves
+use Rattle.gw_meaning.specs.declared.sign.Sign.{Sign}
+use Rattle.gw_meaning.specs.declared.statement.Block.{Block}
+use Rattle.gw_meaning.specs.declared.transaction.Transaction.{Transaction}
+use Rattle.gw_meaning.specs.Statements.{A, B, C, D, E, operand, is_generate_verb}
+use Rattle.gw_meaning.specs.Machine.{Machine, live, delay_at}
+use Rattle.gw_meaning.specs.Entities.{facility_at, line_at, store_at}
+use Rattle.gw_meaning.specs.Evaluation.{Eval, gives, millionths}
+use Rattle.gw_meaning.specs.Step.{for_none, for_one, arrival_at, arrival_in_time, arrival_prog, first_of_generate, first_of, first_arrival, with_arrival, arrivals_prog, first_arrivals_prog, start_prog, generate_prog, advance_prog, terminate_prog, is_too_many, queue_prog, depart_units, depart_prog, seize_or_wait, seize_prog, is_owner, release_prog, beside, in_use, share_of, all_shares, enter_or_wait, enter_storage, enter_prog, shares_prog, leave_for, leave_units, leave_prog, go_to, lead_to, transfer_prog, priority_prog, by_sign, assign_with, assign_prog, left_of, loop_back, loop_to, loop_prog, block_prog, meet_prog, try_prog, attempt_prog}
+use Rattle.gw_laws.proofs.Trying.{Tries, TriesAny, tries_gives, tries_ends, tries_asks, tries_stops, tries_cond, tries_bind, tries_more, draw_tries, arithmetic_tries, value_tries, value_there_tries, value_or_zero_tries, entity_tries, units_tries, time_tries}
+
+-- a command sets streams or starts; an attempt enters a block or is refused
+abbrev pub IsOfCommand : Move → Type 0
+IsOfCommand (moves.Start count arrivals) = Unit {0}
+IsOfCommand moves.Command = Unit {0}
+IsOfCommand move = ⊥
+
+-- a block is entered, or refuses
+abbrev pub IsAt : ℕ → Move → Type 0
+IsAt id (moves.Enter to change fate) = to ≡ id
+IsAt id (moves.Refuse to key units) = to ≡ id
+IsAt id move = ⊥
+
+abbrev pub IsAttempt : Move → Type 0
+IsAttempt move = (id : ℕ) × IsAt id move
+
+abbrev TriesMove : ℕ → Eval Move → Type 0
+TriesMove id p = Tries (IsAt id) p
+
+module _ (s : Machine) where
+  -- ---- the next transaction of a GENERATE, and priming
+  arrival_at_tries : (id : ℕ) (time priority : ℤ) → TriesAny (arrival_at s id time priority)
+  arrival_at_tries id time priority = tries_stops (is_negative time) _ (tries_stops (nat_le 100000 (live s)) _ (tries_gives tt))
+
+  arrival_in_time_tries : (q : Asker) (id : ℕ) (mean range priority : Option Term) → TriesAny (arrival_in_time s q id mean range priority)
+  arrival_in_time_tries q id mean range priority =
+      tries_bind (time_tries s q mean range) (λ v. tries_bind (value_or_zero_tries s q priority) (λ p. arrival_at_tries id v p))
+
+  arrival_tries : (q : Asker) (id made : ℕ) (mean range limit priority : Option Term) → TriesAny (arrival_prog s q id made mean range limit priority)
+  arrival_tries q id made mean range None priority = arrival_in_time_tries q id mean range priority
+  arrival_tries q id made mean range (Some limit) priority = tries_bind (value_tries s q limit)
+      (λ n. tries_stops (is_negative n) _
+      (tries_cond (nat_le (magnitude n) made) (tries_gives tt) (arrival_in_time_tries q id mean range priority)))
+
+  first_of_generate_tries : (q : Asker) (id : ℕ) (mean range offset limit priority : Option Term) →
+      TriesAny (first_of_generate s q id mean range offset limit priority)
+  first_of_generate_tries q id mean range None limit priority = arrival_tries q id _ mean range limit priority
+  first_of_generate_tries q id mean range (Some offset) limit priority = arrival_tries q id _ (Some offset) None limit priority
+
+  first_of_tries : (q : Asker) (id : ℕ) (b : Block) (generates : Bool) → TriesAny (first_of s q id b generates)
+  first_of_tries q id b true = first_of_generate_tries q id (operand b A) (operand b B) (operand b C) (operand b D) (operand b E)
+  first_of_tries q id b false = tries_gives tt
+
+  first_arrival_tries : (q : Asker) (id : ℕ) (block : Option Block) → TriesAny (first_arrival s q id block)
+  first_arrival_tries q id None = tries_gives tt
+  first_arrival_tries q id (Some b) = first_of_tries q id b (is_generate_verb b.verb)
+
+  arrivals_try : (q : Asker) (ids : List ℕ) (made : List Arrival) → TriesAny (arrivals_prog s q ids made)
+  arrivals_try q [] made = tries_gives tt
+  arrivals_try q (id ∷ ids) made =
+      tries_bind (tries_asks (items.Block id) (first_arrival_tries q id)) (λ a. arrivals_try q ids (with_arrival a made))
+
+  first_arrivals_try : (count : ℕ) → TriesAny (first_arrivals_prog s count)
+  first_arrivals_try count = tries_asks items.Generates (λ ids. arrivals_try (for_none count) ids [])
+
+  pub start_tries : (primed : Bool) (count : ℕ) → Tries IsOfCommand (start_prog s primed count)
+  start_tries true count = tries_gives tt
+  start_tries false count = tries_bind (first_arrivals_try count) (λ first. tries_gives tt)
+
+  -- ---- attempts
+  generate_tries : (x : Transaction) (id : ℕ) (mean range limit priority : Option Term) → TriesMove id (generate_prog s x id mean range limit priority)
+  generate_tries x id mean range limit priority =
+      tries_stops (not (nat_eq x.current 0)) _ (tries_bind (arrival_tries (for_none s.remaining) id _ mean range limit priority) (λ next. tries_gives refl))
+
+  advance_tries : (q : Asker) (id : ℕ) (mean range : Option Term) → TriesMove id (advance_prog s q id mean range)
+  advance_tries q id mean range = tries_bind (time_tries s q mean range) (λ v. tries_stops (is_negative v) _ (tries_gives refl))
+
+  terminate_tries : (q : Asker) (id : ℕ) (count : Option Term) → TriesMove id (terminate_prog s q id count)
+  terminate_tries q id count = tries_bind (value_or_zero_tries s q count) (λ n. tries_stops (is_negative n) _ (tries_gives refl))
+
+  queue_tries : (q : Asker) (id : ℕ) (entity units : Option Term) → TriesMove id (queue_prog s q id entity units)
+  queue_tries q id entity units = tries_bind (entity_tries s q entity) (λ key. tries_bind (units_tries s q units)
+      (λ n. tries_stops
+      (is_too_many ((line_at s.entities key).entries + n) || is_too_many ((line_at s.entities key).level.content + n)) _ (tries_gives refl)))
+
+  depart_units_tries : (id : ℕ) (key : Key) (line : Line) (at_once : Bool) (units : ℕ) → TriesMove id (depart_units id key line at_once units)
+  depart_units_tries id key line at_once units =
+      tries_stops (at_once && is_too_many (line.zero_entries + units)) _ (tries_stops (nat_lt line.level.content units) _ (tries_gives refl))
+
+  depart_tries : (q : Asker) (x : Transaction) (id : ℕ) (entity units : Option Term) → TriesMove id (depart_prog s q x id entity units)
+  depart_tries q x id entity units = tries_bind (entity_tries s q entity) (λ key. tries_bind (units_tries s q units)
+      (λ n. depart_units_tries id key (line_at s.entities key) (came s.entities.comings key x.number) n))
+
+  seize_or_wait_tries : (id : ℕ) (key : Key) (owned : Bool) → TriesMove id (seize_or_wait id key owned)
+  seize_or_wait_tries id key true = tries_gives refl
+  seize_or_wait_tries id key false = tries_gives refl
+
+  seize_tries : (q : Asker) (id : ℕ) (entity : Option Term) → TriesMove id (seize_prog s q id entity)
+  seize_tries q id entity =
+      tries_bind (entity_tries s q entity) (λ key. seize_or_wait_tries id key (is_some (facility_at s.entities key).owner))
+
+  release_tries : (q : Asker) (x : Transaction) (id : ℕ) (entity : Option Term) → TriesMove id (release_prog s q x id entity)
+  release_tries q x id entity = tries_bind (entity_tries s q entity)
+      (λ key. tries_stops (not (is_owner (facility_at s.entities key).owner x.number)) _ (tries_gives refl))
+
+  enter_or_wait_tries : (id : ℕ) (key : Key) (store : Store) (units : ℕ) (fits : Bool) → TriesMove id (enter_or_wait id key store units fits)
+  enter_or_wait_tries id key store units true = tries_stops (is_too_many (store.entries + units)) _ (tries_gives refl)
+  enter_or_wait_tries id key store units false = tries_gives refl
+
+  enter_storage_tries : (id : ℕ) (name : List ℕ) (store : Store) (units : ℕ) (large : Bool) → TriesMove id (enter_storage id name store units large)
+  enter_storage_tries id name store units large =
+      tries_stops (not large) _
+      (tries_asks (items.Named (asking.Fits (beside units store.level.content)) name) (enter_or_wait_tries id (keys.Defined name) store units))
+
+  enter_tries : (q : Asker) (id : ℕ) (storage units : Option Term) → TriesMove id (enter_prog s q id storage units)
+  enter_tries q id (Some (Defined name)) units = tries_bind (units_tries s q units)
+      (λ n. tries_asks (items.Named (asking.Fits n) name) (enter_storage_tries id name (store_at s.entities (keys.Defined name)) n))
+  enter_tries q id (Some term) units = tries_ends
+  enter_tries q id None units = tries_ends
+
+  shares_try : (name : List ℕ) (content : ℕ) (shares : List (Option ℕ)) (chain : List Transaction) → TriesAny (shares_prog name content shares chain)
+  shares_try name content shares [] = tries_gives tt
+  shares_try name content shares (x ∷ xs) = tries_asks (items.Named (asking.Fits (beside x.asked content)) name)
+      (λ fits. shares_try name (in_use content x.asked fits) (shares ++ share_of x.asked fits ∷ []) xs)
+
+  leave_for_tries : (id : ℕ) (key : Key) (store : Store) (units : ℕ) (shares : List (Option ℕ)) → TriesMove id (leave_for id key store units shares)
+  leave_for_tries id key store units shares = tries_stops (is_too_many (store.entries + all_shares shares)) _ (tries_gives refl)
+
+  leave_units_tries : (id : ℕ) (name : List ℕ) (store : Store) (units : ℕ) → TriesMove id (leave_units s id name store units)
+  leave_units_tries id name store units =
+      tries_stops (nat_lt store.level.content units) _
+      (tries_bind (shares_try name (store.level.content - units) [] (delay_at s.delays (keys.Defined name)))
+      (λ shares. leave_for_tries id (keys.Defined name) store units shares))
+
+  leave_tries : (q : Asker) (id : ℕ) (storage units : Option Term) → TriesMove id (leave_prog s q id storage units)
+  leave_tries q id (Some (Defined name)) units =
+      tries_bind (units_tries s q units) (λ n. leave_units_tries id name (store_at s.entities (keys.Defined name)) n)
+  leave_tries q id (Some term) units = tries_ends
+  leave_tries q id None units = tries_ends
+
+  go_to_tries : (id : ℕ) (to : Option ℕ) → TriesMove id (go_to id to)
+  go_to_tries id None = tries_ends
+  go_to_tries id (Some to) = tries_gives refl
+
+  lead_to_tries : (id : ℕ) (label : Option Term) → TriesMove id (lead_to id label)
+  lead_to_tries id (Some (Label name)) = tries_asks (items.Named asking.Label name) (go_to_tries id)
+  lead_to_tries id (Some term) = tries_gives refl
+  lead_to_tries id None = tries_gives refl
+
+  transfer_tries : (id : ℕ) (fraction near far : Option Term) → TriesMove id (transfer_prog id fraction near far)
+  transfer_tries id (Some (Fraction part)) near far =
+      tries_bind (draw_tries 1) (λ x. lead_to_tries id (cond (nat_lt (millionths x) part) far near))
+  transfer_tries id (Some term) near far = lead_to_tries id near
+  transfer_tries id None near far = lead_to_tries id near
+
+  priority_tries : (q : Asker) (id : ℕ) (priority : Option Term) → TriesMove id (priority_prog s q id priority)
+  priority_tries q id priority = tries_bind (value_there_tries s q priority) (λ p. tries_gives refl)
+
+  assign_with_tries : (id : ℕ) (sign : Sign) (key : Key) (was : Option ℤ) (v : ℤ) → TriesMove id (assign_with id sign key was v)
+  assign_with_tries id sign key was v = tries_bind (arithmetic_tries (by_sign sign was v)) (λ to. tries_gives refl)
+
+  assign_tries : (q : Asker) (id : ℕ) (sign : Sign) (parameter value : Option Term) → TriesMove id (assign_prog s q id sign parameter value)
+  assign_tries q id sign parameter value = tries_bind (entity_tries s q parameter) (λ key. tries_bind (value_there_tries s q value)
+      (λ v. assign_with_tries id sign key (parameter_at s.parameters q.number key) v))
+
+  less_one_tries : (was : Option ℤ) → TriesAny (left_of was)
+  less_one_tries None = tries_ends
+  less_one_tries (Some v) = arithmetic_tries (applied operators.Minus v (pos 1))
+
+  loop_back_tries : (id : ℕ) (key : Key) (left : ℤ) (to : Option ℕ) → TriesMove id (loop_back id key left to)
+  loop_back_tries id key left None = tries_ends
+  loop_back_tries id key left (Some to) = tries_gives refl
+
+  loop_to_tries : (id : ℕ) (key : Key) (left : ℤ) (label : Option Term) → TriesMove id (loop_to id key left label)
+  loop_to_tries id key left (Some (Label name)) = tries_asks (items.Named asking.Label name) (loop_back_tries id key left)
+  loop_to_tries id key left (Some term) = tries_ends
+  loop_to_tries id key left None = tries_ends
+
+  loop_tries : (q : Asker) (id : ℕ) (parameter label : Option Term) → TriesMove id (loop_prog s q id parameter label)
+  loop_tries q id parameter label = tries_bind (entity_tries s q parameter)
+      (λ key. tries_bind (less_one_tries (parameter_at s.parameters q.number key))
+      (λ left. tries_cond (nat_eq (magnitude left) 0) (tries_gives refl) (loop_to_tries id key left label)))
+
+  block_tries : (x : Transaction) (id : ℕ) (b : Block) (verb : BlockVerb) → TriesMove id (block_prog s x id b verb)
+  block_tries x id b blocks.Generate = generate_tries x id (operand b A) (operand b B) (operand b D) (operand b E)
+  block_tries x id b blocks.Advance = advance_tries (for_one s x) id (operand b A) (operand b B)
+  block_tries x id b blocks.Terminate = terminate_tries (for_one s x) id (operand b A)
+  block_tries x id b blocks.Queue = queue_tries (for_one s x) id (operand b A) (operand b B)
+  block_tries x id b blocks.Depart = depart_tries (for_one s x) x id (operand b A) (operand b B)
+  block_tries x id b blocks.Seize = seize_tries (for_one s x) id (operand b A)
+  block_tries x id b blocks.Release = release_tries (for_one s x) x id (operand b A)
+  block_tries x id b blocks.Enter = enter_tries (for_one s x) id (operand b A) (operand b B)
+  block_tries x id b blocks.Leave = leave_tries (for_one s x) id (operand b A) (operand b B)
+  block_tries x id b blocks.Transfer = transfer_tries id (operand b A) (operand b B) (operand b C)
+  block_tries x id b blocks.Mark = tries_gives refl
+  block_tries x id b blocks.Priority = priority_tries (for_one s x) id (operand b A)
+  block_tries x id b blocks.Buffer = tries_gives refl
+  block_tries x id b blocks.Assign = assign_tries (for_one s x) id b.sign (operand b A) (operand b B)
+  block_tries x id b blocks.Loop = loop_tries (for_one s x) id (operand b A) (operand b B)
+  block_tries x id b verb = tries_ends
+
+  pub meet_tries : (x : Transaction) (id : ℕ) (block : Option Block) → TriesMove id (meet_prog s x id block)
+  meet_tries x id None = tries_ends
+  meet_tries x id (Some b) = block_tries x id b b.verb
+
+  try_tries : (x : Transaction) (to : Option ℕ) → Tries IsAttempt (try_prog s x to)
+  try_tries x None = tries_ends
+  try_tries x (Some id) = tries_asks (items.Block id) (λ block. tries_more (λ m at. (id, at)) (meet_tries x id block))
+
+  pub attempt_tries : (x : Transaction) (destination : Option ℕ) → Tries IsAttempt (attempt_prog s x destination)
+  attempt_tries x None = tries_asks (items.After x.current) (try_tries x)
+  attempt_tries x (Some id) = try_tries x (Some id)

@@ -1,0 +1,236 @@
+-- A step by what there is to do; and so when a run ends.
+use Rattle.std.proofs.Common.{◌≡◌, ℕ, zero, suc, ◌≤◌, ◌<◌, min, ◌⊎◌, nat_le, Bool, true, false, List, [], ◌∷◌, Option, Some, None, Result, Ok, Err, refl, ap, sym, subst, ◌∙◌, arith, inl, inr}
+use Rattle.std.specs.Prelude.{All, Any}
+use Rattle.std.specs.List.{AllByRecursion}
+use Rattle.std.proofs.lemmas.Bool.{cases_lt}
+use Rattle.std.proofs.lemmas.Bool.Decides.{nat_tests}
+use Rattle.std.proofs.lemmas.List.Elements.{All-from_recursion}
+use Rattle.gw_streams.specs.declared.stream.Stream.{Stream}
+use Rattle.gw_meaning.specs.declared.item.End.{End}
+use Rattle.gw_meaning.specs.declared.item.End.TheVariants as ends
+use Rattle.gw_meaning.specs.declared.moves.Move.{Move}
+use Rattle.gw_meaning.specs.declared.statement.Command.{Command}
+use Rattle.gw_meaning.specs.declared.statement.Command.TheVariants as commands
+use Rattle.gw_meaning.specs.declared.transaction.Transaction.{Transaction}
+use Rattle.gw_meaning.specs.declared.transaction.Event.{Event}
+use Rattle.gw_meaning.specs.Listing.{Listing, command_at}
+use Rattle.gw_meaning.specs.Machine.{Machine, raised}
+use Rattle.gw_meaning.specs.Changes.{decided}
+use Rattle.gw_meaning.specs.Questions.{Prog, Gives, result_of}
+use Rattle.gw_meaning.specs.Step.{start_prog, command_prog, sooner, least_time, within_prog, clock_prog, pick_prog, scan_prog, move_prog, decide, step, step_prog, run, run_prog}
+use Rattle.gw_meaning.proofs.Programs.{bind_gives, bind_ends, run_on}
+use Rattle.gw_laws.specs.Ends.{IsDone, IsDry, IsBeyond, EndsDone, EndsDry, EndsAtHorizon, IsMoving, IsPriming, ErrorsAreOfAttempts, EndsBehindALastState, EndsForGood}
+use Rattle.gw_laws.proofs.ClockLaws.{AreAhead, never_none, least_is_least}
+use Rattle.gw_laws.proofs.Trying.{IsError, ends_so}
+use Rattle.gw_laws.proofs.Attempts.{start_tries, attempt_tries}
+
+-- ---- least times
+
+pub none_there : (es : List Event) → least_time es ≡ None → es ≡ []
+none_there [] is = refl
+none_there (e ∷ es) is = absurd (never_none e.time (least_time es) is)
+
+-- the least time is that of some
+pub least_is_there : (es : List Event) (time : ℕ) → least_time es ≡ Some time → Any (λ (e : Event). e.time ≡ time) es
+least_is_there [] time is = absurd cc
+least_is_there (e ∷ es) time is = go (least_time es) refl is (least_is_there es) where
+  first : e.time ≡ time → Any (λ (e : Event). e.time ≡ time) (e ∷ es)
+  first same = (0, e, omega arith, refl, same)
+
+  go : (o : Option ℕ) → least_time es ≡ o → sooner e.time o ≡ Some time →
+      ((other : ℕ) → least_time es ≡ Some other → Any (λ (e : Event). e.time ≡ other) es) → Any (λ (e : Event). e.time ≡ time) (e ∷ es)
+  go None rest is later = first cc
+  go (Some other) rest is later =
+      let same : min e.time other ≡ time = cc in
+      elim (cases_lt other e.time) [
+        | inl less ↦
+            let a = later other rest in
+            let last : other ≡ time = omega (arith, less, same) in
+            (suc a.0, a.1, omega (arith, a.2), a.3, a.4 ∙ last)
+        | inr more ↦ first (omega (arith, more, same))
+      ]
+
+-- of two properties, one of each and one of some, some have both
+pub both_of : {X : Type 0} (P Q : X → Type 0) (xs : List X) → All P xs → Any Q xs → (x : X) × P x × Q x
+both_of P Q xs all any = (any.1, subst P any.3 (all any.0 any.1 any.2), any.4)
+
+all_above : (horizon time : ℕ) (es : List Event) → horizon < time → AreAhead time es → AllByRecursion (λ (e : Event). horizon < e.time) es
+all_above horizon time [] less h = tt
+all_above horizon time (e ∷ es) less h = (omega (arith, less, h.0), all_above horizon time es less h.1)
+
+beyond : (time horizon : ℕ) → nat_le time horizon ≡ false → horizon < time
+beyond time horizon h = grind (arith, nat_tests)
+
+not_within : (time horizon : ℕ) → horizon < time → nat_le time horizon ≡ false
+not_within time horizon h = grind (arith, nat_tests)
+
+-- ---- a step by what there is to do
+
+module _ (t : Listing) (seed : ℕ) (s : Machine) where
+  abbrev made : Move × List Stream → Prog Machine
+  made d = Gives (decided s d.0 d.1)
+
+  -- a step goes, or ends, as its decision does
+  pub goes_on : (d : Move × List Stream) → result_of t seed (decide s) ≡ Ok d → step t seed s ≡ Ok (decided s d.0 d.1)
+  goes_on d is = (bind_gives t seed (decide s) made d is).0
+
+  comes_to_end : (end : End) → result_of t seed (decide s) ≡ Err end → step t seed s ≡ Err end
+  comes_to_end end is = (bind_ends t seed (decide s) made end is).0
+
+  pub went_on : (v : Machine) → step t seed s ≡ Ok v → (d : Move × List Stream) × (result_of t seed (decide s) ≡ Ok d) × (v ≡ decided s d.0 d.1)
+  went_on v is = go (result_of t seed (decide s)) refl where
+    go : (r : Result (Move × List Stream) End) → result_of t seed (decide s) ≡ r →
+        (d : Move × List Stream) × (result_of t seed (decide s) ≡ Ok d) × (v ≡ decided s d.0 d.1)
+    go (Ok d) there = let both : Ok v ≡ Ok (decided s d.0 d.1) = sym is ∙ goes_on d there in (d, there, cc)
+    go (Err end) there = absurd (let no : Ok v ≡ Err end = sym is ∙ comes_to_end end there in cc)
+
+  came_to_end : (end : End) → step t seed s ≡ Err end → result_of t seed (decide s) ≡ Err end
+  came_to_end end is = go (result_of t seed (decide s)) refl where
+    go : (r : Result (Move × List Stream) End) → result_of t seed (decide s) ≡ r → result_of t seed (decide s) ≡ Err end
+    go (Ok d) there = absurd (let no : Ok (decided s d.0 d.1) ≡ Err end = sym (goes_on d there) ∙ is in cc)
+    go (Err e) there =
+        let both : Err e ≡ Err end = sym (comes_to_end e there) ∙ is in
+        let same : e ≡ end = cc in
+        there ∙ ap (λ x. Err x) same
+
+  -- where no START is under way, it is a command; else the scan, which picks where none is active
+  at_command : s.remaining ≡ 0 → decide s ≡ move_prog s 0 s.streams
+  at_command idle = ap (λ n. move_prog s n s.streams) idle
+
+  at_scan : 1 ≤ s.remaining → decide s ≡ scan_prog s s.active s.streams
+  at_scan started = go s.remaining started where
+    go : (n : ℕ) → 1 ≤ n → move_prog s n s.streams ≡ scan_prog s s.active s.streams
+    go zero less = absurd (omega (arith, less))
+    go (suc n) less = refl
+
+  pub at_pick : 1 ≤ s.remaining → s.active ≡ None → decide s ≡ pick_prog s s.current s.streams
+  at_pick started none = at_scan started ∙ ap (λ a. scan_prog s a s.streams) none
+
+  pub at_clock : 1 ≤ s.remaining → s.active ≡ None → s.current ≡ [] → decide s ≡ clock_prog (least_time s.future) s.streams
+  at_clock started none empty = at_pick started none ∙ ap (λ chain. pick_prog s chain s.streams) empty
+
+  -- ---- why it ends
+
+  abbrev Why : End → Type 0
+  Why ends.CommandsDone = IsDone t s
+  Why ends.Dry = IsDry s
+  Why ends.Horizon = IsBeyond t s
+  Why (ends.Error stop) = IsMoving s ⊎ IsPriming t s
+
+  by_error : (end : End) → IsError end → IsMoving s ⊎ IsPriming t s → Why end
+  by_error (ends.Error stop) error h = h
+  by_error other error h = absurd error
+
+  start_why : (primed : Bool) (count : ℕ) (end : End) → s.primed ≡ primed → s.remaining ≡ 0 →
+      command_at t (raised s.commands) ≡ Some (commands.Start count) → result_of t seed (start_prog s primed count s.streams) ≡ Err end → Why end
+  start_why true count end first idle next is = absurd cc
+  start_why false count end first idle next is =
+      let error = ends_so t seed _ (start_prog s false count s.streams) end ((start_tries s false count).from s.streams) is in
+      by_error end error (inr (record { idle = idle; unprimed = first; count = count; next = next }))
+
+  command_why : (command : Option Command) (end : End) → command_at t (raised s.commands) ≡ command → s.remaining ≡ 0 →
+      result_of t seed (command_prog s command s.streams) ≡ Err end → Why end
+  command_why None end next idle is = let same : ends.CommandsDone ≡ end = cc in subst Why same (record { idle = idle; last = next })
+  command_why (Some (commands.Start count)) end next idle is = start_why s.primed count end refl idle next is
+  command_why (Some (commands.Rmult values)) end next idle is = absurd cc
+
+  clock_why : (time : Option ℕ) (end : End) → least_time s.future ≡ time → 1 ≤ s.remaining → s.active ≡ None → s.current ≡ [] →
+      result_of t seed (clock_prog time s.streams) ≡ Err end → Why end
+  clock_why None end least started none empty is =
+      let same : ends.Dry ≡ end = cc in
+      subst Why same (record { started = started; active = none; current = empty; future = none_there s.future least })
+  clock_why (Some time) end least started none empty is = go (nat_le time t.horizon) refl is where
+    go : (within : Bool) → nat_le time t.horizon ≡ within → result_of t seed (within_prog time within s.streams) ≡ Err end → Why end
+    go true test there = absurd cc
+    go false test there =
+        let same : ends.Horizon ≡ end = cc in
+        subst Why same (record {
+          started = started;
+          active = none;
+          current = empty;
+          some = λ no. (let gone : Some time ≡ None = sym least ∙ ap least_time no in absurd cc);
+          above = All-from_recursion (λ (e : Event). t.horizon < e.time) s.future
+              (all_above t.horizon time s.future (beyond time t.horizon test) (least_is_least s.future time least));
+        })
+
+  pick_why : (chain : List Transaction) (end : End) → s.current ≡ chain → 1 ≤ s.remaining → s.active ≡ None →
+      result_of t seed (pick_prog s chain s.streams) ≡ Err end → Why end
+  pick_why [] end empty started none is = clock_why (least_time s.future) end refl started none empty is
+  pick_why (x ∷ xs) end chain started none is = absurd cc
+
+  scan_why : (active : Option Transaction) (end : End) → s.active ≡ active → 1 ≤ s.remaining →
+      result_of t seed (scan_prog s active s.streams) ≡ Err end → Why end
+  scan_why None end none started is = pick_why s.current end refl started none is
+  scan_why (Some x) end active started is =
+      let error = ends_so t seed _ (scan_prog s (Some x) s.streams) end ((attempt_tries s x x.destination).from s.streams) is in
+      by_error end error (inl (record { started = started; who = x; active = active }))
+
+  move_why : (n : ℕ) (end : End) → s.remaining ≡ n → result_of t seed (move_prog s n s.streams) ≡ Err end → Why end
+  move_why zero end idle is = command_why (command_at t (raised s.commands)) end refl idle is
+  move_why (suc n) end some is = scan_why s.active end refl (omega (arith, some)) is
+
+  why : (end : End) → step t seed s ≡ Err end → Why end
+  why end is = move_why s.remaining end refl (came_to_end end is)
+
+  -- ---- and that it does
+
+  result_at : (p : Prog (Move × List Stream)) → decide s ≡ p → (end : End) → result_of t seed p ≡ Err end → step t seed s ≡ Err end
+  result_at p is end there = comes_to_end end (ap (λ q. result_of t seed q) is ∙ there)
+
+  done_ends : IsDone t s → step t seed s ≡ Err ends.CommandsDone
+  done_ends h =
+      result_at (move_prog s 0 s.streams) (at_command h.idle) ends.CommandsDone (ap (λ c. result_of t seed (command_prog s c s.streams)) h.last)
+
+  dry_ends : IsDry s → step t seed s ≡ Err ends.Dry
+  dry_ends h =
+      result_at (clock_prog (least_time s.future) s.streams) (at_clock h.started h.active h.current) ends.Dry
+      (ap (λ es. result_of t seed (clock_prog (least_time es) s.streams)) h.future)
+
+  beyond_ends : IsBeyond t s → step t seed s ≡ Err ends.Horizon
+  beyond_ends h =
+      result_at (clock_prog (least_time s.future) s.streams) (at_clock h.started h.active h.current) ends.Horizon (go (least_time s.future) refl)
+    where
+      go : (time : Option ℕ) → least_time s.future ≡ time → result_of t seed (clock_prog time s.streams) ≡ Err ends.Horizon
+      go None least = absurd (h.some (none_there s.future least))
+      go (Some time) least =
+          let one = both_of (λ (e : Event). t.horizon < e.time) (λ (e : Event). e.time ≡ time) s.future h.above (least_is_there s.future time least) in
+          let above = one.1 in
+          let same = one.2 in
+          ap (λ b. result_of t seed (within_prog time b s.streams)) (not_within time t.horizon (omega (arith, above, same)))
+
+-- ---- of a run
+
+pub ends_behind_a_last_state : EndsBehindALastState
+ends_behind_a_last_state t seed zero end is = absurd cc
+ends_behind_a_last_state t seed (suc n) end is = go (run t seed n) refl (λ e there. ends_behind_a_last_state t seed n e there) where
+  go : (r : Result Machine End) → run t seed n ≡ r →
+      ((e : End) → run t seed n ≡ Err e → (m : ℕ) × (s : Machine) × (m < n) × (run t seed m ≡ Ok s) × (step t seed s ≡ Err e)) →
+      (m : ℕ) × (s : Machine) × (m < suc n) × (run t seed m ≡ Ok s) × (step t seed s ≡ Err end)
+  go (Ok s) there before = (n, s, omega arith, there, sym (run_on t seed n s there) ∙ is)
+  go (Err e) there before =
+      let on : run t seed (suc n) ≡ Err e = (bind_ends t seed (run_prog n) step_prog e there).0 in
+      let both : Err e ≡ Err end = sym on ∙ is in
+      let same : e ≡ end = cc in
+      let h = before end (there ∙ ap (λ x. Err x) same) in
+      (h.0, h.1, omega (arith, h.2), h.3, h.4)
+
+pub ends_for_good : EndsForGood
+ends_for_good t seed m zero end less is =
+    let same : m ≡ zero = omega arith in ap (run t seed) (sym same) ∙ is
+ends_for_good t seed m (suc n) end less is =
+    elim (cases_lt n m) [
+      | inl late ↦ let same : suc n ≡ m = omega arith in ap (run t seed) same ∙ is
+      | inr before ↦ (bind_ends t seed (run_prog n) step_prog end (ends_for_good t seed m n end before is)).0
+    ]
+
+pub ends_done : EndsDone
+ends_done t seed s = (why t seed s ends.CommandsDone, done_ends t seed s)
+
+pub ends_dry : EndsDry
+ends_dry t seed s = (why t seed s ends.Dry, dry_ends t seed s)
+
+pub ends_at_horizon : EndsAtHorizon
+ends_at_horizon t seed s = (why t seed s ends.Horizon, beyond_ends t seed s)
+
+pub errors_are_of_attempts : ErrorsAreOfAttempts
+errors_are_of_attempts t seed s stop is = why t seed s (ends.Error stop) is

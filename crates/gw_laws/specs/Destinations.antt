@@ -1,0 +1,38 @@
+-- Where transactions go, over every run from zero. (Manual. Within the step limit, since numbers tell transactions
+-- apart there.)
+use Rattle.std.specs.Prelude.{◌≡◌, ℕ, suc, ◌≤◌, ◌⊎◌, List, ◌++◌, map, Option, Some, Ok, Contains}
+use Rattle.gw_meaning.specs.declared.transaction.Transaction.{Transaction}
+use Rattle.gw_meaning.specs.declared.transaction.Event.{Event}
+use Rattle.gw_meaning.specs.Listing.{Listing, after_at, or_next}
+use Rattle.gw_meaning.specs.Machine.{Machine}
+use Rattle.gw_meaning.specs.Step.{run}
+use Rattle.gw_model.specs.Well.{Well}
+use Rattle.gw_laws.specs.Living.{living}
+
+-- the block to which a transaction goes: its destination where it has one, and else the block behind its own
+abbrev pub goes_to : Listing → Transaction → Option ℕ
+goes_to t x = or_next x.destination (after_at t x.current)
+
+-- the transaction x, now y, stands in the block to which it went, or waits in its own block to enter that one
+abbrev pub WentWhereItGoes : Listing → Transaction → Transaction → Type 0
+WentWhereItGoes t x y = (goes_to t x ≡ Some y.current) ⊎ ((y.current ≡ x.current) × (goes_to t x ≡ y.destination))
+
+-- so it is, where it lives on, of the one that was active before a step
+abbrev pub GoesToItsDestination : Type 0
+GoesToItsDestination =
+    (t : Listing) (seed n : ℕ) (s v : Machine) → Well t → n ≤ t.limit →
+    run t seed n ≡ Ok s → run t seed (suc n) ≡ Ok v →
+    (x y : Transaction) → s.active ≡ Some x → Contains (living v) y → y.number ≡ x.number → WentWhereItGoes t x y
+
+-- those on the current chain and on the future chain
+abbrev pub on_chains : Machine → List Transaction
+on_chains s = s.current ++ map (λ (e : Event). e.transaction) s.future
+
+-- in a step each of these stays in its block, with its destination (whoever waits on a delay chain goes on waiting, or
+-- is let in where he was to go: Delays)
+abbrev pub OthersStayInTheirBlocks : Type 0
+OthersStayInTheirBlocks =
+    (t : Listing) (seed n : ℕ) (s v : Machine) → Well t → n ≤ t.limit →
+    run t seed n ≡ Ok s → run t seed (suc n) ≡ Ok v →
+    (x y : Transaction) → Contains (on_chains s) x → Contains (living v) y → y.number ≡ x.number →
+    (y.current ≡ x.current) × (y.destination ≡ x.destination)
