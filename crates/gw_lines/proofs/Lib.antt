@@ -34,3 +34,4 @@ pub mod PrintedWords
 pub mod Printed
 pub mod Decimals
 pub mod PrintedStorage
+pub mod Cutting

@@ -21,6 +21,7 @@ pub mod Faulty
 pub mod Edits
 pub mod Read
 pub mod Printed
+pub mod Cuts
 pub use Rattle.gw_meaning.specs.Statements
 pub use Rattle.gw_nums.specs.Range
 pub use Rattle.gw_expr.specs.Term

@@ -1,4 +1,5 @@
 // Laws above the definitions of reading.
+ghost use Rattle.gw_lines.specs.Cuts.{CutsAtBars, CutsAtCommas, CutsAtLineFeeds};
 ghost use Rattle.gw_lines.specs.Printed.{ModelsAreSpelled, PrintedEdits, PrintedModels, PrintedSpells, StoragesSpell};
 ghost use Rattle.gw_lines.specs.Read.{EditsAreRead, EditsAreRefused, ModelsAreRead, ModelsAreRefused};
 
@@ -12,6 +13,14 @@ pub fn models_are_read()
 pub fn edits_are_read()
     ensures read { EditsAreRead }
     ensures refused { EditsAreRefused }
+{}
+
+/// Operands are cut at commas, the lines of a model at line feeds, with a carriage return before one dropped, and those
+/// of an edit's text at bars.
+pub fn texts_are_cut()
+    ensures commas { CutsAtCommas }
+    ensures line_feeds { CutsAtLineFeeds }
+    ensures bars { CutsAtBars }
 {}
 
 /// What `list` prints of a statement that was read is read as that statement, as the text of an edit, and among the

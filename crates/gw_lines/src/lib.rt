@@ -34,5 +34,5 @@ mod words;
 pub use edit::{read_edit, read_statement};
 pub use fault::{FaultyLine, LineFault};
 pub use gw_meaning::Statement;
-pub use laws::{edits_are_read, models_are_read, printed_is_read};
+pub use laws::{edits_are_read, models_are_read, printed_is_read, texts_are_cut};
 pub use model::read_model;
