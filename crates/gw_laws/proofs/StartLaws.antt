@@ -14,7 +14,7 @@ use Rattle.gw_meaning.specs.declared.moves.Fate.{Fate}
 use Rattle.gw_meaning.specs.declared.moves.Fate.TheVariants as fates
 use Rattle.gw_meaning.specs.declared.moves.Move.{Move}
 use Rattle.gw_meaning.specs.declared.moves.Move.TheVariants as moves
-use Rattle.gw_meaning.specs.Listing.{Listing, command_of, command_at, is_start, starts}
+use Rattle.gw_meaning.specs.Listing.{Listing, command_of, command_at, is_start}
 use Rattle.gw_meaning.specs.Machine.{Machine, raised}
 use Rattle.gw_meaning.specs.Changes.{placed, marked, fated, let_in, entering, refused, moved}
 use Rattle.gw_meaning.specs.Step.{run}

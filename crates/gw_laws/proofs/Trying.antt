@@ -4,7 +4,6 @@ use Rattle.gw_nums.specs.Range.{is_value, is_negative, is_below, magnitude}
 use Rattle.gw_nums.specs.declared.val.ArithmeticFault.{ArithmeticFault}
 use Rattle.gw_nums.specs.declared.val.ArithmeticFault.TheVariants as arithmetic_faults
 use Rattle.gw_nums.specs.Millionths.{times}
-use Rattle.gw_expr.specs.declared.token.Operator.TheVariants as operators
 use Rattle.gw_expr.specs.declared.attribute.Subject.{Subject}
 use Rattle.gw_expr.specs.declared.attribute.Subject.TheVariants as subjects
 use Rattle.gw_expr.specs.declared.stop.Stop.{Stop}
@@ -14,7 +13,6 @@ use Rattle.gw_names.specs.declared.class.Class.{Class}
 use Rattle.gw_names.specs.declared.class.Class.TheVariants as class
 use Rattle.gw_names.specs.declared.key.Key.{Key}
 use Rattle.gw_names.specs.declared.key.Key.TheVariants as keys
-use Rattle.gw_names.specs.declared.verb.BlockVerb.TheVariants as blocks
 use Rattle.gw_streams.specs.declared.stream.Stream.{Stream}
 use Rattle.gw_streams.specs.declared.stream.Stream.TheVariants as streams
 use Rattle.gw_streams.specs.Draws.{stream_at}
@@ -25,8 +23,6 @@ use Rattle.gw_meaning.specs.declared.item.End.TheVariants as ends
 use Rattle.gw_meaning.specs.declared.item.Item.{Item}
 use Rattle.gw_meaning.specs.declared.item.Asked.TheVariants as asking
 use Rattle.gw_meaning.specs.declared.item.Item.TheVariants as items
-use Rattle.gw_meaning.specs.declared.moves.Move.TheVariants as moves
-use Rattle.gw_meaning.specs.Statements.{A, B}
 use Rattle.gw_meaning.specs.Listing.{Listing}
 use Rattle.gw_meaning.specs.Machine.{Machine}
 use Rattle.gw_meaning.specs.Questions.{Answer, ask, Prog, Gives, Ends, Asks, result_of, ◌>>=◌}
