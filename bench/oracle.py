@@ -4,6 +4,7 @@ program.
 It takes all sessions but those that end out of memory or behind too many reads, and reads statements by statements.py.
 A report is a run from clock zero; what an edit leaves of a recorded run goes by the items that each step read."""
 import re, sys
+from operator import eq, ge, gt, le, lt, ne
 
 from statements import BLOCKS, COMMANDS, DEFINITIONS, OF_BLOCKS, OF_FUNCTIONS, OF_STORAGES, OF_THE_MOMENT, OF_VARIABLES
 from statements import Fault, is_name, statement_of_edit, statements_of
@@ -601,6 +602,14 @@ class Run:
             part = int(whole or 0) * 10**6 + int(decimals.ljust(6, "0"))
             if (self.draw() - 1) * 10**6 // 2147483646 < part:
                 label = block.operand(2)
+        return self.lead(x, block, label)
+
+    def test(self, x, block):
+        a, b = self.value(block, 0), self.value(block, 1)
+        return self.lead(x, block, None if HOLDS[block.auxiliary](a, b) else block.operand(2))
+
+    def lead(self, x, block, label):
+        """Into a block and from there to the one with a label, or to the next one where there is no label."""
         if label is not None:
             self.items.append(("label", label))
 
@@ -609,6 +618,10 @@ class Run:
             x.destination = None if label is None else self.version.label(label)
 
         return go
+
+
+# What each operator of a TEST asks of the two values.
+HOLDS = {"E": eq, "NE": ne, "G": gt, "GE": ge, "L": lt, "LE": le}
 
 
 def looked_up(function, argument):
@@ -841,7 +854,7 @@ class Session:
             new.id = old.id if old else max([s.id for s in statements], default=0) + 1
         if old and new and old.verb in BLOCKS and new.verb in BLOCKS:
             items = {("label", old.label), ("label", new.label)} if old.label != new.label else set()
-            if (old.verb, old.listed) != (new.verb, new.listed):
+            if (old.verb, old.auxiliary, old.listed) != (new.verb, new.auxiliary, new.listed):
                 items |= {("block", old.id)}
                 items |= {("generates",)} if "GENERATE" in (old.verb, new.verb) else set()
         elif old and new and (old.verb, old.label) == (new.verb, new.label) and old.verb in DEFINITIONS:

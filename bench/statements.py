@@ -2,14 +2,14 @@
 import re
 
 BLOCKS = (
-    "GENERATE ADVANCE TERMINATE QUEUE DEPART SEIZE RELEASE ENTER LEAVE TRANSFER MARK PRIORITY BUFFER ASSIGN LOOP"
+    "GENERATE ADVANCE TERMINATE QUEUE DEPART SEIZE RELEASE ENTER LEAVE TRANSFER TEST MARK PRIORITY BUFFER ASSIGN LOOP"
 ).split()
 DEFINITIONS = "STORAGE EQU VARIABLE FUNCTION".split()
 COMMANDS = "START RMULT".split()
 # The verbs of later stages, which are no names either.
 LATER_DEFINITIONS = ["TABLE"]
 LATER_COMMANDS = "RESET CLEAR".split()
-LATER_BLOCKS = "TEST GATE LOGIC SAVEVALUE TABULATE LINK UNLINK SPLIT".split()
+LATER_BLOCKS = "GATE LOGIC SAVEVALUE TABULATE LINK UNLINK SPLIT".split()
 VERBS = BLOCKS + DEFINITIONS + COMMANDS + LATER_DEFINITIONS + LATER_COMMANDS + LATER_BLOCKS
 # The operands of a verb: a value, an entity, one with a sign behind it or none, a storage, a label, a fraction, an
 # expression, a number, a count, a seed, or a key word; `!` where one must be there.
@@ -25,6 +25,7 @@ FORMS = {
     "ENTER": "storage! value",
     "LEAVE": "storage! value",
     "TRANSFER": "fraction! label label!",
+    "TEST": "value! value! label!",
     "MARK": "",
     "ASSIGN": "changed! value!",
     "LOOP": "entity! label!",
@@ -36,6 +37,8 @@ FORMS = {
     "START": "count! NP",
     "RMULT": "seed seed seed seed seed seed seed",
 }
+# The operators of a verb that has one: a word of its own in front of the operands.
+AUXILIARIES = {"TEST": "E NE G GE L LE".split()}
 CLASSES = "C1 AC1 TG1 M1 XN1 PR P F FC S R SC SM Q QC QM QZ N W X LS CH CC TC RN V FN".split()
 OF_THE_MOMENT = "C1 AC1 TG1 M1 XN1 PR".split()
 OF_BLOCKS = "N W".split()
@@ -57,11 +60,11 @@ class Bad(Exception):
 
 
 class Statement:
-    """A label, a verb and operands, each as a tree: its kind, and what it is of or, for an operator, the parts. A
-    FUNCTION has points, in millionths, which further lines bring."""
+    """A label, a verb, its operator where it has one, and operands, each as a tree: its kind, and what it is of or, in
+    an expression, the parts. A FUNCTION has points, in millionths, which further lines bring."""
 
     def __init__(self, text):
-        self.label, self.verb, self.listed = parts(text)
+        self.label, self.verb, self.auxiliary, self.listed = parts(text)
         self.operands = self.listed.split(",") if self.listed else []
         self.trees = list(read_operands(self.verb, self.operands))
         self.id, self.points = None, []
@@ -102,7 +105,7 @@ class Statement:
         return [leaf for tree in self.trees for leaf in leaves(tree) if leaf[0] == kind]
 
     def text(self):
-        return " ".join(part for part in (self.label, self.verb, self.listed) if part)
+        return " ".join(part for part in (self.label, self.verb, self.auxiliary, self.listed) if part)
 
     def names(self):
         """The names of the statement, the label first."""
@@ -195,7 +198,8 @@ def may_be_pairs(lines):
 
 
 def parts(line):
-    """The label, the verb and the list of operands of a line, in upper case and without the blanks that are skipped."""
+    """The label, the verb, its operator and the list of operands of a line, in upper case and without the blanks that
+    are skipped."""
     code = code_of(line).upper()
     code = code[re.match(r"([0-9]+[ \t]+)?", code).end() :]
     first, second = re.match(r"([^ \t]*)[ \t]*([^ \t]*)", code).groups()
@@ -204,6 +208,10 @@ def parts(line):
         ascii_only(code)
         raise Fault("L4" if second and not is_name(first) else "L3")
     start = code.index(verb, len(label or "")) + len(verb)
+    auxiliary = None
+    if verb in AUXILIARIES:
+        word = re.match(r"[ \t]*([^ \t]*)", code[start:])
+        auxiliary, start = word[1], start + word.end()
     listed, end = operand_list(code[start:])
     ascii_only(code[: start + end])
     if label is not None and not is_name(label):
@@ -212,7 +220,11 @@ def parts(line):
         raise Fault("L4")
     if verb not in FORMS:
         raise Fault("L3")
-    return label, verb, listed
+    if auxiliary == "":
+        raise Fault("L6 0")
+    if auxiliary and auxiliary not in AUXILIARIES[verb]:
+        raise Fault("L5 0")
+    return label, verb, auxiliary, listed
 
 
 def code_of(line):

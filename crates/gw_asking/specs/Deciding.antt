@@ -1,5 +1,10 @@
 -- What a function that asks came to, against the evaluation that it stands for.
-use Rattle.std.specs.Prelude.{◌≡◌, ℕ, Option, Some, None, Result, Ok, Err}
+use Rattle.std.specs.Prelude.{◌≡◌, ℕ, Bool, true, false, not, List, Option, Some, None, Result, Ok, Err}
+use Rattle.gw_expr.specs.declared.stop.Stop.TheVariants.{TooManyUnits}
+use Rattle.gw_names.specs.declared.key.Key.{Key}
+use Rattle.gw_meaning.specs.declared.item.Asked.TheVariants as asking
+use Rattle.gw_meaning.specs.declared.item.Item.TheVariants as items
+use Rattle.gw_meaning.specs.declared.entity_change.Deed.TheVariants as deeds
 use Rattle.gw_meaning.specs.declared.moves.Change.TheVariants as changes
 use Rattle.gw_meaning.specs.declared.transaction_change.TransactionChange.TheVariants as own
 use Rattle.gw_meaning.specs.declared.moves.Fate.TheVariants as fates
@@ -7,7 +12,7 @@ use Rattle.gw_meaning.specs.declared.moves.Move.{Move}
 use Rattle.gw_meaning.specs.declared.moves.Move.TheVariants as moves
 use Rattle.gw_meaning.specs.Listing.{Listing}
 use Rattle.gw_meaning.specs.Questions.{result_of, items_of}
-use Rattle.gw_meaning.specs.Evaluation.{Eval, gives, ends_with}
+use Rattle.gw_meaning.specs.Evaluation.{Eval, gives, ends_with, asks, stops_if}
 use Rattle.gw_asking.specs.Noted.{Noted, Reads, Keeps}
 use Rattle.gw_asking.specs.declared.halt.Why.{Why}
 use Rattle.gw_asking.specs.declared.halt.Why.TheVariants as whys
@@ -27,7 +32,7 @@ Comes p (Ok a) = p ≡ gives a
 Comes p (Err (whys.End end)) = p ≡ ends_with end
 Comes p (Err whys.Memory) = Unit {0}
 
--- a TRANSFER is entered, where it was decided to which block the transaction goes, if not to the next one
+-- a TRANSFER or a TEST is entered, where it was decided to which block the transaction goes, if not to the next one
 abbrev pub sent : ℕ → Option ℕ → Move
 sent id None = moves.Enter id changes.Nothing fates.Active
 sent id (Some to) = moves.Enter id (changes.Transaction (own.Transfer to)) fates.Active
@@ -36,3 +41,19 @@ sent id (Some to) = moves.Enter id (changes.Transaction (own.Transfer to)) fates
 abbrev pub sending : ℕ → Result (Option ℕ) Why → Result Move Why
 sending id (Ok to) = Ok (sent id to)
 sending id (Err halt) = Err halt
+
+-- an ENTER asks first whether the empty storage holds its units, and the run ends where it does not; this storage has
+-- so many
+abbrev pub large_enough : List ℕ → ℕ → ℕ → Eval ℕ
+large_enough name units capacity = asks (items.Named (asking.Fits units) name)
+    (λ large. stops_if (not large) TooManyUnits (gives capacity))
+
+-- an ENTER is entered with its units, where it was decided that they come into use, or else refuses its transaction
+abbrev pub stored : ℕ → Key → ℕ → Bool → Move
+stored id key units true = moves.Enter id (changes.Entity (key, deeds.Enter units)) fates.Active
+stored id key units false = moves.Refuse id key units
+
+-- the same, of what was decided
+abbrev pub storing : ℕ → Key → ℕ → Result Bool Why → Result Move Why
+storing id key units (Ok fits) = Ok (stored id key units fits)
+storing id key units (Err halt) = Err halt

@@ -96,10 +96,10 @@ pub fn ask_number(
     Ok(version.number_of(name))
 }
 
-/// Do so many units fit into the storage of this name, which has this capacity? The caller has looked the capacity up
-/// in the version; the question is noted.
+// Do so many units fit into the storage of this name, which has this capacity? The caller has looked the capacity up
+// in the version; the question is noted.
 #[inline(always)]
-pub fn ask_fits(
+pub(crate) fn ask_fits(
     notes: &mut Notes,
     name: &Name,
     units: u64,

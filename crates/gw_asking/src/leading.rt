@@ -1,8 +1,8 @@
-// Where a TRANSFER leads: a label is asked for where a transaction goes there.
+// Where a TRANSFER or a TEST leads: a label is asked for only where the transaction goes there.
 ghost use Rattle.std.specs.Prelude.{◌≡◌, ℕ, if◌then◌else◌, nat_lt, option_copied};
 ghost use Rattle.gw_meaning.specs.Evaluation.{millionths};
 ghost use Rattle.gw_meaning.specs.Statements.{A, B, C, operand};
-ghost use Rattle.gw_meaning.specs.Step.{by_fraction, go_to, lead_to, transfer_prog};
+ghost use Rattle.gw_meaning.specs.Step.{by_fraction, go_to, holds, lead_to, test_values, transfer_prog};
 ghost use Rattle.gw_asking.specs.Deciding.{Decides, Comes, sending};
 
 use crate::case::{Case, ask_label};
@@ -11,7 +11,8 @@ use crate::halt::Halt;
 use crate::notes::Notes;
 use gw_expr::{Expr, Node};
 use gw_meaning::operands::{A, B, C};
-use gw_meaning::{Block, Destination, StatementId};
+use gw_meaning::{Auxiliary, Block, Destination, StatementId};
+use gw_nums::Val;
 
 /// The block to which a TRANSFER sends its transaction, or none where it goes on to the next one.
 #[inline(always)]
@@ -81,6 +82,42 @@ fn chosen<'a>(
         far
     } else {
         near
+    }
+}
+
+/// The block to which a TEST sends its transaction, or none where the relation of the first value to the second holds:
+/// then it goes on to the next block, and the label is not asked for.
+#[inline(always)]
+pub fn test_of(
+    case: Case,
+    notes: &mut Notes,
+    block: &Block,
+    first: Val,
+    second: Val,
+) -> Result<Destination, Halt>
+    ensures { (id : ℕ) → Decides case.entry.version.now case.entry.seed
+        (test_values id block.now.auxiliary (operand block.now C) first second)
+        (sending id result) notes.old notes.new }
+{
+    if holds(block.auxiliary, first, second) {
+        return Ok(Destination::none());
+    }
+    lead_to(case, notes, block.operand(C))
+}
+
+// Whether the relation of one value to another holds.
+#[inline(always)]
+fn holds(relation: Auxiliary, first: Val, second: Val) -> bool
+    ensures { result ≡ holds relation first second }
+{
+    match relation {
+        Auxiliary::Equal => first == second,
+        Auxiliary::NotEqual => first != second,
+        Auxiliary::Greater => first > second,
+        Auxiliary::GreaterOrEqual => first >= second,
+        Auxiliary::Less => first < second,
+        Auxiliary::LessOrEqual => first <= second,
+        _ => false,
     }
 }
 

@@ -12,14 +12,16 @@ mod halt;
 mod leading;
 mod notes;
 mod shares;
+mod storing;
 
 pub use case::{
-    Case, ask_after, ask_block, ask_capacity, ask_command, ask_fits, ask_generates, ask_label,
-    ask_next, ask_number, ask_within,
+    Case, ask_after, ask_block, ask_capacity, ask_command, ask_generates, ask_label, ask_next,
+    ask_number, ask_within,
 };
 pub use draws::{draw, millionths, modifier_of, multiplied, sample};
 pub use entity_ref::{EntityRef, named, numbered};
 pub use halt::{Halt, Why};
-pub use leading::transfer_of;
+pub use leading::{test_of, transfer_of};
 pub use notes::Notes;
-pub use shares::{all_shares, beside, shares_of};
+pub use shares::{all_shares, shares_of};
+pub use storing::{enter_fits, is_too_many, large_enough};

@@ -11,8 +11,8 @@ use gw_chains::PriorityChain;
 use gw_expr::Row;
 use gw_names::Name;
 
-/// So many units beside those in use, 2^64 - 1 at most.
-pub fn beside(units: u64, content: u64) -> u64
+// So many units beside those in use, 2^64 - 1 at most.
+pub(crate) fn beside(units: u64, content: u64) -> u64
     ensures { result ≡ beside units content }
 {
     units.saturating_add(content)

@@ -6,8 +6,10 @@ use Rattle.gw_meaning.specs.Listing.{Listing, seed_at}
 use Rattle.gw_model.specs.Faults.{is_outside, fault_of}
 use Rattle.gw_model.specs.Spliced.{with_splice}
 use Rattle.gw_record.specs.Tape.{Tape, blank}
-use Rattle.gw_edit.specs.declared.edit.Edit.{Edit}
-use Rattle.gw_edit.specs.declared.edit.Edit.TheVariants as edits
+use Rattle.gw_touch.specs.declared.edit.Edit.{Edit}
+use Rattle.gw_touch.specs.declared.edit.Edit.TheVariants as edits
+use Rattle.gw_touch.specs.Touching.{storage_place, touch_of}
+use Rattle.gw_touch.specs.Touched.{touched_step, IsKeptOf}
 use Rattle.gw_edit.specs.declared.fault.EditFault.{EditFault}
 use Rattle.gw_edit.specs.declared.fault.EditFault.TheVariants as faults
 use Rattle.gw_edit.specs.Faults.{Gives, of_line, of_model}
@@ -18,12 +20,9 @@ use Rattle.gw_lines.specs.Reading.{◌>>=◌}
 use Rattle.gw_model.specs.declared.fault.ModelFault.{ModelFault}
 use Rattle.gw_model.specs.declared.fault.ModelFault.TheVariants as models
 use Rattle.gw_lines.specs.Printed.{storage_of}
-use Rattle.gw_edit.specs.Applied.{applied, storage_place, capacity_at, checked, unless_faulty, or_refusal, spelled_by, reseeded, without_number, has_replication}
-use Rattle.gw_edit.specs.Touching.{touch_of}
+use Rattle.gw_edit.specs.Applied.{applied, capacity_at, checked, unless_faulty, or_refusal, spelled_by, reseeded, without_number, has_replication}
 use Rattle.gw_desk.specs.declared.recording.Recording.{Recording}
 use Rattle.gw_desk.specs.Book.{Book, IsBook, run_in, IsRunOf, AreRuns}
-use Rattle.gw_edit.specs.Touched.{touched_step}
-use Rattle.gw_edit.specs.Rebasing.{IsKeptOf}
 use Rattle.gw_desk.specs.Editing.{Accepts, Refuses}
 use Rattle.gw_desk.specs.Rebasing.{AreRebased, with_missing}
 use Rattle.gw_record.proofs.Blank.{blank_records}

@@ -3,13 +3,12 @@
 use Rattle.std.specs.Prelude.{◌≡◌, ℕ, ◌<◌, ◌≤◌, [], ◌∷◌, ◌++◌, length, Some, None, Ok, Err}
 use Rattle.gw_meaning.specs.Listing.{seed_at}
 use Rattle.gw_record.specs.Tape.{Tape, blank}
-use Rattle.gw_edit.specs.declared.edit.Edit.{Edit}
+use Rattle.gw_touch.specs.declared.edit.Edit.{Edit}
+use Rattle.gw_touch.specs.Touching.{touch_of}
+use Rattle.gw_touch.specs.Touched.{touched_step, IsKeptOf}
 use Rattle.gw_edit.specs.declared.fault.EditFault.{EditFault}
 use Rattle.gw_edit.specs.declared.fault.EditFault.TheVariants as faults
 use Rattle.gw_edit.specs.Applied.{applied}
-use Rattle.gw_edit.specs.Touching.{touch_of}
-use Rattle.gw_edit.specs.Touched.{touched_step}
-use Rattle.gw_edit.specs.Rebasing.{IsKeptOf}
 use Rattle.gw_desk.specs.Book.{Book, run_in}
 
 -- the run of a replication that stays: of its steps those are kept that the edit allows

@@ -1,8 +1,8 @@
 // What an edit leaves of the recorded runs.
 ghost use Rattle.std.specs.Prelude.{◌≡◌, ◌+◌, ◌<◌, ◌≤◌, length, vec_len, vec_capacity, filter, is_some};
 ghost use Rattle.gw_meaning.specs.Listing.{Listing, seed_at};
-ghost use Rattle.gw_edit.specs.declared.edit.Edit.{Edit};
-ghost use Rattle.gw_edit.specs.Touching.{touching_of};
+ghost use Rattle.gw_touch.specs.declared.edit.Edit.{Edit};
+ghost use Rattle.gw_touch.specs.Touching.{touching_of};
 ghost use Rattle.gw_desk.specs.declared.recording.Recording.{Recording};
 ghost use Rattle.gw_desk.specs.Book.{run_in};
 ghost use Rattle.gw_desk.specs.Rebasing.{AreRebased, with_run, with_missing};

@@ -24,11 +24,11 @@ use Rattle.gw_meaning.specs.declared.statement.Numbered.{Numbered}
 use Rattle.gw_meaning.specs.Listing.{Listing, block_of_body, is_block, is_generate, is_generate_body, has_label, labelled_in, generates_in, capacity_in, command_of_body, defines, definition_if, definition_of, definition_of_body, first_said, is_command, number_of, expression_of, function_of, or_next, units_of}
 use Rattle.gw_meaning.specs.Questions.{Answer, ask}
 use Rattle.gw_meaning.specs.Reads.{is_use}
-use Rattle.gw_edit.specs.Same.{same_statement, same_label}
-use Rattle.gw_edit.specs.declared.touch.Probe.{Probe}
-use Rattle.gw_edit.specs.declared.touch.Probe.TheVariants.{CommandsFrom}
-use Rattle.gw_edit.specs.Touching.{block_before, command_from, given, one_if, label_if, block_slots, block_probes, line_probes, change_slots, label_slots, block_change, is_probed, is_touched, definition_slot, definition_probes, rest_probes}
-use Rattle.gw_edit.proofs.SameBlocks.{statement_same, label_same}
+use Rattle.gw_touch.specs.Same.{same_statement, same_label}
+use Rattle.gw_touch.specs.declared.touch.Probe.{Probe}
+use Rattle.gw_touch.specs.declared.touch.Probe.TheVariants.{CommandsFrom}
+use Rattle.gw_touch.specs.Touching.{block_before, command_from, given, one_if, label_if, block_slots, block_probes, line_probes, change_slots, label_slots, block_change, is_probed, is_touched, definition_slot, definition_probes, rest_probes}
+use Rattle.gw_touch.proofs.SameBlocks.{statement_same, label_same}
 use Rattle.gw_meaning.specs.declared.statement.Definition.{Definition}
 use Rattle.gw_meaning.specs.declared.statement.Definition.TheVariants as definitions
 

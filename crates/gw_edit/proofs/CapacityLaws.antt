@@ -18,12 +18,11 @@ use Rattle.gw_model.specs.Spliced.{with_splice}
 use Rattle.gw_model.proofs.Apart.{same_bytes}
 use Rattle.gw_uses.specs.Asks.{answers_differ, differs, is_other}
 use Rattle.gw_frame.specs.Alike.{SameAnswer}
-use Rattle.gw_edit.specs.declared.touch.Probe.TheVariants.{Amounts}
+use Rattle.gw_touch.specs.declared.touch.Probe.TheVariants.{Amounts}
 use Rattle.gw_lines.specs.Printed.{storage_of}
-use Rattle.gw_edit.specs.Applied.{is_capacity, storage_in, storage_place}
+use Rattle.gw_touch.specs.Touching.{is_capacity, storage_in, storage_place, is_touched, capacity_probes, splice_probes}
 use Rattle.gw_edit.specs.Applied as by
 use Rattle.gw_edit.specs.Capacities.{CapacityTouchesWhatDiffers}
-use Rattle.gw_edit.specs.Touching.{is_touched, capacity_probes, splice_probes}
 use Rattle.gw_edit.proofs.Made.{checked_gives, other_side, storage_found}
 use Rattle.gw_edit.proofs.Splits.{gone_at, nth_between}
 

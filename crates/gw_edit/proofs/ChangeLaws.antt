@@ -12,10 +12,10 @@ use Rattle.gw_meaning.specs.Listing.{Listing, line_in, block_of, block_of_body, 
 use Rattle.gw_meaning.specs.Questions.{ask}
 use Rattle.gw_meaning.specs.Reads.{is_use}
 use Rattle.gw_model.proofs.Numbers.{other_way}
-use Rattle.gw_edit.specs.Same.{same_statement}
-use Rattle.gw_edit.specs.Touching.{lines_before, one_if, line_probes, change_slots, block_change, splice_probes, is_touched, one_name, other_change, same_number, same_expression, same_curve}
+use Rattle.gw_touch.specs.Same.{same_statement}
+use Rattle.gw_touch.specs.Touching.{lines_before, one_if, line_probes, change_slots, block_change, splice_probes, is_touched, one_name, other_change, same_number, same_expression, same_curve}
+use Rattle.gw_touch.proofs.SameBlocks.{statement_same, term_same, function_same}
 use Rattle.gw_edit.proofs.Fronts.{block_in, block_behind, after_behind, commands_behind}
-use Rattle.gw_edit.proofs.SameBlocks.{statement_same, term_same, function_same}
 use Rattle.gw_edit.proofs.ByLines.{untouched_both, probed_at, untouched_at, changed_line, change_parts, by_lines, changed_alike, IsListed, IsSameOf, IsSameTo, saying, said_same, bytes_other, generate_none, generate_of, no_generate_of, label_of}
 use Rattle.std.proofs.lemmas.Bool.Decides.{Decides-int_eq}
 use Rattle.gw_edit.proofs.LineLaws.{command_none, line_alike}

@@ -9,7 +9,7 @@ use Rattle.gw_meaning.specs.declared.statement.Block.{Block}
 use Rattle.gw_meaning.specs.declared.statement.Command.{Command}
 use Rattle.gw_meaning.specs.declared.statement.Numbered.{Numbered}
 use Rattle.gw_meaning.specs.Listing.{line_in, block_of, is_block, command_of, command_of_body, first_block, after_in, nth, is_command}
-use Rattle.gw_edit.specs.Touching.{last_block}
+use Rattle.gw_touch.specs.Touching.{last_block}
 
 -- whether a number is this one
 abbrev pub is_at : Option ℕ → ℕ → Bool

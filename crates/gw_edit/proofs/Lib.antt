@@ -1,7 +1,5 @@
 pub mod Checking
-pub mod Places
 pub mod Fronts
-pub mod SameBlocks
 pub mod ByLines
 pub mod LineLaws
 pub mod ChangeLaws
@@ -10,7 +8,6 @@ pub mod Seeds
 pub mod Made
 pub mod Untouching
 pub mod CapacityLaws
-pub mod TouchLaws
 pub mod RebaseLaws
 pub mod PositionLaws
 pub mod SpelledLaws

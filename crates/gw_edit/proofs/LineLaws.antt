@@ -11,8 +11,8 @@ use Rattle.gw_meaning.specs.Listing.{Listing, line_in, block_of, block_of_body, 
 use Rattle.gw_meaning.specs.Questions.{ask}
 use Rattle.gw_model.proofs.Numbers.{absent_first, other_way}
 use Rattle.gw_model.proofs.Once.{is_none}
-use Rattle.gw_edit.specs.declared.touch.Probe.TheVariants.{CommandsFrom}
-use Rattle.gw_edit.specs.Touching.{last_block, lines_before, block_before, command_from, behind, block_slots, block_probes, line_probes, is_touched, definition_probes, rest_probes}
+use Rattle.gw_touch.specs.declared.touch.Probe.TheVariants.{CommandsFrom}
+use Rattle.gw_touch.specs.Touching.{last_block, lines_before, block_before, command_from, behind, block_slots, block_probes, line_probes, is_touched, definition_probes, rest_probes}
 use Rattle.gw_edit.proofs.Fronts.{is_at, block_in, block_behind, after_behind, after_in_front, commands_behind, commands_front, after_none}
 use Rattle.gw_edit.proofs.ByLines.{probed_at, untouched_at, by_lines, silent_alike}
 

@@ -12,12 +12,12 @@ use Rattle.gw_lines.specs.Reading.{◌>>=◌}
 use Rattle.gw_model.specs.declared.fault.ModelFault.{ModelFault}
 use Rattle.gw_model.specs.Faults.{fault_of, is_outside}
 use Rattle.gw_model.specs.Spliced.{with_splice}
-use Rattle.gw_edit.specs.declared.edit.Edit.{Edit}
-use Rattle.gw_edit.specs.declared.edit.Edit.TheVariants as edits
+use Rattle.gw_touch.specs.declared.edit.Edit.{Edit}
+use Rattle.gw_touch.specs.declared.edit.Edit.TheVariants as edits
+use Rattle.gw_touch.specs.Touching.{is_capacity, storage_in, storage_place, touch_of, touched_in, everywhere, seed_touching, is_touched, lines_before, splice_probes, same_seed, capacity_probes}
 use Rattle.gw_edit.specs.declared.fault.EditFault.{EditFault}
 use Rattle.gw_lines.specs.Printed.{storage_of}
-use Rattle.gw_edit.specs.Applied.{applied, checked, unless_faulty, or_refusal, reseeded, without_number, has_replication, capacity_at, is_capacity, storage_in, storage_place}
-use Rattle.gw_edit.specs.Touching.{touch_of, touched_in, everywhere, seed_touching, is_touched, lines_before, splice_probes, same_seed, capacity_probes}
+use Rattle.gw_edit.specs.Applied.{applied, checked, unless_faulty, or_refusal, reseeded, without_number, has_replication, capacity_at}
 use Rattle.gw_edit.specs.InPositions.{front_of, deleted_of, inserted_of, front_at, line_there}
 use Rattle.gw_edit.proofs.Seeds.{seed_in_front, seed_reseeded, seed_without}
 use Rattle.gw_edit.proofs.Splits.{place_in}

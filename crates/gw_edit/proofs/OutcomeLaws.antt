@@ -19,9 +19,10 @@ use Rattle.gw_model.specs.declared.fault.ModelFault.TheVariants as models
 use Rattle.gw_model.specs.Faults.{fault_of, is_outside}
 use Rattle.gw_model.specs.Spliced.{inserted, number_in, spliced, with_splice}
 use Rattle.gw_model.proofs.Apart.{same_bytes}
+use Rattle.gw_touch.specs.Touching.{is_capacity, storage_in}
 use Rattle.gw_edit.specs.declared.fault.EditFault.{EditFault}
 use Rattle.gw_edit.specs.declared.fault.EditFault.TheVariants.{NoSuchPlace, BadStatement, BadModel, NoSuchReplication, ReplicationTwice}
-use Rattle.gw_edit.specs.Applied.{capacity_at, checked, is_capacity, reseeded, storage_in, unless_faulty, with_seed, without_number}
+use Rattle.gw_edit.specs.Applied.{capacity_at, checked, reseeded, unless_faulty, with_seed, without_number}
 use Rattle.gw_edit.specs.Faults.{of_model}
 use Rattle.gw_edit.specs.Outcomes.{ChangesTo, IsDeleted, DeleteMakes, IsStorage, HasNoStorage, FirstStorage, IsReplaced, CapacityMakes, IsReseeded, SeedMakes, IsAdded, ReplicateMakes, IsDropped, DropMakes, HasHorizon, EditsMake}
 use Rattle.gw_edit.proofs.CapacityLaws.{is_storage}

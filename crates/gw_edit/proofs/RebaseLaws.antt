@@ -11,12 +11,12 @@ use Rattle.gw_frame.specs.Alike.{SameAnswer}
 use Rattle.gw_record.specs.Tape.{Tape, Records}
 use Rattle.gw_record.specs.Carrying.{Carries}
 use Rattle.gw_uses.proofs.FirstLaws.{IsFirstReading, first_is}
-use Rattle.gw_edit.specs.declared.edit.Edit.{Edit}
-use Rattle.gw_edit.specs.declared.touch.Probe.{Probe}
+use Rattle.gw_touch.specs.declared.edit.Edit.{Edit}
+use Rattle.gw_touch.specs.declared.touch.Probe.{Probe}
+use Rattle.gw_touch.specs.Touching.{touch_of, is_touched}
+use Rattle.gw_touch.specs.Touched.{touched_step, IsKeptOf}
 use Rattle.gw_edit.specs.Applied.{applied}
-use Rattle.gw_edit.specs.Touching.{touch_of, is_touched}
-use Rattle.gw_edit.specs.Touched.{touched_step}
-use Rattle.gw_edit.specs.Rebasing.{IsKeptOf, IsRebased}
+use Rattle.gw_edit.specs.Rebasing.{IsRebased}
 use Rattle.gw_edit.proofs.Made.{IsSpliced, IsLeft, made_by}
 use Rattle.gw_edit.proofs.Untouching.{untouched_alike}
 

@@ -18,8 +18,9 @@ use Rattle.gw_lines.proofs.PrintedWords.{is_name}
 use Rattle.gw_lines.proofs.PrintedStorage.{storages_spell}
 use Rattle.gw_model.specs.Faults.{is_outside}
 use Rattle.gw_model.specs.Spliced.{inserted, number_in, spliced, with_splice}
-use Rattle.gw_edit.specs.declared.edit.Edit.TheVariants as edits
-use Rattle.gw_edit.specs.Applied.{capacity_at, checked, has_replication, is_capacity, reseeded, spelled_by, storage_in, storage_place, without_number}
+use Rattle.gw_touch.specs.declared.edit.Edit.TheVariants as edits
+use Rattle.gw_touch.specs.Touching.{is_capacity, storage_in, storage_place}
+use Rattle.gw_edit.specs.Applied.{capacity_at, checked, has_replication, reseeded, spelled_by, without_number}
 use Rattle.gw_edit.specs.Spelled.{AreSpelled, EditsAreSpelled}
 use Rattle.gw_edit.proofs.Splits.{place_in}
 use Rattle.gw_edit.proofs.Made.{checked_gives, of_read, one_side, other_side}

@@ -1,11 +1,8 @@
 -- The version that an edit makes of a version, or its refusal. (Our own.)
 use Rattle.std.specs.Prelude.{ℕ, ◌+◌, Bool, true, false, ◌==◌, List, [], ◌∷◌, ◌++◌, Option, Some, None, Result, Ok, Err, is_some, not, if◌then◌else◌, length, filter, map}
-use Rattle.gw_meaning.specs.declared.statement.Definition.{Definition}
-use Rattle.gw_meaning.specs.declared.statement.Definition.TheVariants as definitions
-use Rattle.gw_meaning.specs.declared.statement.Numbered.{Numbered}
 use Rattle.gw_meaning.specs.declared.statement.Statement.{Statement}
 use Rattle.gw_meaning.specs.declared.statement.Replication.{Replication}
-use Rattle.gw_meaning.specs.Listing.{Listing, defines, seed_at}
+use Rattle.gw_meaning.specs.Listing.{Listing, seed_at}
 use Rattle.gw_lines.specs.declared.fault.LineFault.{LineFault}
 use Rattle.gw_lines.specs.declared.fault.LineFault.TheVariants as faults
 use Rattle.gw_lines.specs.Reading.{◌>>=◌}
@@ -14,8 +11,9 @@ use Rattle.gw_lines.specs.Printed.{storage_of}
 use Rattle.gw_model.specs.declared.fault.ModelFault.{ModelFault}
 use Rattle.gw_model.specs.Faults.{fault_of, is_outside}
 use Rattle.gw_model.specs.Spliced.{with_splice}
-use Rattle.gw_edit.specs.declared.edit.Edit.{Edit}
-use Rattle.gw_edit.specs.declared.edit.Edit.TheVariants as edits
+use Rattle.gw_touch.specs.declared.edit.Edit.{Edit}
+use Rattle.gw_touch.specs.declared.edit.Edit.TheVariants as edits
+use Rattle.gw_touch.specs.Touching.{storage_place}
 use Rattle.gw_edit.specs.declared.fault.EditFault.{EditFault}
 use Rattle.gw_edit.specs.declared.fault.EditFault.TheVariants.{NoSuchPlace, BadStatement, NoSuchReplication, ReplicationTwice, NoSuchStorage}
 use Rattle.gw_edit.specs.Faults.{of_line, of_model}
@@ -83,18 +81,7 @@ drop_made t number =
 abbrev pub horizon_made : Listing → ℕ → Result Listing EditFault
 horizon_made t time = checked (record t { horizon = time })
 
--- the place of the statement that defines the storage of a name, where the first of these has the place n
-abbrev pub is_capacity : Option Definition → Bool
-is_capacity (Some (definitions.Storage capacity)) = true
-is_capacity definition = false
-
-abbrev pub storage_in : List ℕ → ℕ → List Numbered → Option ℕ
-storage_in name n [] = None
-storage_in name n (line ∷ lines) = if is_capacity (defines name line) then Some n else storage_in name (n + 1) lines
-
-abbrev pub storage_place : List ℕ → Listing → Option ℕ
-storage_place name t = storage_in name 1 t.lines
-
+-- of a capacity, by the place of the statement that defines the storage
 abbrev pub capacity_at : Listing → List ℕ → ℕ → Option ℕ → Result Listing EditFault
 capacity_at t name amount None = Err NoSuchStorage
 capacity_at t name amount (Some place) =

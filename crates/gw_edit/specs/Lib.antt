@@ -2,9 +2,6 @@ pub mod Faults
 pub mod Applied
 pub mod Written
 pub mod Outcomes
-pub mod Same
-pub mod Touching
-pub mod Touched
 pub mod Rebasing
 pub mod Untouched
 pub mod Capacities

@@ -4,9 +4,9 @@ use Rattle.gw_meaning.specs.declared.item.Item.{Item}
 use Rattle.gw_meaning.specs.Listing.{Listing, seed_at}
 use Rattle.gw_meaning.specs.Numbers.{AreNumbered}
 use Rattle.gw_frame.specs.Alike.{SameAnswer}
-use Rattle.gw_edit.specs.declared.edit.Edit.{Edit}
+use Rattle.gw_touch.specs.declared.edit.Edit.{Edit}
+use Rattle.gw_touch.specs.Touching.{touch_of, is_touched}
 use Rattle.gw_edit.specs.Applied.{applied}
-use Rattle.gw_edit.specs.Touching.{touch_of, is_touched}
 
 -- where each statement has a number of its own, as in every version: in each replication that both have, with its
 -- seeds, each question that is not touched is answered alike

@@ -7,7 +7,7 @@ use Rattle.gw_lines.specs.declared.fault.LineFault.TheVariants as lines
 use Rattle.gw_lines.specs.Edits.{SpellsEdit, FirstFaultOfEdit}
 use Rattle.gw_model.specs.Faults.{is_outside}
 use Rattle.gw_model.specs.Spliced.{with_splice}
-use Rattle.gw_edit.specs.declared.edit.Edit.TheVariants as edits
+use Rattle.gw_touch.specs.declared.edit.Edit.TheVariants as edits
 use Rattle.gw_edit.specs.Applied.{applied, checked}
 use Rattle.gw_edit.specs.declared.fault.EditFault.TheVariants.{BadStatement}
 

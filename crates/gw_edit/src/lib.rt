@@ -6,25 +6,18 @@
 //! nothing that is touched ([`touched`]), and [`rebase`] makes it the run of the edited version.
 #![tactic(auto)]
 
-mod edit;
 mod fault;
 mod laws;
-mod lines;
 mod making;
 mod rebasing;
 mod replications;
-mod same;
 mod text;
-mod touch;
-mod touched_step;
 
-pub use edit::Edit;
 pub use fault::EditFault;
+pub use gw_touch::{Edit, Touch, touch_of, touched};
 pub use laws::{
     capacity_touches_what_differs, edit_in_positions, edits_are_spelled, edits_make,
     texts_are_spelled, untouched,
 };
 pub use making::apply;
 pub use rebasing::rebase;
-pub use touch::{Touch, touch_of};
-pub use touched_step::touched;

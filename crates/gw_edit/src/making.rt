@@ -4,9 +4,7 @@ ghost use Rattle.gw_lines.specs.Printed.{storage_of};
 ghost use Rattle.gw_edit.specs.Applied.{applied, checked, insert_made, delete_made, change_made, capacity_made, seed_made, replicate_made, drop_made, horizon_made};
 ghost use Rattle.gw_edit.specs.Faults.{Gives};
 
-use crate::edit::Edit;
 use crate::fault::{EditFault, of_model};
-use crate::lines::storage_place;
 use crate::replications::{reseeded, with_replication, without_number};
 use crate::text::spelled_by;
 use gw_expr::Row;
@@ -15,6 +13,7 @@ use gw_meaning::{Body, Definition, Replication, Statement};
 use gw_model::Version;
 use gw_names::Name;
 use gw_nums::put_decimal;
+use gw_touch::{Edit, storage_place};
 use std::alloc::{AllocError, Global};
 
 /// The edited version, or the first refusal, in the order E1, E4, E5, E6, E2, E3. E7 may come in place of any.

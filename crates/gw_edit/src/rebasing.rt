@@ -1,16 +1,15 @@
 // What an edit leaves of a recorded run.
 ghost use Rattle.std.specs.Prelude.{◌≡◌, ℕ, IsTrue, IsFalse};
 ghost use Rattle.gw_meaning.specs.Listing.{Listing};
-ghost use Rattle.gw_edit.specs.declared.edit.Edit.{Edit};
 ghost use Rattle.gw_record.specs.Tape.{Records};
-ghost use Rattle.gw_edit.specs.Touched.{touched_step};
-ghost use Rattle.gw_edit.specs.Touching.{touching_of, touched_in};
-ghost use Rattle.gw_edit.specs.Rebasing.{IsBefore, IsRebased};
+ghost use Rattle.gw_touch.specs.declared.edit.Edit.{Edit};
+ghost use Rattle.gw_touch.specs.Touching.{touching_of, touched_in};
+ghost use Rattle.gw_touch.specs.Touched.{touched_step, IsBefore};
+ghost use Rattle.gw_edit.specs.Rebasing.{IsRebased};
 
-use crate::touch::Touch;
-use crate::touched_step::touched;
 use gw_model::Version;
 use gw_record::Recorded;
+use gw_touch::{Touch, go_back};
 
 /// Makes the recorded run of a replication that of the edited version, by what the edit touches: goes back to the last
 /// kept moment at or before the first step that read something touched, and no further. Where that step comes before
@@ -23,11 +22,8 @@ pub fn rebase(run: &mut Recorded, old: &Version, touch: &Touch, replication: u64
         IsBefore run.old.start (touched_step (touched_in touch.now replication) t seed run.old) }
     ensures zero { run.old.start ≡ 0 → IsTrue result }
 {
-    if let Some(step) = touched(run, touch, replication) {
-        if step < run.start() {
-            return false;
-        }
-        run.cut(step);
+    if !go_back(run, touch, replication) {
+        return false;
     }
     // What is left asked for nothing that the two versions answer in another way.
     old.numbered();

@@ -33,9 +33,9 @@ use Rattle.gw_meaning.specs.Evaluation.{Eval, asks, named, owned, millionths}
 use Rattle.gw_meaning.specs.Step.{for_none, for_one, arrival_at, arrival_in_time, arrival_prog, first_of_generate, first_of, first_arrival, with_arrival, prime_prog, arrivals_prog, first_arrivals_prog, start_prog, command_prog, generate_prog, delay_of, advance_prog, terminate_prog, is_too_many, queue_units, queue_prog, depart_units, depart_prog, seize_or_wait, seize_prog, first_number, is_owner, release_to, release_prog, go_to, lead_to, transfer_prog, priority_prog, block_prog, meet_prog, try_prog, attempt_prog, least_time, within_prog, clock_prog, pick_prog, scan_prog, move_prog, step_prog}
 use Rattle.gw_expr.specs.Arithmetic.{applied}
 use Rattle.gw_expr.specs.declared.token.Operator.TheVariants as operators
-use Rattle.gw_meaning.specs.declared.sign.Sign.{Sign}
+use Rattle.gw_meaning.specs.declared.auxiliary.Auxiliary.{Auxiliary}
 use Rattle.gw_entities.specs.Parameters.{parameter_at}
-use Rattle.gw_meaning.specs.Step.{by_sign, assign_with, assign_prog, left_of, loop_back, loop_to, loop_prog}
+use Rattle.gw_meaning.specs.Step.{by_sign, assign_with, assign_prog, left_of, loop_back, loop_to, loop_prog, holds, test_prog}
 use Rattle.gw_frame.specs.BlockIds.{IsBlockId, ActiveNames, TransactionNames}
 use Rattle.gw_frame.proofs.Generates.{IsBlockIn, generates_there}
 use Rattle.gw_frame.proofs.Labels.{label_there}
@@ -283,17 +283,23 @@ module _ (t : Listing) (seed : ℕ) (s : Machine) where
   transfer_decides id (Some term) near far named = lead_to_decides id near named
   transfer_decides id None near far named = lead_to_decides id near named
 
+  -- TEST
+  test_decides : (q : Asker) (id : ℕ) (relation : Auxiliary) (first second label : Option Term) → IsBlockId t id →
+      Decides t seed s (IsDecided t s) (test_prog s q id relation first second label)
+  test_decides q id relation first second label named = keeps_bind (value_there_decides t seed s q first)
+      (λ a h. keeps_bind (value_there_decides t seed s q second) (λ b k. lead_to_decides id (cond (holds relation a b) None label) named))
+
   -- PRIORITY
   priority_decides : (q : Asker) (id : ℕ) (priority : Option Term) → IsBlockId t id → Decides t seed s (IsDecided t s) (priority_prog s q id priority)
   priority_decides q id priority named = keeps_bind (value_there_decides t seed s q priority) (λ p h. keeps_gives (named, tt, tt))
 
   -- ASSIGN and LOOP
-  assign_with_decides : (id : ℕ) (sign : Sign) (key : Key) (was : Option ℤ) (v : ℤ) → IsBlockId t id →
+  assign_with_decides : (id : ℕ) (sign : Auxiliary) (key : Key) (was : Option ℤ) (v : ℤ) → IsBlockId t id →
       Decides t seed s (IsDecided t s) (assign_with id sign key was v)
   assign_with_decides id sign key was v named =
       keeps_bind (arithmetic_decides t seed s (by_sign sign was v)) (λ to h. keeps_gives (named, tt, tt))
 
-  assign_decides : (q : Asker) (id : ℕ) (sign : Sign) (parameter value : Option Term) → IsBlockId t id →
+  assign_decides : (q : Asker) (id : ℕ) (sign : Auxiliary) (parameter value : Option Term) → IsBlockId t id →
       Decides t seed s (IsDecided t s) (assign_prog s q id sign parameter value)
   assign_decides q id sign parameter value named = keeps_bind (entity_decides t seed s q parameter)
       (λ key h. keeps_bind (value_there_decides t seed s q value)
@@ -331,10 +337,11 @@ module _ (t : Listing) (seed : ℕ) (s : Machine) where
   block_decides x id b blocks.Enter is named = enter_decides (for_one s x) id (operand b A) (operand b B) named
   block_decides x id b blocks.Leave is named = leave_decides (for_one s x) id (operand b A) (operand b B) named
   block_decides x id b blocks.Transfer is named = transfer_decides id (operand b A) (operand b B) (operand b C) named
+  block_decides x id b blocks.Test is named = test_decides (for_one s x) id b.auxiliary (operand b A) (operand b B) (operand b C) named
   block_decides x id b blocks.Mark is named = keeps_gives (named, tt, tt)
   block_decides x id b blocks.Priority is named = priority_decides (for_one s x) id (operand b A) named
   block_decides x id b blocks.Buffer is named = keeps_gives (named, tt, tt)
-  block_decides x id b blocks.Assign is named = assign_decides (for_one s x) id b.sign (operand b A) (operand b B) named
+  block_decides x id b blocks.Assign is named = assign_decides (for_one s x) id b.auxiliary (operand b A) (operand b B) named
   block_decides x id b blocks.Loop is named = loop_decides (for_one s x) id (operand b A) (operand b B) named
   block_decides x id b verb is named = keeps_ends
 

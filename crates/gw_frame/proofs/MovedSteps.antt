@@ -25,9 +25,9 @@ use Rattle.gw_meaning.specs.Evaluation.{millionths}
 use Rattle.gw_meaning.specs.Step.{for_none, for_one, arrival_at, arrival_in_time, arrival_within, arrival_prog, first_of_generate, first_of, first_arrival, with_arrival, arrivals_prog, first_arrivals_prog, start_prog, command_prog, generate_prog, advance_prog, terminate_prog, is_too_many, queue_units, queue_prog, depart_units, depart_prog, seize_or_wait, seize_prog, first_number, is_owner, release_to, release_prog, beside, in_use, share_of, all_shares, enter_or_wait, enter_storage, enter_prog, shares_prog, leave_for, leave_units, leave_prog, go_to, lead_to, transfer_prog, priority_prog, block_prog, meet_prog, try_prog, attempt_prog, sooner, least_time, within_prog, clock_prog, pick_prog, scan_prog, move_prog, step_prog, run_prog}
 use Rattle.gw_expr.specs.Arithmetic.{applied}
 use Rattle.gw_expr.specs.declared.token.Operator.TheVariants as operators
-use Rattle.gw_meaning.specs.declared.sign.Sign.{Sign}
+use Rattle.gw_meaning.specs.declared.auxiliary.Auxiliary.{Auxiliary}
 use Rattle.gw_entities.specs.Parameters.{parameter_at}
-use Rattle.gw_meaning.specs.Step.{by_sign, assign_with, assign_prog, left_of, loop_back, loop_to, loop_prog}
+use Rattle.gw_meaning.specs.Step.{by_sign, assign_with, assign_prog, left_of, loop_back, loop_to, loop_prog, holds, test_prog}
 use Rattle.gw_frame.specs.Moved.{IsMove, moved_transaction, moved_event, moved_machine}
 use Rattle.gw_frame.proofs.Follows.{ProgFollows, prog_gives, prog_bind, Follows, follows_gives, follows_ends, follows_asks, follows_cond, follows_stops, follows_bind}
 use Rattle.gw_frame.proofs.MovedValues.{same, draw_follows, arithmetic_follows, value_follows, value_there_follows, value_or_zero_follows, entity_follows, units_follows, time_follows}
@@ -251,17 +251,24 @@ module _ (move : ℕ → ℕ) (is : IsMove move) where
   transfer_follows id (Some term) near far = lead_to_follows id near
   transfer_follows id None near far = lead_to_follows id near
 
+  -- TEST
+  test_follows : (s : Machine) (q : Asker) (id : ℕ) (relation : Auxiliary) (first second label : Option Term) →
+      Follows move (moved_move move) (test_prog s q id relation first second label)
+      (test_prog (moved_machine move s) q (move id) relation first second label)
+  test_follows s q id relation first second label = follows_bind _ (value_there_follows move is s q first)
+      (λ a. follows_bind _ (value_there_follows move is s q second) (λ b. lead_to_follows id (cond (holds relation a b) None label)))
+
   -- PRIORITY
   priority_follows : (s : Machine) (q : Asker) (id : ℕ) (priority : Option Term) →
       Follows move (moved_move move) (priority_prog s q id priority) (priority_prog (moved_machine move s) q (move id) priority)
   priority_follows s q id priority = follows_bind _ (value_there_follows move is s q priority) (λ p. follows_gives refl)
 
   -- ASSIGN and LOOP
-  assign_with_follows : (id : ℕ) (sign : Sign) (key : Key) (was : Option ℤ) (v : ℤ) →
+  assign_with_follows : (id : ℕ) (sign : Auxiliary) (key : Key) (was : Option ℤ) (v : ℤ) →
       Follows move (moved_move move) (assign_with id sign key was v) (assign_with (move id) sign key was v)
   assign_with_follows id sign key was v = follows_bind _ (arithmetic_follows move is (by_sign sign was v)) (λ to. follows_gives refl)
 
-  assign_follows : (s : Machine) (q : Asker) (id : ℕ) (sign : Sign) (parameter value : Option Term) →
+  assign_follows : (s : Machine) (q : Asker) (id : ℕ) (sign : Auxiliary) (parameter value : Option Term) →
       Follows move (moved_move move) (assign_prog s q id sign parameter value) (assign_prog (moved_machine move s) q (move id) sign parameter value)
   assign_follows s q id sign parameter value = follows_bind _ (entity_follows move is s q parameter)
       (λ key. follows_bind _ (value_there_follows move is s q value)
@@ -300,10 +307,11 @@ module _ (move : ℕ → ℕ) (is : IsMove move) where
   block_follows s x id b blocks.Enter = enter_follows s (for_one s x) id (operand b A) (operand b B)
   block_follows s x id b blocks.Leave = leave_follows s (for_one s x) id (operand b A) (operand b B)
   block_follows s x id b blocks.Transfer = transfer_follows id (operand b A) (operand b B) (operand b C)
+  block_follows s x id b blocks.Test = test_follows s (for_one s x) id b.auxiliary (operand b A) (operand b B) (operand b C)
   block_follows s x id b blocks.Mark = follows_gives refl
   block_follows s x id b blocks.Priority = priority_follows s (for_one s x) id (operand b A)
   block_follows s x id b blocks.Buffer = follows_gives refl
-  block_follows s x id b blocks.Assign = assign_follows s (for_one s x) id b.sign (operand b A) (operand b B)
+  block_follows s x id b blocks.Assign = assign_follows s (for_one s x) id b.auxiliary (operand b A) (operand b B)
   block_follows s x id b blocks.Loop = loop_follows s (for_one s x) id (operand b A) (operand b B)
   block_follows s x id b verb = follows_ends
 

@@ -18,14 +18,14 @@ use Rattle.gw_meaning.specs.declared.item.Item.TheVariants as items
 use Rattle.gw_meaning.specs.declared.moves.Arrival.{Arrival}
 use Rattle.gw_meaning.specs.declared.moves.Move.{Move}
 use Rattle.gw_meaning.specs.declared.moves.Move.TheVariants as moves
-use Rattle.gw_meaning.specs.declared.sign.Sign.{Sign}
+use Rattle.gw_meaning.specs.declared.auxiliary.Auxiliary.{Auxiliary}
 use Rattle.gw_meaning.specs.declared.statement.Block.{Block}
 use Rattle.gw_meaning.specs.declared.transaction.Transaction.{Transaction}
 use Rattle.gw_meaning.specs.Statements.{A, B, C, D, E, operand, is_generate_verb}
 use Rattle.gw_meaning.specs.Machine.{Machine, live, delay_at}
 use Rattle.gw_meaning.specs.Entities.{facility_at, line_at, store_at}
 use Rattle.gw_meaning.specs.Evaluation.{Eval, millionths}
-use Rattle.gw_meaning.specs.Step.{for_none, for_one, arrival_at, arrival_in_time, arrival_prog, first_of_generate, first_of, first_arrival, with_arrival, arrivals_prog, first_arrivals_prog, start_prog, generate_prog, advance_prog, terminate_prog, is_too_many, queue_prog, depart_units, depart_prog, seize_or_wait, seize_prog, is_owner, release_prog, beside, in_use, share_of, all_shares, enter_or_wait, enter_storage, enter_prog, shares_prog, leave_for, leave_units, leave_prog, go_to, lead_to, transfer_prog, priority_prog, by_sign, assign_with, assign_prog, left_of, loop_back, loop_to, loop_prog, block_prog, meet_prog, try_prog, attempt_prog}
+use Rattle.gw_meaning.specs.Step.{for_none, for_one, arrival_at, arrival_in_time, arrival_prog, first_of_generate, first_of, first_arrival, with_arrival, arrivals_prog, first_arrivals_prog, start_prog, generate_prog, advance_prog, terminate_prog, is_too_many, queue_prog, depart_units, depart_prog, seize_or_wait, seize_prog, is_owner, release_prog, beside, in_use, share_of, all_shares, enter_or_wait, enter_storage, enter_prog, shares_prog, leave_for, leave_units, leave_prog, go_to, lead_to, transfer_prog, holds, test_prog, priority_prog, by_sign, assign_with, assign_prog, left_of, loop_back, loop_to, loop_prog, block_prog, meet_prog, try_prog, attempt_prog}
 use Rattle.gw_laws.proofs.Trying.{Tries, TriesAny, tries_gives, tries_ends, tries_asks, tries_stops, tries_cond, tries_bind, tries_more, draw_tries, arithmetic_tries, value_tries, value_there_tries, value_or_zero_tries, entity_tries, units_tries, time_tries}
 
 -- a command sets streams or starts; an attempt enters a block or is refused
@@ -172,13 +172,17 @@ module _ (s : Machine) where
   transfer_tries id (Some term) near far = lead_to_tries id near
   transfer_tries id None near far = lead_to_tries id near
 
+  test_tries : (q : Asker) (id : ℕ) (relation : Auxiliary) (first second label : Option Term) → TriesMove id (test_prog s q id relation first second label)
+  test_tries q id relation first second label = tries_bind (value_there_tries s q first) (λ a. tries_bind (value_there_tries s q second)
+      (λ b. lead_to_tries id (cond (holds relation a b) None label)))
+
   priority_tries : (q : Asker) (id : ℕ) (priority : Option Term) → TriesMove id (priority_prog s q id priority)
   priority_tries q id priority = tries_bind (value_there_tries s q priority) (λ p. tries_gives refl)
 
-  assign_with_tries : (id : ℕ) (sign : Sign) (key : Key) (was : Option ℤ) (v : ℤ) → TriesMove id (assign_with id sign key was v)
+  assign_with_tries : (id : ℕ) (sign : Auxiliary) (key : Key) (was : Option ℤ) (v : ℤ) → TriesMove id (assign_with id sign key was v)
   assign_with_tries id sign key was v = tries_bind (arithmetic_tries (by_sign sign was v)) (λ to. tries_gives refl)
 
-  assign_tries : (q : Asker) (id : ℕ) (sign : Sign) (parameter value : Option Term) → TriesMove id (assign_prog s q id sign parameter value)
+  assign_tries : (q : Asker) (id : ℕ) (sign : Auxiliary) (parameter value : Option Term) → TriesMove id (assign_prog s q id sign parameter value)
   assign_tries q id sign parameter value = tries_bind (entity_tries s q parameter) (λ key. tries_bind (value_there_tries s q value)
       (λ v. assign_with_tries id sign key (parameter_at s.parameters q.number key) v))
 
@@ -211,10 +215,11 @@ module _ (s : Machine) where
   block_tries x id b blocks.Enter = enter_tries (for_one s x) id (operand b A) (operand b B)
   block_tries x id b blocks.Leave = leave_tries (for_one s x) id (operand b A) (operand b B)
   block_tries x id b blocks.Transfer = transfer_tries id (operand b A) (operand b B) (operand b C)
+  block_tries x id b blocks.Test = test_tries (for_one s x) id b.auxiliary (operand b A) (operand b B) (operand b C)
   block_tries x id b blocks.Mark = tries_gives refl
   block_tries x id b blocks.Priority = priority_tries (for_one s x) id (operand b A)
   block_tries x id b blocks.Buffer = tries_gives refl
-  block_tries x id b blocks.Assign = assign_tries (for_one s x) id b.sign (operand b A) (operand b B)
+  block_tries x id b blocks.Assign = assign_tries (for_one s x) id b.auxiliary (operand b A) (operand b B)
   block_tries x id b blocks.Loop = loop_tries (for_one s x) id (operand b A) (operand b B)
   block_tries x id b verb = tries_ends
 

@@ -30,4 +30,5 @@ pub mod Tried
 pub mod StartLaws
 pub mod FutureLaws
 pub mod DestinationLaws
+pub mod TestLaws
 pub mod VerbLaws

@@ -7,7 +7,8 @@ use Rattle.gw_expr.specs.Term.{Term, Value, Named, Defined}
 use Rattle.gw_expr.specs.Evaluation.{value_of, value_by, value_of_atom}
 use Rattle.gw_expr.specs.declared.atom.Atom.TheVariants as atoms
 use Rattle.gw_entities.specs.Records.{never_owned, seized, queued, no_line, never_used, entered}
-use Rattle.gw_meaning.specs.declared.sign.Sign.TheVariants as signs
+use Rattle.gw_meaning.specs.declared.auxiliary.Auxiliary.{Auxiliary}
+use Rattle.gw_meaning.specs.declared.auxiliary.Auxiliary.TheVariants as auxiliaries
 use Rattle.gw_meaning.specs.declared.statement.Definition.TheVariants as definitions
 use Rattle.gw_meaning.specs.declared.statement.Body.TheVariants as bodies
 use Rattle.gw_meaning.specs.declared.transaction.Transaction.{Transaction}
@@ -60,14 +61,14 @@ busy = record zero_state {
   parameters = (1, (keys.Named [], pos 1) ∷ []) ∷ [];
 }
 
--- it enters a block with these operands there
-entered_with : {verb : BlockVerb} {change : Change} {fate : Fate} (operands : List (Option Term)) →
-    result_of version 1 (meet_prog busy first 1 (Some (record { verb = verb; sign = signs.Absent; operands = operands })) busy.streams) ≡
+-- it enters a block with this operator and these operands there
+entered_by : {verb : BlockVerb} {change : Change} {fate : Fate} (auxiliary : Auxiliary) (operands : List (Option Term)) →
+    result_of version 1 (meet_prog busy first 1 (Some (record { verb = verb; auxiliary = auxiliary; operands = operands })) busy.streams) ≡
     Ok (moves.Enter 1 change fate, busy.streams) →
     CanBeEntered verb
-entered_with operands enters = record {
+entered_by auxiliary operands enters = record {
   version = version;
-  block = record { verb = _; sign = signs.Absent; operands = operands };
+  block = record { verb = _; auxiliary = auxiliary; operands = operands };
   state = busy;
   transaction = first;
   change = _;
@@ -75,6 +76,13 @@ entered_with operands enters = record {
   of_verb = refl;
   enters = enters;
 }
+
+-- the same of a block without an operator
+entered_with : {verb : BlockVerb} {change : Change} {fate : Fate} (operands : List (Option Term)) →
+    result_of version 1 (meet_prog busy first 1 (Some (record { verb = verb; auxiliary = auxiliaries.Absent; operands = operands })) busy.streams) ≡
+    Ok (moves.Enter 1 change fate, busy.streams) →
+    CanBeEntered verb
+entered_with operands enters = entered_by auxiliaries.Absent operands enters
 
 pub each_verb_is_evaluated : EachVerbIsEvaluated
 unfolding value_prog value_of value_by value_of_atom
@@ -88,6 +96,7 @@ each_verb_is_evaluated blocks.Release given forms is = entered_with (line ∷ []
 each_verb_is_evaluated blocks.Enter given forms is = entered_with (pool ∷ []) refl
 each_verb_is_evaluated blocks.Leave given forms is = entered_with (pool ∷ []) refl
 each_verb_is_evaluated blocks.Transfer given forms is = entered_with [] refl
+each_verb_is_evaluated blocks.Test given forms is = entered_by auxiliaries.Equal (one ∷ one ∷ []) refl
 each_verb_is_evaluated blocks.Mark given forms is = entered_with [] refl
 each_verb_is_evaluated blocks.Priority given forms is = entered_with (one ∷ []) refl
 each_verb_is_evaluated blocks.Buffer given forms is = entered_with [] refl

@@ -14,6 +14,7 @@ pub mod Owners
 pub mod Queues
 pub mod Storages
 pub mod Starts
+pub mod Tests
 pub mod Verbs
 pub use Rattle.gw_meaning.specs.Step
 pub use Rattle.gw_model.specs.Well

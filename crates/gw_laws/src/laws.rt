@@ -19,6 +19,7 @@ ghost use Rattle.gw_laws.specs.Priorities.{PrioritiesAreOnesOwn};
 ghost use Rattle.gw_laws.specs.Queues.{QueuesAreWithin};
 ghost use Rattle.gw_laws.specs.Starts.{StartsAreDoneInOrder, NoMoreStartsThanThereAre};
 ghost use Rattle.gw_laws.specs.Storages.{StoragesAreWithin, NobodyWaitsAtRoom};
+ghost use Rattle.gw_laws.specs.Tests.{EachIsAnOperator, HoldsAsItSays};
 ghost use Rattle.gw_laws.specs.Verbs.{EachVerbIsEvaluated};
 
 /// The current chain is in order of priority. Of one priority, the first transactions leave it in a step, those that
@@ -149,6 +150,13 @@ pub fn storages_are_within()
 pub fn starts_are_counted()
     ensures order { StartsAreDoneInOrder }
     ensures few { NoMoreStartsThanThereAre }
+{}
+
+/// A TEST that is read holds of two values exactly where its operator's word says so: `E` equal, `NE` not equal, `G`
+/// greater, `GE` greater or equal, `L` less, `LE` less or equal. Each of the six words is read.
+pub fn tests_hold_as_they_say()
+    ensures holds { HoldsAsItSays }
+    ensures words { EachIsAnOperator }
 {}
 
 /// No verb of a block that is read is left out of the evaluation: some block of it is entered in some state.

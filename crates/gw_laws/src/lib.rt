@@ -9,7 +9,7 @@
 //! has more units in use than its capacity. Parameters are kept of living transactions alone. A transaction's
 //! parameters, priority and mark time change only in steps in which it is active. Nobody but its owner gives a facility
 //! back. STARTs are done in order, and each is counted once. The future chain is in the order of coming onto it. The
-//! active transaction goes to its destination, or else to the next block.
+//! active transaction goes to its destination, or else to the next block. A TEST holds where its operator says so.
 #![tactic(auto)]
 
 mod laws;
@@ -18,5 +18,5 @@ pub use laws::{
     chain_in_order, clock_goes_on, contents_are_counts, delays_in_order, each_has_one_place,
     each_keeps_his_own, each_verb_is_evaluated, facilities_are_used, facilities_have_owners,
     goes_where_it_is_sent, numbers_apart, parameters_are_of_the_living, queues_are_within,
-    runs_end, starts_are_counted, storages_are_within,
+    runs_end, starts_are_counted, storages_are_within, tests_hold_as_they_say,
 };

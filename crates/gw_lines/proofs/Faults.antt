@@ -1,9 +1,8 @@
 -- The first fault of a line: what is answered is in the family, and what is in the family is answered.
-use Rattle.std.proofs.Common.{◌≡◌, ◌≢◌, ℕ, not, true, false, List, [], ◌∷◌, ◌++◌, length, Option, Some, None, Result, Ok, Err, refl, sym, ap, subst, ◌∙◌, ◌⊎◌, inl, inr}
+use Rattle.std.proofs.Common.{◌≡◌, ◌≢◌, ℕ, true, false, List, [], ◌++◌, length, Option, Some, None, Result, Ok, Err, refl, sym, ap, subst, ◌∙◌, ◌⊎◌, inl, inr}
 use Rattle.std.specs.Prelude.{IsSome, is_some}
-use Rattle.std.specs.List.{list_all}
 use Rattle.std.proofs.lemmas.List.{append-nil}
-use Rattle.std.proofs.lemmas.Bool.{and_parts, both_ways, cases_Bool, or_right, lt-ltb}
+use Rattle.std.proofs.lemmas.Bool.{both_ways, cases_Bool, or_right, lt-ltb}
 use Rattle.gw_names.specs.declared.verb.Verb.{Verb}
 use Rattle.gw_names.specs.Words.{upper_of}
 use Rattle.gw_names.specs.Names.{name_of}
@@ -13,15 +12,15 @@ use Rattle.gw_lines.specs.declared.class.Class.TheVariants as class
 use Rattle.gw_lines.specs.declared.fault.LineFault.{LineFault}
 use Rattle.gw_lines.specs.declared.fault.LineFault.TheVariants as faults
 use Rattle.gw_lines.specs.Reading.{◌>>=◌}
-use Rattle.gw_lines.specs.Classes.{is_in, is_blank, front_of, rest_of, is_nothing, are_plain}
+use Rattle.gw_lines.specs.Classes.{front_of, rest_of, word_of, behind_word, is_nothing, are_plain}
 use Rattle.gw_lines.specs.Bodies.{body_of}
-use Rattle.gw_lines.specs.Lines.{word_of, behind_word, verb_in, is_command, needs_label, or_bad_label, label_of, no_label_of, plain_of, by_first, by_second, coded_of, fault_without_verb, code_of, line_in, line_of, statement_of}
-use Rattle.gw_lines.specs.Spelling.{AreIn, Stops, Head, Label, no_label, named, ArePlain}
-use Rattle.gw_lines.specs.Faulty.{Verbless, one_word, two_words, WordsFault, byte_with_verb, byte_without_verb, no_verb, bad_first_word, bad_label, lacks_label, verb_to_come, operand_fault, FirstFault, too_long, no_statement, in_words}
-use Rattle.gw_lines.proofs.Fronts.{front_again, rest_again, parts, front_all, rest_stops}
+use Rattle.gw_lines.specs.Lines.{verb_in, is_command, needs_label, or_bad_label, label_of, no_label_of, plain_of, by_first, by_second, coded_of, fault_without_verb, code_of, line_in, line_of, statement_of}
+use Rattle.gw_lines.specs.Spelling.{Stops, Head, Label, no_label, named, ArePlain}
+use Rattle.gw_lines.specs.Faulty.{Verbless, one_word, two_words, WordsFault, byte_with_verb, byte_without_verb, no_verb, bad_first_word, bad_label, lacks_label, faulty_body, FirstFault, too_long, no_statement, in_words}
+use Rattle.gw_lines.proofs.Fronts.{all_blank, both_stop, front_again, rest_again, none_behind, none_is, not_none, parts, front_all, rest_stops, some_is_not}
 use Rattle.gw_lines.proofs.Results.{failed, err_is}
-use Rattle.gw_lines.proofs.Bodies.{body_fault, body_fault_again, body_to_come}
-use Rattle.gw_lines.proofs.Heads.{are_plain_upper, none_is, not_none, some_is_not, both_stop, no_word, blanks_before, two_are, two_again, head_first, head_second, at_head, head_is, label_again, free_again, labelled_head, plain_again}
+use Rattle.gw_lines.proofs.Bodies.{body_fault, body_fault_again}
+use Rattle.gw_lines.proofs.Heads.{are_plain_upper, no_word, blanks_before, two_are, two_again, head_first, head_second, at_head, head_is, label_again, free_again, labelled_head, plain_again}
 use Rattle.gw_lines.proofs.Lines.{short_again, cut_is, words_are, line_is, is_long, no_words, has_words}
 
 step_ok : {X Y : Type 0} (r : Result X LineFault) (next : X → Result Y LineFault) (x : X) (f : LineFault) → r ≡ Ok x → (r >>= next) ≡ Err f → next x ≡ Err f
@@ -57,10 +56,7 @@ plain_cases t =
 body_part : {words : List ℕ} {word : Option (List ℕ)} {verb : Verb} {kept : List ℕ} {label : Option (List ℕ)} (f : LineFault)
     → Head words word verb kept → ArePlain word kept → Label word verb label → body_of verb (upper_of kept) ≡ Err f → WordsFault words f
 body_part {words} {word} {verb} {kept} {label} f h p l e =
-    elim (body_fault verb (upper_of kept) f e) [
-      | inl none ↦ subst (λ (x : LineFault). WordsFault words x) none.1 (verb_to_come words word verb kept label h p l none.0)
-      | inr o ↦ operand_fault words word verb kept label f h p l o
-    ]
+    faulty_body words word verb kept label f h p l (body_fault verb (upper_of kept) f e)
 
 bad_name : (o : Option (List ℕ)) → ((name : List ℕ) × (o ≡ Some name) × (or_bad_label o ≡ Ok name)) ⊎ ((o ≡ None) × (or_bad_label o ≡ Err faults.BadLabel))
 bad_name None = inr (refl, refl)
@@ -132,10 +128,6 @@ head_fault {words} (Some word) {verb} {kept} f h e =
 
 -- ---- words with no verb
 
-none_behind : (blanks : List ℕ) → AreIn class.Blank blanks → Stops class.Mark blanks
-none_behind [] h = tt
-none_behind (b ∷ bs) h = ap not (and_parts (is_blank b) (list_all (is_in class.Blank) bs) h).0
-
 verbless_with : (words first second : List ℕ) → word_of words ≡ first → word_of (behind_word words) ≡ second → verb_in first ≡ None → verb_in second ≡ None
     → coded_of words ≡ Err (fault_without_verb words first second)
 unfolding coded_of
@@ -148,8 +140,8 @@ verbless_is : {words first second : List ℕ} → Verbless words first second �
 verbless_is (one_word first blanks m n k) =
     let s = none_behind blanks k in
     let a : word_of (first ++ blanks) ≡ first = front_again class.Mark first blanks m s in
-    let none : rest_of class.Blank blanks ≡ [] = ap (rest_of class.Blank) (sym (append-nil blanks)) ∙ rest_again class.Blank blanks [] k tt in
-    let b : word_of (behind_word (first ++ blanks)) ≡ [] = ap word_of (ap (rest_of class.Blank) (rest_again class.Mark first blanks m s) ∙ none) in
+    let b : word_of (behind_word (first ++ blanks)) ≡ [] =
+    ap word_of (ap (rest_of class.Blank) (rest_again class.Mark first blanks m s) ∙ all_blank blanks k) in
     verbless_with (first ++ blanks) first [] a b n no_word
 verbless_is (two_words first blanks second rest m n k some w more v s) =
     let words = first ++ (blanks ++ (second ++ rest)) in
@@ -249,10 +241,8 @@ words_again (bad_label words word verb kept h p b) =
 words_again (lacks_label words verb kept h p n) =
     head_is h ∙ step_on (plain_of (upper_of kept)) _ (upper_of kept) _ (plain_again (upper_of kept) (are_plain_upper kept
     ∙ p.list)) (step_off (no_label_of verb) _ faults.BadLabel (needed verb n))
-words_again (verb_to_come words word verb kept label h p l r) = head_is h ∙ labelled_head kept p l
-    ∙ step_off (body_of verb (upper_of kept)) _ faults.UnknownVerb (body_to_come verb (upper_of kept) r)
-words_again (operand_fault words word verb kept label f h p l o) =
-    head_is h ∙ labelled_head kept p l ∙ step_off (body_of verb (upper_of kept)) _ f (body_fault_again (upper_of kept) o)
+words_again (faulty_body words word verb kept label f h p l o) =
+    head_is h ∙ labelled_head kept p l ∙ step_off (body_of verb (upper_of kept)) _ f (body_fault_again o)
 
 -- ---- lines
 

@@ -1,12 +1,12 @@
 -- What stands at the front of a text, and what is left behind it.
-use Rattle.std.proofs.Common.{◌≡◌, ◌≢◌, ℕ, suc, ◌+◌, ◌==◌, true, false, not, List, [], ◌∷◌, ◌++◌, refl, sym, ap, ◌∙◌, inl, inr, arith}
+use Rattle.std.proofs.Common.{◌≡◌, ◌≢◌, ℕ, suc, ◌+◌, ◌==◌, true, false, not, List, [], ◌∷◌, ◌++◌, length, refl, sym, ap, ◌∙◌, inl, inr, arith}
 use Rattle.std.specs.List.{prefix_len, list_all}
 use Rattle.std.proofs.lemmas.Bool.Decides.{nat_tests}
-use Rattle.std.proofs.lemmas.List.{take-append-drop}
-use Rattle.std.proofs.lemmas.Bool.{and_from, and_parts, cases_Bool}
+use Rattle.std.proofs.lemmas.List.{append-nil, nil_from_length, take-append-drop}
+use Rattle.std.proofs.lemmas.Bool.{and_from, and_parts, both_ways, cases_Bool, eqb-true, not-true, not-false}
 use Rattle.gw_lines.specs.declared.class.Class.{Class}
 use Rattle.gw_lines.specs.declared.class.Class.TheVariants as class
-use Rattle.gw_lines.specs.Classes.{is_in, is_blank, front_of, rest_of, with_byte}
+use Rattle.gw_lines.specs.Classes.{is_in, is_blank, is_nothing, front_of, rest_of, with_byte}
 use Rattle.gw_lines.specs.Spelling.{AreIn, Stops}
 
 pub nonzero : (n : ℕ) → (suc n == 0) ≡ false
@@ -73,3 +73,33 @@ rest_stops class (b ∷ bs) =
 pub blank_no_mark : (blanks text : List ℕ) → AreIn class.Blank blanks → blanks ≢ [] → Stops class.Mark (blanks ++ text)
 blank_no_mark [] text h some = absurd (some refl)
 blank_no_mark (b ∷ bs) text h some = ap not (and_parts (is_blank b) (list_all (is_in class.Blank) bs) h).0
+
+pub none_behind : (blanks : List ℕ) → AreIn class.Blank blanks → Stops class.Mark blanks
+none_behind [] h = tt
+none_behind (b ∷ bs) h = ap not (and_parts (is_blank b) (list_all (is_in class.Blank) bs) h).0
+
+-- bytes of words are no blanks
+pub mark_no_blank : (word behind : List ℕ) → AreIn class.Mark word → word ≢ [] → Stops class.Blank (word ++ behind)
+mark_no_blank [] behind h some = absurd (some refl)
+mark_no_blank (b ∷ bs) behind h some = not-true (is_blank b) (and_parts (not (is_blank b)) (list_all (is_in class.Mark) bs) h).0
+
+pub both_stop : (text : List ℕ) → Stops class.Mark text → Stops class.Blank text → text ≡ []
+both_stop [] m s = refl
+both_stop (b ∷ bs) m s = absurd (both_ways (is_blank b) s (not-false (is_blank b) m))
+
+-- ---- nothing
+
+pub none_is : (text : List ℕ) → is_nothing text ≡ true → text ≡ []
+none_is text h = nil_from_length text (eqb-true (length text) 0 h)
+
+pub some_is_not : (text : List ℕ) → text ≢ [] → is_nothing text ≡ false
+some_is_not [] h = absurd (h refl)
+some_is_not (b ∷ bs) h = nonzero (length bs)
+
+pub not_none : (text : List ℕ) → is_nothing text ≡ false → text ≢ []
+not_none [] h e = absurd cc
+not_none (b ∷ bs) h e = absurd cc
+
+-- nothing is left of blanks
+pub all_blank : (blanks : List ℕ) → AreIn class.Blank blanks → rest_of class.Blank blanks ≡ []
+all_blank blanks h = ap (rest_of class.Blank) (sym (append-nil blanks)) ∙ rest_again class.Blank blanks [] h tt

@@ -1,10 +1,9 @@
 -- The words of a line: what is read is spelled so, and what is spelled so is read.
-use Rattle.std.proofs.Common.{◌≡◌, ◌≢◌, ℕ, not, true, false, List, [], ◌∷◌, ◌++◌, length, Option, Some, None, Result, Ok, Err, refl, sym, ap, subst, ◌∙◌, inl, inr, arith}
+use Rattle.std.proofs.Common.{◌≡◌, ◌≢◌, ℕ, true, false, List, [], ◌∷◌, ◌++◌, Option, Some, None, Result, Ok, Err, refl, sym, ap, subst, ◌∙◌, inl, inr, arith}
 use Rattle.std.specs.List.{list_all}
 use Rattle.std.specs.Char.{to_ascii_uppercase}
-use Rattle.std.proofs.lemmas.Bool.{and_parts, both_ways, cases_Bool, eqb-true, or_right, not-true, not-false}
+use Rattle.std.proofs.lemmas.Bool.{and_parts, cases_Bool, or_right}
 use Rattle.std.proofs.lemmas.Bool.Decides.{nat_tests}
-use Rattle.std.proofs.lemmas.List.{nil_from_length}
 use Rattle.gw_names.specs.declared.verb.Verb.{Verb}
 use Rattle.gw_names.specs.Words.{verb_of, upper_of}
 use Rattle.gw_names.specs.Names.{name_of}
@@ -13,13 +12,12 @@ use Rattle.gw_meaning.specs.declared.statement.Statement.{Statement}
 use Rattle.gw_lines.specs.declared.class.Class.TheVariants as class
 use Rattle.gw_lines.specs.declared.fault.LineFault.{LineFault}
 use Rattle.gw_lines.specs.Reading.{◌>>=◌}
-use Rattle.gw_lines.specs.Classes.{is_in, is_blank, front_of, rest_of, is_nothing, is_plain, are_plain}
-use Rattle.gw_lines.specs.Listed.{listed_of}
+use Rattle.gw_lines.specs.Classes.{is_in, is_blank, front_of, rest_of, word_of, behind_word, is_nothing, is_plain, are_plain}
 use Rattle.gw_lines.specs.Bodies.{body_of}
-use Rattle.gw_lines.specs.Lines.{word_of, behind_word, verb_in, is_command, needs_label, or_bad_label, label_of, no_label_of, plain_of, operands_of, unlabelled_of, labelled_of, by_first, by_second, coded_of, behind_number}
-use Rattle.gw_lines.specs.Spelling.{AreIn, Stops, Behind, Head, first_word, second_word, Label, no_label, named, ArePlain, Numbering, unnumbered, numbered, Coded}
-use Rattle.gw_lines.proofs.Fronts.{nonzero, front_again, rest_again, parts, front_all, rest_stops, blank_no_mark}
-use Rattle.gw_lines.proofs.Kept.{parted_of, behind_of}
+use Rattle.gw_lines.specs.Lines.{verb_in, is_command, needs_label, or_bad_label, label_of, no_label_of, plain_of, kept_behind, operands_behind, unlabelled_of, labelled_of, by_first, by_second, coded_of, behind_number}
+use Rattle.gw_lines.specs.Spelling.{AreIn, Stops, Head, first_word, second_word, Label, no_label, named, ArePlain, Numbering, unnumbered, numbered, Coded}
+use Rattle.gw_lines.proofs.Fronts.{front_again, rest_again, parts, front_all, rest_stops, blank_no_mark, both_stop, mark_no_blank, none_is, not_none, some_is_not}
+use Rattle.gw_lines.proofs.Followed.{follows_all, follows_is, follows_stops}
 use Rattle.gw_lines.proofs.Results.{done, ok_is}
 use Rattle.gw_lines.proofs.Bodies.{body_found, body_again}
 
@@ -40,17 +38,6 @@ plain_found text o e =
     ]
 
 -- ---- the number
-
-pub none_is : (text : List ℕ) → is_nothing text ≡ true → text ≡ []
-none_is text h = nil_from_length text (eqb-true (length text) 0 h)
-
-pub some_is_not : (text : List ℕ) → text ≢ [] → is_nothing text ≡ false
-some_is_not [] h = absurd (h refl)
-some_is_not (b ∷ bs) h = nonzero (length bs)
-
-pub not_none : (text : List ℕ) → is_nothing text ≡ false → text ≢ []
-not_none [] h e = absurd cc
-not_none (b ∷ bs) h e = absurd cc
 
 -- where no blanks stand before it
 no_blanks : (text : List ℕ) → front_of class.Blank text ≡ [] → Stops class.Blank text
@@ -110,23 +97,12 @@ numbering_is (numbered digits blanks rest h some k more t) =
 
 -- ---- the words
 
-pub both_stop : (text : List ℕ) → Stops class.Mark text → Stops class.Blank text → text ≡ []
-both_stop [] m s = refl
-both_stop (b ∷ bs) m s = absurd (both_ways (is_blank b) s (not-false (is_blank b) m))
-
-behind_all : (bytes : List ℕ) → Stops class.Mark bytes → Behind bytes (listed_of true 0 (rest_of class.Blank bytes))
-behind_all bytes m =
-    let e = parts class.Blank bytes in
-    let b = behind_of (front_of class.Blank bytes) (rest_of class.Blank bytes) (front_all class.Blank bytes) (subst (λ (t : List ℕ). Stops class.Mark t) e m)
-    (rest_stops class.Blank bytes) in
-    subst (λ (t : List ℕ). Behind t (listed_of true 0 (rest_of class.Blank bytes))) (sym e) b
-
-pub head_first : (words : List ℕ) (verb : Verb) → verb_in (word_of words) ≡ Some verb → Head words None verb (listed_of true 0 (behind_word words))
+pub head_first : (words : List ℕ) (verb : Verb) → verb_in (word_of words) ≡ Some verb → Head words None verb (kept_behind verb (behind_word words))
 head_first words verb v =
     let rest = rest_of class.Mark words in
-    let h = first_word (word_of words) rest verb (listed_of true 0 (behind_word words)) (front_all class.Mark words) v
-    (behind_all rest (rest_stops class.Mark words)) in
-    subst (λ (t : List ℕ). Head t None verb (listed_of true 0 (behind_word words))) (sym (parts class.Mark words)) h
+    let h = first_word (word_of words) rest verb (kept_behind verb (behind_word words)) (front_all class.Mark words) v
+    (follows_all verb rest (rest_stops class.Mark words)) in
+    subst (λ (t : List ℕ). Head t None verb (kept_behind verb (behind_word words))) (sym (parts class.Mark words)) h
 
 pub no_word : verb_in [] ≡ None
 unfolding verb_of
@@ -149,7 +125,7 @@ two_are words =
     ∙ ap (λ (t : List ℕ). front_of class.Blank rest ++ t) (parts class.Mark (behind_word words)))
 
 pub head_second : (words : List ℕ) (verb : Verb) → verb_in (word_of words) ≡ None → verb_in (word_of (behind_word words)) ≡ Some verb
-    → Head words (Some (word_of words)) verb (listed_of true 0 (behind_word (behind_word words)))
+    → Head words (Some (word_of words)) verb (kept_behind verb (behind_word (behind_word words)))
 head_second words verb n v =
     let rest = rest_of class.Mark words in
     let blanks = front_of class.Blank rest in
@@ -158,9 +134,9 @@ head_second words verb n v =
     let some : blanks ≢ [] = blanks_before words (λ (nothing : second ≡ []).
     (let f : None ≡ Some verb = sym no_word ∙ ap (λ (t : List ℕ). verb_in (word_of t)) (sym nothing) ∙ v in
     absurd cc)) in
-    let h = second_word (word_of words) blanks (word_of second) behind verb (listed_of true 0 (behind_word second)) (front_all class.Mark words) n
-    (front_all class.Blank rest) some (front_all class.Mark second) v (behind_all behind (rest_stops class.Mark second)) in
-    subst (λ (t : List ℕ). Head t (Some (word_of words)) verb (listed_of true 0 (behind_word second))) (sym (two_are words)) h
+    let h = second_word (word_of words) blanks (word_of second) behind verb (kept_behind verb (behind_word second)) (front_all class.Mark words) n
+    (front_all class.Blank rest) some (front_all class.Mark second) v (follows_all verb behind (rest_stops class.Mark second)) in
+    subst (λ (t : List ℕ). Head t (Some (word_of words)) verb (kept_behind verb (behind_word second))) (sym (two_are words)) h
 
 -- ---- found
 
@@ -232,11 +208,12 @@ free_ok verb e =
 
 unlabelled_found : (words : List ℕ) (verb : Verb) (s : Statement) → verb_in (word_of words) ≡ Some verb → unlabelled_of verb (behind_word words) ≡ Ok s
     → Coded words s
-unfolding unlabelled_of operands_of
+unfolding unlabelled_of operands_behind
 unlabelled_found words verb s v e =
-    let kept = listed_of true 0 (behind_word words) in
+    let kept = kept_behind verb (behind_word words) in
     let m = unlabelled_steps (plain_of (upper_of kept)) (no_label_of verb) (body_of verb) s e in
     let p = plain_found (upper_of kept) s.operands m.made.a_is in
+    let b = body_found verb s.operands s.body m.made.b_is in
     record {
       word = None;
       verb = verb;
@@ -245,18 +222,21 @@ unlabelled_found words verb s v e =
       plain = record { first = tt; list = sym (are_plain_upper kept) ∙ p.0 };
       label = subst (λ (x : Option (List ℕ)). Label None verb x) m.made.label_is (no_label verb (free_ok verb m.l_is));
       listed = sym p.1;
-      body = body_found verb s.operands s.body m.made.b_is;
+      auxiliary = b.auxiliary;
+      is_auxiliary = b.is_auxiliary;
+      body = b.says;
     }
 
 labelled_found : (words : List ℕ) (verb : Verb) (s : Statement) → verb_in (word_of words) ≡ None → verb_in (word_of (behind_word words)) ≡ Some verb
     → labelled_of (word_of words) verb (behind_word (behind_word words)) ≡ Ok s → Coded words s
-unfolding labelled_of operands_of
+unfolding labelled_of operands_behind
 labelled_found words verb s n v e =
-    let kept = listed_of true 0 (behind_word (behind_word words)) in
+    let kept = kept_behind verb (behind_word (behind_word words)) in
     let word = word_of words in
     let m = labelled_steps (plain_of word) (plain_of (upper_of kept)) (label_of verb word) (body_of verb) s e in
     let w = plain_found word m.word m.p_is in
     let p = plain_found (upper_of kept) s.operands m.made.a_is in
+    let b = body_found verb s.operands s.body m.made.b_is in
     let k = label_ok verb word m.name m.l_is in
     record {
       word = Some word;
@@ -266,7 +246,9 @@ labelled_found words verb s n v e =
       plain = record { first = w.0; list = sym (are_plain_upper kept) ∙ p.0 };
       label = subst (λ (x : Option (List ℕ)). Label (Some word) verb x) m.made.label_is (named word verb m.name k.0 k.1);
       listed = sym p.1;
-      body = body_found verb s.operands s.body m.made.b_is;
+      auxiliary = b.auxiliary;
+      is_auxiliary = b.is_auxiliary;
+      body = b.says;
     }
 
 second_found : (words : List ℕ) (o : Option Verb) (s : Statement) → verb_in (word_of words) ≡ None → verb_in (word_of (behind_word words)) ≡ o
@@ -306,16 +288,6 @@ abbrev pub at_head : Option (List ℕ) → Verb → List ℕ → Result Statemen
 at_head None verb kept = at_head_first verb kept
 at_head (Some word) verb kept = at_head_second word verb kept
 
-behind_is : {behind kept : List ℕ} → Behind behind kept → listed_of true 0 (rest_of class.Blank behind) ≡ kept
-behind_is b =
-    let p = parted_of b in
-    ap (λ (t : List ℕ). listed_of true 0 (rest_of class.Blank t)) p.is ∙ ap (listed_of true 0) (rest_again class.Blank p.blanks p.text p.are_blanks p.begins)
-    ∙ p.keeps
-
-mark_no_blank : (word behind : List ℕ) → AreIn class.Mark word → word ≢ [] → Stops class.Blank (word ++ behind)
-mark_no_blank [] behind h some = absurd (some refl)
-mark_no_blank (b ∷ bs) behind h some = not-true (is_blank b) (and_parts (not (is_blank b)) (list_all (is_in class.Mark) bs) h).0
-
 -- two words that were put together
 pub two_again : (first blanks second rest : List ℕ) → AreIn class.Mark first → AreIn class.Blank blanks → blanks ≢ [] → AreIn class.Mark second → second ≢ []
     → (word_of (first ++ (blanks ++ (second ++ rest))) ≡ first) × (behind_word (first ++ (blanks ++ (second ++ rest))) ≡ second ++ rest)
@@ -331,17 +303,17 @@ a_verb : (word : List ℕ) (verb : Verb) → verb_in word ≡ Some verb → word
 a_verb word verb v e = let f : None ≡ Some verb = sym no_word ∙ ap verb_in (sym e) ∙ v in absurd cc
 
 pub head_is : {words : List ℕ} {word : Option (List ℕ)} {verb : Verb} {kept : List ℕ} → Head words word verb kept → coded_of words ≡ at_head word verb kept
-unfolding coded_of unlabelled_of labelled_of operands_of
+unfolding coded_of unlabelled_of labelled_of operands_behind
 head_is (first_word word behind verb kept m v b) =
-    let s = (parted_of b).parted in
+    let s = follows_stops b in
     let first : word_of (word ++ behind) ≡ word = front_again class.Mark word behind m s in
     let rest : behind_word (word ++ behind) ≡ rest_of class.Blank behind = ap (rest_of class.Blank) (rest_again class.Mark word behind m s) in
     let is : verb_in (word_of (word ++ behind)) ≡ Some verb = ap verb_in first ∙ v in
-    let k : listed_of true 0 (behind_word (word ++ behind)) ≡ kept = ap (listed_of true 0) rest ∙ behind_is b in
+    let k : kept_behind verb (behind_word (word ++ behind)) ≡ kept = ap (kept_behind verb) rest ∙ follows_is b in
     ap (λ (o : Option Verb). by_first o (word ++ behind)) is ∙ ap (λ (t : List ℕ). at_head_first verb t) k
 head_is (second_word label blanks word behind verb kept m n k some w v b) =
     let words = label ++ (blanks ++ (word ++ behind)) in
-    let s = (parted_of b).parted in
+    let s = follows_stops b in
     let two = two_again label blanks word behind m k some w (a_verb word verb v) in
     let first : word_of words ≡ label = two.0 in
     let second : behind_word words ≡ word ++ behind = two.1 in
@@ -350,9 +322,9 @@ head_is (second_word label blanks word behind verb kept m n k some w v b) =
     ∙ ap verb_in (front_again class.Mark word behind w s) ∙ v in
     let rest : behind_word (behind_word words) ≡ rest_of class.Blank behind = ap behind_word second
     ∙ ap (rest_of class.Blank) (rest_again class.Mark word behind w s) in
-    let keeps : listed_of true 0 (behind_word (behind_word words)) ≡ kept = ap (listed_of true 0) rest ∙ behind_is b in
+    let keeps : kept_behind verb (behind_word (behind_word words)) ≡ kept = ap (kept_behind verb) rest ∙ follows_is b in
     ap (λ (o : Option Verb). by_first o words) none ∙ ap (λ (o : Option Verb). by_second o words) is
-    ∙ ap (λ (x : List ℕ). at_head_second x verb (listed_of true 0 (behind_word (behind_word words)))) first
+    ∙ ap (λ (x : List ℕ). at_head_second x verb (kept_behind verb (behind_word (behind_word words)))) first
     ∙ ap (λ (x : List ℕ). at_head_second label verb x) keeps
 
 pub plain_again : (text : List ℕ) → are_plain text ≡ true → plain_of text ≡ Ok text
@@ -375,5 +347,5 @@ labelled_head kept p (named word verb name c n) =
 
 pub coded_again : (words : List ℕ) (s : Statement) → Coded words s → coded_of words ≡ Ok s
 coded_again words s c =
-    let body : body_of c.verb (upper_of c.kept) ≡ Ok s.body = ap (body_of c.verb) (sym c.listed) ∙ body_again s.operands c.body in
+    let body : body_of c.verb (upper_of c.kept) ≡ Ok s.body = ap (body_of c.verb) (sym c.listed) ∙ body_again s.operands c.is_auxiliary c.body in
     head_is c.head ∙ labelled_head c.kept c.plain c.label ∙ rw (body, ← c.listed) refl

@@ -6,7 +6,7 @@ use Rattle.std.proofs.lemmas.List.{append-nil}
 use Rattle.gw_lines.specs.declared.class.Class.TheVariants as class
 use Rattle.gw_lines.specs.Classes.{is_in, is_blank}
 use Rattle.gw_lines.specs.Listed.{listed_of}
-use Rattle.gw_lines.specs.Spelling.{AreIn, Stops, is_part, Part, nothing, mark, opening, closing, stray, inner_comma, inner_blank, Written, none_written, last_written, never_closed, more_written, Behind, verb_alone, verb_operands}
+use Rattle.gw_lines.specs.Spelling.{AreIn, Stops, is_part, Part, nothing, mark, opening, closing, stray, inner_comma, inner_blank, Written, none_written, last_written, never_closed, more_written, Behind, word_alone, word_operands}
 use Rattle.gw_lines.proofs.Fronts.{blank_no_mark}
 
 -- ---- one byte
@@ -111,7 +111,7 @@ written_begins (last_written b bs kept comment p s) = part_begins p
 written_begins (never_closed text kept depth p) = no_more p
 written_begins (more_written operand part blanks text kept p k w) = part_stops p (44 ∷ (blanks ++ text)) refl
 
--- what a verb's blanks and operands are, with the blanks apart
+-- what a word's blanks and operands are, with the blanks apart
 pub record Parted (behind kept : List ℕ) : Type 0 where
   pub blanks : List ℕ
   pub text : List ℕ
@@ -122,8 +122,8 @@ pub record Parted (behind kept : List ℕ) : Type 0 where
   pub parted : Stops class.Mark behind
 
 pub parted_of : {behind kept : List ℕ} → Behind behind kept → Parted behind kept
-parted_of verb_alone = record { blanks = []; text = []; is = refl; are_blanks = refl; begins = tt; keeps = refl; parted = tt }
-parted_of (verb_operands blanks text kept h some w) =
+parted_of word_alone = record { blanks = []; text = []; is = refl; are_blanks = refl; begins = tt; keeps = refl; parted = tt }
+parted_of (word_operands blanks text kept h some w) =
     record {
       blanks = blanks;
       text = text;
@@ -290,9 +290,9 @@ written_from (c ∷ cs) (b ∷ bs) rest kept e h s w =
 pub written_of : (text : List ℕ) → Stops class.Blank text → Written text (listed_of true 0 text)
 written_of text s = let o = (kept_so text).open_ in written_from text o.blanks o.rest (listed_of true 0 text) o.is o.are_blanks s o.written
 
--- what follows a verb, from its blanks and what is left behind them
+-- what follows a word, from its blanks and what is left behind them
 pub behind_of : (blanks text : List ℕ) → AreIn class.Blank blanks → Stops class.Mark (blanks ++ text) → Stops class.Blank text
     → Behind (blanks ++ text) (listed_of true 0 text)
-behind_of [] [] h m s = verb_alone
+behind_of [] [] h m s = word_alone
 behind_of [] (b ∷ bs) h m s = absurd (both_ways (is_blank b) s (not-false (is_blank b) m))
-behind_of (b ∷ bs) text h m s = verb_operands (b ∷ bs) text (listed_of true 0 text) h (λ e. absurd cc) (written_of text s)
+behind_of (b ∷ bs) text h m s = word_operands (b ∷ bs) text (listed_of true 0 text) h (λ e. absurd cc) (written_of text s)

@@ -1,11 +1,18 @@
--- An operand list as it is kept is kept again, and is no longer than it was written.
-use Rattle.std.proofs.Common.{◌≡◌, ◌≢◌, ℕ, ◌+◌, ◌≤◌, true, List, [], ◌∷◌, ◌++◌, length, refl, sym, subst, arith}
+-- What follows a verb as it is kept is kept again, and is no longer than it was written.
+use Rattle.std.proofs.Common.{◌≡◌, ◌≢◌, ℕ, ◌+◌, ◌≤◌, not, true, List, [], ◌∷◌, ◌++◌, length, refl, sym, ap, subst, ◌∙◌, arith}
 use Rattle.std.specs.Char.{to_ascii_uppercase}
+use Rattle.std.specs.List.{list_all}
+use Rattle.std.proofs.lemmas.Bool.{and_from, and_parts}
 use Rattle.std.proofs.lemmas.Bool.Decides.{nat_tests}
 use Rattle.std.proofs.lemmas.List.{append-nil, length-append, map-append}
 use Rattle.gw_names.specs.Words.{upper_of}
 use Rattle.gw_names.proofs.InUpperCase.{length-upper_of}
-use Rattle.gw_lines.specs.Spelling.{is_part, Part, nothing, mark, opening, closing, stray, inner_comma, inner_blank, Written, none_written, last_written, never_closed, more_written, Behind, verb_alone, verb_operands}
+use Rattle.gw_names.specs.declared.verb.Verb.{Verb}
+use Rattle.gw_lines.specs.declared.class.Class.TheVariants as class
+use Rattle.gw_lines.specs.Classes.{is_in, is_blank}
+use Rattle.gw_lines.specs.Listed.{behind_text}
+use Rattle.gw_lines.specs.Auxiliaries.{takes_operator}
+use Rattle.gw_lines.specs.Spelling.{is_part, Part, nothing, mark, opening, closing, stray, inner_comma, inner_blank, Written, none_written, last_written, never_closed, more_written, Behind, word_alone, word_operands, AreIn, Follows, without_operator, lacks_operator, with_operator}
 
 -- ---- an operand list is kept as it is printed
 
@@ -35,18 +42,49 @@ written_again (more_written operand part blanks text kept p k w) =
     subst (λ (t : List ℕ). Written t t) (sym (map-append to_ascii_uppercase part (44 ∷ kept)))
     (more_written (upper_of part) (upper_of part) [] (upper_of kept) (upper_of kept) (part_again p) refl (written_again w))
 
--- what `list` prints behind a verb
-abbrev pub behind_text : List ℕ → List ℕ
-behind_text [] = []
-behind_text (b ∷ bs) = 32 ∷ b ∷ bs
-
 pub spaced : (kept : List ℕ) → Written kept kept → Behind (behind_text kept) kept
-spaced [] w = verb_alone
-spaced (b ∷ bs) w = verb_operands (32 ∷ []) (b ∷ bs) (b ∷ bs) refl (λ e. absurd cc) w
+spaced [] w = word_alone
+spaced (b ∷ bs) w = word_operands (32 ∷ []) (b ∷ bs) (b ∷ bs) refl (λ e. absurd cc) w
 
 pub behind_again : {behind kept : List ℕ} → Behind behind kept → Written (upper_of kept) (upper_of kept)
-behind_again verb_alone = none_written
-behind_again (verb_operands blanks text kept h some w) = written_again w
+behind_again word_alone = none_written
+behind_again (word_operands blanks text kept h some w) = written_again w
+
+-- ---- behind a verb's operator
+
+upper_text : (kept : List ℕ) → upper_of (behind_text kept) ≡ behind_text (upper_of kept)
+upper_text [] = refl
+upper_text (b ∷ bs) = refl
+
+upper_behind : (operator kept : List ℕ) → upper_of (operator ++ behind_text kept) ≡ upper_of operator ++ behind_text (upper_of kept)
+upper_behind operator kept = map-append to_ascii_uppercase operator (behind_text kept) ∙ ap (λ (t : List ℕ). upper_of operator ++ t) (upper_text kept)
+
+upper_marks : (word : List ℕ) → AreIn class.Mark word → AreIn class.Mark (upper_of word)
+upper_marks [] m = refl
+upper_marks (b ∷ bs) m =
+    let a = and_parts (not (is_blank b)) (list_all (is_in class.Mark) bs) m in
+    and_from (not (is_blank (to_ascii_uppercase b))) (list_all (is_in class.Mark) (upper_of bs)) (upper_mark b a.0) (upper_marks bs a.1)
+  where
+    upper_mark : (b : ℕ) → not (is_blank b) ≡ true → not (is_blank (to_ascii_uppercase b)) ≡ true
+    upper_mark b h = grind (arith, nat_tests)
+
+upper_some : (word : List ℕ) → word ≢ [] → upper_of word ≢ []
+upper_some [] some = absurd (some refl)
+upper_some (b ∷ bs) some = λ e. absurd cc
+
+operator_again : (verb : Verb) (operator kept : List ℕ) → takes_operator verb ≡ true → AreIn class.Mark operator → operator ≢ [] → Written kept kept
+    → Follows verb (behind_text (operator ++ behind_text kept)) (operator ++ behind_text kept)
+operator_again verb [] kept takes m some w = absurd (some refl)
+operator_again verb (b ∷ bs) kept takes m some w =
+    with_operator verb (32 ∷ []) (b ∷ bs) (behind_text kept) kept takes refl (λ e. absurd cc) m some (spaced kept w)
+
+pub follows_again : {verb : Verb} {behind kept : List ℕ} → Follows verb behind kept → Follows verb (behind_text (upper_of kept)) (upper_of kept)
+follows_again (without_operator verb behind kept free b) =
+    without_operator verb (behind_text (upper_of kept)) (upper_of kept) free (spaced (upper_of kept) (behind_again b))
+follows_again (lacks_operator verb blanks takes h) = lacks_operator verb [] takes refl
+follows_again (with_operator verb blanks operator behind kept takes h some m more b) =
+    subst (λ (t : List ℕ). Follows verb (behind_text t) t) (sym (upper_behind operator kept))
+    (operator_again verb (upper_of operator) (upper_of kept) takes (upper_marks operator m) (upper_some operator more) (behind_again b))
 
 -- ---- it is no longer than what was read
 
@@ -81,10 +119,27 @@ spaced_length [] = omega arith
 spaced_length (b ∷ bs) = omega arith
 
 pub behind_shorter : {behind kept : List ℕ} → Behind behind kept → length (behind_text (upper_of kept)) ≤ length behind
-behind_shorter verb_alone = omega arith
-behind_shorter (verb_operands blanks text kept h some w) =
+behind_shorter word_alone = omega arith
+behind_shorter (word_operands blanks text kept h some w) =
     let a = spaced_length (upper_of kept) in
     let b = length-upper_of kept in
     let c = written_shorter w in
     let d = some_length blanks some in
     let e = length-append blanks text in omega arith
+
+text_length : (kept : List ℕ) → length (behind_text (upper_of kept)) ≡ length (behind_text kept)
+text_length [] = refl
+text_length (b ∷ bs) = let e = length-upper_of bs in omega arith
+
+pub follows_shorter : {verb : Verb} {behind kept : List ℕ} → Follows verb behind kept → length (behind_text (upper_of kept)) ≤ length behind
+follows_shorter (without_operator verb behind kept free b) = behind_shorter b
+follows_shorter (lacks_operator verb blanks takes h) = omega arith
+follows_shorter (with_operator verb blanks operator behind kept takes h some m more b) =
+    let a = spaced_length (upper_of (operator ++ behind_text kept)) in
+    let c = length-upper_of (operator ++ behind_text kept) in
+    let d = length-append operator (behind_text kept) in
+    let e = text_length kept in
+    let f = behind_shorter b in
+    let g = some_length blanks some in
+    let i = length-append blanks (operator ++ behind) in
+    let j = length-append operator behind in omega arith

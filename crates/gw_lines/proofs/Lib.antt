@@ -19,6 +19,7 @@ pub mod Spelled
 pub mod Fields
 pub mod Rows
 pub mod Bodies
+pub mod Followed
 pub mod Heads
 pub mod Lines
 pub mod Faults

@@ -1,28 +1,30 @@
 -- The bytes of an operand list that is spelled: none of them begins a comment or ends a line.
-use Rattle.std.proofs.Common.{◌≡◌, ℕ, zero, suc, ◌-◌, ◌==◌, ◌&&◌, Bool, true, not, List, [], ◌∷◌, ◌++◌, length, take, Option, Some, None, refl, sym, subst, ◌∙◌, inl, inr, arith}
+use Rattle.std.proofs.Common.{◌≡◌, ℕ, zero, suc, ◌-◌, ◌==◌, ◌&&◌, Bool, true, not, List, [], ◌∷◌, ◌++◌, length, take, Option, Some, None, refl, sym, ap, subst, ◌∙◌, inl, inr, arith}
 use Rattle.std.specs.Prelude.{slice_get, nat_lt}
 use Rattle.std.specs.List.{list_all}
+use Rattle.std.specs.Str.{bytes_eq}
 use Rattle.std.proofs.lemmas.Bool.{and_parts, cases_Bool}
 use Rattle.std.proofs.lemmas.Bool.Decides.{nat_tests}
 use Rattle.std.proofs.lemmas.List.Folds.{list_all-append}
+use Rattle.std.proofs.lemmas.Slice.Eq.{bytes_eq-Decides}
 use Rattle.gw_names.specs.declared.verb.Verb.{Verb}
 use Rattle.gw_names.specs.Names.{is_name_byte}
 use Rattle.gw_expr.specs.Expressions.{Expression}
 use Rattle.gw_expr.specs.declared.token.Operator.{Operator}
-use Rattle.gw_meaning.specs.declared.sign.Sign.{Sign}
-use Rattle.gw_meaning.specs.declared.sign.Sign.TheVariants as signs
+use Rattle.gw_meaning.specs.declared.auxiliary.Auxiliary.{Auxiliary}
+use Rattle.gw_meaning.specs.declared.auxiliary.Auxiliary.TheVariants as auxiliaries
 use Rattle.gw_lines.specs.declared.form.Form.{Form}
 use Rattle.gw_lines.specs.declared.form.Kind.{Kind}
 use Rattle.gw_lines.specs.declared.operand.Operand.{Operand}
 use Rattle.gw_lines.specs.declared.class.Class.TheVariants as class
-use Rattle.gw_lines.specs.Classes.{with_byte, front_of, rest_of}
+use Rattle.gw_lines.specs.Classes.{is_in, is_blank, with_byte, front_of, rest_of, word_of, behind_word}
 use Rattle.gw_lines.specs.Parts.{split, parts_of, part_of, others_of}
-use Rattle.gw_lines.specs.Signs as signing
-use Rattle.gw_lines.specs.Signs.{takes_sign, last_byte, sign_in, cut_off, bare_parts}
+use Rattle.gw_lines.specs.Auxiliaries as signs
+use Rattle.gw_lines.specs.Auxiliaries.{operators, operator_word, takes_operator, operator_of, takes_sign, last_byte, sign_in, cut_off, auxiliary_of, bare_parts}
 use Rattle.gw_lines.specs.Spelling as spelling
-use Rattle.gw_lines.specs.Spelling.{Stops, Digits, first_digit, next_digit, Value, without_sign, with_sign, Rank, Multiplies, times, quotient, remainder, Adds, plus, minus, SpellsExpression, a_single, with_minus, in_parentheses, a_factor, multiplied, a_product, summed, SpellsOperand, absent, a_value, a_constant, named_value, attribute_value, computed_value, a_whole, a_key, named_entity, numbered_entity, attribute_entity, computed_entity, a_fraction, a_label, a_definition, an_expression, continuous, discrete, SpellsAll, no_form, stands, unwritten, is_part, Part, nothing, mark, opening, closing, stray, inner_comma, inner_blank, Written, none_written, last_written, never_closed, more_written, Behind, verb_alone, verb_operands, Head, first_word, second_word, Label, no_label, named, ArePlain, Numbering, unnumbered, Says, Cut, HasWords, Coded, Spells}
-use Rattle.gw_lines.proofs.Fronts.{parts}
-use Rattle.gw_lines.proofs.Results.{some_is}
+use Rattle.gw_lines.specs.Spelling.{AreIn, Stops, Digits, first_digit, next_digit, Value, without_sign, with_sign, Rank, Multiplies, times, quotient, remainder, Adds, plus, minus, SpellsExpression, a_single, with_minus, in_parentheses, a_factor, multiplied, a_product, summed, SpellsOperand, absent, a_value, a_constant, named_value, attribute_value, computed_value, a_whole, a_key, named_entity, numbered_entity, attribute_entity, computed_entity, a_fraction, a_label, a_definition, an_expression, continuous, discrete, SpellsAll, no_form, stands, unwritten, is_part, Part, nothing, mark, opening, closing, stray, inner_comma, inner_blank, Written, none_written, last_written, never_closed, more_written, Head, first_word, second_word, Label, no_label, named, ArePlain, Numbering, unnumbered, Says, Cut, HasWords, Coded, Spells}
+use Rattle.gw_lines.proofs.Fronts.{front_all, parts}
+use Rattle.gw_lines.proofs.Results.{found_so, some_is}
 use Rattle.gw_lines.proofs.Bytes.{Pass, Takes, both_pass, one_passes, next_passes, digits_pass, named_passes, attribute_passes, atom_passes}
 
 -- ---- the bytes of an operand list
@@ -158,7 +160,7 @@ record IsSign (o : Option ℕ) : Type 0 where
   is_own_byte : is_own byte ≡ true
 
 -- a sign that is there is a byte that is there
-sign_byte : (o : Option ℕ) → (sign_in o ≡ signs.Absent → ⊥) → IsSign o
+sign_byte : (o : Option ℕ) → (sign_in o ≡ auxiliaries.Absent → ⊥) → IsSign o
 sign_byte None some = absurd (some refl)
 sign_byte (Some b) some =
     elim (cases_Bool (b == 43)) [
@@ -182,16 +184,56 @@ behind text s h =
     let rest = rest_of class.Operand text in
     subst (Pass is_own) (sym (parts class.Operand text)) (cut_own front rest s.byte s.is_byte s.is_own_byte (list_own (cut_off front rest) h))
 
-signed_own : (text : List ℕ) (sign : Sign) → sign_in (last_byte (front_of class.Operand text)) ≡ sign
-    → AllOwn (parts_of (signing.without_sign sign text)) → Pass is_own text
-signed_own text signs.Absent e h = list_own text h
-signed_own text signs.Plus e h = behind text (sign_byte _ (λ k. (let f : signs.Absent ≡ signs.Plus = sym k ∙ e in cc))) h
-signed_own text signs.Minus e h = behind text (sign_byte _ (λ k. (let f : signs.Absent ≡ signs.Minus = sym k ∙ e in cc))) h
+signed_own : (text : List ℕ) (sign : Auxiliary) → sign_in (last_byte (front_of class.Operand text)) ≡ sign
+    → AllOwn (parts_of (signs.without_sign sign text)) → Pass is_own text
+signed_own text auxiliaries.Plus e h = behind text (sign_byte _ (λ k. (let f : auxiliaries.Absent ≡ auxiliaries.Plus = sym k ∙ e in cc))) h
+signed_own text auxiliaries.Minus e h = behind text (sign_byte _ (λ k. (let f : auxiliaries.Absent ≡ auxiliaries.Minus = sym k ∙ e in cc))) h
+signed_own text sign e h = list_own text h
 
--- the bytes of a verb's operand list
-pub operands_own : (verb : Verb) (text : List ℕ) → AllOwn (bare_parts verb text) → Pass is_own text
-operands_own verb text h =
+-- ---- with an operator before the operands
+
+operator_own : (operator : Auxiliary) → Pass is_own (operator_word operator)
+operator_own auxiliaries.Equal = refl
+operator_own operator = refl
+
+-- a word that is an operator has the operator's letters
+word_own : (verb : Verb) (word : List ℕ) (operator : Auxiliary) → operator_of verb word ≡ Some operator → Pass is_own word
+unfolding operator_of
+word_own verb word operator e =
+    let same : operator_word operator ≡ word = (bytes_eq-Decides (operator_word operator) word).0
+    (found_so (λ o. bytes_eq (operator_word o) word) (operators verb) operator e) in
+    subst (Pass is_own) same (operator_own operator)
+
+blanks_own : (blanks : List ℕ) → AreIn class.Blank blanks → Pass is_own blanks
+blanks_own [] h = refl
+blanks_own (b ∷ bs) h =
+    let a = and_parts (is_blank b) (list_all (is_in class.Blank) bs) h in next_passes is_own b bs (blank_own b a.0) (blanks_own bs a.1)
+  where
+    blank_own : (b : ℕ) → is_blank b ≡ true → is_own b ≡ true
+    blank_own b h = grind (arith, nat_tests)
+
+behind_operator : (verb : Verb) (text : List ℕ) (operator : Auxiliary) → operator_of verb (word_of text) ≡ Some operator
+    → AllOwn (parts_of (behind_word text)) → Pass is_own text
+behind_operator verb text operator e h =
+    let rest = rest_of class.Mark text in
+    let blanks = front_of class.Blank rest in
+    let list = behind_word text in
+    let whole : text ≡ word_of text ++ (blanks ++ list) = parts class.Mark text ∙ ap (λ (t : List ℕ). word_of text ++ t) (parts class.Blank rest) in
+    subst (Pass is_own) (sym whole) (both_pass is_own (word_of text) (blanks ++ list) (word_own verb (word_of text) operator e)
+    (both_pass is_own blanks list (blanks_own blanks (front_all class.Blank rest)) (list_own list h)))
+
+-- ---- the bytes of what is kept behind a verb
+
+sign_own : (verb : Verb) (text : List ℕ) → AllOwn (parts_of (signs.without_sign (signs.sign_of verb text) text)) → Pass is_own text
+sign_own verb text h =
     elim (cases_Bool (takes_sign verb)) [
       | inl takes ↦ signed_own text (sign_in (last_byte (front_of class.Operand text))) refl (rw takes at h)
       | inr none ↦ list_own text (rw none at h)
+    ]
+
+pub operands_own : (verb : Verb) (text : List ℕ) {beside : Auxiliary} → auxiliary_of verb text ≡ Some beside → AllOwn (bare_parts verb text) → Pass is_own text
+operands_own verb text {beside} e h =
+    elim (cases_Bool (takes_operator verb)) [
+      | inl takes ↦ behind_operator verb text beside (rw takes at e) (rw takes at h)
+      | inr free ↦ sign_own verb text (rw free at h)
     ]

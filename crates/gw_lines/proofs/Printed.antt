@@ -11,7 +11,7 @@ use Rattle.gw_names.specs.declared.verb.Verb.TheVariants as verbs
 use Rattle.gw_names.specs.Words as words
 use Rattle.gw_names.specs.Words.{upper_of, verb_of, is_class}
 use Rattle.gw_names.proofs.InUpperCase.{upper_of-upper_of, length-upper_of}
-use Rattle.gw_meaning.specs.declared.sign.Sign.{Sign}
+use Rattle.gw_meaning.specs.declared.auxiliary.Auxiliary.{Auxiliary}
 use Rattle.gw_meaning.specs.declared.statement.Definition.TheVariants as definitions
 use Rattle.gw_meaning.specs.declared.statement.Body.{Body}
 use Rattle.gw_meaning.specs.declared.statement.Body.TheVariants as bodies
@@ -24,7 +24,8 @@ use Rattle.gw_lines.specs.declared.form.Form.{Form}
 use Rattle.gw_lines.specs.declared.operand.Operand.{Operand}
 use Rattle.gw_lines.specs.Forms.{one_value, some_points, forms_of}
 use Rattle.gw_lines.specs.Parts.{part_of, is_given}
-use Rattle.gw_lines.specs.Signs.{sign_of, bare_parts}
+use Rattle.gw_lines.specs.Auxiliaries.{auxiliary_of, bare_parts}
+use Rattle.gw_lines.specs.Listed.{behind_text}
 use Rattle.gw_lines.specs.Pairs.{wants_in, wants_pairs}
 use Rattle.gw_lines.specs.Lines.{is_remark}
 use Rattle.gw_lines.specs.Models.{lines_of}
@@ -32,14 +33,14 @@ use Rattle.gw_lines.specs.Edits.{edit_lines}
 use Rattle.gw_lines.specs.Whole.{OfLines, no_lines, remark_line, statement_lines}
 use Rattle.gw_lines.specs.Points.{HasText, HasPairs, Completes, complete, past_remark, past_pairs, SpellsLines, spells_lines}
 use Rattle.gw_lines.specs.Spelling as spelling
-use Rattle.gw_lines.specs.Spelling.{Stops, Digits, first_digit, next_digit, Value, without_sign, with_sign, Rank, Multiplies, times, quotient, remainder, Adds, plus, minus, SpellsExpression, a_single, with_minus, in_parentheses, a_factor, multiplied, a_product, summed, SpellsOperand, absent, a_value, a_constant, named_value, attribute_value, computed_value, a_whole, a_key, named_entity, numbered_entity, attribute_entity, computed_entity, a_fraction, a_label, a_definition, an_expression, continuous, discrete, SpellsAll, no_form, stands, unwritten, is_part, Part, nothing, mark, opening, closing, stray, inner_comma, inner_blank, Written, none_written, last_written, never_closed, more_written, Behind, verb_alone, verb_operands, Head, first_word, second_word, Label, no_label, named, ArePlain, Numbering, unnumbered, Says, Cut, HasWords, Coded, Spells}
+use Rattle.gw_lines.specs.Spelling.{Stops, Digits, first_digit, next_digit, Value, without_sign, with_sign, Rank, Multiplies, times, quotient, remainder, Adds, plus, minus, SpellsExpression, a_single, with_minus, in_parentheses, a_factor, multiplied, a_product, summed, SpellsOperand, absent, a_value, a_constant, named_value, attribute_value, computed_value, a_whole, a_key, named_entity, numbered_entity, attribute_entity, computed_entity, a_fraction, a_label, a_definition, an_expression, continuous, discrete, SpellsAll, no_form, stands, unwritten, is_part, Part, nothing, mark, opening, closing, stray, inner_comma, inner_blank, Written, none_written, last_written, never_closed, more_written, Follows, Head, first_word, second_word, Label, no_label, named, ArePlain, Numbering, unnumbered, Says, Cut, HasWords, Coded, Spells}
 use Rattle.std.specs.Prelude.{All}
 use Rattle.std.proofs.lemmas.List.Elements.{All-cons, All-head, All-nil, All-tail}
 use Rattle.gw_lines.specs.Printed.{IsSpelled, ModelsAreSpelled, with_ends, listed_text, PrintedSpells, PrintedEdits, PrintedModels}
 use Rattle.gw_lines.proofs.Bytes.{Pass, both_pass, next_passes, bytes_pass, named_passes}
 use Rattle.gw_lines.proofs.Heads.{are_plain_upper}
 use Rattle.gw_lines.proofs.OwnBytes.{is_own, operands_own, own, spelled_own}
-use Rattle.gw_lines.proofs.KeptAgain.{behind_again, behind_text, written_again, written_shorter}
+use Rattle.gw_lines.proofs.KeptAgain.{follows_again, written_again, written_shorter}
 use Rattle.gw_lines.proofs.Pieces as pieces
 use Rattle.gw_lines.proofs.PairBytes.{TakesNumbers, pairs_pass, pairs_own}
 use Rattle.gw_lines.proofs.PairsRead.{some_pairs}
@@ -136,10 +137,12 @@ numbering_shorter (spelling.numbered digits blanks rest h some k others b) =
 pub record IsStated (s : Statement) (verb : Verb) : Type 0 where
   pub word : Option (List ℕ)
   pub label : Label word verb s.label
-  pub written : Written s.operands s.operands
+  pub follows : Follows verb (behind_text s.operands) s.operands
   pub upper : upper_of s.operands ≡ s.operands
   pub plain : are_plain s.operands ≡ true
-  pub body : Says verb (sign_of verb s.operands) (bare_parts verb s.operands) s.body
+  pub auxiliary : Auxiliary
+  pub is_auxiliary : auxiliary_of verb s.operands ≡ Some auxiliary
+  pub body : Says verb auxiliary (bare_parts verb s.operands) s.body
   pub short : length (printed s.label verb s.operands) ≤ 250
 
 -- a statement that is spelled by what `list` prints of it
@@ -152,7 +155,7 @@ pub is_printed : (s : Statement) (verb : Verb) → IsStated s verb → IsPrinted
 is_printed s verb stated =
     let e : text_of s ≡ printed s.label verb s.operands =
     printed_is s.label (verb_of_body s.body) s.operands ∙ ap (λ (v : Verb). printed s.label v s.operands) stated.body.of_verb in
-    let listed : Pass is_own s.operands = operands_own verb s.operands (spelled_own stated.body.operands) in
+    let listed : Pass is_own s.operands = operands_own verb s.operands stated.is_auxiliary (spelled_own stated.body.operands) in
     let own_bytes = subst (Pass is_own) (sym e) (printed_own s.operands stated.label listed) in
     let begins = subst (λ (t : List ℕ). begins_letter t ≡ true) (sym e) (printed_begins s.operands stated.label) in
     let short = subst (λ (t : List ℕ). length t ≤ 250) (sym e) stated.short in
@@ -166,10 +169,12 @@ is_printed s verb stated =
           word = s.label;
           verb = verb;
           kept = s.operands;
-          head = subst (λ (t : List ℕ). Head t s.label verb s.operands) (sym e) (head_again s.operands stated.label stated.written);
+          head = subst (λ (t : List ℕ). Head t s.label verb s.operands) (sym e) (head_again s.operands stated.label stated.follows);
           plain = plain_again s.operands stated.label stated.plain;
           label = label_again stated.label;
           listed = sym stated.upper;
+          auxiliary = stated.auxiliary;
+          is_auxiliary = stated.is_auxiliary;
           body = stated.body;
         };
       };
@@ -178,9 +183,9 @@ is_printed s verb stated =
 -- ---- a statement that a line spells
 
 pub as_listed : {text : List ℕ} {word : Option (List ℕ)} {verb : Verb} {kept : List ℕ} → Head text word verb kept
-    → Written (upper_of kept) (upper_of kept)
-as_listed (first_word word behind verb kept m v b) = behind_again b
-as_listed (second_word label blanks word behind verb kept m n k some m2 v b) = behind_again b
+    → Follows verb (behind_text (upper_of kept)) (upper_of kept)
+as_listed (first_word word behind verb kept m v b) = follows_again b
+as_listed (second_word label blanks word behind verb kept m n k some m2 v b) = follows_again b
 
 pub spelled_is : (line : List ℕ) (s : Statement) → Spells line s → IsPrinted s
 spelled_is line s spelled =
@@ -193,9 +198,11 @@ spelled_is line s spelled =
     is_printed s c.verb (record {
       word = c.word;
       label = c.label;
-      written = subst (λ (o : List ℕ). Written o o) (sym c.listed) (as_listed c.head);
+      follows = subst (λ (o : List ℕ). Follows c.verb (behind_text o) o) (sym c.listed) (as_listed c.head);
       upper = again;
       plain = ap are_plain c.listed ∙ are_plain_upper c.kept ∙ c.plain.list;
+      auxiliary = c.auxiliary;
+      is_auxiliary = c.is_auxiliary;
       body = c.body;
       short = subst (λ (o : List ℕ). length (printed s.label c.verb o) ≤ 250) (sym c.listed) short;
     })
@@ -302,7 +309,7 @@ first_given : {forms : List Form} {parts : List (List ℕ)} {os : List (Option O
 first_given (stands form forms parts o os listed given here others) e = absurd (let f = rw e at given in cc)
 first_given (unwritten form forms os w others) e = absurd cc
 
-verb_with : {verb : Verb} {sign : Sign} {parts : List (List ℕ)} {body : Body} → Says verb sign parts body → wants_in body ≡ true
+verb_with : {verb : Verb} {beside : Auxiliary} {parts : List (List ℕ)} {body : Body} → Says verb beside parts body → wants_in body ≡ true
     → verb ≡ verbs.Definition definition_verbs.Function
 verb_with {body = bodies.Definition (definitions.Function f)} s wants = sym s.of_verb
 verb_with {body = body} s wants = absurd cc
@@ -310,9 +317,9 @@ verb_with {body = body} s wants = absurd cc
 forms_are : (forms : List Form) → some (one_value ∷ some_points ∷ []) ≡ Some forms → one_value ∷ some_points ∷ [] ≡ forms
 forms_are forms e = some_is (one_value ∷ some_points ∷ []) forms e
 
-given_with : {verb : Verb} {sign : Sign} {parts : List (List ℕ)} {body : Body} → Says verb sign parts body
+given_with : {verb : Verb} {beside : Auxiliary} {parts : List (List ℕ)} {body : Body} → Says verb beside parts body
     → verb ≡ verbs.Definition definition_verbs.Function → part_of parts ≡ [] → ⊥
-given_with {verb} {sign} {parts} s is none =
+given_with {verb} {beside} {parts} s is none =
     let e = ap (λ (v : Verb). forms_of v (is_given parts)) (sym is) ∙ s.are_forms in
     first_given (subst (λ (forms : List Form). SpellsAll forms parts _) (sym (forms_are s.forms e)) s.operands) none
 

@@ -15,15 +15,16 @@ use Rattle.gw_meaning.specs.declared.statement.Definition.TheVariants as defined
 use Rattle.gw_meaning.proofs.Texts.{name_is_short}
 use Rattle.gw_lines.specs.declared.operand.Operand.TheVariants as operands
 use Rattle.gw_lines.specs.Classes.{with_byte}
-use Rattle.gw_meaning.specs.declared.sign.Sign.TheVariants as signs
+use Rattle.gw_meaning.specs.declared.auxiliary.Auxiliary.TheVariants as auxiliaries
 use Rattle.gw_lines.specs.Parts.{split, parts_of, is_missing}
 use Rattle.gw_lines.specs.Forms.{a_count}
-use Rattle.gw_lines.specs.Spelling.{Digits, first_digit, next_digit, a_whole, SpellsAll, no_form, stands, is_part, Part, nothing, mark, named, Says}
+use Rattle.gw_lines.specs.Listed.{behind_text}
+use Rattle.gw_lines.specs.Spelling.{Digits, first_digit, next_digit, a_whole, SpellsAll, no_form, stands, is_part, Part, nothing, mark, without_operator, named, Says}
 use Rattle.gw_lines.specs.Printed.{storage_of, StoragesSpell}
 use Rattle.gw_lines.proofs.Bytes.{Pass, both_pass, one_passes, digits_pass}
 use Rattle.gw_lines.proofs.Decimals.{decimal_digits}
 use Rattle.gw_lines.proofs.Fronts.{nonzero}
-use Rattle.gw_lines.proofs.KeptAgain.{behind_text, last_again, spaced_length}
+use Rattle.gw_lines.proofs.KeptAgain.{last_again, spaced, spaced_length}
 use Rattle.gw_lines.proofs.PrintedWords.{plains}
 use Rattle.gw_lines.proofs.Printed.{is_printed}
 use Rattle.gw_lines.proofs.Parts.{split_on}
@@ -65,7 +66,7 @@ digits_given [] some h = absurd (let f = some in omega arith)
 digits_given (b ∷ bs) some h = (digits_alone b bs h, nonzero (length bs))
 
 pub storage_says : (amount : ℕ) → 1 ≤ amount → amount ≤ 1000000000
-    → Says (verbs.Definition definitions.Storage) signs.Absent (parts_of (decimal amount)) (bodies.Definition (defined.Storage amount))
+    → Says (verbs.Definition definitions.Storage) auxiliaries.Absent (parts_of (decimal amount)) (bodies.Definition (defined.Storage amount))
 storage_says amount from to =
     let d = decimal_digits amount (omega arith) in
     let g = digits_given (decimal amount) (decimal_nonempty amount (omega arith)) (digit_bytes d) in
@@ -73,7 +74,7 @@ storage_says amount from to =
       forms = a_count ∷ [];
       are_forms = refl;
       of_verb = refl;
-      has_sign = tt;
+      has_auxiliary = tt;
       operands = subst (λ (ps : List (List ℕ)). SpellsAll (a_count ∷ []) ps (Some (operands.Whole amount) ∷ [])) (sym g.0)
           (stands a_count [] (decimal amount ∷ []) (Some (operands.Whole amount)) [] refl g.1
           (a_whole 1000000000 (decimal amount) amount (record { digits = d; small = to }) from) no_form);
@@ -93,9 +94,12 @@ storages_spell name amount e from to =
     let p = is_printed (storage_of name amount) (verbs.Definition definitions.Storage) (record {
       word = Some name;
       label = named name (verbs.Definition definitions.Storage) name refl e;
-      written = last_again (decimal amount) (digits_part (decimal amount) b);
+      follows = without_operator (verbs.Definition definitions.Storage) (behind_text (decimal amount)) (decimal amount) refl
+          (spaced (decimal amount) (last_again (decimal amount) (digits_part (decimal amount) b)));
       upper = digits_upper (decimal amount) b;
       plain = digits_pass plains d;
+      auxiliary = auxiliaries.Absent;
+      is_auxiliary = refl;
       body = storage_says amount from to;
       short = omega arith;
     }) in p.spells

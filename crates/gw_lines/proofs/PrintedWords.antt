@@ -1,7 +1,7 @@
--- The words of a statement as they are printed: the label, the verb and the operands behind them.
+-- The words of a statement as they are printed: the label, the verb and what follows it.
 use Rattle.std.proofs.Common.{◌≡◌, ℕ, ◌≤◌, ◌||◌, Bool, true, false, List, [], ◌∷◌, ◌++◌, length, Option, Some, None, refl, sym, ap, subst, ◌∙◌, inl, inr, arith}
 use Rattle.std.specs.Prelude.{is_some, option_to_list}
-use Rattle.std.specs.List.{list_all, find, join_with_byte}
+use Rattle.std.specs.List.{list_all, join_with_byte}
 use Rattle.std.specs.Str.{bytes_eq}
 use Rattle.std.specs.Char.{is_ascii_alphabetic}
 use Rattle.std.proofs.lemmas.Bool.{and_parts, cases_Bool}
@@ -21,10 +21,11 @@ use Rattle.gw_meaning.specs.Texts.{word_if_any}
 use Rattle.gw_lines.specs.declared.class.Class.TheVariants as class
 use Rattle.gw_lines.specs.Classes.{is_in, is_plain, are_plain}
 use Rattle.gw_lines.specs.Lines.{verb_in}
-use Rattle.gw_lines.specs.Spelling.{Written, Head, first_word, second_word, Label, no_label, named, ArePlain}
-use Rattle.gw_lines.proofs.Results.{some_is}
+use Rattle.gw_lines.specs.Listed.{behind_text}
+use Rattle.gw_lines.specs.Spelling.{Follows, Head, first_word, second_word, Label, no_label, named, ArePlain}
+use Rattle.gw_lines.proofs.Results.{found_so, some_is}
 use Rattle.gw_lines.proofs.Bytes.{Takes, bytes_pass, named_passes}
-use Rattle.gw_lines.proofs.KeptAgain.{behind_shorter, behind_text, some_length, spaced}
+use Rattle.gw_lines.proofs.KeptAgain.{follows_shorter, some_length}
 
 -- ---- the words before the operands
 
@@ -71,14 +72,6 @@ verb_word (verbs.Command commands.Start) = (refl, refl, refl)
 verb_word (verbs.Command commands.Reset) = (refl, refl, refl)
 verb_word (verbs.Command commands.Clear) = (refl, refl, refl)
 verb_word (verbs.Command commands.Rmult) = (refl, refl, refl)
-
-pub found_so : (p : Verb → Bool) (vs : List Verb) (verb : Verb) → find p vs ≡ Some verb → p verb ≡ true
-found_so p [] verb e = absurd cc
-found_so p (v ∷ vs) verb e =
-    elim (cases_Bool (p v)) [
-      | inl holds ↦ subst (λ (x : Verb). p x ≡ true) (some_is v verb (rw holds at e)) holds
-      | inr fails ↦ found_so p vs verb (rw fails at e)
-    ]
 
 -- the word that is a verb has the verb's letters
 pub verb_letters : (word : List ℕ) (verb : Verb) → verb_in word ≡ Some verb → words.word_of verb ≡ upper_of word
@@ -158,16 +151,16 @@ plains = record { name = plain_name; dollar = refl }
     plain_name : (b : ℕ) → is_name_byte b ≡ true → is_plain b ≡ true
     plain_name b h = grind (arith, nat_tests)
 
-pub head_again : {word label : Option (List ℕ)} {verb : Verb} (operands : List ℕ) → Label word verb label → Written operands operands
+pub head_again : {word label : Option (List ℕ)} {verb : Verb} (operands : List ℕ) → Label word verb label → Follows verb (behind_text operands) operands
     → Head (printed label verb operands) label verb operands
-head_again operands (no_label verb free) written =
+head_again operands (no_label verb free) follows =
     let w = verb_word verb in
-    first_word (words.word_of verb) (behind_text operands) verb operands (bytes_pass marks (words.word_of verb) w.1) w.0 (spaced operands written)
-head_again operands (named before verb label c e) written =
+    first_word (words.word_of verb) (behind_text operands) verb operands (bytes_pass marks (words.word_of verb) w.1) w.0 follows
+head_again operands (named before verb label c e) follows =
     let w = verb_word verb in
     let i = is_name before label e in
     second_word label (32 ∷ []) (words.word_of verb) (behind_text operands) verb operands (named_passes marks label label i.again)
-    i.no_verb refl (λ e. absurd cc) (bytes_pass marks (words.word_of verb) w.1) w.0 (spaced operands written)
+    i.no_verb refl (λ e. absurd cc) (bytes_pass marks (words.word_of verb) w.1) w.0 follows
 
 pub label_again : {word label : Option (List ℕ)} {verb : Verb} → Label word verb label → Label label verb label
 label_again (no_label verb free) = no_label verb free
@@ -184,13 +177,13 @@ pub head_shorter : {text kept : List ℕ} {word label : Option (List ℕ)} {verb
     → length (printed label verb (upper_of kept)) ≤ length text
 head_shorter (first_word word behind verb kept m v b) (no_label _ free) =
     let h = verb_length word verb v in
-    let k = behind_shorter b in
+    let k = follows_shorter b in
     let e = length-append word behind in
     let f = length-append (words.word_of verb) (behind_text (upper_of kept)) in omega arith
 head_shorter (second_word before blanks word behind verb kept m n s some m2 v b) (named _ _ label c e) =
     let h = verb_length word verb v in
     let i = name_length before label e in
-    let k = behind_shorter b in
+    let k = follows_shorter b in
     let d = some_length blanks some in
     let e1 = length-append before (blanks ++ (word ++ behind)) in
     let e2 = length-append blanks (word ++ behind) in

@@ -1,6 +1,7 @@
 -- What a step of reading gives: one thing, or one fault.
-use Rattle.std.proofs.Common.{◌≡◌, Option, Some, Result, Ok, Err, sym, subst, ◌∙◌}
-use Rattle.std.specs.Prelude.{IfOk, IfErr}
+use Rattle.std.proofs.Common.{◌≡◌, Bool, true, List, [], ◌∷◌, Option, Some, Result, Ok, Err, sym, subst, ◌∙◌, inl, inr}
+use Rattle.std.specs.Prelude.{find, IfOk, IfErr}
+use Rattle.std.proofs.lemmas.Bool.{cases_Bool}
 use Rattle.gw_meaning.specs.declared.statement.Statement.{Statement}
 use Rattle.gw_lines.specs.declared.fault.LineFault.{LineFault}
 use Rattle.gw_lines.specs.declared.fault.LineFault.TheVariants as faults
@@ -11,6 +12,15 @@ some x = Some x
 
 pub some_is : {A : Type 0} (x y : A) → some x ≡ some y → x ≡ y
 some_is x y e = cc
+
+-- what is found in a list passes the test
+pub found_so : {A : Type 0} (p : A → Bool) (xs : List A) (x : A) → find p xs ≡ Some x → p x ≡ true
+found_so p [] x e = absurd cc
+found_so p (y ∷ ys) x e =
+    elim (cases_Bool (p y)) [
+      | inl holds ↦ subst (λ z. p z ≡ true) (some_is y x (rw holds at e)) holds
+      | inr fails ↦ found_so p ys x (rw fails at e)
+    ]
 
 abbrev pub done : {A : Type 0} → A → Result A LineFault
 done x = Ok x

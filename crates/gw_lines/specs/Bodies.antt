@@ -11,7 +11,7 @@ use Rattle.gw_expr.specs.Term.{Term, Value}
 use Rattle.gw_expr.specs.declared.function.FunctionType.{FunctionType}
 use Rattle.gw_meaning.specs.declared.statement.Definition.TheVariants as definitions
 use Rattle.gw_meaning.specs.declared.statement.Command.TheVariants as commands
-use Rattle.gw_meaning.specs.declared.sign.Sign.{Sign}
+use Rattle.gw_meaning.specs.declared.auxiliary.Auxiliary.{Auxiliary}
 use Rattle.gw_meaning.specs.declared.statement.Body.{Body}
 use Rattle.gw_meaning.specs.declared.statement.Body.TheVariants as bodies
 use Rattle.gw_lines.specs.declared.fault.LineFault.{LineFault}
@@ -23,7 +23,7 @@ use Rattle.gw_lines.specs.Reading.{◌>>=◌}
 use Rattle.gw_lines.specs.Forms.{forms_of, lacks}
 use Rattle.gw_lines.specs.Operands.{operands_of}
 use Rattle.gw_lines.specs.Parts.{is_given, others_of}
-use Rattle.gw_lines.specs.Signs.{sign_of, bare_parts}
+use Rattle.gw_lines.specs.Auxiliaries.{auxiliary_of, bare_parts}
 
 -- an operand as a value
 abbrev pub value_in : Option Operand → Option Term
@@ -99,12 +99,12 @@ command_with command_verbs.Start os = start_with (whole_in (place os 0))
 command_with command_verbs.Rmult os = Some (bodies.Command (commands.Rmult (map whole_in os)))
 command_with verb os = None
 
--- the statement of a verb with a sign, which a block alone has, and with these operands
-unfoldable pub body_with : Verb → Sign → List (Option Operand) → Option Body
-body_with (verbs.Block verb) sign os =
-    Some (bodies.Block (record { verb = verb; sign = sign; operands = map value_in os }))
-body_with (verbs.Definition verb) sign os = definition_with verb os
-body_with (verbs.Command verb) sign os = command_with verb os
+-- the statement of a verb with these operands, and with what stands beside them, which a block alone has
+unfoldable pub body_with : Verb → Auxiliary → List (Option Operand) → Option Body
+body_with (verbs.Block verb) auxiliary os =
+    Some (bodies.Block (record { verb = verb; auxiliary = auxiliary; operands = map value_in os }))
+body_with (verbs.Definition verb) auxiliary os = definition_with verb os
+body_with (verbs.Command verb) auxiliary os = command_with verb os
 
 abbrev pub or_unknown : Option Body → Result Body LineFault
 or_unknown None = Err faults.UnknownVerb
@@ -115,17 +115,31 @@ abbrev pub enough : Bool → Result (Unit {0}) LineFault
 enough lacks = if lacks then Err (faults.MissingOperand 1) else Ok tt
 
 -- the body that parts of these forms are
-unfoldable pub in_forms : Verb → Sign → List Form → List (List ℕ) → Result Body LineFault
-in_forms verb sign forms parts = do
+unfoldable pub in_forms : Verb → Auxiliary → List Form → List (List ℕ) → Result Body LineFault
+in_forms verb auxiliary forms parts = do
   os ← operands_of forms parts
   given ← enough (lacks verb os)
-  or_unknown (body_with verb sign os)
+  or_unknown (body_with verb auxiliary os)
 
-abbrev pub by_forms : Verb → Sign → Option (List Form) → List (List ℕ) → Result Body LineFault
-by_forms verb sign None parts = Err faults.UnknownVerb
-by_forms verb sign (Some forms) parts = in_forms verb sign forms parts
+abbrev pub by_forms : Verb → Auxiliary → Option (List Form) → List (List ℕ) → Result Body LineFault
+by_forms verb auxiliary None parts = Err faults.UnknownVerb
+by_forms verb auxiliary (Some forms) parts = in_forms verb auxiliary forms parts
 
--- the body that an operand list is behind a verb: its sign is taken off before the operands are read
+-- the fault of a text in which no operator of the verb stands: it is operand 0
+abbrev pub operator_fault : List ℕ → LineFault
+operator_fault [] = faults.MissingOperand 0
+operator_fault (b ∷ bs) = faults.BadOperand 0
+
+abbrev pub or_operator_fault : List ℕ → Option Auxiliary → Result Auxiliary LineFault
+or_operator_fault text None = Err (operator_fault text)
+or_operator_fault text (Some auxiliary) = Ok auxiliary
+
+-- what stands beside the operands of a verb
+abbrev pub read_auxiliary : Verb → List ℕ → Result Auxiliary LineFault
+read_auxiliary verb text = or_operator_fault text (auxiliary_of verb text)
+
+-- the body that a text is behind a verb: its operator or its sign is taken off before the operands are read
 unfoldable pub body_of : Verb → List ℕ → Result Body LineFault
-body_of verb text =
-    by_forms verb (sign_of verb text) (forms_of verb (is_given (bare_parts verb text))) (bare_parts verb text)
+body_of verb text = do
+  auxiliary ← read_auxiliary verb text
+  by_forms verb auxiliary (forms_of verb (is_given (bare_parts verb text))) (bare_parts verb text)

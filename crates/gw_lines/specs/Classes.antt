@@ -29,6 +29,13 @@ front_of class bytes = take (prefix_len (is_in class) bytes) bytes
 abbrev pub rest_of : Class → List ℕ → List ℕ
 rest_of class bytes = drop (prefix_len (is_in class) bytes) bytes
 
+-- the word at the front, and what follows it and its blanks
+abbrev pub word_of : List ℕ → List ℕ
+word_of bytes = front_of class.Mark bytes
+
+abbrev pub behind_word : List ℕ → List ℕ
+behind_word bytes = rest_of class.Blank (rest_of class.Mark bytes)
+
 -- what follows the first byte
 abbrev pub tail_of : List ℕ → List ℕ
 tail_of [] = []

@@ -1,5 +1,5 @@
--- Where a text is cut: operands at commas, the lines of a model at line feeds, and those of an edit's text at bars. What
--- is cut off is told apart from how it is gone through. (Manual: operands. Our own: line ends.)
+-- Where a text is cut: operands at commas, the lines of a model at line feeds, and those of an edit's text at bars.
+-- What is cut off is told apart from how it is gone through. (Manual: operands. Our own: line ends.)
 use Rattle.std.specs.Prelude.{ℕ, ◌==◌, ◌≡◌, ◌≢◌, false, List, [], ◌∷◌, ◌++◌, All}
 use Rattle.gw_lines.specs.Edits.{edit_lines}
 use Rattle.gw_lines.specs.Models.{lines_of}

@@ -8,9 +8,9 @@ use Rattle.gw_lines.specs.declared.class.Class.TheVariants as class
 use Rattle.gw_lines.specs.declared.fault.LineFault.{LineFault}
 use Rattle.gw_lines.specs.declared.fault.LineFault.TheVariants as faults
 use Rattle.gw_lines.specs.Reading.{◌>>=◌, OrMemory}
-use Rattle.gw_lines.specs.Lines.{word_of, behind_word, verb_in, behind_number, code_of, statement_of}
+use Rattle.gw_lines.specs.Lines.{verb_in, behind_number, code_of, statement_of}
 use Rattle.gw_lines.specs.Pairs.{wants_pairs, kept_of, further_of, open_lines}
-use Rattle.gw_lines.specs.Classes.{are_plain, pieces_of}
+use Rattle.gw_lines.specs.Classes.{word_of, behind_word, are_plain, pieces_of}
 use Rattle.gw_lines.specs.Spelling.{Spells}
 use Rattle.gw_lines.specs.Faulty.{FirstFault}
 use Rattle.gw_lines.specs.Points.{HasText, Completes, MayBePairs, SpellsLines}

@@ -12,7 +12,7 @@ use Rattle.gw_lines.specs.declared.operand.Operand.{Operand}
 use Rattle.gw_lines.specs.Reading.{OrMemory}
 use Rattle.gw_lines.specs.Classes.{are_plain}
 use Rattle.gw_lines.specs.Forms.{forms_of, lacks}
-use Rattle.gw_lines.specs.Signs.{bare_parts}
+use Rattle.gw_lines.specs.Auxiliaries.{takes_operator, auxiliary_of, bare_parts}
 use Rattle.gw_lines.specs.Parts.{part_of, is_given, others_of, is_missing}
 use Rattle.gw_lines.specs.Lines.{verb_in, is_command, needs_label, is_remark}
 use Rattle.gw_lines.specs.Spelling.{AreIn, Stops, SpellsOperand, SpellsAll, Head, Label, ArePlain, Cut, HasWords}
@@ -61,6 +61,17 @@ pub data OperandFault : Verb → List (List ℕ) → LineFault → Type 0 where
       → forms_of verb (is_given parts) ≡ Some forms → SpellsAll forms parts os → lacks verb os ≡ true
       → OperandFault verb parts (faults.MissingOperand 1)
 
+-- the first fault of what is kept behind a verb: that of its operator, which is operand 0, then that the verb is still
+-- to come, then that of its operands
+pub data BodyFault : Verb → List ℕ → LineFault → Type 0 where
+  no_operator : (verb : Verb) → takes_operator verb ≡ true → BodyFault verb [] (faults.MissingOperand 0)
+  bad_operator : (verb : Verb) (text : List ℕ) → text ≢ [] → auxiliary_of verb text ≡ None
+      → BodyFault verb text (faults.BadOperand 0)
+  verb_to_come : (verb : Verb) (text : List ℕ) → IsSome (auxiliary_of verb text)
+      → forms_of verb (is_given (bare_parts verb text)) ≡ None → BodyFault verb text faults.UnknownVerb
+  operand_fault : (verb : Verb) (text : List ℕ) (f : LineFault) → IsSome (auxiliary_of verb text)
+      → OperandFault verb (bare_parts verb text) f → BodyFault verb text f
+
 -- words whose first two are no verbs: the first, and the second or nothing
 pub data Verbless : List ℕ → List ℕ → List ℕ → Type 0 where
   one_word : (first blanks : List ℕ) → AreIn class.Mark first → verb_in first ≡ None → AreIn class.Blank blanks
@@ -83,13 +94,10 @@ pub data WordsFault : List ℕ → LineFault → Type 0 where
       → ArePlain (Some word) kept → (is_command verb ≡ true) ⊎ (name_of word ≡ None) → WordsFault words faults.BadLabel
   lacks_label : (words : List ℕ) (verb : Verb) (kept : List ℕ) → Head words None verb kept → ArePlain None kept
       → needs_label verb ≡ true → WordsFault words faults.BadLabel
-  verb_to_come : (words : List ℕ) (word : Option (List ℕ)) (verb : Verb) (kept : List ℕ) (label : Option (List ℕ))
-      → Head words word verb kept → ArePlain word kept → Label word verb label
-      → forms_of verb (is_given (bare_parts verb (upper_of kept))) ≡ None → WordsFault words faults.UnknownVerb
-  operand_fault : (words : List ℕ) (word : Option (List ℕ)) (verb : Verb) (kept : List ℕ) (label : Option (List ℕ))
+  faulty_body : (words : List ℕ) (word : Option (List ℕ)) (verb : Verb) (kept : List ℕ) (label : Option (List ℕ))
       (f : LineFault)
       → Head words word verb kept → ArePlain word kept → Label word verb label
-      → OperandFault verb (bare_parts verb (upper_of kept)) f → WordsFault words f
+      → BodyFault verb (upper_of kept) f → WordsFault words f
 
 -- the first fault of a line
 pub data FirstFault : List ℕ → LineFault → Type 0 where

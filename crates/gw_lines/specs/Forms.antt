@@ -98,6 +98,7 @@ forms_of_block blocks.Release given = Some (an_entity ∷ [])
 forms_of_block blocks.Enter given = Some (a_definition ∷ a_value ∷ [])
 forms_of_block blocks.Leave given = Some (a_definition ∷ a_value ∷ [])
 forms_of_block blocks.Transfer given = Some (forms_of_transfer given)
+forms_of_block blocks.Test given = Some (one_value ∷ one_value ∷ a_label ∷ [])
 forms_of_block blocks.Mark given = Some []
 forms_of_block blocks.Priority given = Some (one_value ∷ [])
 forms_of_block blocks.Buffer given = Some []

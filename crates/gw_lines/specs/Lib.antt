@@ -4,7 +4,7 @@ pub mod Classes
 pub mod Numbers
 pub mod Forms
 pub mod Parts
-pub mod Signs
+pub mod Auxiliaries
 pub mod Attributes
 pub mod Atoms
 pub mod Operands

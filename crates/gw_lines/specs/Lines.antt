@@ -1,6 +1,6 @@
--- A line as it is read: comment, number, label, verb, operands. (Manual: free format. Our own: the length, the order of
--- faults.)
-use Rattle.std.specs.Prelude.{ℕ, ◌==◌, Bool, true, false, ◌||◌, List, [], ◌∷◌, length, Option, Some, None, Result, Ok, Err, is_some, if◌then◌else◌, nat_lt}
+-- A line as it is read: comment, number, label, verb, operator, operands. (Manual: free format. Our own: the length,
+-- the order of faults.)
+use Rattle.std.specs.Prelude.{ℕ, ◌==◌, Bool, true, false, ◌||◌, List, [], ◌∷◌, ◌++◌, length, Option, Some, None, Result, Ok, Err, is_some, if◌then◌else◌, nat_lt}
 use Rattle.gw_names.specs.declared.verb.Verb.{Verb}
 use Rattle.gw_names.specs.declared.verb.Verb.TheVariants as verbs
 use Rattle.gw_names.specs.Words.{verb_of, upper_of}
@@ -10,17 +10,11 @@ use Rattle.gw_lines.specs.declared.class.Class.TheVariants as class
 use Rattle.gw_lines.specs.declared.fault.LineFault.{LineFault}
 use Rattle.gw_lines.specs.declared.fault.LineFault.TheVariants as faults
 use Rattle.gw_lines.specs.Reading.{◌>>=◌}
-use Rattle.gw_lines.specs.Classes.{front_of, rest_of, is_nothing, are_plain}
+use Rattle.gw_lines.specs.Classes.{front_of, rest_of, word_of, behind_word, is_nothing, are_plain}
 use Rattle.gw_lines.specs.Forms.{forms_of_definition}
-use Rattle.gw_lines.specs.Listed.{listed_of}
+use Rattle.gw_lines.specs.Listed.{behind_text, listed_of}
+use Rattle.gw_lines.specs.Auxiliaries.{takes_operator}
 use Rattle.gw_lines.specs.Bodies.{body_of}
-
--- the word at the front, and what follows it and its blanks
-abbrev pub word_of : List ℕ → List ℕ
-word_of bytes = front_of class.Mark bytes
-
-abbrev pub behind_word : List ℕ → List ℕ
-behind_word bytes = rest_of class.Blank (rest_of class.Mark bytes)
 
 -- the verb that a word is in any case, if it is one
 abbrev pub verb_in : List ℕ → Option Verb
@@ -52,14 +46,26 @@ no_label_of verb = if needs_label verb then Err faults.BadLabel else Ok tt
 abbrev pub plain_of : List ℕ → Result (List ℕ) LineFault
 plain_of text = if are_plain text then Ok text else Err faults.BadByte
 
--- the operand list behind a verb, in upper case
+-- an operand list alone, in upper case
 unfoldable pub operands_of : List ℕ → Result (List ℕ) LineFault
 operands_of bytes = plain_of (upper_of (listed_of true 0 bytes))
+
+-- an operator and the operand list behind it, with one blank between
+abbrev pub kept_with_operator : List ℕ → List ℕ
+kept_with_operator bytes = word_of bytes ++ behind_text (listed_of true 0 (behind_word bytes))
+
+-- what is kept of what stands behind a verb and its blanks
+abbrev pub kept_behind : Verb → List ℕ → List ℕ
+kept_behind verb bytes = if takes_operator verb then kept_with_operator bytes else listed_of true 0 bytes
+
+-- the operands of a verb, and its operator before them, in upper case
+unfoldable pub operands_behind : Verb → List ℕ → Result (List ℕ) LineFault
+operands_behind verb bytes = plain_of (upper_of (kept_behind verb bytes))
 
 -- a statement that begins with its verb: the verb, and what follows its blanks
 unfoldable pub unlabelled_of : Verb → List ℕ → Result Statement LineFault
 unlabelled_of verb bytes = do
-  operands ← operands_of bytes
+  operands ← operands_behind verb bytes
   free ← no_label_of verb
   body ← body_of verb operands
   Ok (record { label = None; body = body; operands = operands })
@@ -68,7 +74,7 @@ unlabelled_of verb bytes = do
 unfoldable pub labelled_of : List ℕ → Verb → List ℕ → Result Statement LineFault
 labelled_of word verb bytes = do
   plain ← plain_of word
-  operands ← operands_of bytes
+  operands ← operands_behind verb bytes
   label ← label_of verb word
   body ← body_of verb operands
   Ok (record { label = Some label; body = body; operands = operands })

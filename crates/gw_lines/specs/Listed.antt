@@ -3,6 +3,11 @@
 use Rattle.std.specs.Prelude.{ℕ, zero, suc, ◌==◌, ◌&&◌, ◌||◌, not, Bool, true, false, List, [], ◌∷◌, if◌then◌else◌}
 use Rattle.gw_lines.specs.Classes.{is_blank}
 
+-- a text behind a word: one blank before it, or nothing where there is no text
+abbrev pub behind_text : List ℕ → List ℕ
+behind_text [] = []
+behind_text (b ∷ bs) = 32 ∷ b ∷ bs
+
 -- whether parentheses are open
 abbrev pub is_open : ℕ → Bool
 is_open zero = false

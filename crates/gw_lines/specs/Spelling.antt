@@ -16,7 +16,7 @@ use Rattle.gw_expr.specs.declared.token.Operator.TheVariants as operators
 use Rattle.gw_expr.specs.Expressions.{Expression, Single, Opposite, Both, postfix}
 use Rattle.gw_expr.specs.Term as terms
 use Rattle.gw_expr.specs.declared.function.FunctionType.TheVariants as types
-use Rattle.gw_meaning.specs.declared.sign.Sign.{Sign}
+use Rattle.gw_meaning.specs.declared.auxiliary.Auxiliary.{Auxiliary}
 use Rattle.gw_meaning.specs.declared.statement.Body.{Body}
 use Rattle.gw_meaning.specs.declared.statement.Statement.{Statement}
 use Rattle.gw_meaning.specs.Statements.{verb_of_body}
@@ -33,7 +33,8 @@ use Rattle.gw_lines.specs.Classes.{is_in, is_blank, are_plain}
 use Rattle.gw_lines.specs.Attributes.{scope_of}
 use Rattle.gw_lines.specs.Forms.{forms_of, fields_of, points_of, lacks, is_listed}
 use Rattle.gw_lines.specs.Parts.{goes_on, part_of, is_given, others_of, is_missing}
-use Rattle.gw_lines.specs.Signs.{sign_of, bare_parts, HasSign}
+use Rattle.gw_lines.specs.Auxiliaries.{takes_operator, auxiliary_of, bare_parts, HasAuxiliary}
+use Rattle.gw_lines.specs.Listed.{behind_text}
 use Rattle.gw_lines.specs.Lines.{verb_in, is_command, needs_label, is_remark}
 
 -- each byte is of the class
@@ -175,12 +176,12 @@ pub data SpellsAll : List Form → List (List ℕ) → List (Option Operand) →
   unwritten : (form : Form) (forms : List Form) (os : List (Option Operand))
       → form.presence ≡ presences.Written → SpellsAll forms [] os → SpellsAll (form ∷ forms) [] os
 
--- what a sign and the operands of a verb say: a statement that has them, and no points yet
-pub record Says (verb : Verb) (sign : Sign) (parts : List (List ℕ)) (body : Body) : Type 0 where
+-- what the operands of a verb say, with what stands beside them: a statement that has both, and no points yet
+pub record Says (verb : Verb) (beside : Auxiliary) (parts : List (List ℕ)) (body : Body) : Type 0 where
   pub forms : List Form
   pub are_forms : forms_of verb (is_given parts) ≡ Some forms
   pub of_verb : verb_of_body body ≡ verb
-  pub has_sign : HasSign body sign
+  pub has_auxiliary : HasAuxiliary body beside
   pub operands : SpellsAll forms parts (fields_of body)
   pub enough : lacks verb (fields_of body) ≡ false
   pub pointless : points_of body ≡ []
@@ -215,19 +216,30 @@ pub data Written : List ℕ → List ℕ → Type 0 where
   more_written : (operand part blanks text kept : List ℕ) → Part 0 operand part 0 → AreIn class.Blank blanks
       → Written text kept → Written (operand ++ 44 ∷ (blanks ++ text)) (part ++ 44 ∷ kept)
 
--- what follows a verb: nothing, or blanks and operands
+-- what follows a word: nothing, or blanks and operands
 pub data Behind : List ℕ → List ℕ → Type 0 where
-  verb_alone : Behind [] []
-  verb_operands : (blanks text kept : List ℕ) → AreIn class.Blank blanks → blanks ≢ [] → Written text kept
+  word_alone : Behind [] []
+  word_operands : (blanks text kept : List ℕ) → AreIn class.Blank blanks → blanks ≢ [] → Written text kept
       → Behind (blanks ++ text) kept
 
--- the words before the operands: the verb, or a word that is no verb and the verb; and the operand list as it is kept
+-- what follows a verb, and what is kept of it: operands, or, where the verb takes an operator, a word and operands
+-- behind it, which are kept with one blank between
+pub data Follows : Verb → List ℕ → List ℕ → Type 0 where
+  without_operator : (verb : Verb) (behind kept : List ℕ) → takes_operator verb ≡ false → Behind behind kept
+      → Follows verb behind kept
+  lacks_operator : (verb : Verb) (blanks : List ℕ) → takes_operator verb ≡ true → AreIn class.Blank blanks
+      → Follows verb blanks []
+  with_operator : (verb : Verb) (blanks operator behind kept : List ℕ) → takes_operator verb ≡ true
+      → AreIn class.Blank blanks → blanks ≢ [] → AreIn class.Mark operator → operator ≢ [] → Behind behind kept
+      → Follows verb (blanks ++ (operator ++ behind)) (operator ++ behind_text kept)
+
+-- the words before the operands: the verb, or a word that is no verb and the verb; and what is kept of what follows
 pub data Head : List ℕ → Option (List ℕ) → Verb → List ℕ → Type 0 where
   first_word : (word behind : List ℕ) (verb : Verb) (kept : List ℕ) → AreIn class.Mark word → verb_in word ≡ Some verb
-      → Behind behind kept → Head (word ++ behind) None verb kept
+      → Follows verb behind kept → Head (word ++ behind) None verb kept
   second_word : (label blanks word behind : List ℕ) (verb : Verb) (kept : List ℕ) → AreIn class.Mark label
       → verb_in label ≡ None → AreIn class.Blank blanks → blanks ≢ []
-      → AreIn class.Mark word → verb_in word ≡ Some verb → Behind behind kept
+      → AreIn class.Mark word → verb_in word ≡ Some verb → Follows verb behind kept
       → Head (label ++ (blanks ++ (word ++ behind))) (Some label) verb kept
 
 -- the label that the word before a verb is; a definition does not go without one
@@ -275,7 +287,9 @@ pub record Coded (words : List ℕ) (s : Statement) : Type 0 where
   pub plain : ArePlain word kept
   pub label : Label word verb s.label
   pub listed : s.operands ≡ upper_of kept
-  pub body : Says verb (sign_of verb s.operands) (bare_parts verb s.operands) s.body
+  pub auxiliary : Auxiliary
+  pub is_auxiliary : auxiliary_of verb s.operands ≡ Some auxiliary
+  pub body : Says verb auxiliary (bare_parts verb s.operands) s.body
 
 -- a text spells a statement
 pub record Spells (text : List ℕ) (s : Statement) : Type 0 where

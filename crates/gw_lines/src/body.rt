@@ -5,36 +5,43 @@ ghost use Rattle.gw_lines.specs.Forms.{forms_of};
 ghost use Rattle.gw_lines.specs.Parts.{is_given, parts_of, others_of};
 ghost use Rattle.gw_lines.specs.Bodies.{body_of, by_forms, in_forms, body_with, definition_with, command_with, function_with, first_of, value_in, whole_in, points_in, constant_in, constant_of};
 
+use crate::auxiliary::{auxiliary_of, takes_operator, without_sign};
+use crate::class::word;
 use crate::fault::LineFault;
 use crate::form::{Form, forms_of, lacks};
 use crate::operand::Operand;
 use crate::operands::{is_given, read_operands};
-use crate::sign::{sign_of, without_sign};
 use gw_expr::{Atom, Expr, Function, FunctionType, Node, Row};
-use gw_meaning::{Block, Body, Command, Definition, Sign};
+use gw_meaning::{Auxiliary, Block, Body, Command, Definition};
 use gw_names::{CommandVerb, DefinitionVerb, Verb};
 use gw_nums::Val;
 use std::alloc::{AllocError, Global};
 
-/// The body that a verb's operand list spells, in upper case and without skipped blanks.
+/// The body that a verb's text spells: its operator and its operand list, in upper case and without skipped blanks.
 #[tactic(auto, unfolding(crate::specs::Bodies::body_of))]
 pub fn read_body(alloc: Global, verb: Verb, text: &[u8]) -> Result<Body, LineFault>
     ensures { Gives (λ b. b) result (body_of verb text.now) }
 {
-    let sign = sign_of(verb, text);
-    match sign {
-        Sign::Absent => by_forms(alloc, verb, sign, text),
-        Sign::Plus | Sign::Minus => by_forms(alloc, verb, sign, &without_sign(alloc, text)?),
+    let auxiliary = auxiliary_of(verb, text)?;
+    if takes_operator(verb) {
+        let (_, operands) = word(text);
+        return by_forms(alloc, verb, auxiliary, operands);
+    }
+    match auxiliary {
+        Auxiliary::Plus | Auxiliary::Minus => {
+            by_forms(alloc, verb, auxiliary, &without_sign(alloc, text)?)
+        }
+        _ => by_forms(alloc, verb, auxiliary, text),
     }
 }
 
-// The body that a verb's operand list spells, which has lost its sign.
-fn by_forms(alloc: Global, verb: Verb, sign: Sign, text: &[u8]) -> Result<Body, LineFault>
+// The body that a verb's operand list spells, which has lost its operator or its sign.
+fn by_forms(alloc: Global, verb: Verb, auxiliary: Auxiliary, text: &[u8]) -> Result<Body, LineFault>
     ensures { Gives (λ b. b) result
-        (by_forms verb sign (forms_of verb (is_given (parts_of text.now))) (parts_of text.now)) }
+        (by_forms verb auxiliary (forms_of verb (is_given (parts_of text.now))) (parts_of text.now)) }
 {
     match forms_of(verb, is_given(text)) {
-        Some(forms) => in_forms(alloc, verb, sign, forms, text),
+        Some(forms) => in_forms(alloc, verb, auxiliary, forms, text),
         None => Err(LineFault::UnknownVerb),
     }
 }
@@ -43,39 +50,39 @@ fn by_forms(alloc: Global, verb: Verb, sign: Sign, text: &[u8]) -> Result<Body, 
 fn in_forms(
     alloc: Global,
     verb: Verb,
-    sign: Sign,
+    auxiliary: Auxiliary,
     forms: &[Form],
     text: &[u8],
 ) -> Result<Body, LineFault>
     requires { length forms.now ≤ 7 }
-    ensures { Gives (λ b. b) result (in_forms verb sign forms.now (parts_of text.now)) }
+    ensures { Gives (λ b. b) result (in_forms verb auxiliary forms.now (parts_of text.now)) }
 {
     let operands = read_operands(alloc, forms, text)?;
     if lacks(verb, &operands) {
         return Err(LineFault::MissingOperand(1));
     }
-    match body_with(alloc, verb, sign, operands)? {
+    match body_with(alloc, verb, auxiliary, operands)? {
         Some(body) => Ok(body),
         None => Err(LineFault::UnknownVerb),
     }
 }
 
-// The body of a verb with this sign and these operands, if they have its forms.
+// The body of a verb with this operator or sign and these operands, if they have its forms.
 #[tactic(auto, unfolding(crate::specs::Bodies::body_with))]
 fn body_with(
     alloc: Global,
     verb: Verb,
-    sign: Sign,
+    auxiliary: Auxiliary,
     operands: Vec<Option<Operand>>,
 ) -> Result<Option<Body>, AllocError>
-    ensures { IfOk result (λ o. o ≡ body_with verb sign operands.items) }
+    ensures { IfOk result (λ o. o ≡ body_with verb auxiliary operands.items) }
 {
     match verb {
         Verb::Block(verb) => {
             let operands = operands.into_iter().map(|o| value_in(o)).collect(alloc)?;
             Ok(Some(Body::Block(Block {
                 verb,
-                sign,
+                auxiliary,
                 operands: Row::from_vec(operands),
             })))
         }

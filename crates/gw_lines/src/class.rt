@@ -1,5 +1,5 @@
 ghost use Rattle.std.specs.Prelude.{◌≡◌, ◌≢◌, ◌<◌, ◌∷◌, [], length, not};
-ghost use Rattle.gw_lines.specs.Classes.{is_in, front_of, rest_of, is_blank, is_nothing, tail_of, are_plain, pieces_of};
+ghost use Rattle.gw_lines.specs.Classes.{is_in, front_of, rest_of, word_of, behind_word, is_blank, is_nothing, tail_of, are_plain, pieces_of};
 
 /// What the bytes of one part of a line have in common.
 #[derive(Clone, Copy)]
@@ -59,6 +59,15 @@ pub fn span(class: Class, bytes: &[u8]) -> (&[u8], &[u8])
         n += 1;
     }
     bytes.split_at(n)
+}
+
+/// The word at the front, and what follows it and its blanks.
+pub fn word(bytes: &[u8]) -> (&[u8], &[u8])
+    ensures word { result.0.now ≡ word_of bytes.now }
+    ensures behind { result.1.now ≡ behind_word bytes.now }
+{
+    let (word, rest) = span(Class::Mark, bytes);
+    (word, span(Class::Blank, rest).1)
 }
 
 /// The first piece of a text, whether a byte that is not of the class ends it, and what stands behind that byte.

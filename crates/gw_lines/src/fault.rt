@@ -20,7 +20,7 @@ pub enum LineFault {
     /// L4: the word before the verb is no lawful name, or the verb takes no label, or it lacks one that it needs.
     #[error("the label is not lawful")]
     BadLabel,
-    /// L5: the operand with this number (A is 1) is not of a lawful form.
+    /// L5: the operand with this number (A is 1, the operator before it 0) is not of a lawful form.
     #[error("operand {0} is not lawful")]
     BadOperand(u8),
     /// L6: the operand with this number is absent and is needed.

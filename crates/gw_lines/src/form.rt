@@ -70,6 +70,7 @@ fn forms_of_block(verb: BlockVerb, given: bool) -> Option<&'static [Form]>
         BlockVerb::Seize | BlockVerb::Release => Some(&[ENTITY]),
         BlockVerb::Enter | BlockVerb::Leave => Some(&[DEFINED, VALUE]),
         BlockVerb::Transfer => Some(forms_of_transfer(given)),
+        BlockVerb::Test => Some(&[ONE_VALUE, ONE_VALUE, LABEL]),
         BlockVerb::Mark | BlockVerb::Buffer => Some(&[]),
         BlockVerb::Priority => Some(&[ONE_VALUE]),
         BlockVerb::Assign => Some(&[ENTITY, ONE_VALUE]),

@@ -4,16 +4,18 @@
 //! [`read_model`] reads all lines, [`read_edit`] the text of an edit, in which `|` ends a line, and [`read_statement`]
 //! one line. A statement has one line, and a FUNCTION's pairs stand on further ones (pairs): no statement is handed out
 //! that wants more of them. A line is cut into words (words), and its operand list is copied without the blanks that
-//! are skipped (listed). What the operands of a verb may be is a list of forms (form), behind the first of which a sign
-//! may stand (sign). The list is split once, each part is read by its form (operands, operand, number, atom, attribute,
-//! expression), and the statement is made of what was read (body). What is read is a [`Statement`], which
-//! [`Statement::put_text`] lists.
+//! are skipped (listed). In front of it stands the operator of a verb that takes one, and behind its first operand a
+//! sign (auxiliary). What the operands of a verb may be is a list of forms (form). The list is split once, each part is
+//! read by its form (operands, operand, number, atom, attribute, expression), and the statement is made of what was
+//! read (body). What is read is a [`Statement`], which [`Statement::put_text`] lists.
 //!
-//! All goes by the forms of a verb's operands. Where a further verb or kind of operand goes: docs/contributing.md.
+//! All goes by the forms of a verb's operands and by its operators. Where a further verb or kind of operand goes:
+//! docs/contributing.md.
 #![tactic(auto)]
 
 mod atom;
 mod attribute;
+mod auxiliary;
 mod body;
 mod class;
 mod edit;
@@ -28,7 +30,6 @@ mod number;
 mod operand;
 mod operands;
 mod pairs;
-mod sign;
 mod words;
 
 pub use edit::{read_edit, read_statement};

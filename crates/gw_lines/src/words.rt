@@ -1,10 +1,13 @@
 ghost use Rattle.std.specs.Prelude.{◌≡◌, Some, IfOk};
+ghost use Rattle.gw_names.specs.Words.{upper_of};
 ghost use Rattle.gw_lines.specs.Reading.{Gives, IsFault};
-ghost use Rattle.gw_lines.specs.Lines.{word_of, behind_word, verb_in, is_command, needs_label, no_label_of, label_of, operands_of, unlabelled_of, labelled_of, fault_without_verb, coded_of};
+ghost use Rattle.gw_lines.specs.Classes.{word_of, behind_word};
+ghost use Rattle.gw_lines.specs.Lines.{verb_in, is_command, needs_label, no_label_of, label_of, plain_of, kept_with_operator, kept_behind, operands_of, operands_behind, unlabelled_of, labelled_of, fault_without_verb, coded_of};
 ghost use Rattle.gw_lines.specs.Edits.{is_function, verb_of_words};
 
+use crate::auxiliary::takes_operator;
 use crate::body::read_body;
-use crate::class::{Class, are_plain, span};
+use crate::class::{are_plain, word};
 use crate::fault::LineFault;
 use crate::form::forms_of_definition;
 use crate::listed::listed;
@@ -52,15 +55,6 @@ fn is_function(verb: Verb) -> bool
     }
 }
 
-// The word at the front, and what follows it and its blanks.
-fn word(bytes: &[u8]) -> (&[u8], &[u8])
-    ensures word { result.0.now ≡ word_of bytes.now }
-    ensures behind { result.1.now ≡ behind_word bytes.now }
-{
-    let (word, rest) = span(Class::Mark, bytes);
-    (word, span(Class::Blank, rest).1)
-}
-
 fn verb(alloc: Global, word: &[u8]) -> Result<Option<Verb>, AllocError>
     ensures { IfOk result (λ o. o ≡ verb_in word.now) }
 {
@@ -71,7 +65,7 @@ fn verb(alloc: Global, word: &[u8]) -> Result<Option<Verb>, AllocError>
 fn unlabelled(alloc: Global, verb: Verb, bytes: &[u8]) -> Result<Statement, LineFault>
     ensures { Gives (λ s. s) result (unlabelled_of verb bytes.now) }
 {
-    let operands = operands(alloc, bytes)?;
+    let operands = operands_behind(alloc, verb, bytes)?;
     no_label(verb)?;
     let body = read_body(alloc, verb, &operands)?;
     Ok(Statement {
@@ -88,7 +82,7 @@ fn labelled(alloc: Global, word: &[u8], verb: Verb, bytes: &[u8]) -> Result<Stat
     if !are_plain(word) {
         return Err(LineFault::BadByte);
     }
-    let operands = operands(alloc, bytes)?;
+    let operands = operands_behind(alloc, verb, bytes)?;
     let label = label(alloc, verb, word)?;
     let body = read_body(alloc, verb, &operands)?;
     Ok(Statement {
@@ -98,14 +92,52 @@ fn labelled(alloc: Global, word: &[u8], verb: Verb, bytes: &[u8]) -> Result<Stat
     })
 }
 
-/// The operand list behind a verb, or a line of pairs.
+// The operands behind a verb and its blanks, and its operator before them.
+#[tactic(auto, unfolding(crate::specs::Lines::operands_behind))]
+fn operands_behind(alloc: Global, verb: Verb, bytes: &[u8]) -> Result<Vec<u8>, LineFault>
+    ensures { Gives (λ v. v.items) result (operands_behind verb bytes.now) }
+{
+    plain(kept_behind(alloc, verb, bytes)?)
+}
+
+fn kept_behind(alloc: Global, verb: Verb, bytes: &[u8]) -> Result<Vec<u8>, AllocError>
+    ensures { IfOk result (λ v. v.items ≡ upper_of (kept_behind verb bytes.now)) }
+{
+    if takes_operator(verb) {
+        kept_with_operator(alloc, bytes)
+    } else {
+        listed(alloc, bytes)
+    }
+}
+
+// The operator's word, and the operand list behind one blank, where there is one.
+fn kept_with_operator(alloc: Global, bytes: &[u8]) -> Result<Vec<u8>, AllocError>
+    ensures { IfOk result (λ v. v.items ≡ upper_of (kept_with_operator bytes.now)) }
+{
+    let (operator, behind) = word(bytes);
+    let mut text = operator.to_ascii_uppercase(alloc)?;
+    let operands = listed(alloc, behind)?;
+    if !operands.is_empty() {
+        text.push(b' ')?;
+        text.extend_from_slice(&operands)?;
+    }
+    Ok(text)
+}
+
+/// The operand list that a line of pairs is.
 #[tactic(auto, unfolding(crate::specs::Lines::operands_of))]
 pub fn operands(alloc: Global, bytes: &[u8]) -> Result<Vec<u8>, LineFault>
     ensures { Gives (λ v. v.items) result (operands_of bytes.now) }
 {
-    let operands = listed(alloc, bytes)?;
-    if are_plain(&operands) {
-        Ok(operands)
+    plain(listed(alloc, bytes)?)
+}
+
+// A text whose bytes may all stand outside comments.
+fn plain(text: Vec<u8>) -> Result<Vec<u8>, LineFault>
+    ensures { Gives (λ v. v.items) result (plain_of text.items) }
+{
+    if are_plain(&text) {
+        Ok(text)
     } else {
         Err(LineFault::BadByte)
     }

@@ -1,9 +1,9 @@
 -- A step: which move it is, by questions; then the move. One definition for each choice, with what is chosen by as an
--- argument. (Manual: the order of the scan. Our own: commands, priming and picking as steps of their own, and the order
--- in which a GENERATE's operands are met, that a facility refuses its own owner, too, that units that
--- fit go in, whoever waits, and that a PRIORITY leaves its transaction active.)
+-- argument. (Manual: the order of the scan. Our own: commands, priming and picking are steps of their own; the order in
+-- which a GENERATE's operands are met; a facility refuses its own owner, too; units that fit go in, whoever waits; a
+-- PRIORITY leaves its transaction active.)
 use Rattle.std.specs.Prelude.{ℕ, zero, suc, ◌+◌, ◌-◌, Bool, true, false, ◌==◌, List, [], ◌∷◌, ◌++◌, Option, Some, None, Result, Ok, Err, ℤ, pos, ◌&&◌, ◌||◌, if◌then◌else◌, nat_le, nat_lt, min, not, is_some}
-use Rattle.gw_nums.specs.Range.{is_negative, magnitude}
+use Rattle.gw_nums.specs.Range.{is_negative, is_below, magnitude}
 use Rattle.gw_nums.specs.declared.val.ArithmeticFault.{ArithmeticFault}
 use Rattle.gw_expr.specs.Arithmetic.{applied}
 use Rattle.gw_expr.specs.declared.token.Operator.TheVariants as operators
@@ -18,8 +18,8 @@ use Rattle.gw_meaning.specs.declared.item.Asked.TheVariants as asking
 use Rattle.gw_meaning.specs.declared.item.Item.TheVariants as items
 use Rattle.gw_meaning.specs.declared.item.End.{End}
 use Rattle.gw_meaning.specs.declared.item.End.TheVariants as ends
-use Rattle.gw_meaning.specs.declared.sign.Sign.{Sign}
-use Rattle.gw_meaning.specs.declared.sign.Sign.TheVariants as signs
+use Rattle.gw_meaning.specs.declared.auxiliary.Auxiliary.{Auxiliary}
+use Rattle.gw_meaning.specs.declared.auxiliary.Auxiliary.TheVariants as auxiliaries
 use Rattle.gw_meaning.specs.declared.statement.Block.{Block}
 use Rattle.gw_meaning.specs.declared.statement.Command.{Command}
 use Rattle.gw_meaning.specs.declared.statement.Command.TheVariants as commands
@@ -297,18 +297,18 @@ abbrev pub or_zero : Option ℤ → ℤ
 or_zero None = pos 0
 or_zero (Some v) = v
 
-abbrev pub by_sign : Sign → Option ℤ → ℤ → Result ℤ ArithmeticFault
-by_sign signs.Absent was v = Ok v
-by_sign signs.Plus was v = applied operators.Plus (or_zero was) v
-by_sign signs.Minus was v = applied operators.Minus (or_zero was) v
+abbrev pub by_sign : Auxiliary → Option ℤ → ℤ → Result ℤ ArithmeticFault
+by_sign auxiliaries.Plus was v = applied operators.Plus (or_zero was) v
+by_sign auxiliaries.Minus was v = applied operators.Minus (or_zero was) v
+by_sign auxiliary was v = Ok v
 
 abbrev pub assign_to : ℕ → Key → ℤ → Eval Move
 assign_to id key to = gives (moves.Enter id (changes.Transaction (own.Assign key to)) fates.Active)
 
-abbrev pub assign_with : ℕ → Sign → Key → Option ℤ → ℤ → Eval Move
+abbrev pub assign_with : ℕ → Auxiliary → Key → Option ℤ → ℤ → Eval Move
 assign_with id sign key was v = arithmetic (by_sign sign was v) ~> (λ to. assign_to id key to)
 
-abbrev pub assign_prog : Machine → Asker → ℕ → Sign → Option Term → Option Term → Eval Move
+abbrev pub assign_prog : Machine → Asker → ℕ → Auxiliary → Option Term → Option Term → Eval Move
 assign_prog s q id sign parameter value = entity_prog s q parameter ~> (λ key. value_there s q value ~>
     (λ v. assign_with id sign key (parameter_at s.parameters q.number key) v))
 
@@ -333,6 +333,24 @@ abbrev pub loop_prog : Machine → Asker → ℕ → Option Term → Option Term
 loop_prog s q id parameter label = entity_prog s q parameter ~>
     (λ key. left_of (parameter_at s.parameters q.number key) ~> (λ left. loop_with id key left label))
 
+-- TEST: where the relation of the first value to the second does not hold, the transaction goes to the block with the
+-- label, and else to the next block.
+abbrev pub holds : Auxiliary → ℤ → ℤ → Bool
+holds auxiliaries.Equal a b = not (is_below a b) && not (is_below b a)
+holds auxiliaries.NotEqual a b = is_below a b || is_below b a
+holds auxiliaries.Greater a b = is_below b a
+holds auxiliaries.GreaterOrEqual a b = not (is_below a b)
+holds auxiliaries.Less a b = is_below a b
+holds auxiliaries.LessOrEqual a b = not (is_below b a)
+holds auxiliary a b = false
+
+abbrev pub test_values : ℕ → Auxiliary → Option Term → ℤ → ℤ → Eval Move
+test_values id relation label a b = lead_to id (if holds relation a b then None else label)
+
+abbrev pub test_prog : Machine → Asker → ℕ → Auxiliary → Option Term → Option Term → Option Term → Eval Move
+test_prog s q id relation first second label = value_there s q first ~> (λ a. value_there s q second ~>
+    (λ b. test_values id relation label a b))
+
 -- by the block's verb; no other verb is read so far
 abbrev pub block_prog : Machine → Transaction → ℕ → Block → BlockVerb → Eval Move
 block_prog s x id b blocks.Generate =
@@ -346,10 +364,12 @@ block_prog s x id b blocks.Release = release_prog s (for_one s x) x id (operand 
 block_prog s x id b blocks.Enter = enter_prog s (for_one s x) id (operand b A) (operand b B)
 block_prog s x id b blocks.Leave = leave_prog s (for_one s x) id (operand b A) (operand b B)
 block_prog s x id b blocks.Transfer = transfer_prog id (operand b A) (operand b B) (operand b C)
+block_prog s x id b blocks.Test =
+    test_prog s (for_one s x) id b.auxiliary (operand b A) (operand b B) (operand b C)
 block_prog s x id b blocks.Mark = mark_prog id
 block_prog s x id b blocks.Priority = priority_prog s (for_one s x) id (operand b A)
 block_prog s x id b blocks.Buffer = buffer_prog id
-block_prog s x id b blocks.Assign = assign_prog s (for_one s x) id b.sign (operand b A) (operand b B)
+block_prog s x id b blocks.Assign = assign_prog s (for_one s x) id b.auxiliary (operand b A) (operand b B)
 block_prog s x id b blocks.Loop = loop_prog s (for_one s x) id (operand b A) (operand b B)
 block_prog s x id b verb = ends_with (ends.Error NoNextBlock)
 

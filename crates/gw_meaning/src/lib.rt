@@ -7,12 +7,12 @@
 #![tactic(auto)]
 
 mod asker;
+mod auxiliary;
 mod destination;
 mod entity_change;
 mod item;
 mod moves;
 pub mod operands;
-mod sign;
 mod statement;
 mod statement_id;
 mod text;
@@ -20,11 +20,11 @@ mod transaction;
 mod transaction_change;
 
 pub use asker::Asker;
+pub use auxiliary::Auxiliary;
 pub use destination::Destination;
 pub use entity_change::{Deed, EntityChange};
 pub use item::{Asked, End, Item, Outcome};
 pub use moves::{Arrival, Change, Fate, Move};
-pub use sign::Sign;
 pub use statement::{Block, Body, Command, Definition, Numbered, Replication, Statement};
 pub use statement_id::StatementId;
 pub use transaction::{Count, Event, Transaction};

@@ -2,7 +2,7 @@ ghost use Rattle.std.specs.Prelude.{◌≡◌, IfOk, option_copied};
 ghost use Rattle.gw_meaning.specs.Statements.{operand, is_generate_verb, verb_of_definition, verb_of_command, verb_of_body};
 ghost use Rattle.gw_meaning.specs.Listing.{block_of, definition_of, command_of, is_block, is_command, is_generate};
 
-use crate::sign::Sign;
+use crate::auxiliary::Auxiliary;
 use crate::statement_id::StatementId;
 use gw_expr::{Expr, Function, Row};
 use gw_names::{BlockVerb, CommandVerb, DefinitionVerb, Name, Verb};
@@ -14,7 +14,8 @@ use std::alloc::{AllocError, Global};
 pub struct Statement {
     pub label: Option<Name>,
     pub body: Body,
-    /// The operands as `list` prints them: as written, in upper case and without skipped blanks.
+    /// The operands as `list` prints them: as written, in upper case and without skipped blanks, and behind the
+    /// operator and one blank where the verb has an operator.
     pub operands: Row<u8>,
 }
 
@@ -30,8 +31,7 @@ pub enum Body {
 #[derive(Drop)]
 pub struct Block {
     pub verb: BlockVerb,
-    /// The sign behind operand A, where the verb takes one.
-    pub sign: Sign,
+    pub auxiliary: Auxiliary,
     pub operands: Row<Option<Expr>>,
 }
 
@@ -102,7 +102,7 @@ impl Block {
         }
         Ok(Block {
             verb: self.verb,
-            sign: self.sign,
+            auxiliary: self.auxiliary,
             operands: Row::from_vec(operands),
         })
     }

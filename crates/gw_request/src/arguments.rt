@@ -7,9 +7,9 @@ use crate::command::{Bare, Command, Pair, Single, Text};
 use crate::number::{next_number, number_of};
 use crate::request::Request;
 use crate::words::cut;
-use gw_edit::Edit;
 use gw_expr::Row;
 use gw_names::Name;
+use gw_touch::Edit;
 use std::alloc::{AllocError, Global};
 
 // What a command asks for, where the words behind it are those that it takes.

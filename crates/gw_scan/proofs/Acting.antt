@@ -1,6 +1,8 @@
 -- What was decided, and then made.
-use Rattle.std.proofs.Common.{◌≡◌, ℕ, ℤ, arith, List, [], ◌∷◌, length, Option, Some, None, Result, Ok, Err, refl, ap, sym, subst, ◌∙◌}
+use Rattle.std.proofs.Common.{◌≡◌, ℕ, ℤ, arith, Bool, true, false, not, List, [], ◌∷◌, length, Option, Some, None, Result, Ok, Err, refl, ap, sym, subst, ◌∙◌}
+use Rattle.std.proofs.Math.Path.{fun_ext}
 use Rattle.gw_meaning.specs.declared.item.Item.{Item}
+use Rattle.gw_meaning.specs.declared.item.Asked.TheVariants as asking
 use Rattle.gw_meaning.specs.declared.item.Item.TheVariants as items
 use Rattle.gw_meaning.specs.declared.moves.Arrival.{Arrival}
 use Rattle.gw_meaning.specs.declared.moves.Change.TheVariants as changes
@@ -11,15 +13,17 @@ use Rattle.gw_meaning.specs.declared.transaction.Transaction.{Transaction}
 use Rattle.gw_meaning.specs.Listing.{Listing}
 use Rattle.gw_meaning.specs.Machine.{Machine}
 use Rattle.gw_meaning.specs.Questions.{Answer, ask}
-use Rattle.gw_meaning.specs.Evaluation.{Eval, asks, gives, ◌~>◌}
+use Rattle.gw_meaning.specs.Evaluation.{Eval, asks, gives, stops_if, ◌~>◌}
 use Rattle.gw_meaning.specs.Changes.{decided, moved, placed, crossed, with_active}
 use Rattle.gw_entities.specs.Parameters.{assigned}
+use Rattle.gw_entities.specs.Records.{Store}
+use Rattle.gw_expr.specs.declared.stop.Stop.TheVariants.{TooManyUnits}
 use Rattle.gw_names.specs.declared.key.Key.{Key}
-use Rattle.gw_meaning.specs.Step.{try_prog, attempt_prog, pick_prog, clock_prog, least_time}
+use Rattle.gw_meaning.specs.Step.{try_prog, attempt_prog, pick_prog, clock_prog, least_time, enter_storage}
 use Rattle.gw_asking.specs.declared.halt.Why.{Why}
 use Rattle.gw_asking.specs.declared.halt.Why.TheVariants as whys
 use Rattle.gw_asking.specs.Noted.{Noted, Asks, Keeps, Tries}
-use Rattle.gw_asking.specs.Deciding.{Decides, Comes, sent}
+use Rattle.gw_asking.specs.Deciding.{Decides, Comes, large_enough, sent}
 use Rattle.gw_scan.specs.Making.{generated, looped, starting}
 use Rattle.gw_scan.specs.Stepping.{Acts, Goes, Makes}
 use Rattle.gw_asking.proofs.Binding.{decides_asked, decides_then, decides_halt, decides_gives, decides_comes}
@@ -48,6 +52,16 @@ pub moved_looped : (s : Machine) (id : ℕ) (key : Key) (left : ℤ) (to : Optio
     }) s
 moved_looped s id key left None = refl
 moved_looped s id key left (Some to) = refl
+
+-- an ENTER asks first whether the empty storage holds its units, and goes on where it does
+pub enters_large : (id : ℕ) (name : List ℕ) (store : Store) (units capacity : ℕ) →
+    asks (items.Named (asking.Fits units) name) (enter_storage id name store units) ≡
+    (large_enough name units capacity ~> (λ c. enter_storage id name store units true))
+enters_large id name store units capacity = ap (asks (items.Named (asking.Fits units) name)) (fun_ext go) where
+  go : (large : Bool) → enter_storage id name store units large ≡
+      (stops_if (not large) TooManyUnits (gives capacity) ~> (λ c. enter_storage id name store units true))
+  go true = refl
+  go false = refl
 
 -- the exit by `?` behind what neither asks nor draws
 pub goes_exit :

@@ -52,7 +52,7 @@ looping id key left (Err halt) = Err halt
 -- what an ASSIGN and a LOOP come to, once it is known which parameter they are of
 abbrev pub assign_key : Machine → Transaction → ℕ → Block → Key → Eval Move
 assign_key s x id b key = value_there s (for_one s x) (operand b B) ~>
-    (λ v. assign_with id b.sign key (parameter_at s.parameters x.number key) v)
+    (λ v. assign_with id b.auxiliary key (parameter_at s.parameters x.number key) v)
 
 abbrev pub loop_key : Machine → Transaction → ℕ → Block → Key → Eval Move
 loop_key s x id b key =

@@ -19,7 +19,7 @@ use gw_asking::{Case, EntityRef, Halt, Notes, ask_label};
 use gw_entities::{ParameterPlace, Parameters};
 use gw_expr::{Expr, Node, Operator};
 use gw_meaning::operands::B;
-use gw_meaning::{Asker, Block, Destination, Sign, StatementId};
+use gw_meaning::{Asker, Auxiliary, Block, Destination, StatementId};
 use gw_names::Key;
 use gw_nums::{ArithmeticFault, Val};
 use std::alloc::AllocError;
@@ -36,8 +36,8 @@ impl State {
     ) -> Result<(), Halt>
         requires { IsSome self.old.active }
         ensures { (x : Transaction) → self.old.active ≡ Some x → Acts case.entry.version.now case.entry.seed
-            (assign_prog self.old (for_one self.old x) id block.now.sign (operand block.now A) (operand block.now B))
-            result self.old self.new notes.old notes.new }
+            (assign_prog self.old (for_one self.old x) id block.now.auxiliary
+            (operand block.now A) (operand block.now B)) result self.old self.new notes.old notes.new }
     {
         let parameter = self.own_entity(case, notes, block)?;
         self.assign_entity(case, notes, id, block, parameter)
@@ -101,13 +101,19 @@ impl State {
     {
         let x = self.active.get();
         let value = self.value_there(case, &self.for_one(x), notes, block.operand(B))?;
-        let assigned = self.assign(id, block.sign, key, value);
+        let assigned = self.assign(id, block.auxiliary, key, value);
         self.with_draws(assigned, notes)
     }
 
     // The parameter with a key is set to what a value makes of it.
     #[inline(always)]
-    fn assign(&mut self, id: StatementId, sign: Sign, key: &Key, value: Val) -> Result<(), Halt>
+    fn assign(
+        &mut self,
+        id: StatementId,
+        sign: Auxiliary,
+        key: &Key,
+        value: Val,
+    ) -> Result<(), Halt>
         requires { IsSome self.old.active }
         ensures { (x : Transaction) → self.old.active ≡ Some x →
             Goes (assign_with id sign key.now (parameter_at self.old.parameters x.number key.now) value)
@@ -260,26 +266,26 @@ fn value_held(value: Option<Val>) -> Result<Val, Halt>
 fn value_before(
     parameters: &Parameters,
     number: u64,
-    sign: Sign,
+    sign: Auxiliary,
     key: &Key,
 ) -> (Option<ParameterPlace>, Option<Val>)
     ensures place { IsKnownPlace parameters.now number key.now result.0 }
     ensures value { (v : ℤ) → by_sign sign result.1 v ≡ by_sign sign (parameter_at parameters.now number key.now) v }
 {
     match sign {
-        Sign::Absent => (None, None),
-        Sign::Plus | Sign::Minus => parameters.look(number, key),
+        Auxiliary::Plus | Auxiliary::Minus => parameters.look(number, key),
+        _ => (None, None),
     }
 }
 
 // What a value makes of a parameter, by the sign before it.
-fn by_sign(sign: Sign, was: Option<Val>, value: Val) -> Result<Val, ArithmeticFault>
+fn by_sign(sign: Auxiliary, was: Option<Val>, value: Val) -> Result<Val, ArithmeticFault>
     ensures { result ≡ by_sign sign was value }
 {
     match sign {
-        Sign::Absent => Ok(value),
-        Sign::Plus => Operator::Plus.apply(or_zero(was), value),
-        Sign::Minus => Operator::Minus.apply(or_zero(was), value),
+        Auxiliary::Plus => Operator::Plus.apply(or_zero(was), value),
+        Auxiliary::Minus => Operator::Minus.apply(or_zero(was), value),
+        _ => Ok(value),
     }
 }
 

@@ -4,13 +4,13 @@ ghost use Rattle.gw_entities.specs.Comings.{came};
 ghost use Rattle.gw_meaning.specs.declared.transaction.Transaction.{Transaction};
 ghost use Rattle.gw_meaning.specs.Entities.{line_at};
 ghost use Rattle.gw_meaning.specs.Statements.{A, B, operand};
-ghost use Rattle.gw_meaning.specs.Step.{for_one, is_too_many, queue_units, queue_prog, depart_units, depart_prog};
+ghost use Rattle.gw_meaning.specs.Step.{for_one, queue_units, queue_prog, depart_units, depart_prog};
 ghost use Rattle.gw_asking.specs.EntityRef.{key_of};
 ghost use Rattle.gw_scan.specs.Stepping.{Acts, Goes};
 
 use crate::entering::enter_active;
 use crate::state::State;
-use gw_asking::{Case, EntityRef, Halt, Notes};
+use gw_asking::{Case, EntityRef, Halt, Notes, is_too_many};
 use gw_meaning::{Block, StatementId};
 use gw_names::Key;
 use gw_parts::{Arrive, Depart};
@@ -137,11 +137,4 @@ impl State {
         enter_active(&mut self.active, &mut self.counts, id);
         Ok(())
     }
-}
-
-// Whether a content or a count of entries is beyond what it may be.
-pub fn is_too_many(count: u64) -> bool
-    ensures { result ≡ is_too_many count }
-{
-    count > 1_000_000_000
 }

@@ -59,7 +59,7 @@ impl State {
             result self.old self.new }
     {
         let (place, facility) = self.entities.look_for_facility(key);
-        if facility.is_owned() {
+        if !self.active.may_take(facility) {
             self.refuse(id, key, 1)?;
             return Ok(());
         }

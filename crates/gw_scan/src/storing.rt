@@ -1,28 +1,24 @@
 // ENTER and LEAVE, made where they are decided: the storage is looked up once.
-ghost use Rattle.std.specs.Prelude.{◌≡◌, [], IsSome, Some, None, true, option_copied};
+ghost use Rattle.std.specs.Prelude.{◌≡◌, [], IsSome, Some, OnOk, OnErr, option_copied};
 ghost use Rattle.gw_expr.specs.Term.{Defined};
 ghost use Rattle.gw_names.specs.declared.key.Key.TheVariants as keys;
 ghost use Rattle.gw_entities.specs.Tables.{IsPlace};
-ghost use Rattle.gw_meaning.specs.declared.entity_change.Deed.TheVariants as deeds;
 ghost use Rattle.gw_meaning.specs.declared.item.Asked.TheVariants as asking;
 ghost use Rattle.gw_meaning.specs.declared.item.Item.TheVariants as items;
-ghost use Rattle.gw_meaning.specs.declared.moves.Change.TheVariants as changes;
-ghost use Rattle.gw_meaning.specs.declared.moves.Fate.TheVariants as fates;
-ghost use Rattle.gw_meaning.specs.declared.moves.Move.TheVariants as moves;
 ghost use Rattle.gw_meaning.specs.declared.transaction.Transaction.{Transaction};
 ghost use Rattle.gw_chains.specs.Chains.{items_of};
+ghost use Rattle.gw_meaning.specs.Changes.{moved};
 ghost use Rattle.gw_meaning.specs.Entities.{store_at};
 ghost use Rattle.gw_meaning.specs.Machine.{delay_at};
-ghost use Rattle.gw_meaning.specs.Evaluation.{asks, gives};
-ghost use Rattle.gw_meaning.specs.Listing.{capacity_at};
+ghost use Rattle.gw_meaning.specs.Evaluation.{asks};
 ghost use Rattle.gw_meaning.specs.Statements.{A, B, operand};
-ghost use Rattle.gw_meaning.specs.Step.{for_one, enter_or_wait, enter_storage, enter_prog, leave_for, leave_units, leave_prog};
+ghost use Rattle.gw_meaning.specs.Step.{for_one, enter_storage, enter_prog, leave_for, leave_units, leave_prog};
+ghost use Rattle.gw_asking.specs.Deciding.{stored};
 ghost use Rattle.gw_scan.specs.Stepping.{Acts, Goes};
 
 use crate::entering::enter_active;
-use crate::queueing::is_too_many;
 use crate::state::State;
-use gw_asking::{Case, Halt, Notes, all_shares, ask_fits, beside, shares_of};
+use gw_asking::{Case, Halt, Notes, all_shares, enter_fits, is_too_many, large_enough, shares_of};
 use gw_chains::PriorityChain;
 use gw_entities::Storage;
 use gw_expr::Node;
@@ -30,6 +26,7 @@ use gw_meaning::operands::A;
 use gw_meaning::{Block, StatementId};
 use gw_names::{Key, StorageName};
 use gw_parts::{Become, Enter, Leave, enter_all, let_some_in, reserve_some};
+use std::alloc::AllocError;
 
 impl State {
     // The delay chain of a storage, where somebody waits on it.
@@ -85,7 +82,7 @@ impl State {
         self.act_enter_units(case, notes, id, name, units)
     }
 
-    // So many units: it is asked first whether the empty storage holds them.
+    // So many units: it is asked whether the empty storage holds them, and then whether they fit beside those in use.
     #[inline(always)]
     fn act_enter_units(
         &mut self,
@@ -101,37 +98,13 @@ impl State {
             (enter_storage id name.now (store_at self.old.entities (keys.Defined name.now)) units))
             result self.old self.new notes.old notes.new }
     {
-        let capacity = case.version.capacity(name.name());
-        let large = ask_fits(notes, name.name(), u64::from(units), capacity)?;
-        if !large {
-            return Err(Halt::TOO_MANY_UNITS);
-        }
-        self.act_enter_storage(case, notes, id, name, units, capacity)
-    }
-
-    // So many units of a storage that has at least as many.
-    #[inline(always)]
-    fn act_enter_storage(
-        &mut self,
-        case: Case,
-        notes: &mut Notes,
-        id: StatementId,
-        name: &StorageName,
-        units: u32,
-        capacity: u64,
-    ) -> Result<(), Halt>
-        requires active { IsSome self.old.active }
-        requires capacity { capacity ≡ capacity_at case.version.now name.now }
-        ensures { (x : Transaction) → self.old.active ≡ Some x → Acts case.entry.version.now case.entry.seed
-            (enter_storage id name.now (store_at self.old.entities (keys.Defined name.now)) units true)
-            result self.old self.new notes.old notes.new }
-    {
+        let capacity = large_enough(case, notes, name, units)?;
         let key = name.key();
         let (place, storage) = self.entities.look_for_storage(key);
-        let wanted = beside(u64::from(units), storage.level().content());
-        let fits = ask_fits(notes, name.name(), wanted, capacity)?;
-        let entered = self.enter_or_wait(id, key, place, storage, units, fits);
-        self.with_draws(entered, notes)
+        let fits = enter_fits(notes, name, units, storage, capacity)?;
+        self.enter_or_wait(id, key, place, units, fits)?;
+        self.take_draws(notes);
+        Ok(())
     }
 
     // Units that fit come into use, whoever waits; else the transaction waits.
@@ -141,45 +114,20 @@ impl State {
         id: StatementId,
         key: &Key,
         place: Option<usize>,
-        storage: Storage,
         units: u32,
         fits: bool,
-    ) -> Result<(), Halt>
+    ) -> Result<(), AllocError>
         requires active { IsSome self.old.active }
         requires place { IsPlace self.old.entities.storages key.now place }
-        requires storage { storage ≡ store_at self.old.entities key.now }
-        ensures { (x : Transaction) → self.old.active ≡ Some x →
-            Goes (enter_or_wait id key.now storage units fits) result self.old self.new }
+        ensures ok { OnOk result (self.new ≡ moved self.old (stored id key.now units fits)) }
+        ensures err { OnErr result (self.new ≡ self.old) }
     {
         if !fits {
-            self.refuse(id, key, units)?;
-            return Ok(());
+            return self.refuse(id, key, units);
         }
-        let units = u64::from(units);
-        if is_too_many(storage.entries().saturating_add(units)) {
-            return Err(Halt::TOO_MANY_UNITS);
-        }
-        self.enter_at(id, key, place, units)
-    }
-
-    // Units of the storage at a place come into use.
-    #[inline(always)]
-    fn enter_at(
-        &mut self,
-        id: StatementId,
-        key: &Key,
-        place: Option<usize>,
-        units: u64,
-    ) -> Result<(), Halt>
-        requires active { IsSome self.old.active }
-        requires place { IsPlace self.old.entities.storages key.now place }
-        ensures { (x : Transaction) → self.old.active ≡ Some x →
-            Goes (gives (moves.Enter id (changes.Entity (key.now, deeds.Enter units)) fates.Active))
-            result self.old self.new }
-    {
         self.counts.reserve(id)?;
         let deed = Enter {
-            units,
+            units: u64::from(units),
             clock: self.clocks.clock(),
         };
         self.entities.change_storage(key, place, deed)?;

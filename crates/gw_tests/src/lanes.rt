@@ -1,69 +1,45 @@
 use gw_lanes::{first_at, least};
 use std::test::Fail;
 
+// Of none, one and two, of a block of eight and a rest, of two blocks, and of a rest that has the least.
 #[test]
-fn nothing(rt: HostRuntime) {
-    assert_eq!(rt; least(&[]), None);
+fn the_least_of_numbers(rt: HostRuntime) {
+    let cases: [(&[u64], Option<u64>); 9] = [
+        (&[], None),
+        (&[0], Some(0)),
+        (&[7], Some(7)),
+        (&[4_294_967_296, 5], Some(5)),
+        (
+            &[9, 8, 7, 6, 5, 4, 3, 2, 10, 11, 12, 13, 14, 15, 16],
+            Some(2),
+        ),
+        (
+            &[9, 8, 7, 6, 5, 4, 3, 2, 10, 11, 12, 13, 14, 1, 16, 17],
+            Some(1),
+        ),
+        (
+            &[9, 8, 7, 6, 5, 4, 3, 2, 10, 11, 12, 13, 14, 5, 16, 17, 1],
+            Some(1),
+        ),
+        (&[u64::MAX; 17], Some(u64::MAX)),
+        (&[u64::MAX; 8], Some(u64::MAX)),
+    ];
+    for (numbers, wanted) in cases {
+        assert_eq!(rt; least(numbers), wanted);
+    }
 }
 
 #[test]
-fn one_value(rt: HostRuntime) {
-    assert_eq!(rt; least(&[7]), Some(7));
-    assert_eq!(rt; least(&[0]), Some(0));
-}
-
-#[test]
-fn one_block_and_seven(rt: HostRuntime) {
-    assert_eq!(rt;
-        least(&[9, 8, 7, 6, 5, 4, 3, 2, 10, 11, 12, 13, 14, 15, 16]),
-        Some(2)
-    );
-}
-
-#[test]
-fn two_blocks(rt: HostRuntime) {
-    assert_eq!(rt;
-        least(&[9, 8, 7, 6, 5, 4, 3, 2, 10, 11, 12, 13, 14, 1, 16, 17]),
-        Some(1)
-    );
-}
-
-#[test]
-fn least_only_in_the_rest(rt: HostRuntime) {
-    assert_eq!(rt;
-        least(&[9, 8, 7, 6, 5, 4, 3, 2, 10, 11, 12, 13, 14, 5, 16, 17, 1]),
-        Some(1)
-    );
-}
-
-#[test]
-fn thirty_three_values(rt: HostRuntime) -> Result<(), Fail> {
+fn thirty_three_numbers(rt: HostRuntime) -> Result<(), Fail> {
     let alloc = rt.alloc();
-    let mut values = vec![in alloc; 1000; 33]?;
-    assert_eq!(rt; least(&values), Some(1000));
-    assert_eq!(rt; values.len(), 33);
-    values[20] = 999;
-    assert_eq!(rt; least(&values), Some(999));
+    let mut numbers = vec![in alloc; 1000; 33]?;
+    assert_eq!(rt; least(&numbers), Some(1000));
+    numbers[20] = 999;
+    assert_eq!(rt; least(&numbers), Some(999));
     Ok(())
 }
 
-#[test]
-fn the_greatest_number(rt: HostRuntime) {
-    assert_eq!(rt; least(&[u64::MAX; 17]), Some(u64::MAX));
-    assert_eq!(rt; least(&[u64::MAX; 8]), Some(u64::MAX));
-}
-
-#[test]
-fn a_number_above_32_bits(rt: HostRuntime) {
-    assert_eq!(rt; least(&[4_294_967_296, 5]), Some(5));
-    assert_eq!(rt; first_at(&[4_294_967_297, 1], 1), Some(1));
-    assert_eq!(rt;
-        first_at(&[4_294_967_297, 4_294_967_297, 3, 4, 5, 6, 7, 1, 9], 1),
-        Some(7)
-    );
-}
-
-// Of 0, 7, 8, 9, 15, 16, 17 and 33 values: the value stands at the last place alone.
+// Of 0, 7, 8, 9, 15, 16, 17 and 33 numbers: the wanted one stands at the last place alone.
 #[test]
 fn the_last_place(rt: HostRuntime) {
     let mut values = [1_001_000_000_000; 33];
@@ -83,21 +59,22 @@ fn the_last_place(rt: HostRuntime) {
     }
 }
 
+// The wanted number stands at several places, or only its low 32 bits do.
 #[test]
 fn the_first_of_equal_places(rt: HostRuntime) {
-    assert_eq!(rt;
-        first_at(&[1_001_000_000_000; 17], 1_001_000_000_000),
-        Some(0)
-    );
-    assert_eq!(rt;
-        first_at(&[1_001_000_000_000; 7], 1_001_000_000_000),
-        Some(0)
-    );
     let mut values = [3; 33];
     values[32] = 8;
     values[14] = 8;
-    assert_eq!(rt; first_at(&values, 8), Some(14));
     values[12] = 8;
-    assert_eq!(rt; first_at(&values, 8), Some(12));
-    assert_eq!(rt; first_at(&values[15..], 8), Some(17));
+    let cases: [(&[u64], u64, usize); 6] = [
+        (&[1_001_000_000_000; 17], 1_001_000_000_000, 0),
+        (&[1_001_000_000_000; 7], 1_001_000_000_000, 0),
+        (&values, 8, 12),
+        (&values[13..], 8, 1),
+        (&values[15..], 8, 17),
+        (&[4_294_967_297, 4_294_967_297, 3, 4, 5, 6, 7, 1, 9], 1, 7),
+    ];
+    for (numbers, wanted, place) in cases {
+        assert_eq!(rt; first_at(numbers, wanted), Some(place));
+    }
 }

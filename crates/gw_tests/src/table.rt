@@ -13,13 +13,12 @@ fn pairs_stay_in_the_order_of_first_insertion(rt: HostRuntime) -> Result<(), Fai
     table.set(3, 'b');
     table.set(7, 'c');
     assert_eq!(rt; table.len(), 2);
-    assert_eq!(rt; table.pair(0), Some((7, 'c')));
-    assert_eq!(rt; table.pair(1), Some((3, 'b')));
-    assert_eq!(rt; table.pair(2), None);
-    assert_eq!(rt; table.get(7), Some('c'));
-    assert_eq!(rt; table.get(3), Some('b'));
-    assert_eq!(rt; table.get(0), None);
-    assert_eq!(rt; table.get(u64::MAX), None);
+    for (place, pair) in [(0, Some((7, 'c'))), (1, Some((3, 'b'))), (2, None)] {
+        assert_eq!(rt; table.pair(place), pair);
+    }
+    for (number, value) in [(7, Some('c')), (3, Some('b')), (0, None), (u64::MAX, None)] {
+        assert_eq!(rt; table.get(number), value);
+    }
     Ok(())
 }
 

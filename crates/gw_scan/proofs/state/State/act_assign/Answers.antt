@@ -16,7 +16,7 @@ returns-in_err-parameter c x is =
     let s = c.args.self.now in
     let b = c.args.block.now in
     let rest : Key → Eval Move = λ key. value_there s (for_one s x) (operand b B) ~>
-    (λ v. assign_with c.args.id b.sign key (parameter_at s.parameters x.number key) v) in
+    (λ v. assign_with c.args.id b.auxiliary key (parameter_at s.parameters x.number key) v) in
     acts_exit c.args.case.version.now c.args.case.seed (entity_prog s (for_one s x) (operand b A)) rest _ _ _
     c.in_err-parameter.field-0.0 s _ _ refl p.1 p.2 (c.in_err-parameter.ensures x is)
 
@@ -25,6 +25,6 @@ returns c x is =
     let s = c.args.self.now in
     let b = c.args.block.now in
     let rest : Key → Eval Move = λ key. value_there s (for_one s x) (operand b B) ~>
-    (λ v. assign_with c.args.id b.sign key (parameter_at s.parameters x.number key) v) in
+    (λ v. assign_with c.args.id b.auxiliary key (parameter_at s.parameters x.number key) v) in
     acts_then c.args.case.version.now c.args.case.seed (entity_prog s (for_one s x) (operand b A)) rest (key_of c.in_ok-parameter.parameter)
     _ s _ _ _ _ (c.in_ok-parameter.ensures x is) (c.assign_entity.ensures x is)

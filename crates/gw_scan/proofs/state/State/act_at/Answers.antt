@@ -30,6 +30,9 @@ returns-in-Leave c x is = rw c.in-Leave.is (c.act_leave.ensures x is)
 pub returns-in-Transfer : goal.returns-in-Transfer
 returns-in-Transfer c x is = rw c.in-Transfer.is c.act_transfer.ensures
 
+pub returns-in-Test : goal.returns-in-Test
+returns-in-Test c x is = rw c.in-Test.is (c.act_test.ensures x is)
+
 pub returns-in-Mark : goal.returns-in-Mark
 returns-in-Mark c x is = rw c.in-Mark.is (c.act_mark.ensures c.args.case.version.now c.args.case.seed)
 

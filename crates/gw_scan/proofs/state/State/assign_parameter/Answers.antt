@@ -14,7 +14,7 @@ returns-in_err-value c x is =
     let s = c.args.self.now in
     let b = c.args.block.now in
     let first = value_there s c.for_one.result (option_copied c.operand.result) in
-    let rest : ℤ → Eval Move = λ v. assign_with c.args.id b.sign c.args.key.now (parameter_at s.parameters x.number c.args.key.now) v in
+    let rest : ℤ → Eval Move = λ v. assign_with c.args.id b.auxiliary c.args.key.now (parameter_at s.parameters x.number c.args.key.now) v in
     let same : c.get-x.result.now ≡ x = search rules in
     let whole : (value_there s (for_one s x) (operand b B) ~> rest) ≡ (first ~> rest) =
     rw (c.for_one.ensures, c.operand.ensures, same) refl in
@@ -27,7 +27,7 @@ returns c x is =
     let s = c.args.self.now in
     let b = c.args.block.now in
     let first = value_there s c.for_one.result (option_copied c.operand.result) in
-    let rest : ℤ → Eval Move = λ v. assign_with c.args.id b.sign c.args.key.now (parameter_at s.parameters x.number c.args.key.now) v in
+    let rest : ℤ → Eval Move = λ v. assign_with c.args.id b.auxiliary c.args.key.now (parameter_at s.parameters x.number c.args.key.now) v in
     let same : c.get-x.result.now ≡ x = search rules in
     let whole : (value_there s (for_one s x) (operand b B) ~> rest) ≡ (first ~> rest) =
     rw (c.for_one.ensures, c.operand.ensures, same) refl in

@@ -8,8 +8,8 @@ use Rattle.gw_meaning.specs.Entities.{facility_at}
 use Rattle.std.proofs.Common.{is_some, true, false}
 use Rattle.gw_scan.proofs.state.State.seize.Goals as goal
 
-pub returns-then-is_owned : goal.returns-then-is_owned
-returns-then-is_owned c x is =
+pub returns-then-not-may_take : goal.returns-then-not-may_take
+returns-then-not-may_take c x is =
     let m = moves.Refuse c.args.id c.args.key.now 1 in
     let owned : is_some (facility_at c.args.self.now.entities c.args.key.now).owner ≡ true = search rules in
     (m, rw owned (λ i. gives m), search rules)

@@ -1,0 +1,19 @@
+//! What an edit touches, and how far back a recorded run goes for it.
+//!
+//! What an [`Edit`] of a version touches ([`touch_of`]) is a list of probes in each replication. Of a recorded run the
+//! steps stand up to the first one that asked for something touched ([`touched`]): the run goes back to the last kept
+//! moment at or before it ([`go_back`]).
+#![tactic(auto)]
+
+mod edit;
+mod going_back;
+mod lines;
+mod same;
+mod touch;
+mod touched_step;
+
+pub use edit::Edit;
+pub use going_back::go_back;
+pub use lines::storage_place;
+pub use touch::{Touch, touch_of};
+pub use touched_step::touched;
