@@ -126,6 +126,7 @@ class Run:
         self.streams = {j: ("set", j) for j in range(1, 8)}
         self.current, self.future, self.waiting = [], [], {}
         self.counts, self.facilities, self.queues, self.storages = {}, {}, {}, {}
+        self.savevalues, self.switches = {}, {}
         self.reads, self.clocks, self.ends = [], [], []
 
     def count(self, id):
@@ -175,6 +176,8 @@ class Run:
         if of in ("F", "FC"):
             facility = self.facilities.get(key, Facility())
             return facility.captures if of == "FC" else int(facility.owner is not None)
+        if of in ("X", "LS"):
+            return self.savevalues.get(key, 0) if of == "X" else int(self.switches.get(key, False))
         queue = self.queues.get(key, Queue())
         return {"Q": queue.content, "QC": queue.entries, "QM": queue.most, "QZ": queue.zero}[of]
 
@@ -452,6 +455,26 @@ class Run:
         def go():
             self.enter(x, block)
             x.parameters[key] = new
+
+        return go
+
+    def savevalue(self, x, block):
+        key, value, sign = self.key(block), self.value(block, 1), block.sign()
+        old = self.savevalues.get(key, 0) if sign else 0
+        new = within(old - value if sign == "-" else old + value)
+
+        def go():
+            self.enter(x, block)
+            self.savevalues[key] = new
+
+        return go
+
+    def logic(self, x, block):
+        key = self.key(block)
+
+        def go():
+            self.enter(x, block)
+            self.switches[key] = {"S": True, "R": False, "I": not self.switches.get(key, False)}[block.auxiliary]
 
         return go
 

@@ -2,14 +2,15 @@
 import re
 
 BLOCKS = (
-    "GENERATE ADVANCE TERMINATE QUEUE DEPART SEIZE RELEASE ENTER LEAVE TRANSFER TEST MARK PRIORITY BUFFER ASSIGN LOOP"
+    "GENERATE ADVANCE TERMINATE QUEUE DEPART SEIZE RELEASE ENTER LEAVE TRANSFER TEST LOGIC SAVEVALUE MARK PRIORITY"
+    " BUFFER ASSIGN LOOP"
 ).split()
 DEFINITIONS = "STORAGE EQU VARIABLE FUNCTION".split()
 COMMANDS = "START RMULT".split()
 # The verbs of later stages, which are no names either.
 LATER_DEFINITIONS = ["TABLE"]
 LATER_COMMANDS = "RESET CLEAR".split()
-LATER_BLOCKS = "GATE LOGIC SAVEVALUE TABULATE LINK UNLINK SPLIT".split()
+LATER_BLOCKS = "GATE TABULATE LINK UNLINK SPLIT".split()
 VERBS = BLOCKS + DEFINITIONS + COMMANDS + LATER_DEFINITIONS + LATER_COMMANDS + LATER_BLOCKS
 # The operands of a verb: a value, an entity, one with a sign behind it or none, a storage, a label, a fraction, an
 # expression, a number, a count, a seed, or a key word; `!` where one must be there.
@@ -26,6 +27,8 @@ FORMS = {
     "LEAVE": "storage! value",
     "TRANSFER": "fraction! label label!",
     "TEST": "value! value! label!",
+    "LOGIC": "entity!",
+    "SAVEVALUE": "changed! value!",
     "MARK": "",
     "ASSIGN": "changed! value!",
     "LOOP": "entity! label!",
@@ -38,14 +41,14 @@ FORMS = {
     "RMULT": "seed seed seed seed seed seed seed",
 }
 # The operators of a verb that has one: a word of its own in front of the operands.
-AUXILIARIES = {"TEST": "E NE G GE L LE".split()}
+AUXILIARIES = {"TEST": "E NE G GE L LE".split(), "LOGIC": "S R I".split()}
 CLASSES = "C1 AC1 TG1 M1 XN1 PR P F FC S R SC SM Q QC QM QZ N W X LS CH CC TC RN V FN".split()
 OF_THE_MOMENT = "C1 AC1 TG1 M1 XN1 PR".split()
 OF_BLOCKS = "N W".split()
 OF_STORAGES = "S R SC SM".split()
 OF_VARIABLES = ["V"]
 OF_FUNCTIONS = ["FN"]
-OF_ENTITIES = "P F FC Q QC QM QZ".split()
+OF_ENTITIES = "P F FC Q QC QM QZ X LS".split()
 POINT = r"-?(?:[0-9]+(?:\.[0-9]{0,6})?|\.[0-9]{1,6})"
 TOKEN = re.compile(r"[A-Z0-9_$]+|[-+#\\@()]")
 DEEPEST = 32

@@ -5,6 +5,7 @@ use Rattle.gw_names.specs.declared.key.Key.{Key}
 use Rattle.gw_meaning.specs.declared.item.Asked.TheVariants as asking
 use Rattle.gw_meaning.specs.declared.item.Item.TheVariants as items
 use Rattle.gw_meaning.specs.declared.entity_change.Deed.TheVariants as deeds
+use Rattle.gw_meaning.specs.declared.entity_change.StorageDeed.TheVariants as of_storage
 use Rattle.gw_meaning.specs.declared.moves.Change.TheVariants as changes
 use Rattle.gw_meaning.specs.declared.transaction_change.TransactionChange.TheVariants as own
 use Rattle.gw_meaning.specs.declared.moves.Fate.TheVariants as fates
@@ -50,7 +51,7 @@ large_enough name units capacity = asks (items.Named (asking.Fits units) name)
 
 -- an ENTER is entered with its units, where it was decided that they come into use, or else refuses its transaction
 abbrev pub stored : ℕ → Key → ℕ → Bool → Move
-stored id key units true = moves.Enter id (changes.Entity (key, deeds.Enter units)) fates.Active
+stored id key units true = moves.Enter id (changes.Entity (key, deeds.Storage (of_storage.Enter units))) fates.Active
 stored id key units false = moves.Refuse id key units
 
 -- the same, of what was decided

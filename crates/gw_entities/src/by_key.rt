@@ -200,9 +200,9 @@ impl<V: Copy> ByKey<V> {
         push_behind(&mut self.behind, &mut self.keys, own, value)
     }
 
-    // Sets the value of an entity, or changes none where memory is refused.
+    /// Sets the value of an entity, or changes none where memory is refused.
     #[inline(always)]
-    pub(crate) fn put(&mut self, key: &Key, value: V) -> Result<(), AllocError>
+    pub fn put(&mut self, key: &Key, value: V) -> Result<(), AllocError>
         ensures ok { OnOk result (self.new ≡ with_value self.old key.now value) }
         ensures err { OnErr result (self.new ≡ self.old) }
     {

@@ -26,7 +26,7 @@ use Rattle.gw_meaning.specs.Listing.{Listing, block_at, label_at, generates_in, 
 use Rattle.gw_meaning.specs.Numbers.{AreNumbered}
 use Rattle.gw_names.specs.declared.key.Key.{Key}
 use Rattle.gw_entities.specs.Comings.{came}
-use Rattle.gw_meaning.specs.Entities.{facility_at, line_at}
+use Rattle.gw_meaning.specs.Entities.{facility_at, line_at, savevalue_at}
 use Rattle.gw_meaning.specs.Machine.{Machine, raised, live, delay_at}
 use Rattle.gw_meaning.specs.Questions.{ask, result_of}
 use Rattle.gw_meaning.specs.Evaluation.{Eval, asks, named, owned, millionths}
@@ -34,8 +34,9 @@ use Rattle.gw_meaning.specs.Step.{for_none, for_one, arrival_at, arrival_in_time
 use Rattle.gw_expr.specs.Arithmetic.{applied}
 use Rattle.gw_expr.specs.declared.token.Operator.TheVariants as operators
 use Rattle.gw_meaning.specs.declared.auxiliary.Auxiliary.{Auxiliary}
+use Rattle.gw_meaning.specs.declared.auxiliary.Auxiliary.TheVariants as auxiliaries
 use Rattle.gw_entities.specs.Parameters.{parameter_at}
-use Rattle.gw_meaning.specs.Step.{by_sign, assign_with, assign_prog, left_of, loop_back, loop_to, loop_prog, holds, test_prog}
+use Rattle.gw_meaning.specs.Step.{by_sign, assign_with, assign_prog, left_of, loop_back, loop_to, loop_prog, holds, test_prog, logic_prog, savevalue_with, savevalue_prog}
 use Rattle.gw_frame.specs.BlockIds.{IsBlockId, ActiveNames, TransactionNames}
 use Rattle.gw_frame.proofs.Generates.{IsBlockIn, generates_there}
 use Rattle.gw_frame.proofs.Labels.{label_there}
@@ -325,6 +326,24 @@ module _ (t : Listing) (seed : ℕ) (s : Machine) where
       (λ key h. keeps_bind (left_decides (parameter_at s.parameters q.number key))
       (λ left k. keeps_cond (nat_eq (magnitude left) 0) (keeps_gives (named, tt, tt)) (loop_to_decides id key left label named)))
 
+  -- LOGIC and SAVEVALUE
+  logic_decides : (q : Asker) (id : ℕ) (auxiliary : Auxiliary) (entity : Option Term) → IsBlockId t id →
+      Decides t seed s (IsDecided t s) (logic_prog s q id auxiliary entity)
+  logic_decides q id (auxiliaries.Logic switching) entity named =
+      keeps_bind (entity_decides t seed s q entity) (λ key h. keeps_gives (named, tt, tt))
+  logic_decides q id auxiliary entity named = keeps_ends
+
+  savevalue_with_decides : (id : ℕ) (sign : Auxiliary) (key : Key) (was : Option ℤ) (v : ℤ) → IsBlockId t id →
+      Decides t seed s (IsDecided t s) (savevalue_with id sign key was v)
+  savevalue_with_decides id sign key was v named =
+      keeps_bind (arithmetic_decides t seed s (by_sign sign was v)) (λ to h. keeps_gives (named, tt, tt))
+
+  savevalue_decides : (q : Asker) (id : ℕ) (sign : Auxiliary) (entity value : Option Term) → IsBlockId t id →
+      Decides t seed s (IsDecided t s) (savevalue_prog s q id sign entity value)
+  savevalue_decides q id sign entity value named = keeps_bind (entity_decides t seed s q entity)
+      (λ key h. keeps_bind (value_there_decides t seed s q value)
+      (λ v k. savevalue_with_decides id sign key (savevalue_at s.entities key) v named))
+
   block_decides : (x : Transaction) (id : ℕ) (b : Block) (verb : BlockVerb) → s.active ≡ Some x → IsBlockId t id →
       Decides t seed s (IsDecided t s) (block_prog s x id b verb)
   block_decides x id b blocks.Generate is named = generate_decides x id (operand b A) (operand b B) (operand b D) (operand b E) named
@@ -338,6 +357,8 @@ module _ (t : Listing) (seed : ℕ) (s : Machine) where
   block_decides x id b blocks.Leave is named = leave_decides (for_one s x) id (operand b A) (operand b B) named
   block_decides x id b blocks.Transfer is named = transfer_decides id (operand b A) (operand b B) (operand b C) named
   block_decides x id b blocks.Test is named = test_decides (for_one s x) id b.auxiliary (operand b A) (operand b B) (operand b C) named
+  block_decides x id b blocks.Logic is named = logic_decides (for_one s x) id b.auxiliary (operand b A) named
+  block_decides x id b blocks.Savevalue is named = savevalue_decides (for_one s x) id b.auxiliary (operand b A) (operand b B) named
   block_decides x id b blocks.Mark is named = keeps_gives (named, tt, tt)
   block_decides x id b blocks.Priority is named = priority_decides (for_one s x) id (operand b A) named
   block_decides x id b blocks.Buffer is named = keeps_gives (named, tt, tt)

@@ -20,10 +20,10 @@ use Rattle.gw_meaning.specs.declared.item.Asked.TheVariants as asking
 use Rattle.gw_meaning.specs.declared.item.Item.TheVariants as items
 use Rattle.gw_meaning.specs.Listing.{Listing, capacity_at, label_at}
 use Rattle.gw_names.specs.declared.key.Key.{Key}
-use Rattle.gw_meaning.specs.Entities.{facility_at, line_at}
+use Rattle.gw_meaning.specs.Entities.{facility_at, line_at, switch_at}
 use Rattle.gw_entities.specs.Parameters.{parameter_at}
 use Rattle.gw_meaning.specs.Machine.{Machine, count_at}
-use Rattle.gw_meaning.specs.Evaluation.{Eval, number_of_draw, draw, amount, numbered, named, subject_prog, storage_prog, counted, block_count, random_prog, random_part, own_value, value_held, parameter_value, entity_value, storage_value, block_value, owned, attribute_prog, arithmetic, value_prog, value_there, value_or_zero, entity_prog, units_prog, in_range, spread, sample_within, time_prog, left_prog, modifier_of, time_by, drawn_prog, reply_prog, evaluated}
+use Rattle.gw_meaning.specs.Evaluation.{Eval, number_of_draw, draw, amount, numbered, named, subject_prog, storage_prog, counted, block_count, random_prog, random_part, own_value, value_held, parameter_value, entity_value, storage_value, block_value, owned, one_if, attribute_prog, arithmetic, value_prog, value_there, value_or_zero, entity_prog, units_prog, in_range, spread, sample_within, time_prog, left_prog, modifier_of, time_by, drawn_prog, reply_prog, evaluated}
 use Rattle.gw_frame.proofs.Seeds.{uses_seed, one_drew}
 use Rattle.gw_frame.proofs.Keeps.{ProgKeeps, Keeps, prog_gives, prog_bind, keeps_gives, keeps_ends, keeps_asks, keeps_cond, keeps_stops, keeps_unless, keeps_bind}
 use Rattle.gw_names.specs.declared.key.Key.TheVariants as keys
@@ -135,6 +135,8 @@ module _ (t : Listing) (seed : ℕ) (s : Machine) where
   entity_value_decides class.Qc key = amount_decides (line_at s.entities key).entries
   entity_value_decides class.Qm key = amount_decides (line_at s.entities key).greatest
   entity_value_decides class.Qz key = amount_decides (line_at s.entities key).zero_entries
+  entity_value_decides class.X key = keeps_gives tt
+  entity_value_decides class.Ls key = amount_decides (one_if (switch_at s.entities key))
   entity_value_decides class key = keeps_ends
 
   storage_value_decides : (class : Class) (key : Key) → Decides Whatever (storage_value s class key)
@@ -163,6 +165,8 @@ module _ (t : Listing) (seed : ℕ) (s : Machine) where
   attribute_decides q class.Qc of = keeps_bind (subject_decides of) (λ key h. entity_value_decides class.Qc key)
   attribute_decides q class.Qm of = keeps_bind (subject_decides of) (λ key h. entity_value_decides class.Qm key)
   attribute_decides q class.Qz of = keeps_bind (subject_decides of) (λ key h. entity_value_decides class.Qz key)
+  attribute_decides q class.X of = keeps_bind (subject_decides of) (λ key h. entity_value_decides class.X key)
+  attribute_decides q class.Ls of = keeps_bind (subject_decides of) (λ key h. entity_value_decides class.Ls key)
   attribute_decides q class.S of = storage_decides of _ (storage_value_decides class.S)
   attribute_decides q class.R of = left_decides of
   attribute_decides q class.Sc of = storage_decides of _ (storage_value_decides class.Sc)

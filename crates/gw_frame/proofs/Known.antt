@@ -8,6 +8,9 @@ use Rattle.gw_meaning.specs.declared.transaction.Transaction.{Transaction}
 use Rattle.gw_meaning.specs.declared.moves.Arrival.{Arrival}
 use Rattle.gw_meaning.specs.declared.entity_change.Deed.{Deed}
 use Rattle.gw_meaning.specs.declared.entity_change.Deed.TheVariants as deeds
+use Rattle.gw_meaning.specs.declared.entity_change.FacilityDeed.TheVariants as of_facility
+use Rattle.gw_meaning.specs.declared.entity_change.QueueDeed.TheVariants as of_queue
+use Rattle.gw_meaning.specs.declared.entity_change.StorageDeed.TheVariants as of_storage
 use Rattle.gw_meaning.specs.declared.moves.Change.{Change}
 use Rattle.gw_meaning.specs.declared.moves.Change.TheVariants as changes
 use Rattle.gw_meaning.specs.declared.transaction_change.TransactionChange.{TransactionChange}
@@ -96,12 +99,13 @@ ActiveOwns s key = (x : Transaction) → s.active ≡ Some x → is_owner (facil
 
 -- what is known of a deed, a change, a fate and a move
 abbrev pub IsDecidedDeed : Listing → Machine → Key → Deed → Type 0
-IsDecidedDeed t s key (deeds.Queue units) = Fits (line_at s.entities key) units
-IsDecidedDeed t s key (deeds.Depart units at_once) = Leaves (line_at s.entities key) units at_once
-IsDecidedDeed t s key deeds.Seize = (is_storage key ≡ false) × (is_some (facility_at s.entities key).owner ≡ false)
-IsDecidedDeed t s key (deeds.Release next) = (is_storage key ≡ false) × (next ≡ first_number (delay_at s.delays key)) × ActiveOwns s key
-IsDecidedDeed t s key (deeds.Enter units) = ComesIn t s key units
-IsDecidedDeed t s key (deeds.Leave units shares) = GoesOut t s key units shares
+IsDecidedDeed t s key (deeds.Queue (of_queue.Queue units)) = Fits (line_at s.entities key) units
+IsDecidedDeed t s key (deeds.Queue (of_queue.Depart units at_once)) = Leaves (line_at s.entities key) units at_once
+IsDecidedDeed t s key (deeds.Facility of_facility.Seize) = (is_storage key ≡ false) × (is_some (facility_at s.entities key).owner ≡ false)
+IsDecidedDeed t s key (deeds.Facility (of_facility.Release next)) = (is_storage key ≡ false) × (next ≡ first_number (delay_at s.delays key)) × ActiveOwns s key
+IsDecidedDeed t s key (deeds.Storage (of_storage.Enter units)) = ComesIn t s key units
+IsDecidedDeed t s key (deeds.Storage (of_storage.Leave units shares)) = GoesOut t s key units shares
+IsDecidedDeed t s key deed = Unit {0}
 
 abbrev pub IsDecidedOwn : Listing → TransactionChange → Type 0
 IsDecidedOwn t (own.Transfer to) = AreNumbered t.lines → IsBlockId t to

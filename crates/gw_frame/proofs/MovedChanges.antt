@@ -6,7 +6,6 @@ use Rattle.gw_names.specs.declared.key.Key.{Key}
 use Rattle.gw_entities.specs.Tables.{with_value}
 use Rattle.gw_entities.specs.Parameters.{Held}
 use Rattle.gw_meaning.specs.declared.entity_change.Deed.{Deed}
-use Rattle.gw_meaning.specs.declared.entity_change.Deed.TheVariants as deeds
 use Rattle.gw_meaning.specs.declared.moves.Arrival.{Arrival}
 use Rattle.gw_streams.specs.declared.stream.Stream.{Stream}
 use Rattle.gw_meaning.specs.declared.moves.Change.{Change}
@@ -19,7 +18,7 @@ use Rattle.gw_meaning.specs.declared.moves.Move.{Move}
 use Rattle.gw_meaning.specs.declared.moves.Move.TheVariants as moves
 use Rattle.gw_meaning.specs.Entities.{Entities, touched}
 use Rattle.gw_meaning.specs.Machine.{Machine, raised, delay_at}
-use Rattle.gw_meaning.specs.Changes.{crossed, due, Making, making, made, maybe_made, all_made, making_of, with_making, newcomer, placed, started, arrived, lined_up, own_marked, marked, own_held, held_by, fated, let_in, one_let_in, some_let_in, admitted, changed, entering, bound, refused, picked, advanced, with_active, moved, decided}
+use Rattle.gw_meaning.specs.Changes.{crossed, due, Making, making, made, maybe_made, all_made, making_of, with_making, newcomer, placed, started, arrived, lined_up, own_marked, marked, own_held, held_by, fated, let_in, one_let_in, some_let_in, deed_shares, admitted, changed, entering, bound, refused, picked, advanced, with_active, moved, decided}
 use Rattle.gw_frame.specs.Moved.{IsMove, moved_transaction, moved_event, moved_count, moved_machine}
 use Rattle.gw_frame.proofs.MovedLists.{made_one_moved, crossed_moved, lined_up_moved, all_lined_up_moved, due_moved, later_moved}
 use Rattle.gw_frame.proofs.Delays.{delay_at_moved, with_delay_moved}
@@ -139,11 +138,8 @@ module _ (move : ℕ → ℕ) (is : IsMove move) where
       some_let_in_moved key shares passed xs (one_let_in key x (passed ++ xs) s)
 
   admitted_moved : (key : Key) (deed : Deed) (s : Machine) → admitted key deed (moved_machine move s) ≡ moved_machine move (admitted key deed s)
-  admitted_moved key (deeds.Release next) s =
-      rw (delay_at_moved move s.delays key) (some_let_in_moved key (Some 1 ∷ []) [] (delay_at s.delays key) s)
-  admitted_moved key (deeds.Leave units shares) s =
-      rw (delay_at_moved move s.delays key) (some_let_in_moved key shares [] (delay_at s.delays key) s)
-  admitted_moved key deed s = refl
+  admitted_moved key deed s =
+      rw (delay_at_moved move s.delays key) (some_let_in_moved key (deed_shares deed) [] (delay_at s.delays key) s)
 
   changed_moved : (change : Change) (s : Machine) → changed (moved_change move change) (moved_machine move s) ≡ moved_machine move (changed change s)
   changed_moved (changes.Generate next) s = arrived_moved next s

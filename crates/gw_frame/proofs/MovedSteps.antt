@@ -19,15 +19,16 @@ use Rattle.gw_names.specs.declared.key.Key.{Key}
 use Rattle.gw_names.specs.declared.key.Key.TheVariants as keys
 use Rattle.gw_entities.specs.Records.{Line, Store}
 use Rattle.gw_entities.specs.Comings.{came}
-use Rattle.gw_meaning.specs.Entities.{facility_at, line_at, store_at}
+use Rattle.gw_meaning.specs.Entities.{facility_at, line_at, store_at, savevalue_at}
 use Rattle.gw_meaning.specs.Machine.{Machine, raised, live, number_of_active, count_at, delay_at, waiting}
 use Rattle.gw_meaning.specs.Evaluation.{millionths}
 use Rattle.gw_meaning.specs.Step.{for_none, for_one, arrival_at, arrival_in_time, arrival_within, arrival_prog, first_of_generate, first_of, first_arrival, with_arrival, arrivals_prog, first_arrivals_prog, start_prog, command_prog, generate_prog, advance_prog, terminate_prog, is_too_many, queue_units, queue_prog, depart_units, depart_prog, seize_or_wait, seize_prog, first_number, is_owner, release_to, release_prog, beside, in_use, share_of, all_shares, enter_or_wait, enter_storage, enter_prog, shares_prog, leave_for, leave_units, leave_prog, go_to, lead_to, transfer_prog, priority_prog, block_prog, meet_prog, try_prog, attempt_prog, sooner, least_time, within_prog, clock_prog, pick_prog, scan_prog, move_prog, step_prog, run_prog}
 use Rattle.gw_expr.specs.Arithmetic.{applied}
 use Rattle.gw_expr.specs.declared.token.Operator.TheVariants as operators
 use Rattle.gw_meaning.specs.declared.auxiliary.Auxiliary.{Auxiliary}
+use Rattle.gw_meaning.specs.declared.auxiliary.Auxiliary.TheVariants as auxiliaries
 use Rattle.gw_entities.specs.Parameters.{parameter_at}
-use Rattle.gw_meaning.specs.Step.{by_sign, assign_with, assign_prog, left_of, loop_back, loop_to, loop_prog, holds, test_prog}
+use Rattle.gw_meaning.specs.Step.{by_sign, assign_with, assign_prog, left_of, loop_back, loop_to, loop_prog, holds, test_prog, logic_prog, savevalue_with, savevalue_prog}
 use Rattle.gw_frame.specs.Moved.{IsMove, moved_transaction, moved_event, moved_machine}
 use Rattle.gw_frame.proofs.Follows.{ProgFollows, prog_gives, prog_bind, Follows, follows_gives, follows_ends, follows_asks, follows_cond, follows_stops, follows_bind}
 use Rattle.gw_frame.proofs.MovedValues.{same, draw_follows, arithmetic_follows, value_follows, value_there_follows, value_or_zero_follows, entity_follows, units_follows, time_follows}
@@ -295,6 +296,21 @@ module _ (move : ℕ → ℕ) (is : IsMove move) where
       (λ key. follows_bind _ (left_follows (parameter_at s.parameters q.number key))
       (λ left. follows_cond (nat_eq (magnitude left) 0) (follows_gives refl) (loop_to_follows id key left label)))
 
+  -- LOGIC and SAVEVALUE
+  logic_follows : (s : Machine) (q : Asker) (id : ℕ) (auxiliary : Auxiliary) (entity : Option Term) →
+      Follows move (moved_move move) (logic_prog s q id auxiliary entity) (logic_prog (moved_machine move s) q (move id) auxiliary entity)
+  logic_follows s q id (auxiliaries.Logic switching) entity = follows_bind _ (entity_follows move is s q entity) (λ key. follows_gives refl)
+  logic_follows s q id auxiliary entity = follows_ends
+
+  savevalue_with_follows : (id : ℕ) (sign : Auxiliary) (key : Key) (was : Option ℤ) (v : ℤ) →
+      Follows move (moved_move move) (savevalue_with id sign key was v) (savevalue_with (move id) sign key was v)
+  savevalue_with_follows id sign key was v = follows_bind _ (arithmetic_follows move is (by_sign sign was v)) (λ to. follows_gives refl)
+
+  savevalue_follows : (s : Machine) (q : Asker) (id : ℕ) (sign : Auxiliary) (entity value : Option Term) →
+      Follows move (moved_move move) (savevalue_prog s q id sign entity value) (savevalue_prog (moved_machine move s) q (move id) sign entity value)
+  savevalue_follows s q id sign entity value = follows_bind _ (entity_follows move is s q entity)
+      (λ key. follows_bind _ (value_there_follows move is s q value) (λ v. savevalue_with_follows id sign key (savevalue_at s.entities key) v))
+
   block_follows : (s : Machine) (x : Transaction) (id : ℕ) (b : Block) (verb : BlockVerb) →
       Follows move (moved_move move) (block_prog s x id b verb) (block_prog (moved_machine move s) (moved_transaction move x) (move id) b verb)
   block_follows s x id b blocks.Generate = generate_follows s x id (operand b A) (operand b B) (operand b D) (operand b E)
@@ -308,6 +324,8 @@ module _ (move : ℕ → ℕ) (is : IsMove move) where
   block_follows s x id b blocks.Leave = leave_follows s (for_one s x) id (operand b A) (operand b B)
   block_follows s x id b blocks.Transfer = transfer_follows id (operand b A) (operand b B) (operand b C)
   block_follows s x id b blocks.Test = test_follows s (for_one s x) id b.auxiliary (operand b A) (operand b B) (operand b C)
+  block_follows s x id b blocks.Logic = logic_follows s (for_one s x) id b.auxiliary (operand b A)
+  block_follows s x id b blocks.Savevalue = savevalue_follows s (for_one s x) id b.auxiliary (operand b A) (operand b B)
   block_follows s x id b blocks.Mark = follows_gives refl
   block_follows s x id b blocks.Priority = priority_follows s (for_one s x) id (operand b A)
   block_follows s x id b blocks.Buffer = follows_gives refl

@@ -18,10 +18,10 @@ use Rattle.gw_meaning.specs.declared.item.Asked.TheVariants as asking
 use Rattle.gw_meaning.specs.declared.item.Item.TheVariants as items
 use Rattle.gw_names.specs.declared.key.Key.{Key}
 use Rattle.gw_names.specs.declared.key.Key.TheVariants as keys
-use Rattle.gw_meaning.specs.Entities.{facility_at, line_at, store_at}
+use Rattle.gw_meaning.specs.Entities.{facility_at, line_at, store_at, switch_at}
 use Rattle.gw_entities.specs.Parameters.{parameter_at}
 use Rattle.gw_meaning.specs.Machine.{Machine, count_at}
-use Rattle.gw_meaning.specs.Evaluation.{Eval, number_of_draw, draw, amount, numbered, named, subject_prog, storage_prog, counted, block_count, random_prog, random_part, own_value, value_held, parameter_value, entity_value, storage_value, block_value, owned, attribute_prog, arithmetic, value_prog, value_there, value_or_zero, entity_prog, units_prog, in_range, spread, sample_within, time_prog, left_prog, modifier_of, time_by, drawn_prog, reply_prog, evaluated}
+use Rattle.gw_meaning.specs.Evaluation.{Eval, number_of_draw, draw, amount, numbered, named, subject_prog, storage_prog, counted, block_count, random_prog, random_part, own_value, value_held, parameter_value, entity_value, storage_value, block_value, owned, one_if, attribute_prog, arithmetic, value_prog, value_there, value_or_zero, entity_prog, units_prog, in_range, spread, sample_within, time_prog, left_prog, modifier_of, time_by, drawn_prog, reply_prog, evaluated}
 use Rattle.gw_frame.specs.Moved.{IsMove, moved_machine}
 use Rattle.gw_frame.proofs.Follows.{ProgFollows, prog_gives, prog_asks, prog_bind, Follows, follows_gives, follows_ends, follows_asks, follows_cond, follows_stops, follows_bind}
 use Rattle.gw_frame.proofs.MovedLists.{count_at_moved}
@@ -116,6 +116,8 @@ module _ (move : ℕ → ℕ) (is : IsMove move) where
   entity_value_follows s class.Qc key = amount_follows (line_at s.entities key).entries
   entity_value_follows s class.Qm key = amount_follows (line_at s.entities key).greatest
   entity_value_follows s class.Qz key = amount_follows (line_at s.entities key).zero_entries
+  entity_value_follows s class.X key = follows_gives refl
+  entity_value_follows s class.Ls key = amount_follows (one_if (switch_at s.entities key))
   entity_value_follows s class key = follows_ends
 
   storage_value_follows : (s : Machine) (class : Class) (key : Key) →
@@ -147,6 +149,8 @@ module _ (move : ℕ → ℕ) (is : IsMove move) where
   attribute_follows s q class.Qc of = follows_bind _ (subject_follows of) (entity_value_follows s class.Qc)
   attribute_follows s q class.Qm of = follows_bind _ (subject_follows of) (entity_value_follows s class.Qm)
   attribute_follows s q class.Qz of = follows_bind _ (subject_follows of) (entity_value_follows s class.Qz)
+  attribute_follows s q class.X of = follows_bind _ (subject_follows of) (entity_value_follows s class.X)
+  attribute_follows s q class.Ls of = follows_bind _ (subject_follows of) (entity_value_follows s class.Ls)
   attribute_follows s q class.S of = storage_follows of _ (storage_value_follows s class.S)
   attribute_follows s q class.R of = left_follows s of
   attribute_follows s q class.Sc of = storage_follows of _ (storage_value_follows s class.Sc)

@@ -5,7 +5,6 @@ use Rattle.gw_meaning.specs.declared.transaction.Transaction.{Transaction}
 use Rattle.gw_names.specs.declared.key.Key.{Key}
 use Rattle.gw_entities.specs.Tables.{with_value}
 use Rattle.gw_meaning.specs.declared.entity_change.Deed.{Deed}
-use Rattle.gw_meaning.specs.declared.entity_change.Deed.TheVariants as deeds
 use Rattle.gw_meaning.specs.declared.moves.Arrival.{Arrival}
 use Rattle.gw_meaning.specs.declared.moves.Change.{Change}
 use Rattle.gw_meaning.specs.declared.moves.Change.TheVariants as changes
@@ -17,7 +16,7 @@ use Rattle.gw_meaning.specs.declared.moves.Move.TheVariants as moves
 use Rattle.gw_meaning.specs.Listing.{Listing}
 use Rattle.gw_meaning.specs.Entities.{touched}
 use Rattle.gw_meaning.specs.Machine.{Machine, delay_at}
-use Rattle.gw_meaning.specs.Changes.{lined_up, crossed, made, making_of, with_making, placed, own_marked, marked, held_by, fated, let_in, one_let_in, some_let_in, admitted, changed, entering, with_active, picked, moved}
+use Rattle.gw_meaning.specs.Changes.{lined_up, crossed, made, making_of, with_making, placed, own_marked, marked, held_by, fated, let_in, one_let_in, some_let_in, deed_shares, admitted, changed, entering, with_active, picked, moved}
 use Rattle.gw_frame.proofs.Known.{IsComing, IsDecidedChange}
 use Rattle.gw_frame.proofs.Delays.{delay_set}
 
@@ -96,11 +95,8 @@ pub record Brings (P Q : Machine → Type 0) (t : Listing) (s v : Machine) : Typ
   pub lets : LetsIn Q
 
 admitted_has : (P Q : Machine → Type 0) (t : Listing) (s v : Machine) (key : Key) (deed : Deed) → P v → Brings P Q t s v → Q (admitted key deed v)
-admitted_has P Q t s v key (deeds.Release next) h brings =
-    some_have Q key (Some 1 ∷ []) [] (delay_at v.delays key) v refl brings.lets (brings.nothing h)
-admitted_has P Q t s v key (deeds.Leave units shares) h brings =
-    some_have Q key shares [] (delay_at v.delays key) v refl brings.lets (brings.nothing h)
-admitted_has P Q t s v key deed h brings = brings.nothing h
+admitted_has P Q t s v key deed h brings =
+    some_have Q key (deed_shares deed) [] (delay_at v.delays key) v refl brings.lets (brings.nothing h)
 
 changed_has : (P Q : Machine → Type 0) (t : Listing) (s : Machine) (change : Change) (v : Machine) → IsDecidedChange t s change → P v →
     Brings P Q t s v → Q (changed change v)

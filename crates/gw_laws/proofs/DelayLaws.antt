@@ -8,6 +8,8 @@ use Rattle.gw_names.specs.Keys.{key_eq}
 use Rattle.gw_meaning.specs.declared.transaction.Transaction.{Transaction}
 use Rattle.gw_meaning.specs.declared.entity_change.Deed.{Deed}
 use Rattle.gw_meaning.specs.declared.entity_change.Deed.TheVariants as deeds
+use Rattle.gw_meaning.specs.declared.entity_change.FacilityDeed.TheVariants as of_facility
+use Rattle.gw_meaning.specs.declared.entity_change.StorageDeed.TheVariants as of_storage
 use Rattle.gw_meaning.specs.declared.moves.Move.{Move}
 use Rattle.gw_meaning.specs.declared.moves.Move.TheVariants as moves
 use Rattle.gw_meaning.specs.Listing.{Listing}
@@ -58,15 +60,12 @@ module _ (priority : ℤ) (q : Key) where
 
   deed_turn : (t : Listing) (s v : Machine) (key : Key) (deed : Deed) → is_storage q ≡ false → v.delays ≡ s.delays → IsDecidedDeed t s key deed →
       TakesTurns s (admitted key deed v)
-  deed_turn t s v key (deeds.Release next) facility same decided = released_turn s v key (delay_at v.delays key) refl same
-  deed_turn t s v key (deeds.Leave units shares) facility same decided =
+  deed_turn t s v key (deeds.Facility (of_facility.Release next)) facility same decided = released_turn s v key (delay_at v.delays key) refl same
+  deed_turn t s v key (deeds.Storage (of_storage.Leave units shares)) facility same decided =
       let other : key_eq q key ≡ false = ap (key_eq q) decided.named ∙ no_storage q decided.name facility in
       let rest = others_stay q key shares [] (delay_at v.delays key) v other in
       rw (rest, same) (stays (delay_at s.delays q))
-  deed_turn t s v key (deeds.Enter units) facility same decided = same_turn s v same
-  deed_turn t s v key (deeds.Queue units) facility same decided = same_turn s v same
-  deed_turn t s v key (deeds.Depart units at_once) facility same decided = same_turn s v same
-  deed_turn t s v key deeds.Seize facility same decided = same_turn s v same
+  deed_turn t s v key deed facility same decided = same_turn s v same
 
   refused_turn : (s : Machine) (x : Transaction) (id : ℕ) (key : Key) (units : ℕ) → s.active ≡ Some x → IsNumbered s → IsOrdered (delay_at s.delays key) →
       TakesTurns s (refused s x id key units)

@@ -6,6 +6,7 @@ use Rattle.gw_entities.specs.Levels.{Course, changed}
 use Rattle.gw_entities.specs.Records.{Ownership, never_owned, seized, released}
 use Rattle.gw_meaning.specs.declared.entity_change.Deed.{Deed}
 use Rattle.gw_meaning.specs.declared.entity_change.Deed.TheVariants as deeds
+use Rattle.gw_meaning.specs.declared.entity_change.FacilityDeed.TheVariants as of_facility
 use Rattle.gw_meaning.specs.declared.moves.Change.{Change}
 use Rattle.gw_meaning.specs.declared.moves.Change.TheVariants as changes
 use Rattle.gw_meaning.specs.declared.moves.Move.{Move}
@@ -84,18 +85,15 @@ module _ (steps : ℕ) where
 
   done_used : (s : Machine) (key : Key) (deed : Deed) (number : ℕ) → Used s →
       AreUsed s.clock (steps + 1) (done key deed s.clock number s.entities).facilities
-  done_used s key (deeds.Queue units) number all = again s.clock s.entities.facilities all
-  done_used s key (deeds.Depart units at_once) number all = again s.clock s.entities.facilities all
-  done_used s key deeds.Seize number all =
+  done_used s key (deeds.Facility of_facility.Seize) number all =
       with_has (IsUsed s.clock (steps + 1)) s.entities.facilities key _
       (seized_used s.clock steps number (facility_at s.entities key) (facility_used s.clock steps s.entities key all))
       (again s.clock s.entities.facilities all)
-  done_used s key (deeds.Release next) number all =
+  done_used s key (deeds.Facility (of_facility.Release next)) number all =
       with_has (IsUsed s.clock (steps + 1)) s.entities.facilities key _
       (given_back_used s.clock steps next (facility_at s.entities key) (facility_used s.clock steps s.entities key all))
       (again s.clock s.entities.facilities all)
-  done_used s key (deeds.Enter units) number all = again s.clock s.entities.facilities all
-  done_used s key (deeds.Leave units shares) number all = again s.clock s.entities.facilities all
+  done_used s key deed number all = again s.clock s.entities.facilities all
 
   touched_used : (s : Machine) (change : Change) (number : ℕ) → Used s → AreUsed s.clock (steps + 1) (touched change s.clock number s.entities).facilities
   touched_used s (changes.Entity change) number all = done_used s change.0 change.1 number all

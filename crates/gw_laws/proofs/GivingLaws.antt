@@ -9,6 +9,7 @@ use Rattle.gw_entities.proofs.ComingLaws.{key_same}
 use Rattle.gw_meaning.specs.declared.transaction.Transaction.{Transaction}
 use Rattle.gw_meaning.specs.declared.entity_change.Deed.{Deed}
 use Rattle.gw_meaning.specs.declared.entity_change.Deed.TheVariants as deeds
+use Rattle.gw_meaning.specs.declared.entity_change.FacilityDeed.TheVariants as of_facility
 use Rattle.gw_meaning.specs.declared.moves.Change.{Change}
 use Rattle.gw_meaning.specs.declared.moves.Change.TheVariants as changes
 use Rattle.gw_meaning.specs.declared.moves.Move.{Move}
@@ -56,7 +57,7 @@ module _ (q : Key) where
 
   done_passes : (t : Listing) (s : Machine) (x : Transaction) (key : Key) (deed : Deed) → s.active ≡ Some x → IsDecidedDeed t s key deed →
       Passes s (done key deed s.clock x.number s.entities)
-  done_passes t s x key deeds.Seize active decided =
+  done_passes t s x key (deeds.Facility of_facility.Seize) active decided =
       let f = seized x.number s.clock (facility_at s.entities key) in
       elim (cases_Bool (key_eq q key)) [
         | inl here ↦
@@ -64,7 +65,7 @@ module _ (q : Key) where
             inr (x, active, inr (none, owner_here s.entities key q f here))
         | inr other ↦ inl (owner_there s.entities key q f other)
       ]
-  done_passes t s x key (deeds.Release next) active decided =
+  done_passes t s x key (deeds.Facility (of_facility.Release next)) active decided =
       let f = given_back next s.clock (facility_at s.entities key) in
       elim (cases_Bool (key_eq q key)) [
         | inl here ↦

@@ -6,7 +6,6 @@ use Rattle.std.proofs.lemmas.List.Elements.{All-from_recursion}
 use Rattle.gw_names.specs.declared.key.Key.{Key}
 use Rattle.gw_streams.specs.declared.stream.Stream.{Stream}
 use Rattle.gw_meaning.specs.declared.entity_change.Deed.{Deed}
-use Rattle.gw_meaning.specs.declared.entity_change.Deed.TheVariants as deeds
 use Rattle.gw_meaning.specs.declared.moves.Change.{Change}
 use Rattle.gw_meaning.specs.declared.moves.Change.TheVariants as changes
 use Rattle.gw_meaning.specs.declared.moves.Fate.{Fate}
@@ -18,7 +17,7 @@ use Rattle.gw_meaning.specs.declared.transaction.Transaction.{Transaction}
 use Rattle.gw_meaning.specs.declared.transaction.Event.{Event}
 use Rattle.gw_meaning.specs.Listing.{Listing, command_at}
 use Rattle.gw_meaning.specs.Machine.{Machine, raised, delay_at}
-use Rattle.gw_meaning.specs.Changes.{some_let_in, one_let_in, admitted, changed, entering, refused, with_active, picked, moved, decided}
+use Rattle.gw_meaning.specs.Changes.{deed_shares, some_let_in, one_let_in, admitted, changed, entering, refused, with_active, picked, moved, decided}
 use Rattle.gw_meaning.specs.Questions.{result_of}
 use Rattle.gw_meaning.specs.Step.{start_prog, command_prog, least_time, within_prog, clock_prog, pick_prog, scan_prog, move_prog, step}
 use Rattle.gw_meaning.proofs.Programs.{run_on}
@@ -42,9 +41,7 @@ some_let_in_clock key (Some units ∷ shares) passed (x ∷ xs) s =
     some_let_in_clock key shares passed xs (one_let_in key x (passed ++ xs) s) ∙ (let_in_is key x (passed ++ xs) s).clock
 
 admitted_clock : (key : Key) (deed : Deed) (s : Machine) → (admitted key deed s).clock ≡ s.clock
-admitted_clock key (deeds.Release next) s = some_let_in_clock key (Some 1 ∷ []) [] (delay_at s.delays key) s
-admitted_clock key (deeds.Leave units shares) s = some_let_in_clock key shares [] (delay_at s.delays key) s
-admitted_clock key deed s = refl
+admitted_clock key deed s = some_let_in_clock key (deed_shares deed) [] (delay_at s.delays key) s
 
 changed_clock : (change : Change) (s : Machine) → (changed change s).clock ≡ s.clock
 changed_clock (changes.Generate next) s = refl

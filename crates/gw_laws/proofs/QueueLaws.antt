@@ -5,6 +5,7 @@ use Rattle.gw_names.specs.declared.key.Key.{Key}
 use Rattle.gw_entities.specs.Records.{Line, no_line, queued, departed}
 use Rattle.gw_meaning.specs.declared.entity_change.Deed.{Deed}
 use Rattle.gw_meaning.specs.declared.entity_change.Deed.TheVariants as deeds
+use Rattle.gw_meaning.specs.declared.entity_change.QueueDeed.TheVariants as of_queue
 use Rattle.gw_meaning.specs.declared.moves.Change.{Change}
 use Rattle.gw_meaning.specs.declared.moves.Change.TheVariants as changes
 use Rattle.gw_meaning.specs.declared.moves.Move.{Move}
@@ -62,14 +63,11 @@ departed_within clock units false q leaves h =
 
 done_within : (t : Listing) (s : Machine) (key : Key) (deed : Deed) (number : ℕ) → IsDecidedDeed t s key deed → AreWithin s.clock s.entities.queues →
     AreWithin s.clock (done key deed s.clock number s.entities).queues
-done_within t s key (deeds.Queue units) number fits all =
+done_within t s key (deeds.Queue (of_queue.Queue units)) number fits all =
     with_has (IsWithin s.clock) s.entities.queues key _ (queued_within s.clock units _ fits (line_within s.clock s.entities key all)) all
-done_within t s key (deeds.Depart units at_once) number leaves all =
+done_within t s key (deeds.Queue (of_queue.Depart units at_once)) number leaves all =
     with_has (IsWithin s.clock) s.entities.queues key _ (departed_within s.clock units at_once _ leaves (line_within s.clock s.entities key all)) all
-done_within t s key deeds.Seize number decided all = all
-done_within t s key (deeds.Release next) number decided all = all
-done_within t s key (deeds.Enter units) number decided all = all
-done_within t s key (deeds.Leave units shares) number decided all = all
+done_within t s key deed number decided all = all
 
 touched_within : (t : Listing) (s : Machine) (change : Change) (number : ℕ) → IsDecidedChange t s change → AreWithin s.clock s.entities.queues →
     AreWithin s.clock (touched change s.clock number s.entities).queues

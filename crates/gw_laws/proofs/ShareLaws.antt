@@ -14,6 +14,8 @@ use Rattle.gw_entities.proofs.TableLaws.{key_eq_equiv}
 use Rattle.gw_meaning.specs.declared.transaction.Transaction.{Transaction}
 use Rattle.gw_meaning.specs.declared.entity_change.Deed.{Deed}
 use Rattle.gw_meaning.specs.declared.entity_change.Deed.TheVariants as deeds
+use Rattle.gw_meaning.specs.declared.entity_change.FacilityDeed.TheVariants as of_facility
+use Rattle.gw_meaning.specs.declared.entity_change.StorageDeed.TheVariants as of_storage
 use Rattle.gw_meaning.specs.declared.moves.Move.{Move}
 use Rattle.gw_meaning.specs.declared.moves.Move.TheVariants as moves
 use Rattle.gw_meaning.specs.Listing.{Listing, capacity_at}
@@ -119,7 +121,7 @@ other_room t s v name q shares chain store other chains entities h =
     (no_less (content_at s.entities q) (content_at w.entities q) same) h
 
 enter_room : (t : Listing) (s v : Machine) (name : List ℕ) (units number : ℕ) → v.delays ≡ s.delays →
-    v.entities ≡ done (keys.Defined name) (deeds.Enter units) s.clock number s.entities → AreCounted s → NobodyHasRoom t s → NobodyHasRoom t v
+    v.entities ≡ done (keys.Defined name) (deeds.Storage (of_storage.Enter units)) s.clock number s.entities → AreCounted s → NobodyHasRoom t s → NobodyHasRoom t v
 enter_room t s v name units number chains entities counted h q =
     let store = entered units s.clock (store_at s.entities (keys.Defined name)) in
     elim (cases_Bool (key_eq (keys.Defined q) (keys.Defined name))) [
@@ -136,7 +138,7 @@ enter_room t s v name units number chains entities counted h q =
 leave_room : (t : Listing) (s v : Machine) (name : List ℕ) (units number : ℕ) (chain : List Transaction) → delay_at v.delays (keys.Defined name) ≡ chain →
     v.delays ≡ s.delays →
     v.entities
-    ≡ done (keys.Defined name) (deeds.Leave units (shares_of t name (content_at s.entities name - units) chain)) s.clock number s.entities →
+    ≡ done (keys.Defined name) (deeds.Storage (of_storage.Leave units (shares_of t name (content_at s.entities name - units) chain))) s.clock number s.entities →
     AreCounted s → NobodyHasRoom t s →
     NobodyHasRoom t (some_let_in (keys.Defined name) (shares_of t name (content_at s.entities name - units) chain) [] chain v)
 leave_room t s v name units number chain is chains entities counted h q =
@@ -182,10 +184,10 @@ storages_of e = e.storages
 deed_room : (t : Listing) (s v : Machine) (key : Key) (deed : Deed) (number : ℕ) → v.delays ≡ s.delays →
     v.entities ≡ done key deed s.clock number s.entities → IsDecidedDeed t s key deed → AreCounted s → NobodyHasRoom t s →
     NobodyHasRoom t (admitted key deed v)
-deed_room t s v key (deeds.Enter units) number chains entities decided counted h =
+deed_room t s v key (deeds.Storage (of_storage.Enter units)) number chains entities decided counted h =
     enter_room t s v decided.name units number chains
-    (entities ∙ ap (λ k. done k (deeds.Enter units) s.clock number s.entities) decided.named) counted h
-deed_room t s v key (deeds.Leave units shares) number chains entities decided counted h =
+    (entities ∙ ap (λ k. done k (deeds.Storage (of_storage.Enter units)) s.clock number s.entities) decided.named) counted h
+deed_room t s v key (deeds.Storage (of_storage.Leave units shares)) number chains entities decided counted h =
     let name = decided.name in
     let content = content_at s.entities name - units in
     let chain = delay_at v.delays (keys.Defined name) in
@@ -195,15 +197,13 @@ deed_room t s v key (deeds.Leave units shares) number chains entities decided co
     let behind =
     leave_room t s v name units number chain refl chains
     (entities
-    ∙ (ap (λ k. done k (deeds.Leave units shares) s.clock number s.entities) decided.named
-    ∙ ap (λ rs. done (keys.Defined name) (deeds.Leave units rs) s.clock number s.entities) shared)) counted h in
+    ∙ (ap (λ k. done k (deeds.Storage (of_storage.Leave units shares)) s.clock number s.entities) decided.named
+    ∙ ap (λ rs. done (keys.Defined name) (deeds.Storage (of_storage.Leave units rs)) s.clock number s.entities) shared)) counted h in
     subst (λ k. NobodyHasRoom t (some_let_in k shares [] (delay_at v.delays k) v)) (sym decided.named)
     (subst (λ rs. NobodyHasRoom t (some_let_in (keys.Defined name) rs [] chain v)) (sym shared) behind)
-deed_room t s v key (deeds.Release next) number chains entities decided counted h =
+deed_room t s v key (deeds.Facility (of_facility.Release next)) number chains entities decided counted h =
     facility_room t s v key (Some 1 ∷ []) (delay_at v.delays key) decided.0 chains (ap storages_of entities) h
-deed_room t s v key deeds.Seize number chains entities decided counted h = untouched_room t s v chains (ap storages_of entities) h
-deed_room t s v key (deeds.Queue units) number chains entities decided counted h = untouched_room t s v chains (ap storages_of entities) h
-deed_room t s v key (deeds.Depart units at_once) number chains entities decided counted h = untouched_room t s v chains (ap storages_of entities) h
+deed_room t s v key deed number chains entities decided counted h = untouched_room t s v chains (ap storages_of entities) h
 
 -- whoever is refused finds no room
 refused_room : (t : Listing) (s : Machine) (x : Transaction) (id : ℕ) (key : Key) (units : ℕ) → IsRefused t s key units → NobodyHasRoom t s →

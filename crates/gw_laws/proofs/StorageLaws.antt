@@ -13,6 +13,7 @@ use Rattle.gw_entities.proofs.ComingLaws.{key_same}
 use Rattle.gw_meaning.specs.declared.transaction.Transaction.{Transaction}
 use Rattle.gw_meaning.specs.declared.entity_change.Deed.{Deed}
 use Rattle.gw_meaning.specs.declared.entity_change.Deed.TheVariants as deeds
+use Rattle.gw_meaning.specs.declared.entity_change.StorageDeed.TheVariants as of_storage
 use Rattle.gw_meaning.specs.declared.moves.Change.{Change}
 use Rattle.gw_meaning.specs.declared.moves.Change.TheVariants as changes
 use Rattle.gw_meaning.specs.declared.moves.Move.{Move}
@@ -140,7 +141,7 @@ pub goes_out : (t : Listing) (s : Machine) (key : Key) (units : ℕ) (shares : L
 goes_out t s key units shares h = subst (LeavesTo t s h.name units shares) h.named (h.shared, h.entries)
 
 enter_kept : (t : Listing) (s : Machine) (name : List ℕ) (units number : ℕ) → FitsIn t s name units (keys.Defined name) →
-    AreKept t s.clock s.entities.storages → AreKept t s.clock (done (keys.Defined name) (deeds.Enter units) s.clock number s.entities).storages
+    AreKept t s.clock s.entities.storages → AreKept t s.clock (done (keys.Defined name) (deeds.Storage (of_storage.Enter units)) s.clock number s.entities).storages
 enter_kept t s name units number h all =
     let store = store_at s.entities (keys.Defined name) in
     let room = leb-true (beside units store.level.content) (capacity_at t name) h.0 in
@@ -149,7 +150,7 @@ enter_kept t s name units number h all =
 
 leave_kept : (t : Listing) (s : Machine) (name : List ℕ) (units : ℕ) (shares : List (Option ℕ)) (number : ℕ) →
     LeavesTo t s name units shares (keys.Defined name) → AreKept t s.clock s.entities.storages →
-    AreKept t s.clock (done (keys.Defined name) (deeds.Leave units shares) s.clock number s.entities).storages
+    AreKept t s.clock (done (keys.Defined name) (deeds.Storage (of_storage.Leave units shares)) s.clock number s.entities).storages
 leave_kept t s name units shares number h all =
     let store = store_at s.entities (keys.Defined name) in
     let chain = delay_at s.delays (keys.Defined name) in
@@ -163,16 +164,13 @@ leave_kept t s name units shares number h all =
 
 done_kept : (t : Listing) (s : Machine) (key : Key) (deed : Deed) (number : ℕ) → IsDecidedDeed t s key deed → AreKept t s.clock s.entities.storages →
     AreKept t s.clock (done key deed s.clock number s.entities).storages
-done_kept t s key (deeds.Enter units) number decided all =
-    subst (λ k. AreKept t s.clock (done k (deeds.Enter units) s.clock number s.entities).storages) (sym decided.named)
+done_kept t s key (deeds.Storage (of_storage.Enter units)) number decided all =
+    subst (λ k. AreKept t s.clock (done k (deeds.Storage (of_storage.Enter units)) s.clock number s.entities).storages) (sym decided.named)
     (enter_kept t s decided.name units number (comes_in t s key units decided) all)
-done_kept t s key (deeds.Leave units shares) number decided all =
-    subst (λ k. AreKept t s.clock (done k (deeds.Leave units shares) s.clock number s.entities).storages) (sym decided.named)
+done_kept t s key (deeds.Storage (of_storage.Leave units shares)) number decided all =
+    subst (λ k. AreKept t s.clock (done k (deeds.Storage (of_storage.Leave units shares)) s.clock number s.entities).storages) (sym decided.named)
     (leave_kept t s decided.name units shares number (goes_out t s key units shares decided) all)
-done_kept t s key (deeds.Queue units) number decided all = all
-done_kept t s key (deeds.Depart units at_once) number decided all = all
-done_kept t s key deeds.Seize number decided all = all
-done_kept t s key (deeds.Release next) number decided all = all
+done_kept t s key deed number decided all = all
 
 touched_kept : (t : Listing) (s : Machine) (change : Change) (number : ℕ) → IsDecidedChange t s change → AreKept t s.clock s.entities.storages →
     AreKept t s.clock (touched change s.clock number s.entities).storages

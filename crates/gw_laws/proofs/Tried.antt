@@ -5,7 +5,6 @@ use Rattle.gw_streams.specs.declared.stream.Stream.{Stream}
 use Rattle.gw_streams.specs.Draws.{all_set}
 use Rattle.gw_names.specs.declared.key.Key.{Key}
 use Rattle.gw_meaning.specs.declared.entity_change.Deed.{Deed}
-use Rattle.gw_meaning.specs.declared.entity_change.Deed.TheVariants as deeds
 use Rattle.gw_meaning.specs.declared.moves.Arrival.{Arrival}
 use Rattle.gw_meaning.specs.declared.moves.Change.{Change}
 use Rattle.gw_meaning.specs.declared.moves.Change.TheVariants as changes
@@ -20,7 +19,7 @@ use Rattle.gw_meaning.specs.declared.statement.Command.TheVariants as commands
 use Rattle.gw_meaning.specs.declared.transaction.Transaction.{Transaction}
 use Rattle.gw_meaning.specs.Listing.{Listing, block_at, after_at, command_at, or_next}
 use Rattle.gw_meaning.specs.Machine.{Machine, raised, delay_at, zero_state}
-use Rattle.gw_meaning.specs.Changes.{making_of, with_making, made, admitted, changed, decided}
+use Rattle.gw_meaning.specs.Changes.{deed_shares, making_of, with_making, made, admitted, changed, decided}
 use Rattle.gw_meaning.specs.Questions.{Answer, ask, Gives, result_of}
 use Rattle.gw_meaning.specs.Evaluation.{Eval, gives, ends_with, asks, ◌~>◌}
 use Rattle.gw_meaning.specs.Step.{first_arrivals_prog, start_prog, command_prog, meet_prog, try_prog, attempt_prog, within_prog, clock_prog, pick_prog, scan_prog, move_prog, least_time, decide, step, run}
@@ -157,9 +156,7 @@ abbrev pub Makes : (Machine → Type 0) → Type 0
 Makes Q = (a : Arrival) (w : Machine) → Q w → Q (with_making (made a (making_of w)) w)
 
 admitted_keeps : (Q : Machine → Type 0) (key : Key) (deed : Deed) (v : Machine) → LetsIn Q → Q v → Q (admitted key deed v)
-admitted_keeps Q key (deeds.Release next) v lets h = some_have Q key (Some 1 ∷ []) [] (delay_at v.delays key) v refl lets h
-admitted_keeps Q key (deeds.Leave units shares) v lets h = some_have Q key shares [] (delay_at v.delays key) v refl lets h
-admitted_keeps Q key deed v lets h = h
+admitted_keeps Q key deed v lets h = some_have Q key (deed_shares deed) [] (delay_at v.delays key) v refl lets h
 
 pub changed_keeps : (Q : Machine → Type 0) (change : Change) (v : Machine) → Makes Q → LetsIn Q → Q v → Q (changed change v)
 changed_keeps Q (changes.Generate None) v makes lets h = h

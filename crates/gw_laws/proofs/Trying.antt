@@ -164,6 +164,8 @@ module _ (s : Machine) where
   entity_value_tries class.Qc key = amount_tries _
   entity_value_tries class.Qm key = amount_tries _
   entity_value_tries class.Qz key = amount_tries _
+  entity_value_tries class.X key = tries_gives tt
+  entity_value_tries class.Ls key = amount_tries _
   entity_value_tries of key = tries_ends
 
   of_entity : (class : Class) (of : Subject) → TriesAny (subject_prog of ~> (λ key. entity_value s class key))
@@ -214,6 +216,8 @@ module _ (s : Machine) where
   attribute_tries q class.Qc of = of_entity class.Qc of
   attribute_tries q class.Qm of = of_entity class.Qm of
   attribute_tries q class.Qz of = of_entity class.Qz of
+  attribute_tries q class.X of = of_entity class.X of
+  attribute_tries q class.Ls of = of_entity class.Ls of
   attribute_tries q class.S of = of_storage class.S of
   attribute_tries q class.R of = left_tries of
   attribute_tries q class.Sc of = of_storage class.Sc of

@@ -9,6 +9,7 @@ use Rattle.gw_expr.specs.declared.atom.Atom.TheVariants as atoms
 use Rattle.gw_entities.specs.Records.{never_owned, seized, queued, no_line, never_used, entered}
 use Rattle.gw_meaning.specs.declared.auxiliary.Auxiliary.{Auxiliary}
 use Rattle.gw_meaning.specs.declared.auxiliary.Auxiliary.TheVariants as auxiliaries
+use Rattle.gw_meaning.specs.declared.auxiliary.Switching.TheVariants as switchings
 use Rattle.gw_meaning.specs.declared.statement.Definition.TheVariants as definitions
 use Rattle.gw_meaning.specs.declared.statement.Body.TheVariants as bodies
 use Rattle.gw_meaning.specs.declared.transaction.Transaction.{Transaction}
@@ -56,6 +57,8 @@ busy = record zero_state {
     facilities = (keys.Named [], seized 1 0 never_owned) ∷ [];
     queues = (keys.Named [], queued 1 0 no_line) ∷ [];
     storages = (keys.Defined [], entered 1 0 never_used) ∷ [];
+    savevalues = [];
+    switches = [];
     comings = [];
   };
   parameters = (1, (keys.Named [], pos 1) ∷ []) ∷ [];
@@ -97,6 +100,8 @@ each_verb_is_evaluated blocks.Enter given forms is = entered_with (pool ∷ []) 
 each_verb_is_evaluated blocks.Leave given forms is = entered_with (pool ∷ []) refl
 each_verb_is_evaluated blocks.Transfer given forms is = entered_with [] refl
 each_verb_is_evaluated blocks.Test given forms is = entered_by auxiliaries.Equal (one ∷ one ∷ []) refl
+each_verb_is_evaluated blocks.Logic given forms is = entered_by (auxiliaries.Logic switchings.Set) (line ∷ []) refl
+each_verb_is_evaluated blocks.Savevalue given forms is = entered_with (line ∷ one ∷ []) refl
 each_verb_is_evaluated blocks.Mark given forms is = entered_with [] refl
 each_verb_is_evaluated blocks.Priority given forms is = entered_with (one ∷ []) refl
 each_verb_is_evaluated blocks.Buffer given forms is = entered_with [] refl

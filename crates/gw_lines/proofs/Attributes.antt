@@ -44,6 +44,16 @@ parameter_read (b ∷ bs) of e =
       | inr other ↦ rw (other, e) refl
     ]
 
+-- `X` stands in front of `XN1`, likewise
+savevalue_read : (rest : List ℕ) (of : Subject) → subject_of scopes.Entity rest ≡ Some of
+    → attribute_in classes (class_word class.X ++ rest) ≡ Some (atoms.Attribute class.X of)
+savevalue_read [] of e = absurd cc
+savevalue_read (b ∷ bs) of e =
+    elim (cases_Bool (nat_eq 78 b)) [
+      | inl same ↦ absurd (let f = rw (← eqb-true 78 b same) at e in cc)
+      | inr other ↦ rw (other, e) refl
+    ]
+
 behind : (class : Class) (rest : List ℕ) → Behind class rest
 unfolding is_class
 behind class.C1 rest = record { read = λ of e. rw e refl; barred = λ h. rw h refl; value = refl; number = refl }
@@ -65,8 +75,8 @@ behind class.Qm rest = record { read = λ of e. rw e refl; barred = λ h. rw h r
 behind class.Qz rest = record { read = λ of e. rw e refl; barred = λ h. rw h refl; value = refl; number = refl }
 behind class.N rest = record { read = λ of e. rw e refl; barred = λ h. rw h refl; value = refl; number = refl }
 behind class.W rest = record { read = λ of e. rw e refl; barred = λ h. rw h refl; value = refl; number = refl }
-behind class.X rest = record { read = λ of e. absurd cc; barred = λ h. rw h (or_right _ true refl); value = refl; number = refl }
-behind class.Ls rest = record { read = λ of e. absurd cc; barred = λ h. rw h refl; value = refl; number = refl }
+behind class.X rest = record { read = λ of e. savevalue_read rest of e; barred = λ h. rw h (or_right _ true refl); value = refl; number = refl }
+behind class.Ls rest = record { read = λ of e. rw e refl; barred = λ h. rw h refl; value = refl; number = refl }
 behind class.Ch rest = record { read = λ of e. absurd cc; barred = λ h. rw h refl; value = refl; number = refl }
 behind class.Cc rest = record { read = λ of e. absurd cc; barred = λ h. rw h refl; value = refl; number = refl }
 behind class.Tc rest = record { read = λ of e. absurd cc; barred = λ h. rw h refl; value = refl; number = refl }

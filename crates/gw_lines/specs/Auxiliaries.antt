@@ -7,6 +7,7 @@ use Rattle.gw_names.specs.declared.verb.Verb.{Verb}
 use Rattle.gw_names.specs.declared.verb.Verb.TheVariants as verbs
 use Rattle.gw_meaning.specs.declared.auxiliary.Auxiliary.{Auxiliary}
 use Rattle.gw_meaning.specs.declared.auxiliary.Auxiliary.TheVariants as auxiliaries
+use Rattle.gw_meaning.specs.declared.auxiliary.Switching.TheVariants as switchings
 use Rattle.gw_meaning.specs.declared.statement.Body.{Body}
 use Rattle.gw_meaning.specs.declared.statement.Body.TheVariants as bodies
 use Rattle.gw_lines.specs.declared.class.Class.TheVariants as class
@@ -19,6 +20,8 @@ use Rattle.gw_lines.specs.Parts.{parts_of}
 abbrev pub operators : Verb → List Auxiliary
 operators (verbs.Block blocks.Test) = auxiliaries.Equal ∷ auxiliaries.NotEqual ∷ auxiliaries.Greater ∷
     auxiliaries.GreaterOrEqual ∷ auxiliaries.Less ∷ auxiliaries.LessOrEqual ∷ []
+operators (verbs.Block blocks.Logic) = auxiliaries.Logic switchings.Set ∷ auxiliaries.Logic switchings.Reset ∷
+    auxiliaries.Logic switchings.Invert ∷ []
 operators verb = []
 
 -- the word of an operator, in upper case
@@ -29,6 +32,9 @@ operator_word auxiliaries.Greater = codes "G"
 operator_word auxiliaries.GreaterOrEqual = codes "GE"
 operator_word auxiliaries.Less = codes "L"
 operator_word auxiliaries.LessOrEqual = codes "LE"
+operator_word (auxiliaries.Logic switchings.Set) = codes "S"
+operator_word (auxiliaries.Logic switchings.Reset) = codes "R"
+operator_word (auxiliaries.Logic switchings.Invert) = codes "I"
 operator_word auxiliary = []
 
 -- the verbs that take an operator
@@ -44,6 +50,7 @@ operator_of verb word = find (λ o. bytes_eq (operator_word o) word) (operators 
 -- the verbs that take a sign
 abbrev pub takes_sign : Verb → Bool
 takes_sign (verbs.Block blocks.Assign) = true
+takes_sign (verbs.Block blocks.Savevalue) = true
 takes_sign verb = false
 
 -- the last byte of an operand, where another stands before it

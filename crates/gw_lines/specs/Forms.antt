@@ -104,6 +104,8 @@ forms_of_block blocks.Priority given = Some (one_value ∷ [])
 forms_of_block blocks.Buffer given = Some []
 forms_of_block blocks.Assign given = Some (an_entity ∷ one_value ∷ [])
 forms_of_block blocks.Loop given = Some (an_entity ∷ a_label ∷ [])
+forms_of_block blocks.Logic given = Some (an_entity ∷ [])
+forms_of_block blocks.Savevalue given = Some (an_entity ∷ one_value ∷ [])
 forms_of_block verb given = None
 
 abbrev pub forms_of_definition : DefinitionVerb → Option (List Form)

@@ -76,10 +76,12 @@ fn scope_of(class: Class) -> Scope
         | Class::Fn
         | Class::Qm
         | Class::Qz
+        | Class::X
+        | Class::Ls
         | Class::V => Scope::Entity,
         Class::N | Class::W => Scope::Block,
         Class::Rn => Scope::Stream,
-        Class::X | Class::Ls | Class::Ch | Class::Cc | Class::Tc => Scope::Later,
+        Class::Ch | Class::Cc | Class::Tc => Scope::Later,
     }
 }
 

@@ -8,7 +8,7 @@ ghost use Rattle.gw_lines.specs.declared.class.Class.TheVariants as class;
 
 use crate::class::{Class, span, word};
 use crate::fault::LineFault;
-use gw_meaning::Auxiliary;
+use gw_meaning::{Auxiliary, Switching};
 use gw_names::{BlockVerb, Verb};
 use std::alloc::{AllocError, Global};
 
@@ -56,6 +56,11 @@ fn operators(verb: Verb) -> &'static [Auxiliary]
             Auxiliary::Less,
             Auxiliary::LessOrEqual,
         ],
+        Verb::Block(BlockVerb::Logic) => &[
+            Auxiliary::Logic(Switching::Set),
+            Auxiliary::Logic(Switching::Reset),
+            Auxiliary::Logic(Switching::Invert),
+        ],
         _ => &[],
     }
 }
@@ -71,6 +76,9 @@ fn operator_word(operator: Auxiliary) -> &'static [u8]
         Auxiliary::GreaterOrEqual => b"GE",
         Auxiliary::Less => b"L",
         Auxiliary::LessOrEqual => b"LE",
+        Auxiliary::Logic(Switching::Set) => b"S",
+        Auxiliary::Logic(Switching::Reset) => b"R",
+        Auxiliary::Logic(Switching::Invert) => b"I",
         Auxiliary::Absent | Auxiliary::Plus | Auxiliary::Minus => b"",
     }
 }
@@ -112,7 +120,7 @@ fn takes_sign(verb: Verb) -> bool
     ensures { result ≡ takes_sign verb }
 {
     match verb {
-        Verb::Block(BlockVerb::Assign) => true,
+        Verb::Block(BlockVerb::Assign | BlockVerb::Savevalue) => true,
         _ => false,
     }
 }

@@ -12,6 +12,8 @@ use Rattle.gw_entities.specs.Tables.{with_value}
 use Rattle.gw_entities.specs.Parameters.{assigned, without}
 use Rattle.gw_meaning.specs.declared.entity_change.Deed.{Deed}
 use Rattle.gw_meaning.specs.declared.entity_change.Deed.TheVariants as deeds
+use Rattle.gw_meaning.specs.declared.entity_change.FacilityDeed.TheVariants as of_facility
+use Rattle.gw_meaning.specs.declared.entity_change.StorageDeed.TheVariants as of_storage
 use Rattle.gw_meaning.specs.declared.moves.Arrival.{Arrival}
 use Rattle.gw_meaning.specs.declared.moves.Change.{Change}
 use Rattle.gw_meaning.specs.declared.moves.Change.TheVariants as changes
@@ -170,12 +172,15 @@ some_let_in key (None ∷ shares) passed (x ∷ xs) s = some_let_in key shares (
 some_let_in key (Some units ∷ shares) passed (x ∷ xs) s =
     some_let_in key shares passed xs (one_let_in key x (passed ++ xs) s)
 
--- whom a deed lets in: RELEASE the first of the facility's delay chain, where there is one; LEAVE each of the storage's
--- that has a share
+-- the shares of those of the delay chain whom a deed lets in: RELEASE the first of the facility's, where there is one;
+-- LEAVE each of the storage's that has a share
+abbrev pub deed_shares : Deed → List (Option ℕ)
+deed_shares (deeds.Facility (of_facility.Release next)) = Some 1 ∷ []
+deed_shares (deeds.Storage (of_storage.Leave units shares)) = shares
+deed_shares deed = []
+
 abbrev pub admitted : Key → Deed → Machine → Machine
-admitted key (deeds.Release next) s = some_let_in key (Some 1 ∷ []) [] (delay_at s.delays key) s
-admitted key (deeds.Leave units shares) s = some_let_in key shares [] (delay_at s.delays key) s
-admitted key deed s = s
+admitted key deed s = some_let_in key (deed_shares deed) [] (delay_at s.delays key) s
 
 -- what a block brings: a GENERATE the next transaction, and the change of an entity those whom it lets in
 abbrev pub changed : Change → Machine → Machine

@@ -1,26 +1,41 @@
 -- The entities of a run, and what a block that is entered makes of the one that it names. (Manual. Our own: who came
 -- while the clock stands, in place of the clock of each transaction's last QUEUE.)
-use Rattle.std.specs.Prelude.{ℕ, ◌==◌, List, [], ◌∷◌, Option, Some, None, if◌then◌else◌, unwrap_or}
+use Rattle.std.specs.Prelude.{ℕ, ℤ, Bool, false, ◌==◌, List, [], ◌∷◌, Option, Some, None, if◌then◌else◌, unwrap_or}
 use Rattle.gw_names.specs.declared.key.Key.{Key}
 use Rattle.gw_entities.specs.Records.{Ownership, never_owned, seized, released, Line, no_line, queued, departed, Store, never_used, entered, left}
 use Rattle.gw_entities.specs.Tables.{value_of, with_value}
 use Rattle.gw_entities.specs.Comings.{with_coming}
 use Rattle.gw_meaning.specs.declared.entity_change.Deed.{Deed}
 use Rattle.gw_meaning.specs.declared.entity_change.Deed.TheVariants as deeds
+use Rattle.gw_meaning.specs.declared.entity_change.FacilityDeed.{FacilityDeed}
+use Rattle.gw_meaning.specs.declared.entity_change.FacilityDeed.TheVariants as of_facility
+use Rattle.gw_meaning.specs.declared.entity_change.QueueDeed.{QueueDeed}
+use Rattle.gw_meaning.specs.declared.entity_change.QueueDeed.TheVariants as of_queue
+use Rattle.gw_meaning.specs.declared.entity_change.StorageDeed.{StorageDeed}
+use Rattle.gw_meaning.specs.declared.entity_change.StorageDeed.TheVariants as of_storage
 use Rattle.gw_meaning.specs.declared.moves.Change.{Change}
 use Rattle.gw_meaning.specs.declared.moves.Change.TheVariants as changes
 
 pub record Entities : Type 0 where
-  -- the facilities, the queues and the storages, each in order of first touch
+  -- the facilities, the queues, the storages, the savevalues and the switches, each in order of first touch
   pub facilities : List (Key × Ownership)
   pub queues : List (Key × Line)
   pub storages : List (Key × Store)
+  pub savevalues : List (Key × ℤ)
+  pub switches : List (Key × Bool)
   -- which transaction came to which queue since the clock stands as it does
   pub comings : List (Key × ℕ)
 
 -- nothing is touched yet
 abbrev pub no_entities : Entities
-no_entities = record { facilities = []; queues = []; storages = []; comings = [] }
+no_entities = record {
+  facilities = [];
+  queues = [];
+  storages = [];
+  savevalues = [];
+  switches = [];
+  comings = [];
+}
 
 -- a facility: one that nothing touched is free
 abbrev pub facility_at : Entities → Key → Ownership
@@ -34,6 +49,14 @@ line_at e key = unwrap_or (value_of e.queues key) no_line
 abbrev pub store_at : Entities → Key → Store
 store_at e key = unwrap_or (value_of e.storages key) never_used
 
+-- a savevalue, where a block set it
+abbrev pub savevalue_at : Entities → Key → Option ℤ
+savevalue_at e key = value_of e.savevalues key
+
+-- a switch: one that nothing touched is reset
+abbrev pub switch_at : Entities → Key → Bool
+switch_at e key = unwrap_or (value_of e.switches key) false
+
 -- a facility that its owner gives back: the next transaction takes it, where there is one
 abbrev pub given_back : Option ℕ → ℕ → Ownership → Ownership
 given_back None clock f = released clock f
@@ -45,22 +68,38 @@ all_entered [] clock s = s
 all_entered (None ∷ shares) clock s = all_entered shares clock s
 all_entered (Some units ∷ shares) clock s = all_entered shares clock (entered units clock s)
 
--- what a deed makes of the entity with a key, at a clock, where the transaction with a number enters the block
+-- what a deed makes of a facility, a queue and a storage, at a clock, where the transaction with a number enters the
+-- block
+abbrev pub done_to_facility : FacilityDeed → ℕ → ℕ → Ownership → Ownership
+done_to_facility of_facility.Seize clock number f = seized number clock f
+done_to_facility (of_facility.Release next) clock number f = given_back next clock f
+
+abbrev pub done_to_queue : QueueDeed → ℕ → Line → Line
+done_to_queue (of_queue.Queue units) clock q = queued units clock q
+done_to_queue (of_queue.Depart units at_once) clock q = departed units clock at_once q
+
+abbrev pub done_to_storage : StorageDeed → ℕ → Store → Store
+done_to_storage (of_storage.Enter units) clock s = entered units clock s
+done_to_storage (of_storage.Leave units shares) clock s = all_entered shares clock (left units clock s)
+
+-- who came to a queue, behind a deed
+abbrev pub comings_behind : QueueDeed → Key → ℕ → List (Key × ℕ) → List (Key × ℕ)
+comings_behind (of_queue.Queue units) key number comings = with_coming comings key number
+comings_behind deed key number comings = comings
+
+-- what a deed makes of the entities: it sets the one of its kind with the key
 abbrev pub done : Key → Deed → ℕ → ℕ → Entities → Entities
-done key (deeds.Queue units) clock number e = record e {
-  queues = with_value e.queues key (queued units clock (line_at e key));
-  comings = with_coming e.comings key number;
+done key (deeds.Facility deed) clock number e = record e {
+  facilities = with_value e.facilities key (done_to_facility deed clock number (facility_at e key));
 }
-done key (deeds.Depart units at_once) clock number e =
-    record e { queues = with_value e.queues key (departed units clock at_once (line_at e key)) }
-done key deeds.Seize clock number e =
-    record e { facilities = with_value e.facilities key (seized number clock (facility_at e key)) }
-done key (deeds.Release next) clock number e =
-    record e { facilities = with_value e.facilities key (given_back next clock (facility_at e key)) }
-done key (deeds.Enter units) clock number e =
-    record e { storages = with_value e.storages key (entered units clock (store_at e key)) }
-done key (deeds.Leave units shares) clock number e =
-    record e { storages = with_value e.storages key (all_entered shares clock (left units clock (store_at e key))) }
+done key (deeds.Queue deed) clock number e = record e {
+  queues = with_value e.queues key (done_to_queue deed clock (line_at e key));
+  comings = comings_behind deed key number e.comings;
+}
+done key (deeds.Storage deed) clock number e =
+    record e { storages = with_value e.storages key (done_to_storage deed clock (store_at e key)) }
+done key (deeds.Savevalue to) clock number e = record e { savevalues = with_value e.savevalues key to }
+done key (deeds.Switch set) clock number e = record e { switches = with_value e.switches key set }
 
 -- what the change of a block makes of them
 abbrev pub touched : Change → ℕ → ℕ → Entities → Entities

@@ -1,7 +1,7 @@
 -- Values, attributes and draws. An evaluation goes from the streams before it to its result and the streams behind it,
 -- so draws come in the order of evaluation. (Manual: operands, numerical attributes, and a time of A plus or minus B.
 -- Our own: whole numbers, what a draw stands for, and that the seed is asked for at a stream's first draw alone.)
-use Rattle.std.specs.Prelude.{ℕ, zero, suc, ◌+◌, ◌-◌, ◌*◌, ◌/◌, Bool, true, false, not, ◌&&◌, nat_le, List, Option, Some, None, Result, Ok, Err, ℤ, pos, ◌+ℤ◌, ◌-ℤ◌, if◌then◌else◌}
+use Rattle.std.specs.Prelude.{ℕ, zero, suc, ◌+◌, ◌-◌, ◌*◌, ◌/◌, Bool, true, false, not, ◌&&◌, nat_le, List, Option, unwrap_or, Some, None, Result, Ok, Err, ℤ, pos, ◌+ℤ◌, ◌-ℤ◌, if◌then◌else◌}
 use Rattle.gw_nums.specs.declared.val.ArithmeticFault.{ArithmeticFault}
 use Rattle.gw_nums.specs.declared.val.ArithmeticFault.TheVariants as arithmetic_faults
 use Rattle.gw_nums.specs.Millionths.{times}
@@ -27,7 +27,7 @@ use Rattle.gw_meaning.specs.declared.item.End.{End}
 use Rattle.gw_meaning.specs.declared.item.End.TheVariants as ends
 use Rattle.gw_meaning.specs.declared.asker.Asker.{Asker}
 use Rattle.gw_entities.specs.Parameters.{parameter_at}
-use Rattle.gw_meaning.specs.Entities.{facility_at, line_at, store_at}
+use Rattle.gw_meaning.specs.Entities.{facility_at, line_at, store_at, savevalue_at, switch_at}
 use Rattle.gw_meaning.specs.Machine.{Machine, count_at}
 use Rattle.gw_meaning.specs.Questions.{Answer, Prog, Gives, Ends, Asks, ◌>>=◌}
 
@@ -156,8 +156,13 @@ abbrev pub owned : Option ℕ → ℕ
 owned None = 0
 owned (Some number) = 1
 
+-- 1 where it holds, else 0
+abbrev pub one_if : Bool → ℕ
+one_if true = 1
+one_if false = 0
+
 -- of a facility: whether it is owned, and its captures; of a queue: its content, its entries, the greatest content and
--- the zero entries. One that nothing touched yet reads 0.
+-- the zero entries; of a savevalue: its value; of a switch: whether it is set. One that nothing touched yet reads 0.
 abbrev pub entity_value : Machine → Class → Key → Eval ℤ
 entity_value s class.F key = amount (owned (facility_at s.entities key).owner)
 entity_value s class.Fc key = amount (facility_at s.entities key).captures
@@ -165,6 +170,8 @@ entity_value s class.Q key = amount (line_at s.entities key).level.content
 entity_value s class.Qc key = amount (line_at s.entities key).entries
 entity_value s class.Qm key = amount (line_at s.entities key).greatest
 entity_value s class.Qz key = amount (line_at s.entities key).zero_entries
+entity_value s class.X key = gives (unwrap_or (savevalue_at s.entities key) (pos 0))
+entity_value s class.Ls key = amount (one_if (switch_at s.entities key))
 entity_value s class key = ends_with (ends.Error Range)
 
 -- of a storage: the units in use, the units that came, and the greatest content
@@ -203,6 +210,8 @@ attribute_prog s q class.Q of = subject_prog of ~> (λ key. entity_value s class
 attribute_prog s q class.Qc of = subject_prog of ~> (λ key. entity_value s class.Qc key)
 attribute_prog s q class.Qm of = subject_prog of ~> (λ key. entity_value s class.Qm key)
 attribute_prog s q class.Qz of = subject_prog of ~> (λ key. entity_value s class.Qz key)
+attribute_prog s q class.X of = subject_prog of ~> (λ key. entity_value s class.X key)
+attribute_prog s q class.Ls of = subject_prog of ~> (λ key. entity_value s class.Ls key)
 attribute_prog s q class.S of = storage_prog of (λ key. storage_value s class.S key)
 attribute_prog s q class.R of = left_prog s of
 attribute_prog s q class.Sc of = storage_prog of (λ key. storage_value s class.Sc key)

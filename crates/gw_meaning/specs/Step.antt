@@ -30,6 +30,11 @@ use Rattle.gw_streams.specs.declared.stream.Stream.{Stream}
 use Rattle.gw_streams.specs.Draws.{all_set}
 use Rattle.gw_meaning.specs.declared.moves.Arrival.{Arrival}
 use Rattle.gw_meaning.specs.declared.entity_change.Deed.TheVariants as deeds
+use Rattle.gw_meaning.specs.declared.entity_change.FacilityDeed.TheVariants as of_facility
+use Rattle.gw_meaning.specs.declared.entity_change.QueueDeed.TheVariants as of_queue
+use Rattle.gw_meaning.specs.declared.entity_change.StorageDeed.TheVariants as of_storage
+use Rattle.gw_meaning.specs.declared.auxiliary.Switching.{Switching}
+use Rattle.gw_meaning.specs.declared.auxiliary.Switching.TheVariants as switchings
 use Rattle.gw_meaning.specs.declared.moves.Change.TheVariants as changes
 use Rattle.gw_meaning.specs.declared.transaction_change.TransactionChange.TheVariants as own
 use Rattle.gw_meaning.specs.declared.moves.Fate.{Fate}
@@ -42,7 +47,7 @@ use Rattle.gw_meaning.specs.Machine.{Machine, zero_state, raised, live, count_at
 use Rattle.gw_entities.specs.Records.{Line, Store, capped}
 use Rattle.gw_entities.specs.Comings.{came}
 use Rattle.gw_entities.specs.Parameters.{parameter_at}
-use Rattle.gw_meaning.specs.Entities.{facility_at, line_at, store_at}
+use Rattle.gw_meaning.specs.Entities.{facility_at, line_at, store_at, savevalue_at, switch_at}
 use Rattle.gw_meaning.specs.Questions.{Prog, Gives, result_of, items_of, ◌>>=◌}
 use Rattle.gw_meaning.specs.Evaluation.{Eval, gives, ends_with, asks, ◌~>◌, stops_if, value_prog, value_or_zero, value_there, entity_prog, units_prog, arithmetic, millionths, draw, time_prog}
 use Rattle.gw_meaning.specs.Changes.{decided}
@@ -159,7 +164,7 @@ is_too_many n = nat_lt 1000000000 n
 abbrev pub queue_units : ℕ → Key → Line → ℕ → Eval Move
 queue_units id key line units =
     stops_if (is_too_many (line.entries + units) || is_too_many (line.level.content + units)) TooManyUnits
-    (gives (moves.Enter id (changes.Entity (key, deeds.Queue units)) fates.Active))
+    (gives (moves.Enter id (changes.Entity (key, deeds.Queue (of_queue.Queue units))) fates.Active))
 
 abbrev pub queue_prog : Machine → Asker → ℕ → Option Term → Option Term → Eval Move
 queue_prog s q id entity units =
@@ -169,7 +174,7 @@ abbrev pub depart_units : ℕ → Key → Line → Bool → ℕ → Eval Move
 depart_units id key line at_once units =
     stops_if (at_once && is_too_many (line.zero_entries + units)) TooManyUnits
     (stops_if (nat_lt line.level.content units) DepartTooMany
-    (gives (moves.Enter id (changes.Entity (key, deeds.Depart units at_once)) fates.Active)))
+    (gives (moves.Enter id (changes.Entity (key, deeds.Queue (of_queue.Depart units at_once))) fates.Active)))
 
 abbrev pub depart_prog : Machine → Asker → Transaction → ℕ → Option Term → Option Term → Eval Move
 depart_prog s q x id entity units = entity_prog s q entity ~> (λ key. units_prog s q units ~>
@@ -178,7 +183,8 @@ depart_prog s q x id entity units = entity_prog s q entity ~> (λ key. units_pro
 -- SEIZE, of a facility that may be owned; RELEASE, by its owner, for the first that waits.
 abbrev pub seize_or_wait : ℕ → Key → Bool → Eval Move
 seize_or_wait id key true = gives (moves.Refuse id key 1)
-seize_or_wait id key false = gives (moves.Enter id (changes.Entity (key, deeds.Seize)) fates.Active)
+seize_or_wait id key false =
+    gives (moves.Enter id (changes.Entity (key, deeds.Facility of_facility.Seize)) fates.Active)
 
 abbrev pub seize_prog : Machine → Asker → ℕ → Option Term → Eval Move
 seize_prog s q id entity =
@@ -196,7 +202,8 @@ is_owner (Some owner) number = owner == number
 
 abbrev pub release_to : ℕ → Key → Bool → Option ℕ → Eval Move
 release_to id key owns next =
-    stops_if (not owns) NotOwner (gives (moves.Enter id (changes.Entity (key, deeds.Release next)) fates.Active))
+    stops_if (not owns) NotOwner
+    (gives (moves.Enter id (changes.Entity (key, deeds.Facility (of_facility.Release next))) fates.Active))
 
 abbrev pub release_prog : Machine → Asker → Transaction → ℕ → Option Term → Eval Move
 release_prog s q x id entity = entity_prog s q entity ~> (λ key. release_to id key
@@ -211,7 +218,7 @@ beside units content = capped (units + content)
 abbrev pub enter_or_wait : ℕ → Key → Store → ℕ → Bool → Eval Move
 enter_or_wait id key store units true =
     stops_if (is_too_many (store.entries + units)) TooManyUnits
-    (gives (moves.Enter id (changes.Entity (key, deeds.Enter units)) fates.Active))
+    (gives (moves.Enter id (changes.Entity (key, deeds.Storage (of_storage.Enter units))) fates.Active))
 enter_or_wait id key store units false = gives (moves.Refuse id key units)
 
 abbrev pub enter_storage : ℕ → List ℕ → Store → ℕ → Bool → Eval Move
@@ -248,7 +255,7 @@ all_shares (Some units ∷ shares) = units + all_shares shares
 abbrev pub leave_for : ℕ → Key → Store → ℕ → List (Option ℕ) → Eval Move
 leave_for id key store units shares =
     stops_if (is_too_many (store.entries + all_shares shares)) TooManyUnits
-    (gives (moves.Enter id (changes.Entity (key, deeds.Leave units shares)) fates.Active))
+    (gives (moves.Enter id (changes.Entity (key, deeds.Storage (of_storage.Leave units shares))) fates.Active))
 
 abbrev pub leave_units : Machine → ℕ → List ℕ → Store → ℕ → Eval Move
 leave_units s id name store units =
@@ -351,6 +358,35 @@ abbrev pub test_prog : Machine → Asker → ℕ → Auxiliary → Option Term �
 test_prog s q id relation first second label = value_there s q first ~> (λ a. value_there s q second ~>
     (λ b. test_values id relation label a b))
 
+-- LOGIC: the switch is set, reset or inverted.
+abbrev pub switched : Switching → Bool → Bool
+switched switchings.Set was = true
+switched switchings.Reset was = false
+switched switchings.Invert was = not was
+
+abbrev pub logic_to : ℕ → Key → Bool → Eval Move
+logic_to id key set = gives (moves.Enter id (changes.Entity (key, deeds.Switch set)) fates.Active)
+
+abbrev pub logic_of : Machine → Asker → ℕ → Switching → Option Term → Eval Move
+logic_of s q id switching entity =
+    entity_prog s q entity ~> (λ key. logic_to id key (switched switching (switch_at s.entities key)))
+
+abbrev pub logic_prog : Machine → Asker → ℕ → Auxiliary → Option Term → Eval Move
+logic_prog s q id (auxiliaries.Logic switching) entity = logic_of s q id switching entity
+logic_prog s q id auxiliary entity = ends_with (ends.Error NoNextBlock)
+
+-- SAVEVALUE: the savevalue is set to the value, or by a sign that is added to it or taken from it; one that is absent
+-- counts as 0 then.
+abbrev pub savevalue_to : ℕ → Key → ℤ → Eval Move
+savevalue_to id key to = gives (moves.Enter id (changes.Entity (key, deeds.Savevalue to)) fates.Active)
+
+abbrev pub savevalue_with : ℕ → Auxiliary → Key → Option ℤ → ℤ → Eval Move
+savevalue_with id sign key was v = arithmetic (by_sign sign was v) ~> (λ to. savevalue_to id key to)
+
+abbrev pub savevalue_prog : Machine → Asker → ℕ → Auxiliary → Option Term → Option Term → Eval Move
+savevalue_prog s q id sign entity value = entity_prog s q entity ~> (λ key. value_there s q value ~>
+    (λ v. savevalue_with id sign key (savevalue_at s.entities key) v))
+
 -- by the block's verb; no other verb is read so far
 abbrev pub block_prog : Machine → Transaction → ℕ → Block → BlockVerb → Eval Move
 block_prog s x id b blocks.Generate =
@@ -366,6 +402,9 @@ block_prog s x id b blocks.Leave = leave_prog s (for_one s x) id (operand b A) (
 block_prog s x id b blocks.Transfer = transfer_prog id (operand b A) (operand b B) (operand b C)
 block_prog s x id b blocks.Test =
     test_prog s (for_one s x) id b.auxiliary (operand b A) (operand b B) (operand b C)
+block_prog s x id b blocks.Logic = logic_prog s (for_one s x) id b.auxiliary (operand b A)
+block_prog s x id b blocks.Savevalue =
+    savevalue_prog s (for_one s x) id b.auxiliary (operand b A) (operand b B)
 block_prog s x id b blocks.Mark = mark_prog id
 block_prog s x id b blocks.Priority = priority_prog s (for_one s x) id (operand b A)
 block_prog s x id b blocks.Buffer = buffer_prog id

@@ -19,4 +19,17 @@ pub enum Auxiliary {
     Less,
     /// `LE`: A is less than B, or equal to it.
     LessOrEqual,
+    /// What a LOGIC makes of its switch.
+    Logic(Switching),
+}
+
+/// What a LOGIC makes of its switch.
+#[derive(Clone, Copy)]
+pub enum Switching {
+    /// `S`: it is set.
+    Set,
+    /// `R`: it is reset.
+    Reset,
+    /// `I`: it is set where it was reset, and reset where it was set.
+    Invert,
 }

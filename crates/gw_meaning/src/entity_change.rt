@@ -1,32 +1,47 @@
 use gw_expr::Row;
 use gw_names::Key;
+use gw_nums::Val;
 use std::marker::Model;
 
-/// What a block makes of the entity that it names.
+/// What a block makes of the entity that it names: one case for each kind of entity.
 #[derive(Drop)]
 pub enum Deed {
-    /// So many units come to a queue.
-    Queue {
-        units: u64,
-    },
-    /// So many units leave a queue; `at_once` says that the transaction came there while the clock stands as it does.
-    Depart {
-        units: u64,
-        at_once: bool,
-    },
-    /// The transaction takes a facility.
+    Facility(FacilityDeed),
+    Queue(QueueDeed),
+    Storage(StorageDeed),
+    /// The savevalue has this value.
+    Savevalue { to: Val },
+    /// The switch is set, or else reset.
+    Switch { set: bool },
+}
+
+/// What a block makes of a facility.
+#[derive(Clone, Copy)]
+pub enum FacilityDeed {
+    /// The transaction takes it.
     Seize,
-    /// The transaction gives a facility back; `next` is the number of the first that waits for it, who takes it at
-    /// once.
-    Release {
-        next: Option<u64>,
-    },
-    /// So many units of a storage come into use.
+    /// The transaction gives it back; `next` is the number of the first that waits for it, who takes it at once.
+    Release { next: Option<u64> },
+}
+
+/// What a block makes of a queue.
+#[derive(Clone, Copy)]
+pub enum QueueDeed {
+    /// So many units come.
+    Queue { units: u64 },
+    /// So many units leave; `at_once` says that the transaction came there while the clock stands as it does.
+    Depart { units: u64, at_once: bool },
+}
+
+/// What a block makes of a storage.
+#[derive(Drop)]
+pub enum StorageDeed {
+    /// So many units come into use.
     Enter {
         units: u64,
     },
-    /// So many units of a storage are given back; `shares` has for each of its delay chain, from the front, the units
-    /// with which it is let in, and `None` where it goes on waiting.
+    /// So many units are given back; `shares` has for each of its delay chain, from the front, the units with which it
+    /// is let in, and `None` where it goes on waiting.
     Leave {
         units: u64,
         shares: Row<Option<u64>>,

@@ -20,9 +20,9 @@ mod transaction;
 mod transaction_change;
 
 pub use asker::Asker;
-pub use auxiliary::Auxiliary;
+pub use auxiliary::{Auxiliary, Switching};
 pub use destination::Destination;
-pub use entity_change::{Deed, EntityChange};
+pub use entity_change::{Deed, EntityChange, FacilityDeed, QueueDeed, StorageDeed};
 pub use item::{Asked, End, Item, Outcome};
 pub use moves::{Arrival, Change, Fate, Move};
 pub use statement::{Block, Body, Command, Definition, Numbered, Replication, Statement};

@@ -1,5 +1,5 @@
 -- What a contract sees of the parts of a state. (Our own.)
-use Rattle.std.specs.Prelude.{ℕ, Bool, List}
+use Rattle.std.specs.Prelude.{ℕ, ℤ, Bool, List}
 use Rattle.gw_names.specs.declared.key.Key.{Key}
 use Rattle.gw_entities.specs.Records.{Ownership, Line, Store}
 use Rattle.gw_entities.specs.Comings.{ReadyArrivals}
@@ -27,6 +27,8 @@ pub record Stock : Type 0 where
   pub facilities : List (Key × Ownership)
   pub queues : List (Key × Line)
   pub storages : List (Key × Store)
+  pub savevalues : List (Key × ℤ)
+  pub switches : List (Key × Bool)
   pub comings : ReadyArrivals
 
 abbrev pub entities_of : Stock → Entities
@@ -35,5 +37,7 @@ entities_of e =
       facilities = e.facilities;
       queues = e.queues;
       storages = e.storages;
+      savevalues = e.savevalues;
+      switches = e.switches;
       comings = e.comings.comings;
     }

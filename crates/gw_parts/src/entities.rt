@@ -3,13 +3,13 @@ ghost use Rattle.std.specs.Prelude.{◌≡◌, IfOk, OnOk, OnErr};
 ghost use Rattle.gw_entities.specs.Comings.{came, with_coming};
 ghost use Rattle.gw_entities.specs.Records.{queued};
 ghost use Rattle.gw_entities.specs.Tables.{with_value, IsPlace};
-ghost use Rattle.gw_meaning.specs.Entities.{no_entities, facility_at, line_at, store_at, later};
+ghost use Rattle.gw_meaning.specs.Entities.{no_entities, facility_at, line_at, store_at, savevalue_at, switch_at, later};
 ghost use Rattle.gw_parts.specs.Parts.{entities_of};
 
 use crate::deeds::Arrive;
 use gw_entities::{ByKey, Change, Comings, Facility, Queue, Storage};
 use gw_names::Key;
-use gw_nums::Clock;
+use gw_nums::{Clock, Val};
 use std::alloc::{AllocError, Global};
 use std::marker::Model;
 
@@ -19,6 +19,8 @@ pub struct Entities {
     facilities: ByKey<Facility>,
     queues: ByKey<Queue>,
     storages: ByKey<Storage>,
+    savevalues: ByKey<Val>,
+    switches: ByKey<bool>,
     comings: Comings,
 }
 
@@ -31,6 +33,8 @@ impl Model for Entities {
       facilities = e.facilities;
       queues = e.queues;
       storages = e.storages;
+      savevalues = e.savevalues;
+      switches = e.switches;
       comings = e.comings;
     } };
 }
@@ -44,6 +48,8 @@ impl Entities {
             facilities: ByKey::new(alloc),
             queues: ByKey::new(alloc),
             storages: ByKey::new(alloc),
+            savevalues: ByKey::new(alloc),
+            switches: ByKey::new(alloc),
             comings: Comings::new(alloc),
         }
     }
@@ -100,6 +106,43 @@ impl Entities {
             Some(storage) => storage,
             None => Storage::new(),
         }
+    }
+
+    /// The value of a savevalue, where a block set it.
+    pub fn savevalue(&self, key: &Key) -> Option<Val>
+        ensures { result ≡ savevalue_at (entities_of self.now) key.now }
+    {
+        self.savevalues.get(key)
+    }
+
+    /// Whether a switch is set. One that nothing touched yet is not.
+    pub fn is_set(&self, key: &Key) -> bool
+        ensures { result ≡ switch_at (entities_of self.now) key.now }
+    {
+        match self.switches.get(key) {
+            Some(set) => set,
+            None => false,
+        }
+    }
+
+    /// Gives a savevalue a value, or changes nothing where memory is refused.
+    pub fn set_savevalue(&mut self, key: &Key, to: Val) -> Result<(), AllocError>
+        ensures ok { OnOk result (entities_of self.new ≡ record (entities_of self.old) {
+          savevalues = with_value self.old.savevalues key.now to;
+        }) }
+        ensures err { OnErr result (entities_of self.new ≡ entities_of self.old) }
+    {
+        self.savevalues.put(key, to)
+    }
+
+    /// Sets a switch, or resets it; where memory is refused, nothing changes.
+    pub fn set_switch(&mut self, key: &Key, set: bool) -> Result<(), AllocError>
+        ensures ok { OnOk result (entities_of self.new ≡ record (entities_of self.old) {
+          switches = with_value self.old.switches key.now set;
+        }) }
+        ensures err { OnErr result (entities_of self.new ≡ entities_of self.old) }
+    {
+        self.switches.put(key, set)
     }
 
     /// Where a facility lies, and the facility.
@@ -233,6 +276,8 @@ impl Entities {
         self.facilities.get_ready()?;
         self.queues.get_ready()?;
         self.storages.get_ready()?;
+        self.savevalues.get_ready()?;
+        self.switches.get_ready()?;
         self.comings.get_ready()
     }
 
@@ -243,10 +288,14 @@ impl Entities {
         let facilities = self.facilities.copy()?;
         let queues = self.queues.copy()?;
         let storages = self.storages.copy()?;
+        let savevalues = self.savevalues.copy()?;
+        let switches = self.switches.copy()?;
         Ok(Entities {
             facilities,
             queues,
             storages,
+            savevalues,
+            switches,
             comings: self.comings.copy()?,
         })
     }

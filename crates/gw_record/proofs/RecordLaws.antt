@@ -14,12 +14,11 @@ use Rattle.gw_meaning.specs.Machine.{Machine, raised, delay_at}
 use Rattle.gw_streams.specs.declared.stream.Stream.{Stream}
 use Rattle.gw_names.specs.declared.key.Key.{Key}
 use Rattle.gw_meaning.specs.declared.entity_change.Deed.{Deed}
-use Rattle.gw_meaning.specs.declared.entity_change.Deed.TheVariants as deeds
 use Rattle.gw_meaning.specs.declared.moves.Change.{Change}
 use Rattle.gw_meaning.specs.declared.moves.Change.TheVariants as changes
 use Rattle.gw_meaning.specs.declared.moves.Fate.{Fate}
 use Rattle.gw_meaning.specs.declared.moves.Fate.TheVariants as fates
-use Rattle.gw_meaning.specs.Changes.{moved, decided, fated, let_in, one_let_in, some_let_in, admitted, changed, with_active, picked}
+use Rattle.gw_meaning.specs.Changes.{deed_shares, moved, decided, fated, let_in, one_let_in, some_let_in, admitted, changed, with_active, picked}
 use Rattle.gw_meaning.specs.Step.{decide, step, step_items, run}
 use Rattle.gw_meaning.specs.Questions.{result_of}
 use Rattle.gw_meaning.specs.declared.item.End.{End}
@@ -193,9 +192,7 @@ complete_some key (Some units ∷ shares) passed (x ∷ xs) s n h =
     complete_some key shares passed xs (one_let_in key x (passed ++ xs) s) n (complete_let_in x x.destination _ n h)
 
 complete_admitted : (key : Key) (deed : Deed) (s : Machine) (n : ℕ) → s.complete ≤ n + 1 → (admitted key deed s).complete ≤ n + 1
-complete_admitted key (deeds.Release next) s n h = complete_some key (Some 1 ∷ []) [] (delay_at s.delays key) s n h
-complete_admitted key (deeds.Leave units shares) s n h = complete_some key shares [] (delay_at s.delays key) s n h
-complete_admitted key deed s n h = h
+complete_admitted key deed s n h = complete_some key (deed_shares deed) [] (delay_at s.delays key) s n h
 
 complete_changed : (change : Change) (s : Machine) (n : ℕ) → s.complete ≤ n + 1 → (changed change s).complete ≤ n + 1
 complete_changed (changes.Generate next) s n h = h

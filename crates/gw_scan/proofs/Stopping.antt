@@ -131,6 +131,8 @@ entity_stops s class.Q key = amount_stops _
 entity_stops s class.Qc key = amount_stops _
 entity_stops s class.Qm key = amount_stops _
 entity_stops s class.Qz key = amount_stops _
+entity_stops s class.X key = stopping_gives _
+entity_stops s class.Ls key = amount_stops _
 entity_stops s of key = stopping_ends Range
 
 entities_stop : (s : Machine) (class : Class) (of : Subject) → Stopping (subject_prog of ~> (λ key. entity_value s class key))
@@ -181,6 +183,8 @@ attribute_stops s q class.Q of = entities_stop s class.Q of
 attribute_stops s q class.Qc of = entities_stop s class.Qc of
 attribute_stops s q class.Qm of = entities_stop s class.Qm of
 attribute_stops s q class.Qz of = entities_stop s class.Qz of
+attribute_stops s q class.X of = entities_stop s class.X of
+attribute_stops s q class.Ls of = entities_stop s class.Ls of
 attribute_stops s q class.S of = storages_stop s class.S of
 attribute_stops s q class.R of = left_stops s of
 attribute_stops s q class.Sc of = storages_stop s class.Sc of

@@ -92,6 +92,8 @@ impl State {
             BlockVerb::Leave => self.act_leave(case, notes, id, block),
             BlockVerb::Transfer => self.act_transfer(case, notes, id, block),
             BlockVerb::Test => self.act_test(case, notes, id, block),
+            BlockVerb::Logic => self.act_logic(case, notes, id, block),
+            BlockVerb::Savevalue => self.act_savevalue(case, notes, id, block),
             BlockVerb::Mark => self.act_mark(notes, id),
             BlockVerb::Priority => self.act_priority(case, notes, id, block),
             BlockVerb::Buffer => self.act_buffer(notes, id),

@@ -50,6 +50,7 @@ impl State {
             Class::F | Class::Fc => self.of_entity(case, notes, class, of),
             Class::Q | Class::Qc => self.of_entity(case, notes, class, of),
             Class::Qm | Class::Qz => self.of_entity(case, notes, class, of),
+            Class::X | Class::Ls => self.of_entity(case, notes, class, of),
             Class::S | Class::Sc | Class::Sm => self.of_storage(class, of),
             Class::R => self.left(case, notes, of),
             Class::N | Class::W => self.of_block(case, notes, class, of),
@@ -104,7 +105,7 @@ impl State {
         self.parameter(asker, &key)
     }
 
-    // Of a facility or a queue.
+    // Of a facility, a queue, a savevalue or a switch.
     #[inline(never)]
     fn of_entity(
         &self,
@@ -130,6 +131,8 @@ impl State {
             Class::Qc => amount(self.entities.queue(key).entries()),
             Class::Qm => amount(self.entities.queue(key).greatest()),
             Class::Qz => amount(self.entities.queue(key).zero_entries()),
+            Class::X => Ok(self.entities.savevalue(key).unwrap_or(Val::ZERO)),
+            Class::Ls => amount(u64::from(self.entities.is_set(key))),
             _ => Err(Halt::RANGE),
         }
     }
@@ -257,7 +260,7 @@ fn owned(owner: Option<u64>) -> u64
     }
 }
 
-// The facility, the queue or the parameter that an attribute is of.
+// The facility, the queue, the savevalue, the switch or the parameter that an attribute is of.
 fn subject(case: Case, notes: &mut Notes, of: &Subject) -> Result<Key, Halt>
     ensures { Decides case.entry.version.now case.entry.seed (subject_prog of.now) result notes.old notes.new }
 {

@@ -278,8 +278,8 @@ fn value_before(
     }
 }
 
-// What a value makes of a parameter, by the sign before it.
-fn by_sign(sign: Auxiliary, was: Option<Val>, value: Val) -> Result<Val, ArithmeticFault>
+// What a value makes of a parameter or a savevalue, by the sign before it.
+pub fn by_sign(sign: Auxiliary, was: Option<Val>, value: Val) -> Result<Val, ArithmeticFault>
     ensures { result ≡ by_sign sign was value }
 {
     match sign {
@@ -363,7 +363,7 @@ fn loop_back(to: Option<StatementId>) -> Result<Destination, Halt>
 }
 
 // What an operator comes to.
-fn arithmetic(found: Result<Val, ArithmeticFault>) -> Result<Val, Halt>
+pub fn arithmetic(found: Result<Val, ArithmeticFault>) -> Result<Val, Halt>
     ensures { Comes (arithmetic found) result }
 {
     match found {

@@ -175,6 +175,21 @@ impl State {
         self.entity(case, x, notes, block.operand(A))
     }
 
+    // The value of a block's second operand, for the active transaction.
+    pub(crate) fn own_second_value(
+        &self,
+        case: Case,
+        notes: &mut Notes,
+        block: &Block,
+    ) -> Result<Val, Halt>
+        requires { IsSome self.now.active }
+        ensures { (x : Transaction) → self.now.active ≡ Some x → Decides case.entry.version.now case.entry.seed
+            (value_there self.now (for_one self.now x) (operand block.now B)) result notes.old notes.new }
+    {
+        let x = self.active.get();
+        self.value_there(case, &self.for_one(x), notes, block.operand(B))
+    }
+
     // How many units a block says, for the active transaction.
     #[inline(always)]
     pub(crate) fn own_units(

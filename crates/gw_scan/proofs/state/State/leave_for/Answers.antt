@@ -1,5 +1,6 @@
 use Rattle.std.proofs.Common.{◌≡◌, Some, ap, ◌∙◌, rules}
 use Rattle.gw_meaning.specs.declared.entity_change.Deed.TheVariants as deeds
+use Rattle.gw_meaning.specs.declared.entity_change.StorageDeed.TheVariants as of_storage
 use Rattle.gw_meaning.specs.declared.moves.Change.TheVariants as changes
 use Rattle.gw_meaning.specs.declared.moves.Fate.TheVariants as fates
 use Rattle.gw_meaning.specs.declared.moves.Move.TheVariants as moves
@@ -19,7 +20,7 @@ pub returns : goal.returns
 returns c x is =
     let s = c.args.self.now in
     let key = c.args.key.now in
-    let deed = deeds.Leave c.args.units c.args.shares.now in
+    let deed = deeds.Storage (of_storage.Leave c.args.units c.args.shares.now) in
     let m = moves.Enter c.args.id (changes.Entity (key, deed)) fates.Active in
     let entities = done key deed s.clock x.number s.entities in
     let rest : Machine = record s { active = Some (placed x c.args.id); entities = entities } in

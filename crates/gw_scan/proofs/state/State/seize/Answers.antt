@@ -1,5 +1,6 @@
 use Rattle.std.proofs.Common.{◌≡◌, rules}
 use Rattle.gw_meaning.specs.declared.entity_change.Deed.TheVariants as deeds
+use Rattle.gw_meaning.specs.declared.entity_change.FacilityDeed.TheVariants as of_facility
 use Rattle.gw_meaning.specs.declared.moves.Change.TheVariants as changes
 use Rattle.gw_meaning.specs.declared.moves.Fate.TheVariants as fates
 use Rattle.gw_meaning.specs.declared.moves.Move.TheVariants as moves
@@ -16,6 +17,6 @@ returns-then-not-may_take c x is =
 
 pub returns : goal.returns
 returns c x is =
-    let m = moves.Enter c.args.id (changes.Entity (c.args.key.now, deeds.Seize)) fates.Active in
+    let m = moves.Enter c.args.id (changes.Entity (c.args.key.now, deeds.Facility of_facility.Seize)) fates.Active in
     let free : is_some (facility_at c.args.self.now.entities c.args.key.now).owner ≡ false = search rules in
     (m, rw free (λ i. gives m), rw is (search rules))

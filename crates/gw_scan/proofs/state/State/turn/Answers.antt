@@ -1,0 +1,11 @@
+use Rattle.std.proofs.Common.{rules}
+use Rattle.gw_meaning.specs.declared.entity_change.Deed.TheVariants as deeds
+use Rattle.gw_meaning.specs.declared.moves.Change.TheVariants as changes
+use Rattle.gw_meaning.specs.declared.moves.Fate.TheVariants as fates
+use Rattle.gw_meaning.specs.declared.moves.Move.TheVariants as moves
+use Rattle.gw_scan.proofs.state.State.turn.Goals as goal
+
+pub returns : goal.returns
+returns c x is =
+    let m = moves.Enter c.args.id (changes.Entity (c.args.key.now, deeds.Switch c.switched-set.result)) fates.Active in
+    (m, search rules, rw is (search rules))
