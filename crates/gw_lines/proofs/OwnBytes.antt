@@ -13,6 +13,8 @@ use Rattle.gw_expr.specs.Expressions.{Expression}
 use Rattle.gw_expr.specs.declared.token.Operator.{Operator}
 use Rattle.gw_meaning.specs.declared.auxiliary.Auxiliary.{Auxiliary}
 use Rattle.gw_meaning.specs.declared.auxiliary.Auxiliary.TheVariants as auxiliaries
+use Rattle.gw_meaning.specs.declared.auxiliary.Switching.{Switching}
+use Rattle.gw_meaning.specs.declared.auxiliary.Switching.TheVariants as switchings
 use Rattle.gw_lines.specs.declared.form.Form.{Form}
 use Rattle.gw_lines.specs.declared.form.Kind.{Kind}
 use Rattle.gw_lines.specs.declared.operand.Operand.{Operand}
@@ -192,8 +194,14 @@ signed_own text sign e h = list_own text h
 
 -- ---- with an operator before the operands
 
+switching_own : (switching : Switching) → Pass is_own (operator_word (auxiliaries.Logic switching))
+switching_own switchings.Set = refl
+switching_own switchings.Reset = refl
+switching_own switchings.Invert = refl
+
 operator_own : (operator : Auxiliary) → Pass is_own (operator_word operator)
 operator_own auxiliaries.Equal = refl
+operator_own (auxiliaries.Logic switching) = switching_own switching
 operator_own operator = refl
 
 -- a word that is an operator has the operator's letters
