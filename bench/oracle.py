@@ -6,7 +6,8 @@ A report is a run from clock zero; what an edit leaves of a recorded run goes by
 import re, sys
 from operator import eq, ge, gt, le, lt, ne
 
-from statements import BLOCKS, COMMANDS, DEFINITIONS, OF_BLOCKS, OF_FUNCTIONS, OF_STORAGES, OF_THE_MOMENT, OF_VARIABLES
+from statements import BLOCKS, COMMANDS, DEFINITIONS, OF_A_STORAGE, OF_BLOCKS, OF_FUNCTIONS, OF_STORAGES
+from statements import OF_THE_MOMENT, OF_VARIABLES
 from statements import Fault, is_name, statement_of_edit, statements_of
 
 MODULUS = 2147483647
@@ -630,6 +631,24 @@ class Run:
     def test(self, x, block):
         a, b = self.value(block, 0), self.value(block, 1)
         return self.lead(x, block, None if HOLDS[block.auxiliary](a, b) else block.operand(2))
+
+    def gate(self, x, block):
+        return self.lead(x, block, None if self.is_open(block) else block.operand(1))
+
+    def is_open(self, block):
+        """Whether the condition of a GATE holds; only SF and SNF read the capacity."""
+        which = block.auxiliary
+        if which in OF_A_STORAGE:
+            name = block.operand(0)
+            content = self.storages.get(name, Storage()).content
+            if which in ("SE", "SNE"):
+                return (content == 0) == (which == "SE")
+            self.items.append(("storage", name))
+            return (content >= self.version.capacities[name]) == (which == "SF")
+        key = self.key(block)
+        if which in ("LS", "LR"):
+            return self.switches.get(key, False) == (which == "LS")
+        return (self.facilities.get(key, Facility()).owner is not None) == (which == "U")
 
     def lead(self, x, block, label):
         """Into a block and from there to the one with a label, or to the next one where there is no label."""

@@ -2,15 +2,15 @@
 import re
 
 BLOCKS = (
-    "GENERATE ADVANCE TERMINATE QUEUE DEPART SEIZE RELEASE ENTER LEAVE TRANSFER TEST LOGIC SAVEVALUE MARK PRIORITY"
-    " BUFFER ASSIGN LOOP"
+    "GENERATE ADVANCE TERMINATE QUEUE DEPART SEIZE RELEASE ENTER LEAVE TRANSFER TEST GATE LOGIC SAVEVALUE MARK"
+    " PRIORITY BUFFER ASSIGN LOOP"
 ).split()
 DEFINITIONS = "STORAGE EQU VARIABLE FUNCTION".split()
 COMMANDS = "START RMULT".split()
 # The verbs of later stages, which are no names either.
 LATER_DEFINITIONS = ["TABLE"]
 LATER_COMMANDS = "RESET CLEAR".split()
-LATER_BLOCKS = "GATE TABULATE LINK UNLINK SPLIT".split()
+LATER_BLOCKS = "TABULATE LINK UNLINK SPLIT".split()
 VERBS = BLOCKS + DEFINITIONS + COMMANDS + LATER_DEFINITIONS + LATER_COMMANDS + LATER_BLOCKS
 # The operands of a verb: a value, an entity, one with a sign behind it or none, a storage, a label, a fraction, an
 # expression, a number, a count, a seed, or a key word; `!` where one must be there.
@@ -27,6 +27,7 @@ FORMS = {
     "LEAVE": "storage! value",
     "TRANSFER": "fraction! label label!",
     "TEST": "value! value! label!",
+    "GATE": "entity! label!",
     "LOGIC": "entity!",
     "SAVEVALUE": "changed! value!",
     "MARK": "",
@@ -41,7 +42,13 @@ FORMS = {
     "RMULT": "seed seed seed seed seed seed seed",
 }
 # The operators of a verb that has one: a word of its own in front of the operands.
-AUXILIARIES = {"TEST": "E NE G GE L LE".split(), "LOGIC": "S R I".split()}
+AUXILIARIES = {
+    "TEST": "E NE G GE L LE".split(),
+    "GATE": "U NU LS LR SE SNE SF SNF".split(),
+    "LOGIC": "S R I".split(),
+}
+# The operators of a GATE that asks a storage, and no other entity.
+OF_A_STORAGE = "SE SNE SF SNF".split()
 CLASSES = "C1 AC1 TG1 M1 XN1 PR P F FC S R SC SM Q QC QM QZ N W X LS CH CC TC RN V FN".split()
 OF_THE_MOMENT = "C1 AC1 TG1 M1 XN1 PR".split()
 OF_BLOCKS = "N W".split()
@@ -69,7 +76,7 @@ class Statement:
     def __init__(self, text):
         self.label, self.verb, self.auxiliary, self.listed = parts(text)
         self.operands = self.listed.split(",") if self.listed else []
-        self.trees = list(read_operands(self.verb, self.operands))
+        self.trees = list(read_operands(self.verb, self.auxiliary, self.operands))
         self.id, self.points = None, []
 
     def wants_pairs(self):
@@ -259,13 +266,15 @@ def operand_list(text):
 # ---- operands
 
 
-def read_operands(verb, operands):
+def read_operands(verb, auxiliary, operands):
     """The tree of each operand; None where one is absent."""
     forms = FORMS[verb].split()
     if not forms and operands:
         raise Fault("L7 1")
     if verb == "TRANSFER" and not (operands and operands[0]):
         forms = ["label", "label!"]
+    if verb == "GATE" and auxiliary in OF_A_STORAGE:
+        forms[0] = "storage!"
     for place, word in enumerate(operands, 1):
         if place > len(forms):
             raise Fault(f"L7 {place}")

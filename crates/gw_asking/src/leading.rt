@@ -121,9 +121,9 @@ fn holds(relation: Auxiliary, first: Val, second: Val) -> bool
     }
 }
 
-// To the block with a label, or to the next block where there is none.
+/// To the block with a label, or to the next block where there is none.
 #[inline(always)]
-fn lead_to(case: Case, notes: &mut Notes, label: Option<&Expr>) -> Result<Destination, Halt>
+pub fn lead_to(case: Case, notes: &mut Notes, label: Option<&Expr>) -> Result<Destination, Halt>
     ensures { (id : ℕ) → Decides case.entry.version.now case.entry.seed (lead_to id (option_copied label.entry))
         (sending id result) notes.old notes.new }
 {

@@ -21,7 +21,7 @@ pub use case::{
 pub use draws::{draw, millionths, modifier_of, multiplied, sample};
 pub use entity_ref::{EntityRef, named, numbered};
 pub use halt::{Halt, Why};
-pub use leading::{test_of, transfer_of};
+pub use leading::{lead_to, test_of, transfer_of};
 pub use notes::Notes;
 pub use shares::{all_shares, shares_of};
 pub use storing::{enter_fits, is_too_many, large_enough};

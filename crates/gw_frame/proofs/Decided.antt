@@ -22,7 +22,7 @@ use Rattle.gw_meaning.specs.declared.statement.Numbered.{Numbered}
 use Rattle.gw_meaning.specs.declared.transaction.Transaction.{Transaction}
 use Rattle.gw_meaning.specs.declared.moves.Arrival.{Arrival}
 use Rattle.gw_meaning.specs.declared.moves.Move.{Move}
-use Rattle.gw_meaning.specs.Listing.{Listing, block_at, label_at, generates_in, is_generate}
+use Rattle.gw_meaning.specs.Listing.{Listing, capacity_at, block_at, label_at, generates_in, is_generate}
 use Rattle.gw_meaning.specs.Numbers.{AreNumbered}
 use Rattle.gw_names.specs.declared.key.Key.{Key}
 use Rattle.gw_entities.specs.Comings.{came}
@@ -35,8 +35,9 @@ use Rattle.gw_expr.specs.Arithmetic.{applied}
 use Rattle.gw_expr.specs.declared.token.Operator.TheVariants as operators
 use Rattle.gw_meaning.specs.declared.auxiliary.Auxiliary.{Auxiliary}
 use Rattle.gw_meaning.specs.declared.auxiliary.Auxiliary.TheVariants as auxiliaries
+use Rattle.gw_meaning.specs.declared.auxiliary.Condition.{Condition}
 use Rattle.gw_entities.specs.Parameters.{parameter_at}
-use Rattle.gw_meaning.specs.Step.{by_sign, assign_with, assign_prog, left_of, loop_back, loop_to, loop_prog, holds, test_prog, logic_prog, savevalue_with, savevalue_prog}
+use Rattle.gw_meaning.specs.Step.{by_sign, assign_with, assign_prog, left_of, loop_back, loop_to, loop_prog, holds, test_prog, is_open, reads_capacity, gate_storage, gate_of, gate_prog, logic_prog, savevalue_with, savevalue_prog}
 use Rattle.gw_frame.specs.BlockIds.{IsBlockId, ActiveNames, TransactionNames}
 use Rattle.gw_frame.proofs.Generates.{IsBlockIn, generates_there}
 use Rattle.gw_frame.proofs.Labels.{label_there}
@@ -326,6 +327,27 @@ module _ (t : Listing) (seed : ℕ) (s : Machine) where
       (λ key h. keeps_bind (left_decides (parameter_at s.parameters q.number key))
       (λ left k. keeps_cond (nat_eq (magnitude left) 0) (keeps_gives (named, tt, tt)) (loop_to_decides id key left label named)))
 
+  -- GATE
+  gate_storage_decides : (id : ℕ) (condition : Condition) (label : Option Term) (name : List ℕ) (reads : Bool) → IsBlockId t id →
+      Decides t seed s (IsDecided t s) (gate_storage s id condition label name reads)
+  gate_storage_decides id condition label name true named = keeps_asks (items.Named asking.Storage name) refl (λ numbered there. tt)
+      (lead_to_decides id (cond (is_open s condition (keys.Defined name) (capacity_at t name)) None label) named)
+  gate_storage_decides id condition label name false named =
+      lead_to_decides id (cond (is_open s condition (keys.Defined name) 0) None label) named
+
+  gate_of_decides : (q : Asker) (id : ℕ) (condition : Condition) (entity label : Option Term) → IsBlockId t id →
+      Decides t seed s (IsDecided t s) (gate_of s q id condition entity label)
+  gate_of_decides q id condition (Some (Defined name)) label named = gate_storage_decides id condition label name (reads_capacity condition) named
+  gate_of_decides q id condition (Some term) label named = keeps_bind (entity_decides t seed s q (Some term))
+      (λ key h. lead_to_decides id (cond (is_open s condition key 0) None label) named)
+  gate_of_decides q id condition None label named = keeps_bind (entity_decides t seed s q None)
+      (λ key h. lead_to_decides id (cond (is_open s condition key 0) None label) named)
+
+  gate_decides : (q : Asker) (id : ℕ) (auxiliary : Auxiliary) (entity label : Option Term) → IsBlockId t id →
+      Decides t seed s (IsDecided t s) (gate_prog s q id auxiliary entity label)
+  gate_decides q id (auxiliaries.Gate condition) entity label named = gate_of_decides q id condition entity label named
+  gate_decides q id auxiliary entity label named = keeps_ends
+
   -- LOGIC and SAVEVALUE
   logic_decides : (q : Asker) (id : ℕ) (auxiliary : Auxiliary) (entity : Option Term) → IsBlockId t id →
       Decides t seed s (IsDecided t s) (logic_prog s q id auxiliary entity)
@@ -357,6 +379,7 @@ module _ (t : Listing) (seed : ℕ) (s : Machine) where
   block_decides x id b blocks.Leave is named = leave_decides (for_one s x) id (operand b A) (operand b B) named
   block_decides x id b blocks.Transfer is named = transfer_decides id (operand b A) (operand b B) (operand b C) named
   block_decides x id b blocks.Test is named = test_decides (for_one s x) id b.auxiliary (operand b A) (operand b B) (operand b C) named
+  block_decides x id b blocks.Gate is named = gate_decides (for_one s x) id b.auxiliary (operand b A) (operand b B) named
   block_decides x id b blocks.Logic is named = logic_decides (for_one s x) id b.auxiliary (operand b A) named
   block_decides x id b blocks.Savevalue is named = savevalue_decides (for_one s x) id b.auxiliary (operand b A) (operand b B) named
   block_decides x id b blocks.Mark is named = keeps_gives (named, tt, tt)

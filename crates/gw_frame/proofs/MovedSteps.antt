@@ -27,8 +27,10 @@ use Rattle.gw_expr.specs.Arithmetic.{applied}
 use Rattle.gw_expr.specs.declared.token.Operator.TheVariants as operators
 use Rattle.gw_meaning.specs.declared.auxiliary.Auxiliary.{Auxiliary}
 use Rattle.gw_meaning.specs.declared.auxiliary.Auxiliary.TheVariants as auxiliaries
+use Rattle.gw_meaning.specs.declared.auxiliary.Condition.{Condition}
+use Rattle.gw_meaning.specs.declared.auxiliary.Condition.TheVariants as conditions
 use Rattle.gw_entities.specs.Parameters.{parameter_at}
-use Rattle.gw_meaning.specs.Step.{by_sign, assign_with, assign_prog, left_of, loop_back, loop_to, loop_prog, holds, test_prog, logic_prog, savevalue_with, savevalue_prog}
+use Rattle.gw_meaning.specs.Step.{by_sign, assign_with, assign_prog, left_of, loop_back, loop_to, loop_prog, holds, test_prog, is_open, reads_capacity, gate_at, gate_storage, gate_of, gate_prog, logic_prog, savevalue_with, savevalue_prog}
 use Rattle.gw_frame.specs.Moved.{IsMove, moved_transaction, moved_event, moved_machine}
 use Rattle.gw_frame.proofs.Follows.{ProgFollows, prog_gives, prog_bind, Follows, follows_gives, follows_ends, follows_asks, follows_cond, follows_stops, follows_bind}
 use Rattle.gw_frame.proofs.MovedValues.{same, draw_follows, arithmetic_follows, value_follows, value_there_follows, value_or_zero_follows, entity_follows, units_follows, time_follows}
@@ -296,6 +298,42 @@ module _ (move : ℕ → ℕ) (is : IsMove move) where
       (λ key. follows_bind _ (left_follows (parameter_at s.parameters q.number key))
       (λ left. follows_cond (nat_eq (magnitude left) 0) (follows_gives refl) (loop_to_follows id key left label)))
 
+  -- GATE
+  is_open_moved : (s : Machine) (condition : Condition) (key : Key) (capacity : ℕ) →
+      is_open (moved_machine move s) condition key capacity ≡ is_open s condition key capacity
+  is_open_moved s conditions.InUse key capacity = refl
+  is_open_moved s conditions.NotInUse key capacity = refl
+  is_open_moved s conditions.IsSet key capacity = refl
+  is_open_moved s conditions.IsReset key capacity = refl
+  is_open_moved s conditions.Empty key capacity = refl
+  is_open_moved s conditions.NotEmpty key capacity = refl
+  is_open_moved s conditions.Full key capacity = refl
+  is_open_moved s conditions.NotFull key capacity = refl
+
+  gate_at_follows : (s : Machine) (id : ℕ) (condition : Condition) (label : Option Term) (key : Key) (capacity : ℕ) →
+      Follows move (moved_move move) (gate_at s id condition label key capacity) (gate_at (moved_machine move s) (move id) condition label key capacity)
+  gate_at_follows s id condition label key capacity =
+      rw (is_open_moved s condition key capacity) (lead_to_follows id (cond (is_open s condition key capacity) None label))
+
+  gate_storage_follows : (s : Machine) (id : ℕ) (condition : Condition) (label : Option Term) (name : List ℕ) (reads : Bool) →
+      Follows move (moved_move move) (gate_storage s id condition label name reads) (gate_storage (moved_machine move s) (move id) condition label name reads)
+  gate_storage_follows s id condition label name true =
+      follows_asks (items.Named asking.Storage name) (gate_at_follows s id condition label (keys.Defined name))
+  gate_storage_follows s id condition label name false = gate_at_follows s id condition label (keys.Defined name) 0
+
+  gate_of_follows : (s : Machine) (q : Asker) (id : ℕ) (condition : Condition) (entity label : Option Term) →
+      Follows move (moved_move move) (gate_of s q id condition entity label) (gate_of (moved_machine move s) q (move id) condition entity label)
+  gate_of_follows s q id condition (Some (Defined name)) label = gate_storage_follows s id condition label name (reads_capacity condition)
+  gate_of_follows s q id condition (Some term) label =
+      follows_bind _ (entity_follows move is s q (Some term)) (λ key. gate_at_follows s id condition label key 0)
+  gate_of_follows s q id condition None label =
+      follows_bind _ (entity_follows move is s q None) (λ key. gate_at_follows s id condition label key 0)
+
+  gate_follows : (s : Machine) (q : Asker) (id : ℕ) (auxiliary : Auxiliary) (entity label : Option Term) →
+      Follows move (moved_move move) (gate_prog s q id auxiliary entity label) (gate_prog (moved_machine move s) q (move id) auxiliary entity label)
+  gate_follows s q id (auxiliaries.Gate condition) entity label = gate_of_follows s q id condition entity label
+  gate_follows s q id auxiliary entity label = follows_ends
+
   -- LOGIC and SAVEVALUE
   logic_follows : (s : Machine) (q : Asker) (id : ℕ) (auxiliary : Auxiliary) (entity : Option Term) →
       Follows move (moved_move move) (logic_prog s q id auxiliary entity) (logic_prog (moved_machine move s) q (move id) auxiliary entity)
@@ -324,6 +362,7 @@ module _ (move : ℕ → ℕ) (is : IsMove move) where
   block_follows s x id b blocks.Leave = leave_follows s (for_one s x) id (operand b A) (operand b B)
   block_follows s x id b blocks.Transfer = transfer_follows id (operand b A) (operand b B) (operand b C)
   block_follows s x id b blocks.Test = test_follows s (for_one s x) id b.auxiliary (operand b A) (operand b B) (operand b C)
+  block_follows s x id b blocks.Gate = gate_follows s (for_one s x) id b.auxiliary (operand b A) (operand b B)
   block_follows s x id b blocks.Logic = logic_follows s (for_one s x) id b.auxiliary (operand b A)
   block_follows s x id b blocks.Savevalue = savevalue_follows s (for_one s x) id b.auxiliary (operand b A) (operand b B)
   block_follows s x id b blocks.Mark = follows_gives refl

@@ -20,13 +20,14 @@ use Rattle.gw_meaning.specs.declared.moves.Move.{Move}
 use Rattle.gw_meaning.specs.declared.moves.Move.TheVariants as moves
 use Rattle.gw_meaning.specs.declared.auxiliary.Auxiliary.{Auxiliary}
 use Rattle.gw_meaning.specs.declared.auxiliary.Auxiliary.TheVariants as auxiliaries
+use Rattle.gw_meaning.specs.declared.auxiliary.Condition.{Condition}
 use Rattle.gw_meaning.specs.declared.statement.Block.{Block}
 use Rattle.gw_meaning.specs.declared.transaction.Transaction.{Transaction}
 use Rattle.gw_meaning.specs.Statements.{A, B, C, D, E, operand, is_generate_verb}
 use Rattle.gw_meaning.specs.Machine.{Machine, live, delay_at}
 use Rattle.gw_meaning.specs.Entities.{facility_at, line_at, store_at, savevalue_at}
 use Rattle.gw_meaning.specs.Evaluation.{Eval, millionths}
-use Rattle.gw_meaning.specs.Step.{for_none, for_one, arrival_at, arrival_in_time, arrival_prog, first_of_generate, first_of, first_arrival, with_arrival, arrivals_prog, first_arrivals_prog, start_prog, generate_prog, advance_prog, terminate_prog, is_too_many, queue_prog, depart_units, depart_prog, seize_or_wait, seize_prog, is_owner, release_prog, beside, in_use, share_of, all_shares, enter_or_wait, enter_storage, enter_prog, shares_prog, leave_for, leave_units, leave_prog, go_to, lead_to, transfer_prog, holds, test_prog, priority_prog, by_sign, assign_with, assign_prog, logic_prog, savevalue_with, savevalue_prog, left_of, loop_back, loop_to, loop_prog, block_prog, meet_prog, try_prog, attempt_prog}
+use Rattle.gw_meaning.specs.Step.{for_none, for_one, arrival_at, arrival_in_time, arrival_prog, first_of_generate, first_of, first_arrival, with_arrival, arrivals_prog, first_arrivals_prog, start_prog, generate_prog, advance_prog, terminate_prog, is_too_many, queue_prog, depart_units, depart_prog, seize_or_wait, seize_prog, is_owner, release_prog, beside, in_use, share_of, all_shares, enter_or_wait, enter_storage, enter_prog, shares_prog, leave_for, leave_units, leave_prog, go_to, lead_to, transfer_prog, holds, test_prog, priority_prog, by_sign, assign_with, assign_prog, is_open, reads_capacity, gate_storage, gate_of, gate_prog, logic_prog, savevalue_with, savevalue_prog, left_of, loop_back, loop_to, loop_prog, block_prog, meet_prog, try_prog, attempt_prog}
 use Rattle.gw_laws.proofs.Trying.{Tries, TriesAny, tries_gives, tries_ends, tries_asks, tries_stops, tries_cond, tries_bind, tries_more, draw_tries, arithmetic_tries, value_tries, value_there_tries, value_or_zero_tries, entity_tries, units_tries, time_tries}
 
 -- a command sets streams or starts; an attempt enters a block or is refused
@@ -205,6 +206,23 @@ module _ (s : Machine) where
       (λ key. tries_bind (less_one_tries (parameter_at s.parameters q.number key))
       (λ left. tries_cond (nat_eq (magnitude left) 0) (tries_gives refl) (loop_to_tries id key left label)))
 
+  gate_storage_tries : (id : ℕ) (condition : Condition) (label : Option Term) (name : List ℕ) (reads : Bool) →
+      TriesMove id (gate_storage s id condition label name reads)
+  gate_storage_tries id condition label name true = tries_asks (items.Named asking.Storage name)
+      (λ capacity. lead_to_tries id (cond (is_open s condition (keys.Defined name) capacity) None label))
+  gate_storage_tries id condition label name false = lead_to_tries id (cond (is_open s condition (keys.Defined name) 0) None label)
+
+  gate_of_tries : (q : Asker) (id : ℕ) (condition : Condition) (entity label : Option Term) → TriesMove id (gate_of s q id condition entity label)
+  gate_of_tries q id condition (Some (Defined name)) label = gate_storage_tries id condition label name (reads_capacity condition)
+  gate_of_tries q id condition (Some term) label =
+      tries_bind (entity_tries s q (Some term)) (λ key. lead_to_tries id (cond (is_open s condition key 0) None label))
+  gate_of_tries q id condition None label =
+      tries_bind (entity_tries s q None) (λ key. lead_to_tries id (cond (is_open s condition key 0) None label))
+
+  gate_tries : (q : Asker) (id : ℕ) (auxiliary : Auxiliary) (entity label : Option Term) → TriesMove id (gate_prog s q id auxiliary entity label)
+  gate_tries q id (auxiliaries.Gate condition) entity label = gate_of_tries q id condition entity label
+  gate_tries q id auxiliary entity label = tries_ends
+
   logic_tries : (q : Asker) (id : ℕ) (auxiliary : Auxiliary) (entity : Option Term) → TriesMove id (logic_prog s q id auxiliary entity)
   logic_tries q id (auxiliaries.Logic switching) entity = tries_bind (entity_tries s q entity) (λ key. tries_gives refl)
   logic_tries q id auxiliary entity = tries_ends
@@ -228,6 +246,7 @@ module _ (s : Machine) where
   block_tries x id b blocks.Leave = leave_tries (for_one s x) id (operand b A) (operand b B)
   block_tries x id b blocks.Transfer = transfer_tries id (operand b A) (operand b B) (operand b C)
   block_tries x id b blocks.Test = test_tries (for_one s x) id b.auxiliary (operand b A) (operand b B) (operand b C)
+  block_tries x id b blocks.Gate = gate_tries (for_one s x) id b.auxiliary (operand b A) (operand b B)
   block_tries x id b blocks.Logic = logic_tries (for_one s x) id b.auxiliary (operand b A)
   block_tries x id b blocks.Savevalue = savevalue_tries (for_one s x) id b.auxiliary (operand b A) (operand b B)
   block_tries x id b blocks.Mark = tries_gives refl

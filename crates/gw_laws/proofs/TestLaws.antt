@@ -54,6 +54,7 @@ says auxiliaries.LessOrEqual a b h = less_or_equal a b ((at_most a b).0 h)
 says auxiliaries.Absent a b h = absurd cc
 says auxiliaries.Plus a b h = absurd cc
 says auxiliaries.Minus a b h = absurd cc
+says (auxiliaries.Gate condition) a b h = absurd cc
 says (auxiliaries.Logic switching) a b h = absurd cc
 
 holds_as : (o p : Auxiliary) (a b : ℤ) → Some o ≡ Some p → holds o a b ≡ true → holds p a b ≡ true

@@ -9,6 +9,7 @@ use Rattle.gw_expr.specs.declared.atom.Atom.TheVariants as atoms
 use Rattle.gw_entities.specs.Records.{never_owned, seized, queued, no_line, never_used, entered}
 use Rattle.gw_meaning.specs.declared.auxiliary.Auxiliary.{Auxiliary}
 use Rattle.gw_meaning.specs.declared.auxiliary.Auxiliary.TheVariants as auxiliaries
+use Rattle.gw_meaning.specs.declared.auxiliary.Condition.TheVariants as conditions
 use Rattle.gw_meaning.specs.declared.auxiliary.Switching.TheVariants as switchings
 use Rattle.gw_meaning.specs.declared.statement.Definition.TheVariants as definitions
 use Rattle.gw_meaning.specs.declared.statement.Body.TheVariants as bodies
@@ -89,22 +90,23 @@ entered_with operands enters = entered_by auxiliaries.Absent operands enters
 
 pub each_verb_is_evaluated : EachVerbIsEvaluated
 unfolding value_prog value_of value_by value_of_atom
-each_verb_is_evaluated blocks.Generate given forms is = entered_with [] refl
-each_verb_is_evaluated blocks.Advance given forms is = entered_with [] refl
-each_verb_is_evaluated blocks.Terminate given forms is = entered_with [] refl
-each_verb_is_evaluated blocks.Queue given forms is = entered_with (line ∷ []) refl
-each_verb_is_evaluated blocks.Depart given forms is = entered_with (line ∷ []) refl
-each_verb_is_evaluated blocks.Seize given forms is = entered_with (free ∷ []) refl
-each_verb_is_evaluated blocks.Release given forms is = entered_with (line ∷ []) refl
-each_verb_is_evaluated blocks.Enter given forms is = entered_with (pool ∷ []) refl
-each_verb_is_evaluated blocks.Leave given forms is = entered_with (pool ∷ []) refl
-each_verb_is_evaluated blocks.Transfer given forms is = entered_with [] refl
-each_verb_is_evaluated blocks.Test given forms is = entered_by auxiliaries.Equal (one ∷ one ∷ []) refl
-each_verb_is_evaluated blocks.Logic given forms is = entered_by (auxiliaries.Logic switchings.Set) (line ∷ []) refl
-each_verb_is_evaluated blocks.Savevalue given forms is = entered_with (line ∷ one ∷ []) refl
-each_verb_is_evaluated blocks.Mark given forms is = entered_with [] refl
-each_verb_is_evaluated blocks.Priority given forms is = entered_with (one ∷ []) refl
-each_verb_is_evaluated blocks.Buffer given forms is = entered_with [] refl
-each_verb_is_evaluated blocks.Assign given forms is = entered_with (line ∷ one ∷ []) refl
-each_verb_is_evaluated blocks.Loop given forms is = entered_with (line ∷ []) refl
-each_verb_is_evaluated verb given forms is = absurd cc
+each_verb_is_evaluated blocks.Generate beside given forms is = entered_with [] refl
+each_verb_is_evaluated blocks.Advance beside given forms is = entered_with [] refl
+each_verb_is_evaluated blocks.Terminate beside given forms is = entered_with [] refl
+each_verb_is_evaluated blocks.Queue beside given forms is = entered_with (line ∷ []) refl
+each_verb_is_evaluated blocks.Depart beside given forms is = entered_with (line ∷ []) refl
+each_verb_is_evaluated blocks.Seize beside given forms is = entered_with (free ∷ []) refl
+each_verb_is_evaluated blocks.Release beside given forms is = entered_with (line ∷ []) refl
+each_verb_is_evaluated blocks.Enter beside given forms is = entered_with (pool ∷ []) refl
+each_verb_is_evaluated blocks.Leave beside given forms is = entered_with (pool ∷ []) refl
+each_verb_is_evaluated blocks.Transfer beside given forms is = entered_with [] refl
+each_verb_is_evaluated blocks.Test beside given forms is = entered_by auxiliaries.Equal (one ∷ one ∷ []) refl
+each_verb_is_evaluated blocks.Gate beside given forms is = entered_by (auxiliaries.Gate conditions.InUse) (line ∷ []) refl
+each_verb_is_evaluated blocks.Logic beside given forms is = entered_by (auxiliaries.Logic switchings.Set) (line ∷ []) refl
+each_verb_is_evaluated blocks.Savevalue beside given forms is = entered_with (line ∷ one ∷ []) refl
+each_verb_is_evaluated blocks.Mark beside given forms is = entered_with [] refl
+each_verb_is_evaluated blocks.Priority beside given forms is = entered_with (one ∷ []) refl
+each_verb_is_evaluated blocks.Buffer beside given forms is = entered_with [] refl
+each_verb_is_evaluated blocks.Assign beside given forms is = entered_with (line ∷ one ∷ []) refl
+each_verb_is_evaluated blocks.Loop beside given forms is = entered_with (line ∷ []) refl
+each_verb_is_evaluated verb beside given forms is = absurd cc

@@ -1,6 +1,7 @@
 -- Each verb of a block that is read is evaluated. (Our own: what is read so far.)
 use Rattle.std.specs.Prelude.{◌≡◌, Bool, List, Some, Ok}
 use Rattle.gw_names.specs.declared.verb.BlockVerb.{BlockVerb}
+use Rattle.gw_meaning.specs.declared.auxiliary.Auxiliary.{Auxiliary}
 use Rattle.gw_meaning.specs.declared.statement.Block.{Block}
 use Rattle.gw_meaning.specs.declared.transaction.Transaction.{Transaction}
 use Rattle.gw_meaning.specs.declared.moves.Change.{Change}
@@ -28,4 +29,5 @@ pub record CanBeEntered (verb : BlockVerb) : Type 0 where
 
 abbrev pub EachVerbIsEvaluated : Type 0
 EachVerbIsEvaluated =
-    (verb : BlockVerb) (given : Bool) (forms : List Form) → forms_of_block verb given ≡ Some forms → CanBeEntered verb
+    (verb : BlockVerb) (beside : Auxiliary) (given : Bool) (forms : List Form) →
+    forms_of_block verb beside given ≡ Some forms → CanBeEntered verb

@@ -1,6 +1,5 @@
 -- The body that a verb's text spells: what is read is said so, what is said so is read, and the same of the first fault.
 use Rattle.std.proofs.Common.{◌≡◌, ℕ, true, List, [], ◌∷◌, Option, Some, None, Result, Ok, Err, refl, sym, ap, subst, ◌∙◌, ◌⊎◌, inl, inr}
-use Rattle.std.specs.Prelude.{IsSome, is_some}
 use Rattle.std.proofs.lemmas.Bool.{cases_Bool}
 use Rattle.gw_names.specs.declared.verb.BlockVerb.TheVariants as blocks
 use Rattle.gw_names.specs.declared.verb.Verb.{Verb}
@@ -35,24 +34,24 @@ spelled_gives verb beside forms parts body s v has none =
     rw (operands_spelled s, b) refl
 
 said_again : {verb : Verb} {beside : Auxiliary} {parts : List (List ℕ)} {body : Body} → Says verb beside parts body
-    → by_forms verb beside (forms_of verb (is_given parts)) parts ≡ Ok body
+    → by_forms verb beside (forms_of verb beside (is_given parts)) parts ≡ Ok body
 said_again {verb} {beside} {parts} {body} s =
     rw s.are_forms (spelled_gives verb beside s.forms parts body s.operands s.of_verb s.has_auxiliary s.pointless ∙ rw s.enough refl)
 
-faulted_again : (beside : Auxiliary) {verb : Verb} {parts : List (List ℕ)} {f : LineFault} → OperandFault verb parts f
-    → by_forms verb beside (forms_of verb (is_given parts)) parts ≡ Err f
+faulted_again : {verb : Verb} {beside : Auxiliary} {parts : List (List ℕ)} {f : LineFault} → OperandFault verb beside parts f
+    → by_forms verb beside (forms_of verb beside (is_given parts)) parts ≡ Err f
 unfolding in_forms
-faulted_again beside (in_list verb forms parts f e h) = rw (e, operands_faulted h) refl
-faulted_again beside (lacking verb forms parts os e s l) = rw (e, operands_spelled s, l) refl
+faulted_again (in_list verb beside forms parts f e h) = rw (e, operands_faulted h) refl
+faulted_again (lacking verb beside forms parts os e s l) = rw (e, operands_spelled s, l) refl
 
 -- the parts say a statement, or have a first fault
-verdict : (verb : Verb) (beside : Auxiliary) (forms : List Form) (parts : List (List ℕ)) → forms_of verb (is_given parts) ≡ Some forms
-    → ((body : Body) × Says verb beside parts body) ⊎ ((f : LineFault) × OperandFault verb parts f)
+verdict : (verb : Verb) (beside : Auxiliary) (forms : List Form) (parts : List (List ℕ)) → forms_of verb beside (is_given parts) ≡ Some forms
+    → ((body : Body) × Says verb beside parts body) ⊎ ((f : LineFault) × OperandFault verb beside parts f)
 verdict verb beside forms parts e =
     elim (operands_verdict forms parts) [
-      | inr h ↦ inr (h.0, in_list verb forms parts h.0 e h.1)
+      | inr h ↦ inr (h.0, in_list verb beside forms parts h.0 e h.1)
       | inl s ↦ elim (cases_Bool (lacks verb s.0)) [
-        | inl l ↦ inr (faults.MissingOperand 1, lacking verb forms parts s.0 e s.1 l)
+        | inl l ↦ inr (faults.MissingOperand 1, lacking verb beside forms parts s.0 e s.1 l)
         | inr enough ↦
             let m = made_with verb beside (is_given parts) forms e s.1 in
             inl (
@@ -80,10 +79,6 @@ some_auxiliary : (o : Option Auxiliary) → (o ≡ None) ⊎ ((beside : Auxiliar
 some_auxiliary None = inl refl
 some_auxiliary (Some beside) = inr (beside, refl)
 
-is_some_auxiliary : (o : Option Auxiliary) → IsSome o → (beside : Auxiliary) × (o ≡ Some beside)
-is_some_auxiliary None h = absurd cc
-is_some_auxiliary (Some beside) h = (beside, refl)
-
 -- no word at all is an operator
 no_word : (verb : Verb) → operator_of verb [] ≡ None
 unfolding operator_of
@@ -95,7 +90,7 @@ none_there verb takes = rw takes (no_word verb)
 
 -- a text without what stands beside a verb's operands
 abbrev by_parts : Verb → List ℕ → Auxiliary → Result Body LineFault
-by_parts verb text beside = by_forms verb beside (forms_of verb (is_given (bare_parts verb text))) (bare_parts verb text)
+by_parts verb text beside = by_forms verb beside (forms_of verb beside (is_given (bare_parts verb text))) (bare_parts verb text)
 
 with_auxiliary : (verb : Verb) (text : List ℕ) {beside : Auxiliary} → auxiliary_of verb text ≡ Some beside
     → body_of verb text ≡ by_parts verb text beside
@@ -137,10 +132,8 @@ body_again {verb} text e s = with_auxiliary verb text e ∙ said_again s
 pub body_fault_again : {verb : Verb} {text : List ℕ} {f : LineFault} → BodyFault verb text f → body_of verb text ≡ Err f
 body_fault_again (no_operator verb takes) = without_auxiliary verb [] (none_there verb takes)
 body_fault_again (bad_operator verb text some e) = without_auxiliary verb text e ∙ ap failed (bad_is text some)
-body_fault_again (verb_to_come verb text given e) =
-    let a = is_some_auxiliary (auxiliary_of verb text) given in with_auxiliary verb text a.1 ∙ rw e refl
-body_fault_again (operand_fault verb text f given h) =
-    let a = is_some_auxiliary (auxiliary_of verb text) given in with_auxiliary verb text a.1 ∙ faulted_again a.0 h
+body_fault_again (verb_to_come verb text beside is e) = with_auxiliary verb text is ∙ rw e refl
+body_fault_again (operand_fault verb text f beside is h) = with_auxiliary verb text is ∙ faulted_again h
 
 -- a text says a body behind a verb, or has a first fault
 pub body_verdict : (verb : Verb) (text : List ℕ) → ((body : Body) × SaysBody verb text body) ⊎ ((f : LineFault) × BodyFault verb text f)
@@ -148,12 +141,11 @@ body_verdict verb text =
     elim (some_auxiliary (auxiliary_of verb text)) [
       | inl none ↦ inr (operator_fault text, operator_faulty verb text none)
       | inr a ↦
-          let given : IsSome (auxiliary_of verb text) = ap is_some a.1 in
-          elim (some_forms (forms_of verb (is_given (bare_parts verb text)))) [
-            | inl none ↦ inr (faults.UnknownVerb, verb_to_come verb text given none)
+          elim (some_forms (forms_of verb a.0 (is_given (bare_parts verb text)))) [
+            | inl none ↦ inr (faults.UnknownVerb, verb_to_come verb text a.0 a.1 none)
             | inr some ↦ elim (verdict verb a.0 some.0 (bare_parts verb text) some.1) [
               | inl s ↦ inl (s.0, record { auxiliary = a.0; is_auxiliary = a.1; says = s.1 })
-              | inr f ↦ inr (f.0, operand_fault verb text f.0 given f.1)
+              | inr f ↦ inr (f.0, operand_fault verb text f.0 a.0 a.1 f.1)
             ]
           ]
     ]

@@ -13,6 +13,8 @@ use Rattle.gw_expr.specs.Expressions.{Expression}
 use Rattle.gw_expr.specs.declared.token.Operator.{Operator}
 use Rattle.gw_meaning.specs.declared.auxiliary.Auxiliary.{Auxiliary}
 use Rattle.gw_meaning.specs.declared.auxiliary.Auxiliary.TheVariants as auxiliaries
+use Rattle.gw_meaning.specs.declared.auxiliary.Condition.{Condition}
+use Rattle.gw_meaning.specs.declared.auxiliary.Condition.TheVariants as conditions
 use Rattle.gw_meaning.specs.declared.auxiliary.Switching.{Switching}
 use Rattle.gw_meaning.specs.declared.auxiliary.Switching.TheVariants as switchings
 use Rattle.gw_lines.specs.declared.form.Form.{Form}
@@ -194,6 +196,16 @@ signed_own text sign e h = list_own text h
 
 -- ---- with an operator before the operands
 
+condition_own : (condition : Condition) → Pass is_own (operator_word (auxiliaries.Gate condition))
+condition_own conditions.InUse = refl
+condition_own conditions.NotInUse = refl
+condition_own conditions.IsSet = refl
+condition_own conditions.IsReset = refl
+condition_own conditions.Empty = refl
+condition_own conditions.NotEmpty = refl
+condition_own conditions.Full = refl
+condition_own conditions.NotFull = refl
+
 switching_own : (switching : Switching) → Pass is_own (operator_word (auxiliaries.Logic switching))
 switching_own switchings.Set = refl
 switching_own switchings.Reset = refl
@@ -201,6 +213,7 @@ switching_own switchings.Invert = refl
 
 operator_own : (operator : Auxiliary) → Pass is_own (operator_word operator)
 operator_own auxiliaries.Equal = refl
+operator_own (auxiliaries.Gate condition) = condition_own condition
 operator_own (auxiliaries.Logic switching) = switching_own switching
 operator_own operator = refl
 

@@ -320,7 +320,7 @@ forms_are forms e = some_is (one_value ∷ some_points ∷ []) forms e
 given_with : {verb : Verb} {beside : Auxiliary} {parts : List (List ℕ)} {body : Body} → Says verb beside parts body
     → verb ≡ verbs.Definition definition_verbs.Function → part_of parts ≡ [] → ⊥
 given_with {verb} {beside} {parts} s is none =
-    let e = ap (λ (v : Verb). forms_of v (is_given parts)) (sym is) ∙ s.are_forms in
+    let e = ap (λ (v : Verb). forms_of v beside (is_given parts)) (sym is) ∙ s.are_forms in
     first_given (subst (λ (forms : List Form). SpellsAll forms parts _) (sym (forms_are s.forms e)) s.operands) none
 
 some_operands : {line : List ℕ} {s : Statement} → Spells line s → wants_pairs s ≡ true → s.operands ≢ []

@@ -1,7 +1,7 @@
 -- A statement is made of its operands, and operands of a verb's forms make a statement. All blocks are one case; a command
 -- has a row in `built` and a row in `command_made`, and a definition one in `built` and one in `definition_made`.
 use Rattle.std.proofs.Common.{◌≡◌, ℕ, Bool, true, false, List, [], ◌∷◌, Option, Some, None, refl, ap, subst}
-use Rattle.std.specs.Prelude.{map}
+use Rattle.std.specs.Prelude.{map, if◌then◌else◌}
 use Rattle.gw_names.specs.declared.verb.BlockVerb.{BlockVerb}
 use Rattle.gw_names.specs.declared.verb.BlockVerb.TheVariants as blocks
 use Rattle.gw_names.specs.declared.verb.DefinitionVerb.{DefinitionVerb}
@@ -19,7 +19,7 @@ use Rattle.gw_meaning.specs.declared.statement.Body.TheVariants as bodies
 use Rattle.gw_meaning.specs.Statements.{verb_of_body}
 use Rattle.gw_lines.specs.declared.form.Form.{Form}
 use Rattle.gw_lines.specs.declared.operand.Operand.{Operand}
-use Rattle.gw_lines.specs.Forms.{forms_of_block, forms_of_definition, forms_of_command, forms_of, value, whole, fields_of, points_of}
+use Rattle.gw_lines.specs.Forms.{a_definition, an_entity, a_label, asks_storage, forms_of_block, forms_of_definition, forms_of_command, forms_of, value, whole, fields_of, points_of}
 use Rattle.gw_lines.specs.Bodies.{value_in, whole_in, body_with}
 use Rattle.gw_lines.specs.Auxiliaries.{HasAuxiliary}
 use Rattle.gw_lines.specs.Spelling.{SpellsAll}
@@ -57,11 +57,16 @@ abbrev forms_are_values : Option (List Form) → Bool
 forms_are_values None = true
 forms_are_values (Some forms) = are_all is_value forms
 
-block_values : (verb : BlockVerb) (given : Bool) → forms_are_values (forms_of_block verb given) ≡ true
-block_values blocks.Generate given = refl
-block_values blocks.Transfer true = refl
-block_values blocks.Transfer false = refl
-block_values verb given = refl
+gate_values : (storage : Bool) → are_all is_value ((if storage then a_definition else an_entity) ∷ a_label ∷ []) ≡ true
+gate_values true = refl
+gate_values false = refl
+
+block_values : (verb : BlockVerb) (beside : Auxiliary) (given : Bool) → forms_are_values (forms_of_block verb beside given) ≡ true
+block_values blocks.Generate beside given = refl
+block_values blocks.Transfer beside true = refl
+block_values blocks.Transfer beside false = refl
+block_values blocks.Gate beside given = gate_values (asks_storage beside)
+block_values verb beside given = refl
 
 pub record Made (verb : Verb) (beside : Auxiliary) (os : List (Option Operand)) : Type 0 where
   pub body : Body
@@ -111,14 +116,14 @@ command_made command_verbs.Rmult beside =
     λ parts os s. (let vs = wholes refl s in makes (bodies.Command (commands.Rmult vs.0)) beside tt refl vs.1)
 command_made verb beside = tt
 
-made : (verb : Verb) (beside : Auxiliary) (given : Bool) → MadeOf verb beside (forms_of verb given)
-made (verbs.Block verb) beside given = block_made verb beside (forms_of_block verb given) (block_values verb given)
+made : (verb : Verb) (beside : Auxiliary) (given : Bool) → MadeOf verb beside (forms_of verb beside given)
+made (verbs.Block verb) beside given = block_made verb beside (forms_of_block verb beside given) (block_values verb beside given)
 made (verbs.Definition verb) beside given = definition_made verb beside
 made (verbs.Command verb) beside given = command_made verb beside
 
 -- operands of a verb's forms make a statement
 pub made_with : (verb : Verb) (beside : Auxiliary) (given : Bool) (forms : List Form) {parts : List (List ℕ)} {os : List (Option Operand)}
-    → forms_of verb given ≡ Some forms → SpellsAll forms parts os → Made verb beside os
+    → forms_of verb beside given ≡ Some forms → SpellsAll forms parts os → Made verb beside os
 made_with verb beside given forms {parts} {os} e s =
     let m : MadeOf verb beside (Some forms) = subst (λ (x : Option (List Form)). MadeOf verb beside x) e (made verb beside given) in
     m parts os s

@@ -7,6 +7,7 @@ use Rattle.gw_names.specs.declared.verb.Verb.{Verb}
 use Rattle.gw_names.specs.declared.verb.Verb.TheVariants as verbs
 use Rattle.gw_meaning.specs.declared.auxiliary.Auxiliary.{Auxiliary}
 use Rattle.gw_meaning.specs.declared.auxiliary.Auxiliary.TheVariants as auxiliaries
+use Rattle.gw_meaning.specs.declared.auxiliary.Condition.TheVariants as conditions
 use Rattle.gw_meaning.specs.declared.auxiliary.Switching.TheVariants as switchings
 use Rattle.gw_meaning.specs.declared.statement.Body.{Body}
 use Rattle.gw_meaning.specs.declared.statement.Body.TheVariants as bodies
@@ -20,6 +21,10 @@ use Rattle.gw_lines.specs.Parts.{parts_of}
 abbrev pub operators : Verb → List Auxiliary
 operators (verbs.Block blocks.Test) = auxiliaries.Equal ∷ auxiliaries.NotEqual ∷ auxiliaries.Greater ∷
     auxiliaries.GreaterOrEqual ∷ auxiliaries.Less ∷ auxiliaries.LessOrEqual ∷ []
+operators (verbs.Block blocks.Gate) = auxiliaries.Gate conditions.InUse ∷ auxiliaries.Gate conditions.NotInUse ∷
+    auxiliaries.Gate conditions.IsSet ∷ auxiliaries.Gate conditions.IsReset ∷ auxiliaries.Gate conditions.Empty ∷
+    auxiliaries.Gate conditions.NotEmpty ∷ auxiliaries.Gate conditions.Full ∷
+    auxiliaries.Gate conditions.NotFull ∷ []
 operators (verbs.Block blocks.Logic) = auxiliaries.Logic switchings.Set ∷ auxiliaries.Logic switchings.Reset ∷
     auxiliaries.Logic switchings.Invert ∷ []
 operators verb = []
@@ -32,6 +37,14 @@ operator_word auxiliaries.Greater = codes "G"
 operator_word auxiliaries.GreaterOrEqual = codes "GE"
 operator_word auxiliaries.Less = codes "L"
 operator_word auxiliaries.LessOrEqual = codes "LE"
+operator_word (auxiliaries.Gate conditions.InUse) = codes "U"
+operator_word (auxiliaries.Gate conditions.NotInUse) = codes "NU"
+operator_word (auxiliaries.Gate conditions.IsSet) = codes "LS"
+operator_word (auxiliaries.Gate conditions.IsReset) = codes "LR"
+operator_word (auxiliaries.Gate conditions.Empty) = codes "SE"
+operator_word (auxiliaries.Gate conditions.NotEmpty) = codes "SNE"
+operator_word (auxiliaries.Gate conditions.Full) = codes "SF"
+operator_word (auxiliaries.Gate conditions.NotFull) = codes "SNF"
 operator_word (auxiliaries.Logic switchings.Set) = codes "S"
 operator_word (auxiliaries.Logic switchings.Reset) = codes "R"
 operator_word (auxiliaries.Logic switchings.Invert) = codes "I"

@@ -142,4 +142,4 @@ read_auxiliary verb text = or_operator_fault text (auxiliary_of verb text)
 unfoldable pub body_of : Verb → List ℕ → Result Body LineFault
 body_of verb text = do
   auxiliary ← read_auxiliary verb text
-  by_forms verb auxiliary (forms_of verb (is_given (bare_parts verb text))) (bare_parts verb text)
+  by_forms verb auxiliary (forms_of verb auxiliary (is_given (bare_parts verb text))) (bare_parts verb text)

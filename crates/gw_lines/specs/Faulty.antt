@@ -12,6 +12,7 @@ use Rattle.gw_lines.specs.declared.operand.Operand.{Operand}
 use Rattle.gw_lines.specs.Reading.{OrMemory}
 use Rattle.gw_lines.specs.Classes.{are_plain}
 use Rattle.gw_lines.specs.Forms.{forms_of, lacks}
+use Rattle.gw_meaning.specs.declared.auxiliary.Auxiliary.{Auxiliary}
 use Rattle.gw_lines.specs.Auxiliaries.{takes_operator, auxiliary_of, bare_parts}
 use Rattle.gw_lines.specs.Parts.{part_of, is_given, others_of, is_missing}
 use Rattle.gw_lines.specs.Lines.{verb_in, is_command, needs_label, is_remark}
@@ -54,12 +55,13 @@ pub data FaultOfAll : List Form → List (List ℕ) → LineFault → Type 0 whe
       → FaultOfAll forms parts (faults.MissingOperand n)
 
 -- the first fault of a verb's operands: that of their list, or they lack one though none of them is required
-pub data OperandFault : Verb → List (List ℕ) → LineFault → Type 0 where
-  in_list : (verb : Verb) (forms : List Form) (parts : List (List ℕ)) (f : LineFault)
-      → forms_of verb (is_given parts) ≡ Some forms → FaultOfAll forms parts f → OperandFault verb parts f
-  lacking : (verb : Verb) (forms : List Form) (parts : List (List ℕ)) (os : List (Option Operand))
-      → forms_of verb (is_given parts) ≡ Some forms → SpellsAll forms parts os → lacks verb os ≡ true
-      → OperandFault verb parts (faults.MissingOperand 1)
+pub data OperandFault : Verb → Auxiliary → List (List ℕ) → LineFault → Type 0 where
+  in_list : (verb : Verb) (beside : Auxiliary) (forms : List Form) (parts : List (List ℕ)) (f : LineFault)
+      → forms_of verb beside (is_given parts) ≡ Some forms → FaultOfAll forms parts f
+      → OperandFault verb beside parts f
+  lacking : (verb : Verb) (beside : Auxiliary) (forms : List Form) (parts : List (List ℕ)) (os : List (Option Operand))
+      → forms_of verb beside (is_given parts) ≡ Some forms → SpellsAll forms parts os → lacks verb os ≡ true
+      → OperandFault verb beside parts (faults.MissingOperand 1)
 
 -- the first fault of what is kept behind a verb: that of its operator, which is operand 0, then that the verb is still
 -- to come, then that of its operands
@@ -67,10 +69,10 @@ pub data BodyFault : Verb → List ℕ → LineFault → Type 0 where
   no_operator : (verb : Verb) → takes_operator verb ≡ true → BodyFault verb [] (faults.MissingOperand 0)
   bad_operator : (verb : Verb) (text : List ℕ) → text ≢ [] → auxiliary_of verb text ≡ None
       → BodyFault verb text (faults.BadOperand 0)
-  verb_to_come : (verb : Verb) (text : List ℕ) → IsSome (auxiliary_of verb text)
-      → forms_of verb (is_given (bare_parts verb text)) ≡ None → BodyFault verb text faults.UnknownVerb
-  operand_fault : (verb : Verb) (text : List ℕ) (f : LineFault) → IsSome (auxiliary_of verb text)
-      → OperandFault verb (bare_parts verb text) f → BodyFault verb text f
+  verb_to_come : (verb : Verb) (text : List ℕ) (beside : Auxiliary) → auxiliary_of verb text ≡ Some beside
+      → forms_of verb beside (is_given (bare_parts verb text)) ≡ None → BodyFault verb text faults.UnknownVerb
+  operand_fault : (verb : Verb) (text : List ℕ) (f : LineFault) (beside : Auxiliary)
+      → auxiliary_of verb text ≡ Some beside → OperandFault verb beside (bare_parts verb text) f → BodyFault verb text f
 
 -- words whose first two are no verbs: the first, and the second or nothing
 pub data Verbless : List ℕ → List ℕ → List ℕ → Type 0 where

@@ -1,6 +1,6 @@
 -- The table of operands: for each verb what its operands may be, and which operands a statement has. (Manual; the
 -- operand table of the profile.)
-use Rattle.std.specs.Prelude.{ℕ, Bool, true, false, ◌&&◌, List, [], ◌∷◌, Option, Some, None, map, option_map, slice_get}
+use Rattle.std.specs.Prelude.{ℕ, Bool, true, false, ◌&&◌, List, [], ◌∷◌, Option, Some, None, map, option_map, slice_get, if◌then◌else◌}
 use Rattle.gw_names.specs.declared.verb.BlockVerb.{BlockVerb}
 use Rattle.gw_names.specs.declared.verb.BlockVerb.TheVariants as blocks
 use Rattle.gw_names.specs.declared.verb.DefinitionVerb.{DefinitionVerb}
@@ -12,6 +12,9 @@ use Rattle.gw_names.specs.declared.verb.Verb.TheVariants as verbs
 use Rattle.gw_expr.specs.declared.atom.Atom.TheVariants as atoms
 use Rattle.gw_expr.specs.Term.{Term, Value}
 use Rattle.gw_expr.specs.declared.function.Point.{Point}
+use Rattle.gw_meaning.specs.declared.auxiliary.Auxiliary.{Auxiliary}
+use Rattle.gw_meaning.specs.declared.auxiliary.Auxiliary.TheVariants as auxiliaries
+use Rattle.gw_meaning.specs.declared.auxiliary.Condition.TheVariants as conditions
 use Rattle.gw_meaning.specs.declared.statement.Definition.{Definition}
 use Rattle.gw_meaning.specs.declared.statement.Definition.TheVariants as definitions
 use Rattle.gw_meaning.specs.declared.statement.Command.{Command}
@@ -86,27 +89,40 @@ abbrev pub forms_of_transfer : Bool → List Form
 forms_of_transfer false = a_chance ∷ a_label ∷ []
 forms_of_transfer true = a_fraction ∷ another_label ∷ a_label ∷ []
 
--- the forms of each verb's operands, for the verbs that are read so far: given says whether the first operand is
-abbrev pub forms_of_block : BlockVerb → Bool → Option (List Form)
-forms_of_block blocks.Generate given = Some (a_value ∷ a_value ∷ a_value ∷ a_value ∷ a_value ∷ [])
-forms_of_block blocks.Advance given = Some (a_value ∷ a_value ∷ [])
-forms_of_block blocks.Terminate given = Some (a_value ∷ [])
-forms_of_block blocks.Queue given = Some (an_entity ∷ a_value ∷ [])
-forms_of_block blocks.Depart given = Some (an_entity ∷ a_value ∷ [])
-forms_of_block blocks.Seize given = Some (an_entity ∷ [])
-forms_of_block blocks.Release given = Some (an_entity ∷ [])
-forms_of_block blocks.Enter given = Some (a_definition ∷ a_value ∷ [])
-forms_of_block blocks.Leave given = Some (a_definition ∷ a_value ∷ [])
-forms_of_block blocks.Transfer given = Some (forms_of_transfer given)
-forms_of_block blocks.Test given = Some (one_value ∷ one_value ∷ a_label ∷ [])
-forms_of_block blocks.Mark given = Some []
-forms_of_block blocks.Priority given = Some (one_value ∷ [])
-forms_of_block blocks.Buffer given = Some []
-forms_of_block blocks.Assign given = Some (an_entity ∷ one_value ∷ [])
-forms_of_block blocks.Loop given = Some (an_entity ∷ a_label ∷ [])
-forms_of_block blocks.Logic given = Some (an_entity ∷ [])
-forms_of_block blocks.Savevalue given = Some (an_entity ∷ one_value ∷ [])
-forms_of_block verb given = None
+-- a GATE asks a storage, or else a facility or a switch
+abbrev pub asks_storage : Auxiliary → Bool
+asks_storage (auxiliaries.Gate conditions.Empty) = true
+asks_storage (auxiliaries.Gate conditions.NotEmpty) = true
+asks_storage (auxiliaries.Gate conditions.Full) = true
+asks_storage (auxiliaries.Gate conditions.NotFull) = true
+asks_storage beside = false
+
+abbrev pub forms_of_gate : Auxiliary → List Form
+forms_of_gate beside = (if asks_storage beside then a_definition else an_entity) ∷ a_label ∷ []
+
+-- the forms of each verb's operands, for the verbs that are read so far, by what was read before: what stands beside
+-- the operands, and whether the first operand is given
+abbrev pub forms_of_block : BlockVerb → Auxiliary → Bool → Option (List Form)
+forms_of_block blocks.Generate beside given = Some (a_value ∷ a_value ∷ a_value ∷ a_value ∷ a_value ∷ [])
+forms_of_block blocks.Advance beside given = Some (a_value ∷ a_value ∷ [])
+forms_of_block blocks.Terminate beside given = Some (a_value ∷ [])
+forms_of_block blocks.Queue beside given = Some (an_entity ∷ a_value ∷ [])
+forms_of_block blocks.Depart beside given = Some (an_entity ∷ a_value ∷ [])
+forms_of_block blocks.Seize beside given = Some (an_entity ∷ [])
+forms_of_block blocks.Release beside given = Some (an_entity ∷ [])
+forms_of_block blocks.Enter beside given = Some (a_definition ∷ a_value ∷ [])
+forms_of_block blocks.Leave beside given = Some (a_definition ∷ a_value ∷ [])
+forms_of_block blocks.Transfer beside given = Some (forms_of_transfer given)
+forms_of_block blocks.Test beside given = Some (one_value ∷ one_value ∷ a_label ∷ [])
+forms_of_block blocks.Gate beside given = Some (forms_of_gate beside)
+forms_of_block blocks.Mark beside given = Some []
+forms_of_block blocks.Priority beside given = Some (one_value ∷ [])
+forms_of_block blocks.Buffer beside given = Some []
+forms_of_block blocks.Assign beside given = Some (an_entity ∷ one_value ∷ [])
+forms_of_block blocks.Loop beside given = Some (an_entity ∷ a_label ∷ [])
+forms_of_block blocks.Logic beside given = Some (an_entity ∷ [])
+forms_of_block blocks.Savevalue beside given = Some (an_entity ∷ one_value ∷ [])
+forms_of_block verb beside given = None
 
 abbrev pub forms_of_definition : DefinitionVerb → Option (List Form)
 forms_of_definition definition_verbs.Storage = Some (a_count ∷ [])
@@ -120,10 +136,10 @@ forms_of_command command_verbs.Start = Some (a_count ∷ a_quiet ∷ [])
 forms_of_command command_verbs.Rmult = Some (a_seed ∷ a_seed ∷ a_seed ∷ a_seed ∷ a_seed ∷ a_seed ∷ a_seed ∷ [])
 forms_of_command verb = None
 
-abbrev pub forms_of : Verb → Bool → Option (List Form)
-forms_of (verbs.Block verb) given = forms_of_block verb given
-forms_of (verbs.Definition verb) given = forms_of_definition verb
-forms_of (verbs.Command verb) given = forms_of_command verb
+abbrev pub forms_of : Verb → Auxiliary → Bool → Option (List Form)
+forms_of (verbs.Block verb) beside given = forms_of_block verb beside given
+forms_of (verbs.Definition verb) beside given = forms_of_definition verb
+forms_of (verbs.Command verb) beside given = forms_of_command verb
 
 abbrev pub value : Option Term → Option Operand
 value v = option_map (λ t. operands.Value t) v

@@ -179,7 +179,7 @@ pub data SpellsAll : List Form → List (List ℕ) → List (Option Operand) →
 -- what the operands of a verb say, with what stands beside them: a statement that has both, and no points yet
 pub record Says (verb : Verb) (beside : Auxiliary) (parts : List (List ℕ)) (body : Body) : Type 0 where
   pub forms : List Form
-  pub are_forms : forms_of verb (is_given parts) ≡ Some forms
+  pub are_forms : forms_of verb beside (is_given parts) ≡ Some forms
   pub of_verb : verb_of_body body ≡ verb
   pub has_auxiliary : HasAuxiliary body beside
   pub operands : SpellsAll forms parts (fields_of body)

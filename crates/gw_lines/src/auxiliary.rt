@@ -8,7 +8,7 @@ ghost use Rattle.gw_lines.specs.declared.class.Class.TheVariants as class;
 
 use crate::class::{Class, span, word};
 use crate::fault::LineFault;
-use gw_meaning::{Auxiliary, Switching};
+use gw_meaning::{Auxiliary, Condition, Switching};
 use gw_names::{BlockVerb, Verb};
 use std::alloc::{AllocError, Global};
 
@@ -56,6 +56,16 @@ fn operators(verb: Verb) -> &'static [Auxiliary]
             Auxiliary::Less,
             Auxiliary::LessOrEqual,
         ],
+        Verb::Block(BlockVerb::Gate) => &[
+            Auxiliary::Gate(Condition::InUse),
+            Auxiliary::Gate(Condition::NotInUse),
+            Auxiliary::Gate(Condition::IsSet),
+            Auxiliary::Gate(Condition::IsReset),
+            Auxiliary::Gate(Condition::Empty),
+            Auxiliary::Gate(Condition::NotEmpty),
+            Auxiliary::Gate(Condition::Full),
+            Auxiliary::Gate(Condition::NotFull),
+        ],
         Verb::Block(BlockVerb::Logic) => &[
             Auxiliary::Logic(Switching::Set),
             Auxiliary::Logic(Switching::Reset),
@@ -76,6 +86,14 @@ fn operator_word(operator: Auxiliary) -> &'static [u8]
         Auxiliary::GreaterOrEqual => b"GE",
         Auxiliary::Less => b"L",
         Auxiliary::LessOrEqual => b"LE",
+        Auxiliary::Gate(Condition::InUse) => b"U",
+        Auxiliary::Gate(Condition::NotInUse) => b"NU",
+        Auxiliary::Gate(Condition::IsSet) => b"LS",
+        Auxiliary::Gate(Condition::IsReset) => b"LR",
+        Auxiliary::Gate(Condition::Empty) => b"SE",
+        Auxiliary::Gate(Condition::NotEmpty) => b"SNE",
+        Auxiliary::Gate(Condition::Full) => b"SF",
+        Auxiliary::Gate(Condition::NotFull) => b"SNF",
         Auxiliary::Logic(Switching::Set) => b"S",
         Auxiliary::Logic(Switching::Reset) => b"R",
         Auxiliary::Logic(Switching::Invert) => b"I",

@@ -38,9 +38,9 @@ pub fn read_body(alloc: Global, verb: Verb, text: &[u8]) -> Result<Body, LineFau
 // The body that a verb's operand list spells, which has lost its operator or its sign.
 fn by_forms(alloc: Global, verb: Verb, auxiliary: Auxiliary, text: &[u8]) -> Result<Body, LineFault>
     ensures { Gives (λ b. b) result
-        (by_forms verb auxiliary (forms_of verb (is_given (parts_of text.now))) (parts_of text.now)) }
+        (by_forms verb auxiliary (forms_of verb auxiliary (is_given (parts_of text.now))) (parts_of text.now)) }
 {
-    match forms_of(verb, is_given(text)) {
+    match forms_of(verb, auxiliary, is_given(text)) {
         Some(forms) => in_forms(alloc, verb, auxiliary, forms, text),
         None => Err(LineFault::UnknownVerb),
     }

@@ -1,8 +1,9 @@
 ghost use Rattle.std.specs.Prelude.{◌≡◌, ◌≤◌, IfSome, length};
 ghost use Rattle.std.specs.Option.{option_copied};
-ghost use Rattle.gw_lines.specs.Forms.{forms_of, forms_of_block, forms_of_transfer, forms_of_definition, forms_of_command, lacks, is_listed, is_required, is_absent};
+ghost use Rattle.gw_lines.specs.Forms.{forms_of, forms_of_block, forms_of_transfer, forms_of_gate, asks_storage, forms_of_definition, forms_of_command, lacks, is_listed, is_required, is_absent};
 
 use crate::operand::Operand;
+use gw_meaning::{Auxiliary, Condition};
 use gw_names::{BlockVerb, CommandVerb, DefinitionVerb, Verb};
 
 /// What an operand may be.
@@ -46,20 +47,25 @@ pub struct Form {
     pub presence: Presence,
 }
 
-/// The forms of a verb's operands, if the verb is read so far: given says whether the first operand is given.
-pub fn forms_of(verb: Verb, given: bool) -> Option<&'static [Form]>
-    ensures forms { option_copied result ≡ forms_of verb given }
+/// The forms of a verb's operands, if the verb is read so far, by what was read before: what stands beside the operands,
+/// and whether the first operand is given.
+pub fn forms_of(verb: Verb, beside: Auxiliary, given: bool) -> Option<&'static [Form]>
+    ensures forms { option_copied result ≡ forms_of verb beside given }
     ensures few { IfSome result (λ f. length f.now ≤ 7) }
 {
     match verb {
-        Verb::Block(verb) => forms_of_block(verb, given),
+        Verb::Block(verb) => forms_of_block(verb, beside, given),
         Verb::Definition(verb) => forms_of_definition(verb),
         Verb::Command(verb) => forms_of_command(verb),
     }
 }
 
-fn forms_of_block(verb: BlockVerb, given: bool) -> Option<&'static [Form]>
-    ensures forms { option_copied result ≡ forms_of_block verb given }
+fn forms_of_block(
+    verb: BlockVerb,
+    beside: Auxiliary,
+    given: bool,
+) -> Option<&'static [Form]>
+    ensures forms { option_copied result ≡ forms_of_block verb beside given }
     ensures few { IfSome result (λ f. length f.now ≤ 7) }
 {
     match verb {
@@ -71,6 +77,7 @@ fn forms_of_block(verb: BlockVerb, given: bool) -> Option<&'static [Form]>
         BlockVerb::Enter | BlockVerb::Leave => Some(&[DEFINED, VALUE]),
         BlockVerb::Transfer => Some(forms_of_transfer(given)),
         BlockVerb::Test => Some(&[ONE_VALUE, ONE_VALUE, LABEL]),
+        BlockVerb::Gate => Some(forms_of_gate(beside)),
         BlockVerb::Mark | BlockVerb::Buffer => Some(&[]),
         BlockVerb::Priority => Some(&[ONE_VALUE]),
         BlockVerb::Assign | BlockVerb::Savevalue => Some(&[ENTITY, ONE_VALUE]),
@@ -88,6 +95,29 @@ fn forms_of_transfer(given: bool) -> &'static [Form]
         &[FRACTION, ANOTHER_LABEL, LABEL]
     } else {
         &[CHANCE, LABEL]
+    }
+}
+
+// A GATE asks a storage, or else a facility or a switch.
+fn forms_of_gate(beside: Auxiliary) -> &'static [Form]
+    ensures forms { result.now ≡ forms_of_gate beside }
+    ensures few { length result.now ≤ 7 }
+{
+    if asks_storage(beside) {
+        &[DEFINED, LABEL]
+    } else {
+        &[ENTITY, LABEL]
+    }
+}
+
+fn asks_storage(beside: Auxiliary) -> bool
+    ensures { result ≡ asks_storage beside }
+{
+    match beside {
+        Auxiliary::Gate(
+            Condition::Empty | Condition::NotEmpty | Condition::Full | Condition::NotFull,
+        ) => true,
+        _ => false,
     }
 }
 

@@ -33,6 +33,8 @@ use Rattle.gw_meaning.specs.declared.entity_change.Deed.TheVariants as deeds
 use Rattle.gw_meaning.specs.declared.entity_change.FacilityDeed.TheVariants as of_facility
 use Rattle.gw_meaning.specs.declared.entity_change.QueueDeed.TheVariants as of_queue
 use Rattle.gw_meaning.specs.declared.entity_change.StorageDeed.TheVariants as of_storage
+use Rattle.gw_meaning.specs.declared.auxiliary.Condition.{Condition}
+use Rattle.gw_meaning.specs.declared.auxiliary.Condition.TheVariants as conditions
 use Rattle.gw_meaning.specs.declared.auxiliary.Switching.{Switching}
 use Rattle.gw_meaning.specs.declared.auxiliary.Switching.TheVariants as switchings
 use Rattle.gw_meaning.specs.declared.moves.Change.TheVariants as changes
@@ -358,6 +360,41 @@ abbrev pub test_prog : Machine → Asker → ℕ → Auxiliary → Option Term �
 test_prog s q id relation first second label = value_there s q first ~> (λ a. value_there s q second ~>
     (λ b. test_values id relation label a b))
 
+-- GATE: whether its condition holds of the entity with a key, and whether that hangs on the capacity of a storage. Where
+-- it does not hold, the transaction goes to the block with the label.
+abbrev pub is_open : Machine → Condition → Key → ℕ → Bool
+is_open s conditions.InUse key capacity = is_some (facility_at s.entities key).owner
+is_open s conditions.NotInUse key capacity = not (is_some (facility_at s.entities key).owner)
+is_open s conditions.IsSet key capacity = switch_at s.entities key
+is_open s conditions.IsReset key capacity = not (switch_at s.entities key)
+is_open s conditions.Empty key capacity = (store_at s.entities key).level.content == 0
+is_open s conditions.NotEmpty key capacity = not ((store_at s.entities key).level.content == 0)
+is_open s conditions.Full key capacity = nat_le capacity (store_at s.entities key).level.content
+is_open s conditions.NotFull key capacity = not (nat_le capacity (store_at s.entities key).level.content)
+
+abbrev pub reads_capacity : Condition → Bool
+reads_capacity conditions.Full = true
+reads_capacity conditions.NotFull = true
+reads_capacity condition = false
+
+abbrev pub gate_at : Machine → ℕ → Condition → Option Term → Key → ℕ → Eval Move
+gate_at s id condition label key capacity = lead_to id (if is_open s condition key capacity then None else label)
+
+abbrev pub gate_storage : Machine → ℕ → Condition → Option Term → List ℕ → Bool → Eval Move
+gate_storage s id condition label name true =
+    asks (items.Named asking.Storage name) (gate_at s id condition label (keys.Defined name))
+gate_storage s id condition label name false = gate_at s id condition label (keys.Defined name) 0
+
+abbrev pub gate_of : Machine → Asker → ℕ → Condition → Option Term → Option Term → Eval Move
+gate_of s q id condition (Some (Defined name)) label =
+    gate_storage s id condition label name (reads_capacity condition)
+gate_of s q id condition entity label =
+    entity_prog s q entity ~> (λ key. gate_at s id condition label key 0)
+
+abbrev pub gate_prog : Machine → Asker → ℕ → Auxiliary → Option Term → Option Term → Eval Move
+gate_prog s q id (auxiliaries.Gate condition) entity label = gate_of s q id condition entity label
+gate_prog s q id auxiliary entity label = ends_with (ends.Error NoNextBlock)
+
 -- LOGIC: the switch is set, reset or inverted.
 abbrev pub switched : Switching → Bool → Bool
 switched switchings.Set was = true
@@ -402,6 +439,7 @@ block_prog s x id b blocks.Leave = leave_prog s (for_one s x) id (operand b A) (
 block_prog s x id b blocks.Transfer = transfer_prog id (operand b A) (operand b B) (operand b C)
 block_prog s x id b blocks.Test =
     test_prog s (for_one s x) id b.auxiliary (operand b A) (operand b B) (operand b C)
+block_prog s x id b blocks.Gate = gate_prog s (for_one s x) id b.auxiliary (operand b A) (operand b B)
 block_prog s x id b blocks.Logic = logic_prog s (for_one s x) id b.auxiliary (operand b A)
 block_prog s x id b blocks.Savevalue =
     savevalue_prog s (for_one s x) id b.auxiliary (operand b A) (operand b B)

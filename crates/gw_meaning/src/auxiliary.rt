@@ -19,8 +19,31 @@ pub enum Auxiliary {
     Less,
     /// `LE`: A is less than B, or equal to it.
     LessOrEqual,
+    /// The condition of a GATE.
+    Gate(Condition),
     /// What a LOGIC makes of its switch.
     Logic(Switching),
+}
+
+/// The condition at which a GATE lets its transaction pass.
+#[derive(Clone, Copy)]
+pub enum Condition {
+    /// `U`: the facility is owned.
+    InUse,
+    /// `NU`: the facility is not owned.
+    NotInUse,
+    /// `LS`: the switch is set.
+    IsSet,
+    /// `LR`: the switch is reset.
+    IsReset,
+    /// `SE`: no unit of the storage is in use.
+    Empty,
+    /// `SNE`: some unit of the storage is in use.
+    NotEmpty,
+    /// `SF`: no unit of the storage is left.
+    Full,
+    /// `SNF`: some unit of the storage is left.
+    NotFull,
 }
 
 /// What a LOGIC makes of its switch.

@@ -20,7 +20,7 @@ mod transaction;
 mod transaction_change;
 
 pub use asker::Asker;
-pub use auxiliary::{Auxiliary, Switching};
+pub use auxiliary::{Auxiliary, Condition, Switching};
 pub use destination::Destination;
 pub use entity_change::{Deed, EntityChange, FacilityDeed, QueueDeed, StorageDeed};
 pub use item::{Asked, End, Item, Outcome};

@@ -92,6 +92,7 @@ impl State {
             BlockVerb::Leave => self.act_leave(case, notes, id, block),
             BlockVerb::Transfer => self.act_transfer(case, notes, id, block),
             BlockVerb::Test => self.act_test(case, notes, id, block),
+            BlockVerb::Gate => self.act_gate(case, notes, id, block),
             BlockVerb::Logic => self.act_logic(case, notes, id, block),
             BlockVerb::Savevalue => self.act_savevalue(case, notes, id, block),
             BlockVerb::Mark => self.act_mark(notes, id),

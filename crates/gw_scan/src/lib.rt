@@ -11,6 +11,7 @@ mod commands;
 mod copy;
 mod entering;
 mod fates;
+mod gates;
 mod generating;
 mod idle;
 mod parameters;

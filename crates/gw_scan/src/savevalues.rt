@@ -55,13 +55,7 @@ impl State {
     }
 
     // The same, of the savevalue with a key.
-    fn save(
-        &mut self,
-        id: StatementId,
-        sign: Auxiliary,
-        key: &Key,
-        value: Val,
-    ) -> Result<(), Halt>
+    fn save(&mut self, id: StatementId, sign: Auxiliary, key: &Key, value: Val) -> Result<(), Halt>
         requires { IsSome self.old.active }
         ensures { (x : Transaction) → self.old.active ≡ Some x →
             Goes (savevalue_with id sign key.now (savevalue_at self.old.entities key.now) value)

@@ -74,7 +74,7 @@ impl State {
 
     // The active transaction enters a block and goes to another one, or to the next one where none is set.
     #[inline(always)]
-    fn send(&mut self, id: StatementId, to: Destination) -> Result<(), AllocError>
+    pub(crate) fn send(&mut self, id: StatementId, to: Destination) -> Result<(), AllocError>
         requires { IsSome self.old.active }
         ensures ok { OnOk result (self.new ≡ moved self.old (sent id to)) }
         ensures err { OnErr result (self.new ≡ self.old) }
