@@ -50,10 +50,14 @@ bad_same given given' same (limit e) = limit (ap (said 1 1000000 1000000) (sym (
 -- clap refused the words by one of their faults, or out of memory
 pub refused_by_clap : (words : List Text) (kind : ErrorKind) (refusal : Refusal) → IsRefusalAt kind refusal → (kind ≡ kinds.OutOfMemory) ⊎
     IsAmong kind (faults_of words) → IsRefusedBy words refusal
-refused_by_clap words kind (refusals.Help text) is (inl memory) = absurd cc
-refused_by_clap words kind (refusals.Help text) is (inr among) = let P : ErrorKind → Type 0 = λ k. IsAmong k (faults_of words) in subst P is among
-refused_by_clap words kind (refusals.Bad text) is (inl memory) = absurd (is.1 memory)
-refused_by_clap words kind (refusals.Bad text) is (inr among) = inl (record { kind = kind; found = among; no_help = is.0 })
+refused_by_clap words kind (refusals.Help text) (inl is) (inl memory) = absurd cc
+refused_by_clap words kind (refusals.Help text) (inr is) (inl memory) = absurd cc
+refused_by_clap words kind (refusals.Help text) (inl is) (inr among) =
+    let P : ErrorKind → Type 0 = λ k. IsAmong k (faults_of words) in inl (subst P is among)
+refused_by_clap words kind (refusals.Help text) (inr is) (inr among) =
+    let P : ErrorKind → Type 0 = λ k. IsAmong k (faults_of words) in inr (subst P is among)
+refused_by_clap words kind (refusals.Bad text) is (inl memory) = absurd (is.2 memory)
+refused_by_clap words kind (refusals.Bad text) is (inr among) = inl (record { kind = kind; found = among; no_help = is.0; no_version = is.1 })
 refused_by_clap words kind refusals.Memory is among = tt
 
 -- the words were refused for a number

@@ -69,7 +69,8 @@ is_usual : (meant : Result Wanted Refusal) → IsReadAs [] meant →
 is_usual (Ok wanted) h =
     let At : Option Text → Type 0 = λ w. IsModelAt w wanted.model in
     inl (wanted, refl, usual_place wanted.model (subst At (no_word (codes "model")) h.model), usual_options wanted.options h.options)
-is_usual (Err (refusals.Help text)) h = let Among : Kinds → Type 0 = λ ks. IsAmong kinds.DisplayHelp ks in absurd (subst Among no_faults h)
+is_usual (Err (refusals.Help text)) (inl h) = let Among : Kinds → Type 0 = λ ks. IsAmong kinds.DisplayHelp ks in absurd (subst Among no_faults h)
+is_usual (Err (refusals.Help text)) (inr h) = let Among : Kinds → Type 0 = λ ks. IsAmong kinds.DisplayVersion ks in absurd (subst Among no_faults h)
 is_usual (Err (refusals.Bad text)) (inl line) = absurd (subst IsBadLine no_faults line).found
 is_usual (Err (refusals.Bad text)) (inr number) = absurd (no_bad_number number.1)
 is_usual (Err refusals.Memory) h = inr refl

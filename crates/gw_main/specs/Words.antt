@@ -22,9 +22,9 @@ option_rule name = record (new_rule name) { long = Some name; value_names = 1 }
 abbrev pub model_rule : Rule
 model_rule = record (new_rule (codes "model")) { value_names = 1 }
 
--- the words begin behind the program's name
+-- the words begin behind the program's name, which has a version
 abbrev pub behind_name : Shape → Shape
-behind_name s = record s { no_binary_name = true }
+behind_name s = record s { no_binary_name = true; has_version = true }
 
 -- the program's command line
 abbrev pub gpssbench : App
@@ -92,16 +92,18 @@ pub record Asks (words : List Text) (wanted : Wanted) : Type 0 where
   pub model : IsModelAt (word_of words (codes "model")) wanted.model
   pub options : SaysOptions (word_of words) wanted.options
 
--- clap finds something wrong that is no request for help
+-- clap finds something wrong that is no request for help or for the version
 pub record IsBadLine (faults : Kinds) : Type 0 where
   pub kind : ErrorKind
   pub found : IsAmong kind faults
   pub no_help : kind ≢ kinds.DisplayHelp
+  pub no_version : kind ≢ kinds.DisplayVersion
 
--- why the words ask for no run: they ask for help; clap does not take them, or it does and a number is bad; or out of
--- memory
+-- why the words ask for no run: they ask for help or for the version; clap does not take them, or it does and a number
+-- is bad; or out of memory
 abbrev pub IsRefusedBy : List Text → Refusal → Type 0
-IsRefusedBy words (refusals.Help text) = IsAmong kinds.DisplayHelp (faults_of words)
+IsRefusedBy words (refusals.Help text) =
+    IsAmong kinds.DisplayHelp (faults_of words) ⊎ IsAmong kinds.DisplayVersion (faults_of words)
 IsRefusedBy words (refusals.Bad text) =
     IsBadLine (faults_of words) ⊎ ((faults_of words ≡ []) × HasBadNumber (word_of words))
 IsRefusedBy words refusals.Memory = Unit {0}
@@ -113,8 +115,9 @@ IsReadAs words (Err refusal) = IsRefusedBy words refusal
 
 -- a refusal for an error of clap's, by its kind
 abbrev pub IsRefusalAt : ErrorKind → Refusal → Type 0
-IsRefusalAt kind (refusals.Help text) = kind ≡ kinds.DisplayHelp
-IsRefusalAt kind (refusals.Bad text) = (kind ≢ kinds.DisplayHelp) × (kind ≢ kinds.OutOfMemory)
+IsRefusalAt kind (refusals.Help text) = (kind ≡ kinds.DisplayHelp) ⊎ (kind ≡ kinds.DisplayVersion)
+IsRefusalAt kind (refusals.Bad text) =
+    (kind ≢ kinds.DisplayHelp) × (kind ≢ kinds.DisplayVersion) × (kind ≢ kinds.OutOfMemory)
 IsRefusalAt kind refusals.Memory = Unit {0}
 
 -- a refusal for a number

@@ -9,27 +9,49 @@ use std::alloc::{AllocError, Global};
 const ABOUT: &str =
     "Runs a GPSS World model and answers the lines of a script about it, each at once, with reports.";
 
+const VERSION: &str = "0.1.0";
+
 const SESSION: &str =
     "A session on standard input: the model in front of a line `end`, and the script behind it.
 
-  GENERATE 10 ; a patient every 10 ticks of the clock
-  ADVANCE 3   ; is seen for 3 ticks
-  TERMINATE 1 ; and leaves;
-  START 2     ; the run is complete when 2 have left
-  end
-  report 1 1
-  quit
+GENERATE 10 ; a patient every 10 ticks of the clock
+ADVANCE 3   ; is seen for 3 ticks
+TERMINATE 1 ; and leaves;
+START 2     ; the run is complete when 2 have left
+end
+report 1 1
+quit
 
-`report r k` asks for the report of replication r at the end of its START number k. The answer to
-`report 1 1` begins with the line `report 0 1 1 491`: no edits so far, replication 1, START 1, and
-491 bytes of text, which follow. `quit` ends the session, and so does the end of the input.
+The answer to `report 1 1` begins with the line `report 0 1 1 491`: no edits so far, replication 1,
+START 1, and 491 bytes of text, which follow.
 
-With the model in a file, standard input is the script alone:
+With the model in a file, standard input is the script alone, and `end` stands in neither:
 
-  $ gpssbench clinic.gps --seed 7 < questions.txt
+  $ gpssbench clinic.gps --seed 1945846388 < questions.txt
+
+The lines of a script, with r for a replication, k for a START and p for a place in `list`:
+
+  report r k       The report of START k of replication r; steps that are missing are made
+  peek r k         The same from the steps that are there, or `unfinished N`
+  all k            The report of START k of each replication
+  list             The statements, each behind its place
+  insert p TEXT    The statement TEXT is inserted at place p
+  delete p         The statement at place p is deleted
+  change p TEXT    TEXT stands in its place, with its label or without one
+  seed r s         Replication r has the seed s
+  replicate r s    A replication r with the seed s is added
+  drop r           Replication r is dropped
+  horizon t        Runs end at tick t
+  capacity NAME n  The storage NAME holds n units
+  quit             The session ends, as it does at the end of the input
+
+An edit is answered `ok E`, when E are accepted, or `refused` with why. Take seeds of seven digits
+and more, far apart.
 
 The program ends with status 0 when the script was served, 1 when the model is refused, 2 when the
-words behind its name are, and 3 when reading, writing or memory failed. Standard error says why.";
+words behind its name are, and 3 when reading, writing or memory failed. Standard error says why.
+In the program's repository docs/language.md has all that a model may hold, docs/codes.md each
+answer and what to do about it, and docs/tour.md two examples.";
 
 /// The command line of the program, whose words begin behind the program's name.
 pub fn command<'a>(alloc: Global) -> Result<Command<'a>, AllocError>
@@ -37,6 +59,7 @@ pub fn command<'a>(alloc: Global) -> Result<Command<'a>, AllocError>
 {
     Command::new(alloc, "gpssbench")
         .no_binary_name(true)
+        .version(VERSION)
         .about(ABOUT)
         .after_help(SESSION)
         .arg(model(alloc))?

@@ -32,7 +32,7 @@ pub struct Wanted<'a> {
 /// Why the words ask for no run, with the text that says so.
 #[derive(Drop)]
 pub enum Refusal {
-    /// They ask for help, and this is the text.
+    /// They ask for help or for the version, and this is the text.
     Help(String),
     /// They are no lawful words.
     Bad(String),
@@ -143,6 +143,7 @@ fn refusal_of(alloc: Global, error: &Error) -> Refusal
     }
     match format!(in alloc; "{error}") {
         Ok(text) if kind == ErrorKind::DisplayHelp => Refusal::Help(text),
+        Ok(text) if kind == ErrorKind::DisplayVersion => Refusal::Help(text),
         Ok(text) => Refusal::Bad(text),
         Err(_) => Refusal::Memory,
     }
