@@ -1,0 +1,13 @@
+-- How a list lies in memory.
+use Rattle.std.specs.Prelude.{ℕ, ◌-◌, List}
+use Rattle.std.specs.VecDeque.{deque_len, deque_capacity}
+use Rattle.gw_shared.specs.declared.list.Form.{Form}
+use Rattle.gw_shared.specs.declared.list.Form.TheVariants.{Plain, Long}
+
+abbrev pub form_items : {A : Type 0} → Form A → List A
+form_items (Plain q) = q.items
+form_items (Long b) = b.value.items
+
+abbrev pub form_room : {A : Type 0} → Form A → ℕ
+form_room (Plain q) = deque_capacity q - deque_len q
+form_room (Long b) = b.value.room
