@@ -23,10 +23,11 @@ pub struct SharedList<T: Copy> {
     form: Form<T>,
 }
 
-// How a list lies in memory.
+// How a list lies in memory. One without items and without room takes the least: there may be very many.
 #[derive(Drop)]
 pub enum Form<T: Copy> {
-    Plain(VecDeque<T>),
+    Empty(Global),
+    Plain(Box<VecDeque<T>>),
     // In chunks that copies may share.
     Long(Box<LongList<T>>),
 }
@@ -49,7 +50,7 @@ impl<T: Copy> SharedList<T> {
         ensures { result.items ≡ [] }
     {
         SharedList {
-            form: Form::Plain(VecDeque::new(alloc)),
+            form: Form::Empty(alloc),
         }
     }
 
@@ -60,6 +61,7 @@ impl<T: Copy> SharedList<T> {
         ensures bound { result < 2 ^ 63 }
     {
         match &self.form {
+            Form::Empty(_) => 0,
             Form::Plain(items) => items.len(),
             Form::Long(items) => items.len(),
         }
@@ -80,6 +82,7 @@ impl<T: Copy> SharedList<T> {
         ensures { slice_get self.now.items index ≡ Some result.now }
     {
         match &self.form {
+            Form::Empty(_) => unreachable!(),
             Form::Plain(items) => &items[index],
             Form::Long(items) => items.at(index),
         }
@@ -108,6 +111,7 @@ impl<T: Copy> SharedList<T> {
         ensures items { self.new.items ≡ self.old.items }
     {
         match &mut self.form {
+            Form::Empty(_) => self.lay_out(count),
             Form::Plain(items) => items.reserve(count),
             Form::Long(items) => {
                 if count <= CHANGES && items.len() > CHANGES {
@@ -131,16 +135,17 @@ impl<T: Copy> SharedList<T> {
     }
 
     // The same items laid out plainly, with room for so many changes.
-    fn plain(&self, count: usize) -> Result<VecDeque<T>, AllocError>
-        ensures items { IfOk result (λ q. q.items ≡ self.now.items) }
-        ensures room { IfOk result (λ q. deque_len q + count ≤ deque_capacity q) }
+    fn plain(&self, count: usize) -> Result<Box<VecDeque<T>>, AllocError>
+        ensures items { IfOk result (λ b. b.value.items ≡ self.now.items) }
+        ensures room { IfOk result (λ b. deque_len b.value + count ≤ deque_capacity b.value) }
     {
-        let mut plain = VecDeque::with_capacity(self.allocator(), self.len())?;
+        let alloc = self.allocator();
+        let mut plain = VecDeque::with_capacity(alloc, self.len())?;
         for index in 0..self.len() {
             plain.push_back(*self.at(index))?;
         }
         plain.reserve(count)?;
-        Ok(plain)
+        Ok(Box::new(alloc, plain)?)
     }
 
     /// One more at the end.
@@ -151,6 +156,7 @@ impl<T: Copy> SharedList<T> {
         ensures room { self.old.room ≤ self.new.room + 1 }
     {
         match &mut self.form {
+            Form::Empty(_) => unreachable!(),
             Form::Plain(items) => items.push_back_reserved(x),
             Form::Long(items) => items.push(x),
         }
@@ -164,6 +170,7 @@ impl<T: Copy> SharedList<T> {
         ensures room { self.old.room ≤ self.new.room + 1 }
     {
         match &mut self.form {
+            Form::Empty(_) => unreachable!(),
             Form::Plain(items) => match items.insert(index, x) {
                 Ok(()) => (),
                 Err(_) => unreachable!(),
@@ -181,11 +188,12 @@ impl<T: Copy> SharedList<T> {
         ensures room { self.old.room ≤ self.new.room + 1 }
     {
         match &mut self.form {
+            Form::Empty(_) => unreachable!(),
             Form::Plain(items) => match items.remove(index) {
                 Some(x) => x,
                 None => unreachable!(),
             },
-            Form::Long(items) => items.remove(index),
+            Form::Long(items) => take_out(items, index),
         }
     }
 
@@ -197,6 +205,7 @@ impl<T: Copy> SharedList<T> {
         ensures room { self.old.room ≤ self.new.room + 1 }
     {
         match &mut self.form {
+            Form::Empty(_) => unreachable!(),
             Form::Plain(items) => items[index] = x,
             Form::Long(items) => items.set(index, x),
         }
@@ -210,6 +219,7 @@ impl<T: Copy> SharedList<T> {
         ensures room { self.old.room ≤ self.new.room }
     {
         match &mut self.form {
+            Form::Empty(_) => None,
             Form::Plain(items) => items.pop_front(),
             Form::Long(items) => items.pop_front(),
         }
@@ -220,7 +230,7 @@ impl<T: Copy> SharedList<T> {
         ensures { self.new.items ≡ [] }
     {
         let alloc = self.allocator();
-        self.form = Form::Plain(VecDeque::new(alloc));
+        self.form = Form::Empty(alloc);
     }
 
     /// Copies share from now on what it holds now. No item changes, also where memory is refused; the room is gone.
@@ -231,17 +241,30 @@ impl<T: Copy> SharedList<T> {
     pub fn share(&mut self) -> Result<(), AllocError>
         ensures { self.new.items ≡ self.old.items }
     {
-        let long = match &mut self.form {
-            Form::Long(items) => return items.share(),
-            Form::Plain(items) => {
-                if items.len() <= FEW {
-                    return Ok(());
-                }
-                long_of(items)?
-            }
-        };
+        if let Form::Long(items) = &mut self.form {
+            return items.share();
+        }
+        if self.len() <= FEW {
+            return Ok(());
+        }
+        let long = self.long()?;
         self.form = Form::Long(long);
         Ok(())
+    }
+
+    // The same items in chunks, all of which may be shared.
+    fn long(&self) -> Result<Box<LongList<T>>, AllocError>
+        ensures { IfOk result (λ l. l.value.items ≡ self.now.items) }
+    {
+        let alloc = self.allocator();
+        let mut long = LongList::new(alloc);
+        let count = self.len();
+        for index in 0..count {
+            long.reserve(1)?;
+            long.push(*self.at(index));
+        }
+        long.share()?;
+        Ok(Box::new(alloc, long)?)
     }
 
     /// An equal list: what is shared is shared with it, and what is not is copied.
@@ -252,7 +275,11 @@ impl<T: Copy> SharedList<T> {
     pub fn copy(&self) -> Result<SharedList<T>, AllocError>
         ensures { IfOk result (λ l. l.items ≡ self.now.items) }
     {
+        if self.is_empty() {
+            return Ok(SharedList::new(self.allocator()));
+        }
         match &self.form {
+            Form::Empty(_) => unreachable!(),
             Form::Plain(_) => Ok(SharedList {
                 form: Form::Plain(self.plain(0)?),
             }),
@@ -264,22 +291,26 @@ impl<T: Copy> SharedList<T> {
 
     fn allocator(&self) -> Global {
         match &self.form {
+            Form::Empty(alloc) => *alloc,
             Form::Plain(items) => *items.allocator(),
             Form::Long(items) => items.allocator(),
         }
     }
 }
 
-// A list in chunks of these items, all of which may be shared.
-fn long_of<T: Copy>(items: &VecDeque<T>) -> Result<Box<LongList<T>>, AllocError>
-    ensures { IfOk result (λ l. l.value.items ≡ items.now.items) }
+// The one at an index goes. The first one needs no room.
+fn take_out<T: Copy>(items: &mut LongList<T>, index: usize) -> T
+    requires room { 0 < items.old.room }
+    requires within { index < length items.old.items }
+    ensures value { slice_get items.old.items index ≡ Some result }
+    ensures items { items.new.items ≡ remove items.old.items index }
+    ensures room { items.old.room ≤ items.new.room + 1 }
 {
-    let alloc = *items.allocator();
-    let mut long = LongList::new(alloc);
-    for index in 0..items.len() {
-        long.reserve(1)?;
-        long.push(items[index]);
+    if index > 0 {
+        return items.remove(index);
     }
-    long.share()?;
-    Ok(Box::new(alloc, long)?)
+    match items.pop_front() {
+        Some(x) => x,
+        None => unreachable!(),
+    }
 }
