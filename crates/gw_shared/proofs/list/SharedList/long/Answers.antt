@@ -1,0 +1,9 @@
+use Rattle.std.proofs.Common.{◌++◌, ◌∷◌, [], ap, ◌∙◌}
+use Rattle.gw_shared.proofs.Laws.{one_more_taken}
+use Rattle.gw_shared.proofs.list.SharedList.long.Goals as goal
+
+pub loop-index-preserved : goal.loop-index-preserved
+loop-index-preserved g c =
+    c.push.ensures.items
+    ∙ (ap (λ l. l ++ c.at.result.now ∷ []) (c.reserve.ensures.items ∙ c.loop-index.invariant)
+    ∙ one_more_taken c.args.self.now.items c.loop-index.index c.at.result.now c.at.ensures)

@@ -1,0 +1,7 @@
+use Rattle.std.proofs.Common.{◌≡◌, ◌<◌, length, take}
+use Rattle.gw_shared.specs.Lists.{joined}
+use Rattle.gw_shared.proofs.place.find_from_back.Given as goal
+
+-- so many items are in the chunks that are left
+abbrev pub invariant-loop-chunk : goal.invariant-loop-chunk
+invariant-loop-chunk g l = (l.end ≡ length (joined (take l.chunk l.chunks.items))) × (l.index < l.end)

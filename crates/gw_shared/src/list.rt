@@ -1,0 +1,316 @@
+ghost use Rattle.std.specs.Prelude.{◌≡◌, ◌==◌, ◌<◌, ◌≤◌, ◌+◌, ◌^◌, ◌++◌, ◌∷◌, [], Some, IfOk, OnOk, IfNone, length, insert, remove, slice_get, slice_set, option_to_list};
+ghost use Rattle.std.specs.Slice.{IsItemAt};
+ghost use Rattle.std.specs.VecDeque.{deque_len, deque_capacity};
+
+use crate::long::LongList;
+use std::alloc::{AllocError, Global};
+use std::collections::VecDeque;
+use std::marker::Model;
+
+// So many items are copied for each copy of the list; more are shared.
+const FEW: usize = 32;
+
+// A list in chunks has two buffers for each change that it has room for. For more changes than these it is laid out
+// plainly.
+const CHANGES: usize = 8;
+
+/// A list whose copies share what did not change: they take the time and the memory of what changed since the list was
+/// last shared, and of a pointer for every 64 items. A list of a few items is copied, and takes the memory of its items.
+///
+/// Its view is its items and its room: so many changes cannot fail.
+#[derive(Drop)]
+pub struct SharedList<T: Copy> {
+    form: Form<T>,
+}
+
+// How a list lies in memory. One without items and without room takes the least: there may be very many.
+#[derive(Drop)]
+pub enum Form<T: Copy> {
+    Empty(Global),
+    Plain(Box<VecDeque<T>>),
+    // In chunks that copies may share.
+    Long(Box<LongList<T>>),
+}
+
+impl<T: Copy> Model for SharedList<T> {
+    ghost use Rattle.gw_shared.specs.Lists.{Roomy};
+    ghost use Rattle.gw_shared.specs.Forms.{form_items, form_room};
+
+    ghost Value = { Roomy T };
+
+    ghost view = { λ l. record {
+      items = form_items l.form;
+      room = form_room l.form;
+    } };
+}
+
+impl<T: Copy> SharedList<T> {
+    /// An empty list.
+    pub fn new(alloc: Global) -> SharedList<T>
+        ensures { result.items ≡ [] }
+    {
+        SharedList {
+            form: Form::Empty(alloc),
+        }
+    }
+
+    /// How many items there are.
+    #[inline(always)]
+    pub fn len(&self) -> usize
+        ensures len { result ≡ length self.now.items }
+        ensures bound { result < 2 ^ 63 }
+    {
+        match &self.form {
+            Form::Empty(_) => 0,
+            Form::Plain(items) => items.len(),
+            Form::Long(items) => items.len(),
+        }
+    }
+
+    /// Whether there is none.
+    #[inline(always)]
+    pub fn is_empty(&self) -> bool
+        ensures { result ≡ (length self.now.items == 0) }
+    {
+        self.len() == 0
+    }
+
+    /// The item at an index.
+    #[inline(always)]
+    pub fn at(&self, index: usize) -> &T
+        requires { index < length self.now.items }
+        ensures { slice_get self.now.items index ≡ Some result.now }
+    {
+        match &self.form {
+            Form::Empty(_) => unreachable!(),
+            Form::Plain(items) => &items[index],
+            Form::Long(items) => items.at(index),
+        }
+    }
+
+    /// The item at an index, if there is one.
+    #[inline(always)]
+    pub fn get(&self, index: usize) -> Option<&T>
+        ensures { IsItemAt self.now.items index result }
+    {
+        if index < self.len() {
+            Some(self.at(index))
+        } else {
+            None
+        }
+    }
+
+    /// Makes room for so many further changes. It changes no item.
+    ///
+    /// # Errors
+    ///
+    /// Where memory is refused.
+    #[inline(always)]
+    pub fn reserve(&mut self, count: usize) -> Result<(), AllocError>
+        ensures ok { OnOk result (count ≤ self.new.room) }
+        ensures items { self.new.items ≡ self.old.items }
+    {
+        match &mut self.form {
+            Form::Empty(_) => self.lay_out(count),
+            Form::Plain(items) => items.reserve(count),
+            Form::Long(items) => {
+                if count <= CHANGES && items.len() > CHANGES {
+                    items.reserve(count)
+                } else {
+                    self.lay_out(count)
+                }
+            }
+        }
+    }
+
+    // From now on it lies plainly, with room for so many changes.
+    #[inline(never)]
+    fn lay_out(&mut self, count: usize) -> Result<(), AllocError>
+        ensures ok { OnOk result (count ≤ self.new.room) }
+        ensures items { self.new.items ≡ self.old.items }
+    {
+        let plain = self.plain(count)?;
+        self.form = Form::Plain(plain);
+        Ok(())
+    }
+
+    // The same items laid out plainly, with room for so many changes.
+    fn plain(&self, count: usize) -> Result<Box<VecDeque<T>>, AllocError>
+        ensures items { IfOk result (λ b. b.value.items ≡ self.now.items) }
+        ensures room { IfOk result (λ b. deque_len b.value + count ≤ deque_capacity b.value) }
+    {
+        let alloc = self.allocator();
+        let mut plain = VecDeque::with_capacity(alloc, self.len())?;
+        for index in 0..self.len() {
+            plain.push_back(*self.at(index))?;
+        }
+        plain.reserve(count)?;
+        Ok(Box::new(alloc, plain)?)
+    }
+
+    /// One more at the end.
+    #[inline(always)]
+    pub fn push(&mut self, x: T)
+        requires { 0 < self.old.room }
+        ensures items { self.new.items ≡ self.old.items ++ x ∷ [] }
+        ensures room { self.old.room ≤ self.new.room + 1 }
+    {
+        match &mut self.form {
+            Form::Empty(_) => unreachable!(),
+            Form::Plain(items) => items.push_back_reserved(x),
+            Form::Long(items) => items.push(x),
+        }
+    }
+
+    /// One more in front of the one at an index, or at the end.
+    pub fn insert(&mut self, index: usize, x: T)
+        requires room { 0 < self.old.room }
+        requires within { index ≤ length self.old.items }
+        ensures items { self.new.items ≡ insert self.old.items index x }
+        ensures room { self.old.room ≤ self.new.room + 1 }
+    {
+        match &mut self.form {
+            Form::Empty(_) => unreachable!(),
+            Form::Plain(items) => match items.insert(index, x) {
+                Ok(()) => (),
+                Err(_) => unreachable!(),
+            },
+            Form::Long(items) => items.insert(index, x),
+        }
+    }
+
+    /// The one at an index goes.
+    pub fn remove(&mut self, index: usize) -> T
+        requires room { 0 < self.old.room }
+        requires within { index < length self.old.items }
+        ensures value { slice_get self.old.items index ≡ Some result }
+        ensures items { self.new.items ≡ remove self.old.items index }
+        ensures room { self.old.room ≤ self.new.room + 1 }
+    {
+        match &mut self.form {
+            Form::Empty(_) => unreachable!(),
+            Form::Plain(items) => match items.remove(index) {
+                Some(x) => x,
+                None => unreachable!(),
+            },
+            Form::Long(items) => take_out(items, index),
+        }
+    }
+
+    /// Another item at an index.
+    pub fn set(&mut self, index: usize, x: T)
+        requires room { 0 < self.old.room }
+        requires within { index < length self.old.items }
+        ensures items { self.new.items ≡ slice_set self.old.items index x }
+        ensures room { self.old.room ≤ self.new.room + 1 }
+    {
+        match &mut self.form {
+            Form::Empty(_) => unreachable!(),
+            Form::Plain(items) => items[index] = x,
+            Form::Long(items) => items.set(index, x),
+        }
+    }
+
+    /// The first one goes. It needs no room, and leaves no less.
+    #[inline(always)]
+    pub fn pop_front(&mut self) -> Option<T>
+        ensures items { self.old.items ≡ option_to_list result ++ self.new.items }
+        ensures none { IfNone result (self.old.items ≡ []) }
+        ensures room { self.old.room ≤ self.new.room }
+    {
+        match &mut self.form {
+            Form::Empty(_) => None,
+            Form::Plain(items) => items.pop_front(),
+            Form::Long(items) => items.pop_front(),
+        }
+    }
+
+    /// All items go.
+    pub fn clear(&mut self)
+        ensures { self.new.items ≡ [] }
+    {
+        let alloc = self.allocator();
+        self.form = Form::Empty(alloc);
+    }
+
+    /// Copies share from now on what it holds now. No item changes, also where memory is refused; the room is gone.
+    ///
+    /// # Errors
+    ///
+    /// Where memory is refused.
+    pub fn share(&mut self) -> Result<(), AllocError>
+        ensures { self.new.items ≡ self.old.items }
+    {
+        if let Form::Long(items) = &mut self.form {
+            return items.share();
+        }
+        if self.len() <= FEW {
+            return Ok(());
+        }
+        let long = self.long()?;
+        self.form = Form::Long(long);
+        Ok(())
+    }
+
+    // The same items in chunks, all of which may be shared.
+    fn long(&self) -> Result<Box<LongList<T>>, AllocError>
+        ensures { IfOk result (λ l. l.value.items ≡ self.now.items) }
+    {
+        let alloc = self.allocator();
+        let mut long = LongList::new(alloc);
+        let count = self.len();
+        for index in 0..count {
+            long.reserve(1)?;
+            long.push(*self.at(index));
+        }
+        long.share()?;
+        Ok(Box::new(alloc, long)?)
+    }
+
+    /// An equal list: what is shared is shared with it, and what is not is copied.
+    ///
+    /// # Errors
+    ///
+    /// Where memory is refused.
+    pub fn copy(&self) -> Result<SharedList<T>, AllocError>
+        ensures { IfOk result (λ l. l.items ≡ self.now.items) }
+    {
+        if self.is_empty() {
+            return Ok(SharedList::new(self.allocator()));
+        }
+        match &self.form {
+            Form::Empty(_) => unreachable!(),
+            Form::Plain(_) => Ok(SharedList {
+                form: Form::Plain(self.plain(0)?),
+            }),
+            Form::Long(items) => Ok(SharedList {
+                form: Form::Long(Box::new(items.allocator(), items.copy()?)?),
+            }),
+        }
+    }
+
+    fn allocator(&self) -> Global {
+        match &self.form {
+            Form::Empty(alloc) => *alloc,
+            Form::Plain(items) => *items.allocator(),
+            Form::Long(items) => items.allocator(),
+        }
+    }
+}
+
+// The one at an index goes. The first one needs no room.
+fn take_out<T: Copy>(items: &mut LongList<T>, index: usize) -> T
+    requires room { 0 < items.old.room }
+    requires within { index < length items.old.items }
+    ensures value { slice_get items.old.items index ≡ Some result }
+    ensures items { items.new.items ≡ remove items.old.items index }
+    ensures room { items.old.room ≤ items.new.room + 1 }
+{
+    if index > 0 {
+        return items.remove(index);
+    }
+    match items.pop_front() {
+        Some(x) => x,
+        None => unreachable!(),
+    }
+}
