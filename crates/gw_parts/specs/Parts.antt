@@ -2,7 +2,7 @@
 use Rattle.std.specs.Prelude.{ℕ, Bool, List}
 use Rattle.gw_names.specs.declared.key.Key.{Key}
 use Rattle.gw_entities.specs.Records.{Ownership, Line, Store}
-use Rattle.gw_entities.specs.Comings.{ReadyArrivals}
+use Rattle.gw_entities.specs.Comings.{Arrivals}
 use Rattle.gw_meaning.specs.Entities.{Entities}
 
 -- the clocks
@@ -27,7 +27,7 @@ pub record Stock : Type 0 where
   pub facilities : List (Key × Ownership)
   pub queues : List (Key × Line)
   pub storages : List (Key × Store)
-  pub comings : ReadyArrivals
+  pub comings : Arrivals
 
 abbrev pub entities_of : Stock → Entities
 entities_of e =
