@@ -276,15 +276,7 @@ impl DelayChains {
         self.count -= gone;
     }
 
-    /// Gets ready for many questions: from now on the chain of a facility or a storage behind the first few is found by
-    /// slots. Until then, as in a copy, all are looked through. It changes no chain.
-    pub fn get_ready(&mut self) -> Result<(), AllocError>
-        ensures { delays_of self.new.chains ≡ delays_of self.old.chains }
-    {
-        self.keys.get_ready()
-    }
-
-    /// A copy, which is not ready.
+    /// A copy.
     pub fn copy(&self) -> Result<DelayChains, AllocError>
         ensures { IfOk result (λ d. delays_of d.chains ≡ delays_of self.now.chains) }
     {

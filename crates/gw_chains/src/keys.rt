@@ -21,7 +21,7 @@ pub struct Keys {
 
 impl Model for Keys {
     ghost use Rattle.std.specs.Prelude.{◌≡◌, ◌-◌, ◌<◌, ◌≤◌, ◌++◌, [], length, vec_capacity, if◌then◌else◌, nat_lt};
-    ghost use Rattle.gw_entities.specs.Few.{KeyList};
+    ghost use Rattle.gw_entities.specs.KeySets.{KeyList};
 
     ghost Value = { KeyList };
 
@@ -59,7 +59,10 @@ impl Keys {
         ensures there { IfSome result (λ i. slice_get self.now.keys i ≡ Some key.now) }
         ensures none { IfNone result (list_any (key_eq key.now) self.now.keys ≡ false) }
     {
-        if let Some(index) = self.behind.place(key) {
+        let behind = self.behind.len();
+        if behind > 0
+            && let Some(index) = self.behind.place(key)
+        {
             return Some(FEW_KEYS + index);
         }
         for index in 0..self.few.len() {
@@ -93,13 +96,6 @@ impl Keys {
         } else {
             self.behind.insert(key);
         }
-    }
-
-    // From now on the keys behind the first few are found by slots.
-    pub fn get_ready(&mut self) -> Result<(), AllocError>
-        ensures { self.new.keys ≡ self.old.keys }
-    {
-        self.behind.get_ready()
     }
 
     // The same keys.

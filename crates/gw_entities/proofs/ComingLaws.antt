@@ -1,19 +1,17 @@
--- The comings of `Comings` in the words of what it keeps.
-use Rattle.std.proofs.Common.{◌≡◌, ℕ, Bool, true, false, ◌<◌, ◌≤◌, ◌&&◌, ◌||◌, nat_eq, nat_lt, ◌-◌, ◌==◌, if◌then◌else◌}
-use Rattle.std.proofs.Common.{List, [], ◌∷◌, ◌++◌, length, Some, refl, sym, ap, ◌∙◌, subst, append-nil, append_assoc, arith}
+-- Equal keys are one; and the comings of `Comings` in the words of what it keeps.
+use Rattle.std.proofs.Common.{◌≡◌, ℕ, Bool, true, false, cond, ◌<◌, ◌≤◌, ◌&&◌, ◌||◌, nat_eq, nat_lt, List, [], ◌∷◌, map, Some, refl, ap, ◌∙◌, arith, if◌then◌else◌}
+use Rattle.std.specs.Prelude.{is_some}
 use Rattle.std.specs.List.{find}
+use Rattle.std.proofs.lemmas.Bool.Decides.{nat_tests}
 use Rattle.std.proofs.lemmas.Slice.Eq.{bytes_eq-Decides}
+use Rattle.std.proofs.lemmas.Cmp.{nat_eq_equiv}
 use Rattle.gw_names.specs.declared.key.Key.{Key}
 use Rattle.gw_names.specs.declared.key.Key.TheVariants.{Num, Named, Defined}
 use Rattle.gw_names.specs.Keys.{key_eq, told_by}
-use Rattle.gw_entities.specs.Comings.{came, with_coming, AreOnce}
-use Rattle.std.proofs.lemmas.Cmp.{nat_eq_equiv}
-use Rattle.std.proofs.lemmas.Bool.{or_parts}
+use Rattle.gw_entities.specs.Comings.{came, with_coming, coming_of, AreOnce}
+use Rattle.gw_entities.specs.Owned.{Entry, own_of, with_own, AreFrom, AreRising}
 use Rattle.gw_entities.proofs.Lookups.{Some_same}
 use Rattle.gw_entities.proofs.TableLaws.{key_eq_equiv}
-
-clash : (b : Bool) → b ≡ false → b ≡ true → ⊥
-clash b e f = cc
 
 told_same : (a b : Key) → told_by a ≡ told_by b → a ≡ b
 told_same (Num a) (Num b) e = cc
@@ -40,70 +38,72 @@ find_passes t (q ∷ qs) k e = go (t q) refl e (λ f. find_passes t qs k f) wher
   go true h f rest = ap t (Some_same f) ∙ h
   go false h f rest = rest f
 
--- who came is among the first ones, or among the others
-pub came_append :
-    (xs ys : List (Key × ℕ)) (key : Key) (number : ℕ) → came (xs ++ ys) key number ≡ (came xs key number || came ys key number)
-came_append [] ys key number = refl
-came_append (c ∷ xs) ys key number = go (key_eq key c.0 && nat_eq number c.1) (came_append xs ys key number) where
-  go : (b : Bool) → came (xs ++ ys) key number ≡ (came xs key number || came ys key number) →
-      (b || came (xs ++ ys) key number) ≡ ((b || came xs key number) || came ys key number)
-  go true rest = refl
-  go false rest = rest
-
 both_ways : (a b : Key) (m n : ℕ) → (key_eq a b && nat_eq m n) ≡ (key_eq b a && nat_eq n m)
 both_ways a b m n = ap (λ e. e && nat_eq m n) (key_eq_equiv.symm a b) ∙ ap (λ e. key_eq b a && e) (nat_eq_equiv.symm m n)
 
-nor_last : (b c : Bool) → b ≡ false → c ≡ false → (b || (c || false)) ≡ false
-nor_last b c e f = ap (λ x. x || (c || false)) e ∙ ap (λ x. x || false) f
+neither : (b c : Bool) → b ≡ false → c ≡ false → (b || c) ≡ false
+neither b c e f = ap (λ x. x || c) e ∙ f
 
--- one who did not come yet comes once
-pub once_more :
-    (cs : List (Key × ℕ)) (key : Key) (number : ℕ) → AreOnce cs → came cs key number ≡ false → AreOnce (cs ++ (key, number) ∷ [])
-once_more [] key number once none = (refl, tt)
-once_more (c ∷ cs) key number once none =
-    let parts = or_parts (key_eq key c.0 && nat_eq number c.1) (came cs key number) none in (
-      came_append cs ((key, number) ∷ []) c.0 c.1
-          ∙ nor_last (came cs c.0 c.1) (key_eq c.0 key && nat_eq c.1 number) once.0 (both_ways c.0 key c.1 number ∙ parts.0),
-      once_more cs key number once.1 parts.1,
-    )
+no_first : (b c : Bool) → (b || c) ≡ false → b ≡ false
+no_first true c e = absurd cc
+no_first false c e = refl
 
-few_last :
-    (xs : List (Key × ℕ)) (key : Key) (number : ℕ) → came (xs ++ []) key number ≡ false →
-    (xs ++ (key, number) ∷ []) ++ [] ≡ with_coming (xs ++ []) key number
-few_last xs key number none =
-    append-nil (xs ++ (key, number) ∷ [])
-    ∙ (ap (λ (l : List (Key × ℕ)). l ++ (key, number) ∷ []) (sym (append-nil xs))
-    ∙ ap (λ (b : Bool). if b then xs ++ [] else (xs ++ []) ++ (key, number) ∷ []) (sym none))
+no_second : (b c : Bool) → (b || c) ≡ false → c ≡ false
+no_second true c e = absurd cc
+no_second false c e = e
 
--- one more behind the first few
-pub few_more :
-    (xs ys : List (Key × ℕ)) (key : Key) (number : ℕ) → ys ≡ [] → came (xs ++ ys) key number ≡ false →
-    (xs ++ (key, number) ∷ []) ++ ys ≡ with_coming (xs ++ ys) key number
-few_more xs ys key number empty none =
-    let F : List (Key × ℕ) → Type 0 = λ l. came (xs ++ l) key number ≡ false →
-    (xs ++ (key, number) ∷ []) ++ l ≡ with_coming (xs ++ l) key number in
-    subst F (sym empty) (few_last xs key number) none
+and_no : (a b : Bool) → b ≡ false → (a && b) ≡ false
+and_no true b e = e
+and_no false b e = refl
 
--- and behind the others
-pub many_more :
-    (xs ys : List (Key × ℕ)) (key : Key) (number : ℕ) → came (xs ++ ys) key number ≡ false →
-    xs ++ (ys ++ (key, number) ∷ []) ≡ with_coming (xs ++ ys) key number
-many_more xs ys key number none =
-    sym (append_assoc xs ys ((key, number) ∷ []))
-    ∙ ap (λ b. if b then xs ++ ys else (xs ++ ys) ++ (key, number) ∷ []) (sym none)
+above_is_other : (n m : ℕ) → n < m → nat_eq n m ≡ false
+above_is_other n m less = grind (arith, nat_tests)
 
-pub once_with : (cs : List (Key × ℕ)) (key : Key) (number : ℕ) → AreOnce cs → AreOnce (with_coming cs key number)
-once_with cs key number once = go (came cs key number) refl where
-  go : (b : Bool) → came cs key number ≡ b → AreOnce (if b then cs else cs ++ (key, number) ∷ [])
-  go true e = once
-  go false e = once_more cs key number once e
+is_less : (n m : ℕ) → nat_lt n m ≡ true → n < m
+is_less n m e = grind (arith, nat_tests)
 
--- where the list of a few has no room, and nobody else came, there is none
-pub no_room :
-    (len cap : ℕ) (many : List (Key × ℕ)) (room : ℕ) → cap ≤ len → many ≡ [] →
-    0 < (if nat_lt len cap then cap - len else if length many == 0 then 0 else room) → ⊥
-no_room len cap many room full none some =
-    go (nat_lt len cap) refl (subst (λ l. 0 < (if nat_lt len cap then cap - len else if length l == 0 then 0 else room)) none some) where
-      go : (b : Bool) → nat_lt len cap ≡ b → 0 < (if b then cap - len else 0) → ⊥
-      go true e h = omega (arith, full, h)
-      go false e h = omega (arith, h)
+came_with : (cs : List (Key × ℕ)) (k q : Key) (n m : ℕ) → came cs q m ≡ false → (key_eq q k && nat_eq m n) ≡ false →
+    came (with_coming cs k n) q m ≡ false
+came_with [] k q n m none apart = neither (key_eq q k && nat_eq m n) false apart refl
+came_with (c ∷ cs) k q n m none apart =
+    go (nat_lt n c.1) (key_eq k c.0 && nat_eq n c.1) (came_with cs k q n m (no_second (key_eq q c.0 && nat_eq m c.1) (came cs q m) none) apart) where
+      go : (s t : Bool) → came (with_coming cs k n) q m ≡ false → came (cond s ((k, n) ∷ c ∷ cs) (cond t (c ∷ cs) (c ∷ with_coming cs k n))) q m ≡ false
+      go true t rest = neither (key_eq q k && nat_eq m n) (came (c ∷ cs) q m) apart none
+      go false true rest = none
+      go false false rest =
+          neither (key_eq q c.0 && nat_eq m c.1) (came (with_coming cs k n) q m) (no_first (key_eq q c.0 && nat_eq m c.1) (came cs q m) none) rest
+
+module _ {V : Type 0} where
+  pub came_is : (es : List (Entry V)) (k : Key) (n : ℕ) → is_some (own_of es n k) ≡ came (map coming_of es) k n
+  came_is [] k n = refl
+  came_is (e ∷ es) k n = go (key_eq k e.1.0 && nat_eq n e.0) (came_is es k n) where
+    go : (b : Bool) → is_some (own_of es n k) ≡ came (map coming_of es) k n → is_some (cond b (Some e.1.1) (own_of es n k)) ≡ (b || came (map coming_of es) k n)
+    go true rest = refl
+    go false rest = rest
+
+  pub with_coming_is : (es : List (Entry V)) (k : Key) (n : ℕ) (v : V) → map coming_of (with_own es n k v) ≡ with_coming (map coming_of es) k n
+  with_coming_is [] k n v = refl
+  with_coming_is (e ∷ es) k n v = go (nat_lt n e.0) (key_eq k e.1.0 && nat_eq n e.0) (with_coming_is es k n v) where
+    go : (s t : Bool) → map coming_of (with_own es n k v) ≡ with_coming (map coming_of es) k n →
+        map coming_of (cond s ((n, (k, v)) ∷ e ∷ es) (cond t ((e.0, (e.1.0, v)) ∷ es) (e ∷ with_own es n k v))) ≡
+        cond s ((k, n) ∷ coming_of e ∷ map coming_of es) (cond t (coming_of e ∷ map coming_of es) (coming_of e ∷ with_coming (map coming_of es) k n))
+    go true t rest = refl
+    go false true rest = refl
+    go false false rest = ap (λ (l : List (Key × ℕ)). coming_of e ∷ l) rest
+
+  none_came : (es : List (Entry V)) (k : Key) (n m : ℕ) → n < m → AreFrom m es → came (map coming_of es) k n ≡ false
+  none_came [] k n m less from = refl
+  none_came (e ∷ es) k n m less from =
+      let low : m ≤ e.0 = from.0 in
+      neither (key_eq k e.1.0 && nat_eq n e.0) (came (map coming_of es) k n)
+      (and_no (key_eq k e.1.0) (nat_eq n e.0) (above_is_other n e.0 (omega (arith, less, low)))) (none_came es k n m less from.1)
+
+  -- one who comes comes once
+  pub once_with : (es : List (Entry V)) (k : Key) (n : ℕ) → AreRising es → AreOnce (map coming_of es) → AreOnce (with_coming (map coming_of es) k n)
+  once_with [] k n rising once = (refl, tt)
+  once_with (e ∷ es) k n rising once = go (nat_lt n e.0) refl (key_eq k e.1.0 && nat_eq n e.0) refl (once_with es k n rising.1 once.1) where
+    go : (s : Bool) → nat_lt n e.0 ≡ s → (t : Bool) → (key_eq k e.1.0 && nat_eq n e.0) ≡ t → AreOnce (with_coming (map coming_of es) k n) →
+        AreOnce (cond s ((k, n) ∷ map coming_of (e ∷ es)) (cond t (map coming_of (e ∷ es)) (coming_of e ∷ with_coming (map coming_of es) k n)))
+    go true f t g rest = (none_came (e ∷ es) k n e.0 (is_less n e.0 f) (omega arith, rising.0), once)
+    go false f true g rest = once
+    go false f false g rest = (came_with (map coming_of es) k e.1.0 n e.0 once.0 (both_ways e.1.0 k e.0 n ∙ g), rest)

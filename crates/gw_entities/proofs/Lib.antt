@@ -1,9 +1,10 @@
+pub mod Beside
 pub mod ComingLaws
-pub mod LinkLaws
 pub mod Entries
-pub mod Fewer
 pub mod Finding
+pub mod ItemLaws
 pub mod Lookups
+pub mod OwnLaws
 pub mod ParameterLaws
 pub mod Sums
 pub mod TableLaws

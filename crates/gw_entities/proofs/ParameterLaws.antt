@@ -1,184 +1,403 @@
--- The parameters of transactions, in the words of the list that keeps them.
-use Rattle.std.proofs.Common.{◌≡◌, ℕ, ◌+◌, ◌-◌, ◌<◌, ◌≤◌, Bool, true, false, cond, not, List, [], ◌∷◌, ◌++◌, length, take, drop, set, get_or, nat_eq, nat_lt, Option, Some, None, slice_get, unwrap_or, refl, sym, ap, subst, ◌∙◌, arith}
-use Rattle.std.specs.Prelude.{ℤ, position, swap_remove}
-use Rattle.std.specs.List.{position_or_len, IsDistinct}
-use Rattle.std.specs.Option.{option_map_or}
-use Rattle.std.specs.Map.{lookup, keys_of}
-use Rattle.std.proofs.lemmas.List.{length-map, length-drop, length-take, drop-set-lt, drop-set-add, drop-take, get_or-drop, get_or_default, nil_from_length}
-use Rattle.std.proofs.lemmas.Option.{get_or_from_slice_get}
+-- The parameters of transactions, put together from entries in order of their numbers: what is seen is told by the values
+-- of each transaction.
+use Rattle.std.proofs.Common.{◌≡◌, ℕ, ℤ, ◌<◌, ◌≤◌, Bool, true, false, cond, not, nat_eq, nat_lt, ◌&&◌, arith}
+use Rattle.std.proofs.Common.{List, [], ◌∷◌, Some, unwrap_or, refl, sym, ap, ◌∙◌, subst}
+use Rattle.std.specs.Map.{lookup}
 use Rattle.std.proofs.lemmas.Bool.{eqb-true}
 use Rattle.std.proofs.lemmas.Bool.Decides.{nat_tests}
-use Rattle.std.proofs.lemmas.Cmp.{nat_eq_equiv}
-use Rattle.std.proofs.lemmas.Map.Entries.{lookup_from_place, length-keys_of}
-use Rattle.indexmap.specs.IndexMap.{insert_entry, swap_remove_entry}
 use Rattle.gw_names.specs.declared.key.Key.{Key}
-use Rattle.gw_entities.specs.Few.{keys_behind, numbers_without}
+use Rattle.gw_names.specs.Keys.{key_eq}
 use Rattle.gw_entities.specs.Tables.{value_of, with_value}
-use Rattle.gw_entities.proofs.Entries.{keys_set, keys_drop, keys_removed, keys_pushed, pushed, set_is, distinct_pushed, distinct_removed}
-use Rattle.gw_entities.proofs.Lookups.{removed_at, no_position}
-use Rattle.gw_entities.specs.Parameters.{Held, values_at, parameter_at, with_values, assigned, without}
+use Rattle.gw_entities.specs.Owned.{Entry, is_own, own_of, with_own, without_own, AreFrom, AreRising}
+use Rattle.gw_entities.specs.Parameters.{Held, values_at, parameter_at, with_values, assigned, without, with_first, grouped}
+use Rattle.gw_entities.proofs.OwnLaws.{rising_with, rising_without}
 
 abbrev Values : Type 0
 Values = List (Key × ℤ)
 
-abbrev entries_of : Option Values → Values
-entries_of None = []
-entries_of (Some t) = t
+-- ---- numbers
 
--- the values of a transaction
-values_are : (es : Held) (n : ℕ) (o : Option Values) → o ≡ lookup (nat_eq n) es → values_at es n ≡ entries_of o
-values_are es n None is = ap (λ o. unwrap_or o []) (sym is)
-values_are es n (Some t) is = ap (λ o. unwrap_or o []) (sym is)
+itself : (n : ℕ) → nat_eq n n ≡ true
+itself n = grind (arith, nat_tests)
 
-values_found : (es : Held) (i n : ℕ) (t : Values) → IsDistinct nat_eq (keys_of es) → slice_get es i ≡ Some (n, t) →
-    values_at es n ≡ t
-values_found es i n t apart at = values_are es n (Some t) (sym (lookup_from_place nat_eq_equiv es i n t apart at))
+other : (n m : ℕ) → n < m → nat_eq n m ≡ false
+other n m less = grind (arith, nat_tests)
 
--- what is read at the index of a transaction
-entry_is : (es : Held) (i n : ℕ) (t : Values) (e : ℕ × Values) → slice_get es i ≡ Some (n, t) → e ≡ get_or es i e → e ≡ (n, t)
-entry_is es i n t e at read = read ∙ get_or_from_slice_get es i (n, t) e at
+other' : (n m : ℕ) → m < n → nat_eq n m ≡ false
+other' n m less = grind (arith, nat_tests)
 
-pub values_read :
-    (es : Held) (i n : ℕ) (t : Values) (e : ℕ × Values) → slice_get es i ≡ Some (n, t) → e ≡ get_or es i e → e.1 ≡ t
-values_read es i n t e at read = ap (λ (q : ℕ × Values). q.1) (entry_is es i n t e at read)
+beyond : (n m : ℕ) → n ≤ m → nat_eq n m ≡ false → n < m
+beyond n m low apart = grind (arith, nat_tests)
 
--- an entry at an index is that of the transaction with its number
-pub at_number : (es : Held) (i k n : ℕ) (t : Values) → slice_get es i ≡ Some (k, t) → nat_eq n k ≡ true →
-    (values : Values) × (slice_get es i ≡ Some (n, values))
-at_number es i k n t at same = (t, at ∙ ap (λ m. Some (m, t)) (sym (eqb-true n k same)))
+before : (n m : ℕ) → nat_eq n m ≡ false → nat_lt n m ≡ false → m < n
+before n m apart more = grind (arith, nat_tests)
 
--- a parameter of a transaction that has some
-pub parameter_found :
-    (es : Held) (i n : ℕ) (key : Key) (t : Values) (e : ℕ × Values) → IsDistinct nat_eq (keys_of es) → slice_get es i ≡ Some (n, t) →
-    e ≡ get_or es i e → value_of e.1 key ≡ parameter_at es n key
-parameter_found es i n key t e apart at read =
-    ap (λ (p : ℕ × Values). value_of p.1 key) (entry_is es i n t e at read)
-    ∙ ap (λ vs. value_of vs key) (sym (values_found es i n t apart at))
+is_below : (n m : ℕ) → nat_lt n m ≡ true → n < m
+is_below n m e = grind (arith, nat_tests)
 
--- the values of a transaction that are set
-inserted : (es : Held) (n : ℕ) (now : Values) → insert_entry nat_eq es n now ≡ with_values es n now
-inserted [] n now = refl
-inserted (e ∷ es) n now = ap (λ (hs : Held). cond (nat_eq n e.0) ((e.0, now) ∷ es) (e ∷ hs)) (inserted es n now)
+-- ---- lists in order of their numbers, none with no values
 
--- a parameter that is set, of a transaction that has some and of one that has none
-pub assigned_in_place :
-    (es : Held) (i n : ℕ) (key : Key) (value : ℤ) (t : Values) (e : ℕ × Values) (now : Values) → IsDistinct nat_eq (keys_of es) →
-    slice_get es i ≡ Some (n, t) → e ≡ get_or es i e → now ≡ with_value e.1 key value → set es i (e.0, now) ≡ assigned es n key value
-assigned_in_place es i n key value t e now apart at read set_to =
-    let is = entry_is es i n t e at read in
-    ap (λ (p : ℕ × Values). set es i (p.0, now)) is
-    ∙ (set_is nat_eq nat_eq_equiv es i (n, t) now apart at
-    ∙ (inserted es n now
-    ∙ ap (λ vs. with_values es n vs)
-    (set_to ∙ (ap (λ (p : ℕ × Values). with_value p.1 key value) is ∙ ap (λ vs. with_value vs key value) (sym (values_found es i n t apart at))))))
+abbrev AreAbove : ℕ → Held → Type 0
+AreAbove n [] = Unit {0}
+AreAbove n (h ∷ hs) = (n < h.0) × AreAbove n hs
 
-pub assigned_behind :
-    (es : Held) (n : ℕ) (key : Key) (value : ℤ) (now : Values) → lookup (nat_eq n) es ≡ None → now ≡ with_value [] key value →
-    es ++ (n, now) ∷ [] ≡ assigned es n key value
-assigned_behind es n key value now none set_to =
-    sym (pushed nat_eq es n now none)
-    ∙ (inserted es n now
-    ∙ ap (λ vs. with_values es n vs) (set_to ∙ ap (λ vs. with_value vs key value) (sym (values_are es n None (sym none)))))
+abbrev AreFromKey : ℕ → Held → Type 0
+AreFromKey n [] = Unit {0}
+AreFromKey n (h ∷ hs) = (n ≤ h.0) × AreFromKey n hs
 
--- the parameters of a transaction that are forgotten
-place_same : (n : ℕ) (es : Held) → position_or_len (nat_eq n) (keys_of es) ≡ position_or_len (λ (h : ℕ × Values). nat_eq n h.0) es
-place_same n [] = refl
-place_same n (e ∷ es) = ap (λ k. cond (not (nat_eq n e.0)) (1 + k) 0) (place_same n es)
+abbrev HasSome : Values → Type 0
+HasSome [] = ⊥
+HasSome (p ∷ ps) = Unit {0}
 
-position_same : (n : ℕ) (es : Held) → position (nat_eq n) (keys_of es) ≡ position (λ (h : ℕ × Values). nat_eq n h.0) es
-position_same n es = rw (place_same n es, length-map es (λ (e : ℕ × Values). e.0)) refl
+abbrev IsOrdered : Held → Type 0
+IsOrdered [] = Unit {0}
+IsOrdered (h ∷ hs) = (HasSome h.1 × AreAbove h.0 hs) × IsOrdered hs
 
--- where there are none, nothing goes
-stays : (es : Held) (n : ℕ) → lookup (nat_eq n) es ≡ None → swap_remove_entry (nat_eq n) es ≡ es
-stays [] n none = refl
-stays (e ∷ es) n none = ap (λ o. option_map_or (λ i. swap_remove (e ∷ es) i e) o (e ∷ es)) (no_position (nat_eq n) (e ∷ es) none)
+above_weaker : (m n : ℕ) (hs : Held) → m ≤ n → AreAbove n hs → AreAbove m hs
+above_weaker m n [] less a = tt
+above_weaker m n (h ∷ hs) less a = let own : n < h.0 = a.0 in (omega (arith, own, less), above_weaker m n hs less a.1)
 
-removed : (es : Held) (n : ℕ) → swap_remove_entry (nat_eq n) es ≡ without es n
-removed [] n = refl
-removed (e ∷ es) n =
-    ap (λ o. option_map_or (λ i. swap_remove (e ∷ es) i e) o (e ∷ es)) (position_same n (e ∷ es))
+none_above : (n : ℕ) (hs : Held) → AreAbove n hs → values_at hs n ≡ []
+none_above n [] a = refl
+none_above n (h ∷ hs) a = ap (λ b. unwrap_or (cond b (Some h.1) (lookup (nat_eq n) hs)) []) (other n h.0 a.0) ∙ none_above n hs a.1
 
-pub forgotten :
-    (es : Held) (i n : ℕ) (t : Values) (e : ℕ × Values) → IsDistinct nat_eq (keys_of es) → slice_get es i ≡ Some (n, t) →
-    e ≡ get_or es i e → swap_remove es i e ≡ without es n
-forgotten es i n t e apart at read =
-    ap (λ (p : ℕ × Values). swap_remove es i p) (entry_is es i n t e at read)
-    ∙ (removed_at nat_eq nat_eq_equiv es i n t apart at ∙ removed es n)
+-- the values of the first, or of the others
+at_first : (q : ℕ) (h : ℕ × Values) (hs : Held) → values_at (h ∷ hs) q ≡ cond (nat_eq q h.0) h.1 (values_at hs q)
+at_first q h hs = step (nat_eq q h.0) where
+  step : (b : Bool) → unwrap_or (cond b (Some h.1) (lookup (nat_eq q) hs)) [] ≡ cond b h.1 (values_at hs q)
+  step true = refl
+  step false = refl
 
-pub none_forgotten : (es : Held) (n : ℕ) → lookup (nat_eq n) es ≡ None → es ≡ without es n
-none_forgotten es n none = sym (stays es n none) ∙ removed es n
+no_values : (vs : Values) → HasSome vs → vs ≡ [] → ⊥
+no_values [] some e = some
+no_values (p ∷ ps) some e = cc
 
--- the numbers of those behind the first few, once one goes: one of the first few, and one of these
-removed_first : (ks : List ℕ) (i k m : ℕ) → length ks ≡ 9 + m → i < 8 → take (length (drop 8 ks) - 1) (drop 8 ks) ≡ drop 8 (swap_remove ks i k)
-removed_first ks i k m long less =
-    let y = get_or ks (length ks - 1) k in
-    let there : length (drop 8 ks) - 1 ≡ m = omega (arith, long, length-drop 8 ks) in
-    let all : length ks - 1 ≡ 8 + m = omega (arith, long) in
-    ap (λ n. take n (drop 8 ks)) there
-    ∙ (ap (λ l. take m l) (sym (drop-set-lt 8 ks i y less))
-    ∙ (sym (drop-take 8 m (set ks i y)) ∙ ap (λ n. drop 8 (take n (set ks i y))) (sym all)))
+above_tail : (m : ℕ) (h : ℕ × Values) (hs : Held) → m < h.0 → AreAbove h.0 hs → AreAbove m (h ∷ hs)
+above_tail m h hs less a = (less, above_weaker m h.0 hs (omega (arith, less)) a)
 
-removed_later : (ks : List ℕ) (j k m : ℕ) → length ks ≡ 9 + m → swap_remove (drop 8 ks) j 0 ≡ drop 8 (swap_remove ks (8 + j) k)
-removed_later ks j k m long =
-    let there : length (drop 8 ks) - 1 ≡ m = omega (arith, long, length-drop 8 ks) in
-    let all : length ks - 1 ≡ 8 + m = omega (arith, long) in
-    let y = get_or ks (8 + m) k in
-    let last : get_or (drop 8 ks) m 0 ≡ y = get_or-drop 8 ks m 0 ∙ get_or_default ks (8 + m) 0 k (omega (arith, long)) in
-    ap (λ n. take n (set (drop 8 ks) j (get_or (drop 8 ks) n 0))) there
-    ∙ (ap (λ z. take m (set (drop 8 ks) j z)) last
-    ∙ (ap (λ l. take m l) (sym (drop-set-add 8 ks j y))
-    ∙ (sym (drop-take 8 m (set ks (8 + j) y)) ∙ ap (λ n. drop 8 (take n (set ks (8 + j) (get_or ks n k)))) (sym all))))
+-- two of them are one where each transaction has the same values
+pub same_held : (hs gs : Held) → IsOrdered hs → IsOrdered gs → ((q : ℕ) → values_at hs q ≡ values_at gs q) → hs ≡ gs
+same_held [] [] oa ob same = refl
+same_held [] (b ∷ gs) oa ob same =
+    absurd (no_values b.1 ob.0.0 (sym (here b gs) ∙ sym (same b.0))) where
+      here : (b : ℕ × Values) (gs : Held) → values_at (b ∷ gs) b.0 ≡ b.1
+      here b gs = at_first b.0 b gs ∙ ap (λ e. cond e b.1 (values_at gs b.0)) (itself b.0)
+same_held (a ∷ hs) [] oa ob same =
+    absurd (no_values a.1 oa.0.0 (sym (here a hs) ∙ same a.0)) where
+      here : (b : ℕ × Values) (gs : Held) → values_at (b ∷ gs) b.0 ≡ b.1
+      here b gs = at_first b.0 b gs ∙ ap (λ e. cond e b.1 (values_at gs b.0)) (itself b.0)
+same_held (a ∷ hs) (b ∷ gs) oa ob same = go (nat_eq a.0 b.0) refl (nat_lt a.0 b.0) refl (λ r. same_held hs gs oa.1 ob.1 r) where
+  here : (c : ℕ × Values) (cs : Held) → values_at (c ∷ cs) c.0 ≡ c.1
+  here c cs = at_first c.0 c cs ∙ ap (λ e. cond e c.1 (values_at cs c.0)) (itself c.0)
 
-removed_none : (ks : List ℕ) (i k : ℕ) → length ks ≤ 8 → drop 8 ks ≡ drop 8 (swap_remove ks i k)
-removed_none ks i k few =
-    let last = length ks - 1 in
-    let l = set ks i (get_or ks last k) in
-    let short : length (take last l) ≤ 8 = omega (arith, few, length-take last l) in
-    nil_from_length (drop 8 ks) (omega (arith, few, length-drop 8 ks))
-    ∙ sym (nil_from_length (drop 8 (take last l)) (omega (arith, short, length-drop 8 (take last l))))
+  rest : a.0 ≡ b.0 → (q : ℕ) → values_at hs q ≡ values_at gs q
+  rest e q = step (nat_eq q a.0) refl where
+    step : (t : Bool) → nat_eq q a.0 ≡ t → values_at hs q ≡ values_at gs q
+    step true f =
+        let one : q ≡ a.0 = eqb-true q a.0 f in
+        let two : q ≡ b.0 = one ∙ e in
+        none_above q hs (subst (λ m. AreAbove m hs) (sym one) oa.0.1) ∙ sym (none_above q gs (subst (λ m. AreAbove m gs) (sym two) ob.0.1))
+    step false f =
+        let g : nat_eq q b.0 ≡ false = ap (λ m. nat_eq q m) (sym e) ∙ f in
+        sym (at_first q a hs ∙ ap (λ t. cond t a.1 (values_at hs q)) f)
+        ∙ (same q ∙ (at_first q b gs ∙ ap (λ t. cond t b.1 (values_at gs q)) g))
 
-behind_removed : (ks : List ℕ) (i k : ℕ) → i < length ks → numbers_without i (drop 8 ks) ≡ drop 8 (swap_remove ks i k)
-behind_removed ks i k within = go (nat_lt i 8) refl (nat_lt 8 (length ks)) refl where
-  go : (b : Bool) → nat_lt i 8 ≡ b → (c : Bool) → nat_lt 8 (length ks) ≡ c →
-      cond b (take (length (drop 8 ks) - 1) (drop 8 ks)) (swap_remove (drop 8 ks) (i - 8) 0) ≡ drop 8 (swap_remove ks i k)
-  go true e false f =
-      let few : length ks ≤ 8 = grind (arith, nat_tests) in
-      let none = nil_from_length (drop 8 ks) (omega (arith, few, length-drop 8 ks)) in
-      ap (λ (l : List ℕ). take (length l - 1) l) none ∙ (sym none ∙ removed_none ks i k few)
-  go true e true f =
-      let less : i < 8 = grind (arith, nat_tests) in
-      let many : 8 < length ks = grind (arith, nat_tests) in
-      removed_first ks i k (length ks - 9) (omega (arith, many)) less
-  go false e c f =
-      let more : 8 ≤ i = grind (arith, nat_tests) in
-      let same : 8 + (i - 8) ≡ i = omega (arith, more) in
-      removed_later ks (i - 8) k (length ks - 9) (omega (arith, more, within)) ∙ ap (λ j. drop 8 (swap_remove ks j k)) same
+  go : (s : Bool) → nat_eq a.0 b.0 ≡ s → (t : Bool) → nat_lt a.0 b.0 ≡ t →
+      (((q : ℕ) → values_at hs q ≡ values_at gs q) → hs ≡ gs) → a ∷ hs ≡ b ∷ gs
+  go true e t f more =
+      let one : a.0 ≡ b.0 = eqb-true a.0 b.0 e in
+      let values : a.1 ≡ b.1 = sym (here a hs) ∙ (same a.0 ∙ (ap (λ q. values_at (b ∷ gs) q) one ∙ here b gs)) in
+      ap (λ (n : ℕ). (n, a.1) ∷ hs) one ∙ (ap (λ (v : Values). (b.0, v) ∷ hs) values
+      ∙ ap (λ (l : Held). b ∷ l) (more (rest one)))
+  go false e true f more =
+      let less : a.0 < b.0 = is_below a.0 b.0 f in
+      absurd (no_values a.1 oa.0.0 (sym (here a hs) ∙ (same a.0 ∙ none_above a.0 (b ∷ gs) (above_tail a.0 b gs less ob.0.1))))
+  go false e false f more =
+      let less : b.0 < a.0 = before a.0 b.0 e f in
+      absurd (no_values b.1 ob.0.0 (sym (here b gs) ∙ (sym (same b.0) ∙ none_above b.0 (a ∷ hs) (above_tail b.0 a hs less oa.0.1))))
 
--- what is known of the transactions and of the numbers of those behind the first few stays so: where values are written, where a
--- transaction comes behind the others, and where one goes
-pub kept_set :
-    (es : Held) (ks : List ℕ) (i : ℕ) (e : ℕ × Values) (now : Values) → IsDistinct nat_eq (keys_of es) → ks ≡ keys_of (drop 8 es) →
-    e ≡ get_or es i e → IsDistinct nat_eq (keys_of (set es i (e.0, now))) × (ks ≡ keys_of (drop 8 (set es i (e.0, now))))
-kept_set es ks i e now apart behind read =
-    let same = keys_set es i e now read in (
-      subst (λ l. IsDistinct nat_eq l) (sym same) apart,
-      behind ∙ (keys_drop 8 es ∙ (ap (λ l. drop 8 l) (sym same) ∙ sym (keys_drop 8 (set es i (e.0, now))))),
-    )
+-- ---- values that are set or forgotten
 
-pub kept_pushed :
-    (es : Held) (ks : List ℕ) (n : ℕ) (now : Values) → IsDistinct nat_eq (keys_of es) → ks ≡ keys_of (drop 8 es) →
-    lookup (nat_eq n) es ≡ None →
-    IsDistinct nat_eq (keys_of (es ++ (n, now) ∷ [])) × (keys_behind nat_eq (length es) ks n ≡ keys_of (drop 8 (es ++ (n, now) ∷ [])))
-kept_pushed es ks n now apart behind none =
-    (distinct_pushed nat_eq nat_eq_equiv es n now apart none, keys_pushed nat_eq es ks n now behind none)
+values_set : (q n : ℕ) (vs : Values) (held : Held) → values_at (with_values held n vs) q ≡ cond (nat_eq q n) vs (values_at held q)
+values_set q n vs [] = at_first q (n, vs) []
+values_set q n vs (h ∷ hs) = go (nat_eq n h.0) refl (nat_lt n h.0) (values_set q n vs hs) where
+  go : (s : Bool) → nat_eq n h.0 ≡ s → (t : Bool) → values_at (with_values hs n vs) q ≡ cond (nat_eq q n) vs (values_at hs q) →
+      values_at (cond s ((h.0, vs) ∷ hs) (cond t ((n, vs) ∷ h ∷ hs) (h ∷ with_values hs n vs))) q ≡ cond (nat_eq q n) vs (values_at (h ∷ hs) q)
+  go true e t rest =
+      let one : n ≡ h.0 = eqb-true n h.0 e in
+      at_first q (h.0, vs) hs ∙ (step (nat_eq q h.0) refl ∙ ap (λ m. cond (nat_eq q m) vs (values_at (h ∷ hs) q)) (sym one)) where
+        step : (b : Bool) → nat_eq q h.0 ≡ b → cond b vs (values_at hs q) ≡ cond b vs (values_at (h ∷ hs) q)
+        step true f = refl
+        step false f = sym (at_first q h hs ∙ ap (λ b. cond b h.1 (values_at hs q)) f)
+  go false e true rest = at_first q (n, vs) (h ∷ hs)
+  go false e false rest =
+      at_first q h (with_values hs n vs) ∙ (ap (λ l. cond (nat_eq q h.0) h.1 l) rest
+      ∙ (step (nat_eq q h.0) refl (nat_eq q n) refl ∙ ap (λ l. cond (nat_eq q n) vs l) (sym (at_first q h hs)))) where
+        step : (a : Bool) → nat_eq q h.0 ≡ a → (b : Bool) → nat_eq q n ≡ b →
+            cond a h.1 (cond b vs (values_at hs q)) ≡ cond b vs (cond a h.1 (values_at hs q))
+        step true f true g =
+            let same : n ≡ h.0 = sym (eqb-true q n g) ∙ eqb-true q h.0 f in
+            absurd (let yes : nat_eq n h.0 ≡ true = ap (λ m. nat_eq n m) (sym same) ∙ itself n in let clash : true ≡ false = sym yes ∙ e in cc)
+        step true f false g = refl
+        step false f true g = refl
+        step false f false g = refl
 
-pub kept_removed :
-    (es : Held) (ks : List ℕ) (i : ℕ) (e : ℕ × Values) → IsDistinct nat_eq (keys_of es) → ks ≡ keys_of (drop 8 es) → i < length es →
-    e ≡ get_or es i e → IsDistinct nat_eq (keys_of (swap_remove es i e)) × (numbers_without i ks ≡ keys_of (drop 8 (swap_remove es i e)))
-kept_removed es ks i e apart behind within read =
-    let inside : i < length (keys_of es) = omega (arith, within, length-keys_of es) in (
-      distinct_removed nat_eq nat_eq_equiv es i e within read apart,
-      ap (λ l. numbers_without i l) (behind ∙ keys_drop 8 es)
-          ∙ (behind_removed (keys_of es) i e.0 inside
-          ∙ (ap (λ l. drop 8 l) (sym (keys_removed es i e)) ∙ sym (keys_drop 8 (swap_remove es i e)))),
-    )
+above_set : (m n : ℕ) (vs : Values) (hs : Held) → m < n → AreAbove m hs → AreAbove m (with_values hs n vs)
+above_set m n vs [] less a = (less, tt)
+above_set m n vs (h ∷ hs) less a = go (nat_eq n h.0) (nat_lt n h.0) (above_set m n vs hs less a.1) where
+  go : (s t : Bool) → AreAbove m (with_values hs n vs) → AreAbove m (cond s ((h.0, vs) ∷ hs) (cond t ((n, vs) ∷ h ∷ hs) (h ∷ with_values hs n vs)))
+  go true t rest = a
+  go false true rest = (less, a)
+  go false false rest = (a.0, rest)
+
+ordered_set : (n : ℕ) (vs : Values) (hs : Held) → HasSome vs → IsOrdered hs → IsOrdered (with_values hs n vs)
+ordered_set n vs [] some o = ((some, tt), tt)
+ordered_set n vs (h ∷ hs) some o = go (nat_eq n h.0) refl (nat_lt n h.0) refl (ordered_set n vs hs some o.1) where
+  go : (s : Bool) → nat_eq n h.0 ≡ s → (t : Bool) → nat_lt n h.0 ≡ t → IsOrdered (with_values hs n vs) →
+      IsOrdered (cond s ((h.0, vs) ∷ hs) (cond t ((n, vs) ∷ h ∷ hs) (h ∷ with_values hs n vs)))
+  go true e t f rest = ((some, o.0.1), o.1)
+  go false e true f rest = ((some, above_tail n h hs (is_below n h.0 f) o.0.1), o)
+  go false e false f rest = ((o.0.0, above_set h.0 n vs hs (before n h.0 e f) o.0.1), rest)
+
+has_some : (vs : Values) (k : Key) (v : ℤ) → HasSome (with_value vs k v)
+has_some [] k v = tt
+has_some (p ∷ ps) k v = go (key_eq k p.0) where
+  go : (b : Bool) → HasSome (cond b ((p.0, v) ∷ ps) (p ∷ with_value ps k v))
+  go true = tt
+  go false = tt
+
+values_without : (q n : ℕ) (held : Held) → values_at (without held n) q ≡ cond (nat_eq q n) [] (values_at held q)
+values_without q n [] = step (nat_eq q n) where
+  step : (b : Bool) → ◌≡◌ {A = Values} [] (cond b [] [])
+  step true = refl
+  step false = refl
+values_without q n (h ∷ hs) = go (nat_eq n h.0) refl (values_without q n hs) where
+  go : (s : Bool) → nat_eq n h.0 ≡ s → values_at (without hs n) q ≡ cond (nat_eq q n) [] (values_at hs q) →
+      values_at (cond (not s) (h ∷ without hs n) (without hs n)) q ≡ cond (nat_eq q n) [] (values_at (h ∷ hs) q)
+  go true e rest =
+      rest ∙ step (nat_eq q n) refl where
+        step : (b : Bool) → nat_eq q n ≡ b → cond b [] (values_at hs q) ≡ cond b [] (values_at (h ∷ hs) q)
+        step true f = refl
+        step false f =
+            let apart : nat_eq q h.0 ≡ false = ap (λ m. nat_eq q m) (sym (eqb-true n h.0 e)) ∙ f in
+            sym (at_first q h hs ∙ ap (λ b. cond b h.1 (values_at hs q)) apart)
+  go false e rest =
+      at_first q h (without hs n) ∙ (ap (λ l. cond (nat_eq q h.0) h.1 l) rest
+      ∙ (step (nat_eq q h.0) refl (nat_eq q n) refl ∙ ap (λ l. cond (nat_eq q n) [] l) (sym (at_first q h hs)))) where
+        step : (a : Bool) → nat_eq q h.0 ≡ a → (b : Bool) → nat_eq q n ≡ b →
+            cond a h.1 (cond b [] (values_at hs q)) ≡ cond b [] (cond a h.1 (values_at hs q))
+        step true f true g =
+            let same : n ≡ h.0 = sym (eqb-true q n g) ∙ eqb-true q h.0 f in
+            absurd (let yes : nat_eq n h.0 ≡ true = ap (λ m. nat_eq n m) (sym same) ∙ itself n in let clash : true ≡ false = sym yes ∙ e in cc)
+        step true f false g = refl
+        step false f true g = refl
+        step false f false g = refl
+
+above_without : (m n : ℕ) (hs : Held) → AreAbove m hs → AreAbove m (without hs n)
+above_without m n [] a = tt
+above_without m n (h ∷ hs) a = go (not (nat_eq n h.0)) (above_without m n hs a.1) where
+  go : (b : Bool) → AreAbove m (without hs n) → AreAbove m (cond b (h ∷ without hs n) (without hs n))
+  go true rest = (a.0, rest)
+  go false rest = rest
+
+ordered_without : (n : ℕ) (hs : Held) → IsOrdered hs → IsOrdered (without hs n)
+ordered_without n [] o = tt
+ordered_without n (h ∷ hs) o = go (not (nat_eq n h.0)) (ordered_without n hs o.1) where
+  go : (b : Bool) → IsOrdered (without hs n) → IsOrdered (cond b (h ∷ without hs n) (without hs n))
+  go true rest = ((o.0.0, above_without h.0 n hs o.0.1), rest)
+  go false rest = rest
+
+-- ---- what is put together
+
+keys_first : (n : ℕ) (e : Entry ℤ) (g : Held) → n ≤ e.0 → AreFromKey n g → AreFromKey n (with_first e g)
+keys_first n e [] low a = (low, tt)
+keys_first n e (h ∷ hs) low a = go (nat_eq e.0 h.0) where
+  go : (b : Bool) → AreFromKey n (cond b ((h.0, e.1 ∷ h.1) ∷ hs) ((e.0, e.1 ∷ []) ∷ h ∷ hs))
+  go true = a
+  go false = (low, a)
+
+keys_grouped : (n : ℕ) (es : List (Entry ℤ)) → AreFrom n es → AreFromKey n (grouped es)
+keys_grouped n [] a = tt
+keys_grouped n (e ∷ es) a = keys_first n e (grouped es) a.0 (keys_grouped n es a.1)
+
+ordered_first : (e : Entry ℤ) (g : Held) → AreFromKey e.0 g → IsOrdered g → IsOrdered (with_first e g)
+ordered_first e [] a o = ((tt, tt), tt)
+ordered_first e (h ∷ hs) a o = go (nat_eq e.0 h.0) refl where
+  go : (b : Bool) → nat_eq e.0 h.0 ≡ b → IsOrdered (cond b ((h.0, e.1 ∷ h.1) ∷ hs) ((e.0, e.1 ∷ []) ∷ h ∷ hs))
+  go true f = ((tt, o.0.1), o.1)
+  go false f = ((tt, above_tail e.0 h hs (beyond e.0 h.0 a.0 f) o.0.1), o)
+
+ordered_grouped : (es : List (Entry ℤ)) → AreRising es → IsOrdered (grouped es)
+ordered_grouped [] r = tt
+ordered_grouped (e ∷ es) r = ordered_first e (grouped es) (keys_grouped e.0 es r.0) (ordered_grouped es r.1)
+
+values_first : (q : ℕ) (e : Entry ℤ) (g : Held) → AreFromKey e.0 g → IsOrdered g →
+    values_at (with_first e g) q ≡ cond (nat_eq q e.0) (e.1 ∷ values_at g q) (values_at g q)
+values_first q e [] a o = at_first q (e.0, e.1 ∷ []) []
+values_first q e (h ∷ hs) a o = go (nat_eq e.0 h.0) refl where
+  go : (b : Bool) → nat_eq e.0 h.0 ≡ b → values_at (cond b ((h.0, e.1 ∷ h.1) ∷ hs) ((e.0, e.1 ∷ []) ∷ h ∷ hs)) q ≡
+      cond (nat_eq q e.0) (e.1 ∷ values_at (h ∷ hs) q) (values_at (h ∷ hs) q)
+  go true f =
+      let one : e.0 ≡ h.0 = eqb-true e.0 h.0 f in
+      at_first q (h.0, e.1 ∷ h.1) hs ∙ (step (nat_eq q h.0)
+      ∙ (ap (λ l. cond (nat_eq q h.0) (e.1 ∷ l) l) (sym (at_first q h hs))
+      ∙ ap (λ m. cond (nat_eq q m) (e.1 ∷ values_at (h ∷ hs) q) (values_at (h ∷ hs) q)) (sym one))) where
+        step : (b : Bool) → cond b (e.1 ∷ h.1) (values_at hs q) ≡ cond b (e.1 ∷ cond b h.1 (values_at hs q)) (cond b h.1 (values_at hs q))
+        step true = refl
+        step false = refl
+  go false f = at_first q (e.0, e.1 ∷ []) (h ∷ hs) ∙ step (nat_eq q e.0) refl where
+    step : (b : Bool) → nat_eq q e.0 ≡ b → cond b (e.1 ∷ []) (values_at (h ∷ hs) q) ≡ cond b (e.1 ∷ values_at (h ∷ hs) q) (values_at (h ∷ hs) q)
+    step true g =
+        let one : q ≡ e.0 = eqb-true q e.0 g in
+        let less : q < h.0 = subst (λ m. m < h.0) (sym one) (beyond e.0 h.0 a.0 f) in
+        sym (ap (λ (l : Values). e.1 ∷ l) (none_above q (h ∷ hs) (above_tail q h hs less o.0.1)))
+    step false g = refl
+
+-- the entries of a transaction
+abbrev mine : ℕ → List (Entry ℤ) → Values
+mine q [] = []
+mine q (e ∷ es) = cond (nat_eq q e.0) (e.1 ∷ mine q es) (mine q es)
+
+values_grouped : (q : ℕ) (es : List (Entry ℤ)) → AreRising es → values_at (grouped es) q ≡ mine q es
+values_grouped q [] r = refl
+values_grouped q (e ∷ es) r =
+    values_first q e (grouped es) (keys_grouped e.0 es r.0) (ordered_grouped es r.1)
+    ∙ ap (λ l. cond (nat_eq q e.0) (e.1 ∷ l) l) (values_grouped q es r.1)
+
+mine_from : (n m : ℕ) (es : List (Entry ℤ)) → n < m → AreFrom m es → mine n es ≡ []
+mine_from n m [] less a = refl
+mine_from n m (e ∷ es) less a =
+    let low : m ≤ e.0 = a.0 in
+    ap (λ b. cond b (e.1 ∷ mine n es) (mine n es)) (other n e.0 (omega (arith, less, low))) ∙ mine_from n m es less a.1
+
+and_first : (a b : Bool) → (a && b) ≡ true → a ≡ true
+and_first true b e = refl
+and_first false b e = absurd cc
+
+and_second : (a b : Bool) → (a && b) ≡ true → b ≡ true
+and_second true b e = e
+and_second false b e = absurd cc
+
+not_first : (a b : Bool) → (a && b) ≡ false → b ≡ true → a ≡ false
+not_first true b e f = absurd (let clash : true ≡ false = sym f ∙ e in cc)
+not_first false b e f = refl
+
+-- an entry that stays, with one that is set behind it
+mine_stays : (q n : ℕ) (k : Key) (v : ℤ) (e : Entry ℤ) (es : List (Entry ℤ)) → is_own n k e ≡ false →
+    mine q (with_own es n k v) ≡ cond (nat_eq q n) (with_value (mine n es) k v) (mine q es) →
+    mine q (e ∷ with_own es n k v) ≡ cond (nat_eq q n) (with_value (mine n (e ∷ es)) k v) (mine q (e ∷ es))
+mine_stays q n k v e es apart rest = ap (λ (l : Values). cond (nat_eq q e.0) (e.1 ∷ l) l) rest ∙ step (nat_eq q n) refl where
+  inner : (u : Bool) → nat_eq n e.0 ≡ u → cond u (e.1 ∷ with_value (mine n es) k v) (with_value (mine n es) k v) ≡
+      with_value (cond u (e.1 ∷ mine n es) (mine n es)) k v
+  inner true h =
+      sym (ap (λ b. cond b ((e.1.0, v) ∷ mine n es) (e.1 ∷ with_value (mine n es) k v)) (not_first (key_eq k e.1.0) (nat_eq n e.0) apart h))
+  inner false h = refl
+
+  step : (c : Bool) → nat_eq q n ≡ c →
+      cond (nat_eq q e.0) (e.1 ∷ cond c (with_value (mine n es) k v) (mine q es)) (cond c (with_value (mine n es) k v) (mine q es)) ≡
+      cond c (with_value (mine n (e ∷ es)) k v) (mine q (e ∷ es))
+  step false i = refl
+  step true i =
+      ap (λ m. cond (nat_eq m e.0) (e.1 ∷ with_value (mine n es) k v) (with_value (mine n es) k v)) (eqb-true q n i) ∙ inner (nat_eq n e.0) refl
+
+-- one whose value is set
+mine_replaced : (q n : ℕ) (k : Key) (v : ℤ) (e : Entry ℤ) (es : List (Entry ℤ)) → is_own n k e ≡ true →
+    mine q ((e.0, (e.1.0, v)) ∷ es) ≡ cond (nat_eq q n) (with_value (mine n (e ∷ es)) k v) (mine q (e ∷ es))
+mine_replaced q n k v e es own =
+    step (nat_eq q e.0) refl ∙ ap (λ m. cond (nat_eq q m) (with_value (mine n (e ∷ es)) k v) (mine q (e ∷ es))) (sym same) where
+      here : nat_eq n e.0 ≡ true
+      here = and_second (key_eq k e.1.0) (nat_eq n e.0) own
+
+      same : n ≡ e.0
+      same = eqb-true n e.0 here
+
+      values : with_value (mine n (e ∷ es)) k v ≡ (e.1.0, v) ∷ mine n es
+      values =
+          ap (λ b. with_value (cond b (e.1 ∷ mine n es) (mine n es)) k v) here
+          ∙ ap (λ b. cond b ((e.1.0, v) ∷ mine n es) (e.1 ∷ with_value (mine n es) k v)) (and_first (key_eq k e.1.0) (nat_eq n e.0) own)
+
+      step : (b : Bool) → nat_eq q e.0 ≡ b →
+          cond b ((e.1.0, v) ∷ mine q es) (mine q es) ≡ cond b (with_value (mine n (e ∷ es)) k v) (cond b (e.1 ∷ mine q es) (mine q es))
+      step true i =
+          let one : q ≡ n = eqb-true q e.0 i ∙ sym same in
+          ap (λ (m : ℕ). (e.1.0, v) ∷ mine m es) one ∙ sym values
+      step false i = refl
+
+-- one that is set in front of those of greater numbers
+mine_further : (q n : ℕ) (k : Key) (v : ℤ) (e : Entry ℤ) (es : List (Entry ℤ)) → AreRising (e ∷ es) → n < e.0 →
+    mine q ((n, (k, v)) ∷ e ∷ es) ≡ cond (nat_eq q n) (with_value (mine n (e ∷ es)) k v) (mine q (e ∷ es))
+mine_further q n k v e es r less = step (nat_eq q n) refl where
+  none : mine n (e ∷ es) ≡ []
+  none = mine_from n e.0 (e ∷ es) less (omega arith, r.0)
+
+  step : (b : Bool) → nat_eq q n ≡ b → cond b ((k, v) ∷ mine q (e ∷ es)) (mine q (e ∷ es)) ≡ cond b (with_value (mine n (e ∷ es)) k v) (mine q (e ∷ es))
+  step true i =
+      let one : q ≡ n = eqb-true q n i in
+      ap (λ (l : Values). (k, v) ∷ l) (ap (λ m. mine m (e ∷ es)) one ∙ none) ∙ sym (ap (λ l. with_value l k v) none)
+  step false i = refl
+
+mine_set : (q n : ℕ) (k : Key) (v : ℤ) (es : List (Entry ℤ)) → AreRising es →
+    mine q (with_own es n k v) ≡ cond (nat_eq q n) (with_value (mine n es) k v) (mine q es)
+mine_set q n k v [] r = refl
+mine_set q n k v (e ∷ es) r = go (nat_lt n e.0) refl (is_own n k e) refl (mine_set q n k v es r.1) where
+  go : (s : Bool) → nat_lt n e.0 ≡ s → (t : Bool) → is_own n k e ≡ t →
+      mine q (with_own es n k v) ≡ cond (nat_eq q n) (with_value (mine n es) k v) (mine q es) →
+      mine q (cond s ((n, (k, v)) ∷ e ∷ es) (cond t ((e.0, (e.1.0, v)) ∷ es) (e ∷ with_own es n k v)))
+      ≡ cond (nat_eq q n) (with_value (mine n (e ∷ es)) k v) (mine q (e ∷ es))
+  go true f t g rest = mine_further q n k v e es r (is_below n e.0 f)
+  go false f true g rest = mine_replaced q n k v e es g
+  go false f false g rest = mine_stays q n k v e es g rest
+
+mine_without : (q n : ℕ) (es : List (Entry ℤ)) → mine q (without_own es n) ≡ cond (nat_eq q n) [] (mine q es)
+mine_without q n [] = step (nat_eq q n) where
+  step : (b : Bool) → ◌≡◌ {A = Values} [] (cond b [] [])
+  step true = refl
+  step false = refl
+mine_without q n (e ∷ es) = go (nat_eq n e.0) refl (mine_without q n es) where
+  go : (s : Bool) → nat_eq n e.0 ≡ s → mine q (without_own es n) ≡ cond (nat_eq q n) [] (mine q es) →
+      mine q (cond (not s) (e ∷ without_own es n) (without_own es n)) ≡ cond (nat_eq q n) [] (mine q (e ∷ es))
+  go true f rest = rest ∙ step (nat_eq q n) refl where
+    step : (b : Bool) → nat_eq q n ≡ b → cond b [] (mine q es) ≡ cond b [] (mine q (e ∷ es))
+    step true g = refl
+    step false g = sym (ap (λ b. cond b (e.1 ∷ mine q es) (mine q es)) (ap (λ m. nat_eq q m) (sym (eqb-true n e.0 f)) ∙ g))
+  go false f rest = ap (λ (l : Values). cond (nat_eq q e.0) (e.1 ∷ l) l) rest ∙ step (nat_eq q n) refl where
+    step : (b : Bool) → nat_eq q n ≡ b → cond (nat_eq q e.0) (e.1 ∷ cond b [] (mine q es)) (cond b [] (mine q es)) ≡ cond b [] (mine q (e ∷ es))
+    step true g = ap (λ c. cond c (e.1 ∷ []) []) (ap (λ m. nat_eq m e.0) (eqb-true q n g) ∙ f)
+    step false g = refl
+
+value_mine : (n : ℕ) (k : Key) (es : List (Entry ℤ)) → value_of (mine n es) k ≡ own_of es n k
+value_mine n k [] = refl
+value_mine n k (e ∷ es) = go (nat_eq n e.0) (value_mine n k es) where
+  go : (a : Bool) → value_of (mine n es) k ≡ own_of es n k → value_of (cond a (e.1 ∷ mine n es) (mine n es)) k ≡ cond (key_eq k e.1.0 && a) (Some e.1.1) (own_of es n k)
+  go true rest = each (key_eq k e.1.0) where
+    each : (c : Bool) → cond c (Some e.1.1) (value_of (mine n es) k) ≡ cond (c && true) (Some e.1.1) (own_of es n k)
+    each true = refl
+    each false = rest
+  go false rest = rest ∙ each (key_eq k e.1.0) where
+    each : (c : Bool) → own_of es n k ≡ cond (c && false) (Some e.1.1) (own_of es n k)
+    each true = refl
+    each false = refl
+
+-- ---- what the calls of `Parameters` say
+
+pub parameter_is : (es : List (Entry ℤ)) (n : ℕ) (k : Key) → AreRising es → own_of es n k ≡ parameter_at (grouped es) n k
+parameter_is es n k r = sym (ap (λ l. value_of l k) (values_grouped n es r) ∙ value_mine n k es)
+
+pub assigned_is : (es : List (Entry ℤ)) (n : ℕ) (k : Key) (v : ℤ) → AreRising es → grouped (with_own es n k v) ≡ assigned (grouped es) n k v
+assigned_is es n k v r =
+    let vs = with_value (values_at (grouped es) n) k v in
+    same_held (grouped (with_own es n k v)) (assigned (grouped es) n k v) (ordered_grouped (with_own es n k v) (rising_with n k v es r))
+    (ordered_set n vs (grouped es) (has_some (values_at (grouped es) n) k v) (ordered_grouped es r))
+    (λ q.
+    values_grouped q (with_own es n k v) (rising_with n k v es r)
+    ∙ (mine_set q n k v es r
+    ∙ (ap (λ l. cond (nat_eq q n) (with_value l k v) (mine q es)) (sym (values_grouped n es r))
+    ∙ (ap (λ l. cond (nat_eq q n) (with_value (values_at (grouped es) n) k v) l) (sym (values_grouped q es r)) ∙ sym (values_set q n vs (grouped es))))))
+
+pub forgotten_is : (es : List (Entry ℤ)) (n : ℕ) → AreRising es → grouped (without_own es n) ≡ without (grouped es) n
+forgotten_is es n r =
+    same_held (grouped (without_own es n)) (without (grouped es) n) (ordered_grouped (without_own es n) (rising_without n es r))
+    (ordered_without n (grouped es) (ordered_grouped es r))
+    (λ q.
+    values_grouped q (without_own es n) (rising_without n es r)
+    ∙ (mine_without q n es ∙ (ap (λ l. cond (nat_eq q n) [] l) (sym (values_grouped q es r)) ∙ sym (values_without q n (grouped es)))))

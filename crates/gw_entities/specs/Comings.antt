@@ -1,16 +1,18 @@
--- Which transactions came to which queue, in order of coming. (Manual: that a departure at the clock of the entry is a
--- zero entry. Our own: the order.)
-use Rattle.std.specs.Prelude.{◌≡◌, ℕ, Bool, false, ◌&&◌, ◌||◌, nat_eq, List, [], ◌∷◌, ◌++◌, Option, if◌then◌else◌}
+-- Which transactions came to which queue, in order of their numbers, and of one transaction in order of coming. (Manual:
+-- that a departure at the clock of the entry is a zero entry. Our own: the order.)
+use Rattle.std.specs.Prelude.{◌≡◌, ℕ, Bool, false, ◌&&◌, ◌||◌, nat_eq, nat_lt, List, [], ◌∷◌, if◌then◌else◌}
 use Rattle.gw_names.specs.declared.key.Key.{Key}
 use Rattle.gw_names.specs.Keys.{key_eq}
+use Rattle.gw_entities.specs.Owned.{Entry}
 
-pub record ReadyArrivals : Type 0 where
+-- what a contract sees of `Comings`
+pub record Arrivals : Type 0 where
   -- the queue, and the number of the transaction
   pub comings : List (Key × ℕ)
+  -- the queues to which one may come
+  pub keys : List Key
   -- for how many more there is room
   pub room : ℕ
-  -- the key that the next coming takes, if there is one
-  pub ready : Option Key
 
 -- whether a transaction came to a queue
 abbrev pub came : List (Key × ℕ) → Key → ℕ → Bool
@@ -22,7 +24,13 @@ abbrev pub AreOnce : List (Key × ℕ) → Type 0
 AreOnce [] = Unit {0}
 AreOnce (c ∷ cs) = (came cs c.0 c.1 ≡ false) × AreOnce cs
 
--- with a coming of a transaction to a queue: behind the others, and once
+-- with a coming of a transaction to a queue: behind its others, and once
 abbrev pub with_coming : List (Key × ℕ) → Key → ℕ → List (Key × ℕ)
-with_coming comings key number =
-    if came comings key number then comings else comings ++ (key, number) ∷ []
+with_coming [] key number = (key, number) ∷ []
+with_coming (c ∷ cs) key number =
+    if nat_lt number c.1 then (key, number) ∷ c ∷ cs
+    else if key_eq key c.0 && nat_eq number c.1 then c ∷ cs else c ∷ with_coming cs key number
+
+-- how `Comings` keeps one
+abbrev pub coming_of : {V : Type 0} → Entry V → Key × ℕ
+coming_of e = (e.1.0, e.0)

@@ -1,8 +1,8 @@
 pub mod Comings
-pub mod Few
+pub mod KeySets
 pub mod Levels
+pub mod Owned
 pub mod Parameters
-pub mod Links
 pub mod Pieces
 pub mod Records
 pub mod Tables

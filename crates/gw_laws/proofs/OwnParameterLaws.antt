@@ -1,8 +1,9 @@
 -- In a step no parameters change but those of the active transaction.
-use Rattle.std.proofs.Common.{◌≡◌, ◌≢◌, ℕ, zero, suc, ◌-◌, ◌^◌, ◌≤◌, ◌<◌, List, nat_eq, true, false, cond, [], ◌∷◌, length, get_or, take, set, ◌++◌, ◌⊎◌, Option, Some, None, unwrap_or, refl, ap, sym, subst, ◌∙◌, inl, inr, arith}
+use Rattle.std.proofs.Common.{◌≡◌, ◌≢◌, ℕ, zero, suc, ◌-◌, ◌^◌, ◌≤◌, ◌<◌, List, nat_eq, nat_lt, true, false, cond, [], ◌∷◌, length, get_or, take, set, ◌++◌, ◌⊎◌, Option, Some, None, unwrap_or, refl, ap, sym, subst, ◌∙◌, inl, inr, arith}
 use Rattle.std.specs.Prelude.{Contains, position, swap_remove}
 use Rattle.std.specs.Option.{option_map_or}
 use Rattle.std.specs.Map.{lookup}
+use Rattle.std.proofs.lemmas.Bool.Decides.{nat_tests}
 use Rattle.std.proofs.lemmas.Bool.{cases_Bool, cases_eq, cases_lt, eq-eqb, ne_eqb, eqb-true, false≢true}
 use Rattle.std.proofs.lemmas.List.{get_or_default}
 use Rattle.std.proofs.lemmas.List.Sorted.{Contains-permutation, IsPermutation-swap_remove}
@@ -34,53 +35,12 @@ use Rattle.gw_laws.proofs.NumberLaws.{has_number, IsNumbered, of_number, IsGone,
 use Rattle.gw_laws.proofs.Room.{all_within}
 use Rattle.gw_laws.proofs.Waiting.{leaving}
 use Rattle.gw_laws.proofs.StayLaws.{first_or_rest}
-use Rattle.gw_laws.proofs.ParameterLaws.{Values, is_of, times, place_is, first_passes, forget_fewer, change_once, let_in_parameters, AreKept, all_kept}
-
--- ---- look-ups
-
-some_kept : (k : ℕ) (held : Held) (values : Values) → Contains held (k, values) → 1 ≤ times k held
-some_kept k [] values there = absurd (omega (arith, there.1))
-some_kept k (h ∷ hs) values (zero, within, same) =
-    let here = eq-eqb k h.0 (sym (ap (λ (e : ℕ × Values). e.0) same)) in
-    let first : one (nat_eq k h.0) ≡ 1 = rw here refl in
-    omega arith
-some_kept k (h ∷ hs) values (suc i, within, same) =
-    let rest = some_kept k hs values (i, omega (arith, within), same) in omega arith
-
--- what is kept once is what is found
-found_once : (k : ℕ) (held : Held) (values : Values) → times k held ≤ 1 → Contains held (k, values) → lookup (nat_eq k) held ≡ Some values
-found_once k [] values once there = absurd (omega (arith, there.1))
-found_once k (h ∷ hs) values once (zero, within, same) =
-    let here = eq-eqb k h.0 (sym (ap (λ (e : ℕ × Values). e.0) same)) in
-    rw here (ap (λ (e : ℕ × Values). Some e.1) same)
-found_once k (h ∷ hs) values once (suc i, within, same) =
-    let behind : Contains hs (k, values) = (i, omega (arith, within), same) in
-    let some = some_kept k hs values behind in
-    elim (cases_Bool (nat_eq k h.0)) [
-      | inl is ↦ absurd (let first : one (nat_eq k h.0) ≡ 1 = rw is refl in omega arith)
-      | inr other ↦ rw other (found_once k hs values (omega arith) behind)
-    ]
-
-none_kept : (k : ℕ) (held : Held) → lookup (nat_eq k) held ≡ None → times k held ≡ 0
-none_kept k [] none = refl
-none_kept k (h ∷ hs) none =
-    elim (cases_Bool (nat_eq k h.0)) [
-      | inl is ↦ absurd (let no : Some h.1 ≡ None = rw is at none in cc)
-      | inr other ↦
-          let no : one (nat_eq k h.0) ≡ 0 = rw other refl in
-          let rest = none_kept k hs (rw other at none) in
-          omega arith
-    ]
-
-none_found : (k : ℕ) (held : Held) → times k held ≡ 0 → lookup (nat_eq k) held ≡ None
-none_found k [] none = refl
-none_found k (h ∷ hs) none =
-    elim (cases_Bool (nat_eq k h.0)) [
-      | inl is ↦ absurd (let first : one (nat_eq k h.0) ≡ 1 = rw is refl in omega arith)
-      | inr other ↦ rw other (none_found k hs (omega arith))
-    ]
+use Rattle.gw_laws.proofs.ParameterLaws.{Values, let_in_parameters}
 
 -- ---- where the parameters of one transaction are set or forgotten, those of the others stay
+
+other_way : (n k : ℕ) → nat_eq n k ≡ false → nat_eq k n ≡ false
+other_way n k apart = grind (arith, nat_tests)
 
 set_elsewhere : (k n : ℕ) (held : Held) (values : Values) → nat_eq k n ≡ false → lookup (nat_eq k) (with_values held n values) ≡ lookup (nat_eq k) held
 set_elsewhere k n [] values apart = rw apart refl
@@ -89,44 +49,22 @@ set_elsewhere k n (h ∷ hs) values apart =
       | inl is ↦
           let differs : nat_eq k h.0 ≡ false = ap (nat_eq k) (sym (eqb-true n h.0 is)) ∙ apart in
           rw (is, differs) refl
-      | inr other ↦ rw other (ap (λ o. cond (nat_eq k h.0) (Some h.1) o) (set_elsewhere k n hs values apart))
+      | inr other ↦
+          elim (cases_Bool (nat_lt n h.0)) [
+            | inl before ↦ rw (other, before) (ap (λ b. cond b (Some values) (cond (nat_eq k h.0) (Some h.1) (lookup (nat_eq k) hs))) apart)
+            | inr behind ↦ rw (other, behind) (ap (λ o. cond (nat_eq k h.0) (Some h.1) o) (set_elsewhere k n hs values apart))
+          ]
     ]
 
-other_default : (h : ℕ × Values) (hs : Held) (i : ℕ) (d : ℕ × Values) → swap_remove (h ∷ hs) i d ≡ swap_remove (h ∷ hs) i h
-other_default h hs i d =
-    let last = length (h ∷ hs) - 1 in
-    ap (λ y. take last (set (h ∷ hs) i y)) (get_or_default (h ∷ hs) last d h (omega arith))
-
-still_there : (k n : ℕ) (held : Held) (values : Values) → nat_eq n k ≡ false → Contains held (k, values) → Contains (without held n) (k, values)
-still_there k n [] values apart there = there
-still_there k n (h ∷ hs) values apart there = go (position (is_of n) (h ∷ hs)) refl where
-  go : (o : Option ℕ) → position (is_of n) (h ∷ hs) ≡ o → Contains (option_map_or (λ i. swap_remove (h ∷ hs) i h) o (h ∷ hs)) (k, values)
-  go None is = there
-  go (Some i) is =
-      let at = place_is n (h ∷ hs) i is in
-      let y = get_or (h ∷ hs) i h in
-      let same : y ≡ get_or (h ∷ hs) i y = get_or_default (h ∷ hs) i h y at.0 in
-      let swapped : Contains (y ∷ swap_remove (h ∷ hs) i y) (k, values) =
-      Contains-permutation (h ∷ hs) (y ∷ swap_remove (h ∷ hs) i y) (k, values) (IsPermutation-swap_remove (h ∷ hs) i y at.0 same) there in
-      let passes : is_of n y ≡ true = rw at.1 (first_passes n (h ∷ hs) h (omega (arith, at.0, at.1))) in
-      elim (first_or_rest y (swap_remove (h ∷ hs) i y) (k, values) swapped) [
-        | inl first ↦ absurd (
-            let is_k : y.0 ≡ k = ap (λ (e : ℕ × Values). e.0) first in
-            let clash : true ≡ false = sym passes ∙ (ap (nat_eq n) is_k ∙ apart) in
-            cc)
-        | inr rest ↦ subst (λ zs. Contains zs (k, values)) (other_default h hs i y) rest
-      ]
-
-forgotten_elsewhere : (k n : ℕ) (held : Held) → nat_eq n k ≡ false → times k held ≤ 1 → lookup (nat_eq k) (without held n) ≡ lookup (nat_eq k) held
-forgotten_elsewhere k n held apart once = go (lookup (nat_eq k) held) refl where
-  go : (o : Option Values) → lookup (nat_eq k) held ≡ o → lookup (nat_eq k) (without held n) ≡ lookup (nat_eq k) held
-  go None is =
-      let none = none_kept k held is in
-      let fewer = forget_fewer k n held in
-      none_found k (without held n) (omega arith) ∙ sym is
-  go (Some values) is =
-      let fewer = forget_fewer k n held in
-      found_once k (without held n) values (omega arith) (still_there k n held values apart (Contains-from_lookup eqb-true k values held is)) ∙ sym is
+forgotten_elsewhere : (k n : ℕ) (held : Held) → nat_eq n k ≡ false → lookup (nat_eq k) (without held n) ≡ lookup (nat_eq k) held
+forgotten_elsewhere k n [] apart = refl
+forgotten_elsewhere k n (h ∷ hs) apart =
+    elim (cases_Bool (nat_eq n h.0)) [
+      | inl is ↦
+          let differs : nat_eq k h.0 ≡ false = ap (nat_eq k) (sym (eqb-true n h.0 is)) ∙ other_way n k apart in
+          rw is (forgotten_elsewhere k n hs apart ∙ sym (ap (λ b. cond b (Some h.1) (lookup (nat_eq k) hs)) differs))
+      | inr other ↦ rw other (ap (λ o. cond (nat_eq k h.0) (Some h.1) o) (forgotten_elsewhere k n hs apart))
+    ]
 
 own_elsewhere : (k n : ℕ) (change : TransactionChange) (held : Held) → nat_eq k n ≡ false → lookup (nat_eq k) (own_held change n held) ≡ lookup (nat_eq k) held
 own_elsewhere k n (own.Assign key to) held apart = set_elsewhere k n held (with_value (values_at held n) key to) apart
@@ -144,24 +82,24 @@ module _ (k : ℕ) where
   abbrev KeepsParameters : Machine → Machine → Type 0
   KeepsParameters s v = (values_at v.parameters k ≡ values_at s.parameters k) ⊎ IsActive s k
 
-  settled_elsewhere : (s : Machine) (x : Transaction) (id : ℕ) (change : Change) (fate : Fate) → x.number ≢ k → AreKept s →
+  settled_elsewhere : (s : Machine) (x : Transaction) (id : ℕ) (change : Change) (fate : Fate) → x.number ≢ k →
       lookup (nat_eq k) (settled s x id change fate).parameters ≡ lookup (nat_eq k) s.parameters
-  settled_elsewhere s x id change (fates.Destroyed count) other h =
+  settled_elsewhere s x id change (fates.Destroyed count) other =
       let number = (marked change s.clock (placed x id)).number in
       let same : number ≡ x.number = (marked_same change s.clock (placed x id)).0 in
       let apart = ne_eqb number k (λ is. other (sym same ∙ is)) in
       let not_his = ne_eqb k x.number (λ is. other (sym is)) in
-      forgotten_elsewhere k number (held_by change x.number s.parameters) apart (change_once k x.number change s.parameters (h.once k))
+      forgotten_elsewhere k number (held_by change x.number s.parameters) apart
       ∙ change_elsewhere k x.number change s.parameters not_his
-  settled_elsewhere s x id change fate other h = change_elsewhere k x.number change s.parameters (ne_eqb k x.number (λ is. other (sym is)))
+  settled_elsewhere s x id change fate other = change_elsewhere k x.number change s.parameters (ne_eqb k x.number (λ is. other (sym is)))
 
-  moved_elsewhere : (t : Listing) (s : Machine) (m : Move) → IsDecided t s m → AreKept s → KeepsParameters s (moved s m)
-  moved_elsewhere t s (moves.Enter id change fate) decided h =
+  moved_elsewhere : (t : Listing) (s : Machine) (m : Move) → IsDecided t s m → KeepsParameters s (moved s m)
+  moved_elsewhere t s (moves.Enter id change fate) decided =
       entered_has (KeepsParameters s) (KeepsParameters s) t s id change fate decided.1 (inl refl)
       (λ x is.
       elim (cases_eq x.number k) [
         | inl same ↦ inr (x, is, same)
-        | inr other ↦ inl (ap (λ o. unwrap_or o []) (settled_elsewhere s x id change fate other h))
+        | inr other ↦ inl (ap (λ o. unwrap_or o []) (settled_elsewhere s x id change fate other))
       ])
       (λ v. record {
         nothing = λ g. g;
@@ -171,15 +109,15 @@ module _ (k : ℕ) where
           | inr was ↦ inr was
         ];
       })
-  moved_elsewhere t s (moves.Refuse id key units) decided h =
+  moved_elsewhere t s (moves.Refuse id key units) decided =
       with_active_has (KeepsParameters s) s.active (λ x. refused s x id key units) s (inl refl) (λ x is. inl refl)
-  moved_elsewhere t s moves.Pick decided h = picked_has (KeepsParameters s) s s.current (inl refl) (λ x xs is. inl refl)
-  moved_elsewhere t s m decided h = inl refl
+  moved_elsewhere t s moves.Pick decided = picked_has (KeepsParameters s) s s.current (inl refl) (λ x xs is. inl refl)
+  moved_elsewhere t s m decided = inl refl
 
 pub parameters_are_ones_own : ParametersAreOnesOwn
 parameters_are_ones_own t seed n s v there is k =
     let after = ((step_decides t seed s).runs v (sym (run_on t seed n s there) ∙ is)).0 in
-    subst (KeepsParameters k s) (sym after.is) (moved_elsewhere k t s after.move after.is_decided (all_kept t seed n s there))
+    subst (KeepsParameters k s) (sym after.is) (moved_elsewhere k t s after.move after.is_decided)
 
 -- ---- of one transaction, one parameter is set at most
 
@@ -188,7 +126,11 @@ set_here n [] values = let here = eq-eqb n n refl in rw here refl
 set_here n (h ∷ hs) values =
     elim (cases_Bool (nat_eq n h.0)) [
       | inl is ↦ rw is (ap (λ b. cond b (Some values) (lookup (nat_eq n) hs)) is)
-      | inr other ↦ rw other (rw other (set_here n hs values))
+      | inr other ↦
+          elim (cases_Bool (nat_lt n h.0)) [
+            | inl before ↦ rw (other, before) (ap (λ b. cond b (Some values) (lookup (nat_eq n) (h ∷ hs))) (eq-eqb n n refl))
+            | inr behind ↦ rw (other, behind) (rw other (set_here n hs values))
+          ]
     ]
 
 own_sets : (n : ℕ) (change : TransactionChange) (held : Held) → SetsAtMostOne (values_at held n) (values_at (own_held change n held) n)
@@ -226,14 +168,14 @@ module _ (k : ℕ) where
         omega arith,
       )
 
-  settled_sets : (s : Machine) (x : Transaction) (id : ℕ) (change : Change) (fate : Fate) → s.active ≡ Some x → IsNumbered s → AreKept s →
+  settled_sets : (s : Machine) (x : Transaction) (id : ℕ) (change : Change) (fate : Fate) → s.active ≡ Some x → IsNumbered s →
       SetsOne s (settled s x id change fate)
-  settled_sets s x id change (fates.Destroyed count) is h kept =
+  settled_sets s x id change (fates.Destroyed count) is h =
       elim (cases_eq x.number k) [
         | inl same ↦ inr (destroyed_gone s x id change count is same h)
-        | inr other ↦ inl (inl (ap (λ o. unwrap_or o []) (settled_elsewhere k s x id change (fates.Destroyed count) other kept)))
+        | inr other ↦ inl (inl (ap (λ o. unwrap_or o []) (settled_elsewhere k s x id change (fates.Destroyed count) other)))
       ]
-  settled_sets s x id change fate is h kept = inl (held_sets k x.number change s.parameters)
+  settled_sets s x id change fate is h = inl (held_sets k x.number change s.parameters)
 
   lets_sets : (s w : Machine) (key : Key) (x : Transaction) (passed xs : List Transaction) → delay_at w.delays key ≡ passed ++ x ∷ xs → SetsOne s w →
       SetsOne s (one_let_in key x (passed ++ xs) w)
@@ -242,10 +184,10 @@ module _ (k : ℕ) where
       (sym (let_in_parameters x x.destination (leaving w key (passed ++ xs)))) sets)
   lets_sets s w key x passed xs is (inr gone) = inr (lets_gone k (has_number k) (of_number k) w key x passed xs is gone)
 
-  moved_sets : (t : Listing) (s : Machine) (m : Move) → s.next < 2 ^ 64 - 1 → IsDecided t s m → IsNumbered s → AreKept s → SetsOne s (moved s m)
-  moved_sets t s (moves.Enter id change fate) room decided h kept =
+  moved_sets : (t : Listing) (s : Machine) (m : Move) → s.next < 2 ^ 64 - 1 → IsDecided t s m → IsNumbered s → SetsOne s (moved s m)
+  moved_sets t s (moves.Enter id change fate) room decided h =
       entered_has (λ v. (v.next ≡ s.next) × SetsOne s v) (SetsOne s) t s id change fate decided.1 (inl (inl refl))
-      (λ x is. ((settled_is s x id change fate).next, settled_sets s x id change fate is h kept))
+      (λ x is. ((settled_is s x id change fate).next, settled_sets s x id change fate is h))
       (λ v. record {
         nothing = λ g. g.1;
         one = λ a coming g. elim g.1 [
@@ -254,18 +196,17 @@ module _ (k : ℕ) where
         ];
         lets = lets_sets s;
       })
-  moved_sets t s (moves.Refuse id key units) room decided h kept =
+  moved_sets t s (moves.Refuse id key units) room decided h =
       with_active_has (SetsOne s) s.active (λ x. refused s x id key units) s (inl (inl refl)) (λ x is. inl (inl refl))
-  moved_sets t s moves.Pick room decided h kept = picked_has (SetsOne s) s s.current (inl (inl refl)) (λ x xs is. inl (inl refl))
-  moved_sets t s m room decided h kept = inl (inl refl)
+  moved_sets t s moves.Pick room decided h = picked_has (SetsOne s) s s.current (inl (inl refl)) (λ x xs is. inl (inl refl))
+  moved_sets t s m room decided h = inl (inl refl)
 
 pub one_parameter_is_set : OneParameterIsSet
 one_parameter_is_set t seed n s v well within there is k lives' =
     let after = ((step_decides t seed s).runs v (sym (run_on t seed n s there) ∙ is)).0 in
     let room = all_within t seed n s well there in
     let sets =
-    moved_sets k t s after.move (omega (arith, room.next, well.greatest_limit)) after.is_decided (all_numbered t seed well n s there within)
-    (all_kept t seed n s there) in
+    moved_sets k t s after.move (omega (arith, room.next, well.greatest_limit)) after.is_decided (all_numbered t seed well n s there within) in
     elim (subst (SetsOne k s) (sym after.is) sets) [
       | inl one' ↦ one'
       | inr gone ↦ absurd (let no = alive k (living v) (many_living (has_number k) v ∙ gone.1) in false≢true (sym no ∙ lives'))

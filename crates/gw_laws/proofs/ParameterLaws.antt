@@ -1,4 +1,4 @@
--- The parameters that are kept, move by move and over a run: of each transaction once, and of the living alone.
+-- The parameters that are kept, move by move and over a run: of the living alone.
 use Rattle.std.proofs.Common.{◌≡◌, ℕ, ℤ, suc, ◌+◌, ◌≤◌, ◌<◌, nat_eq, nat_lt, Bool, true, false, List, [], ◌∷◌, length, get_or, ◌++◌, ◌⊎◌, Option, Some, None, Ok, refl, ap, sym, subst, ◌∙◌, inl, inr, arith}
 use Rattle.std.specs.Prelude.{position, swap_remove}
 use Rattle.std.specs.List.{list_any, position_or_len, sum_by}
@@ -45,99 +45,34 @@ abbrev pub times : ℕ → Held → ℕ
 times k [] = 0
 times k (h ∷ hs) = one (is_of k h) + times k hs
 
-times_sum : (k : ℕ) (held : Held) → times k held ≡ sum_by (λ h. one (is_of k h)) held
-times_sum k [] = refl
-times_sum k (h ∷ hs) = ap (λ n. one (is_of k h) + n) (times_sum k hs) ∙ sym (sum_by-cons (λ (e : ℕ × Values). one (is_of k e)) h hs)
-
 -- those of one transaction are set
-set_once : (n : ℕ) (held : Held) (values : Values) → times n held ≤ 1 → times n (with_values held n values) ≤ 1
-set_once n [] values once = let here = eq-eqb n n refl in let is : one (nat_eq n n) ≡ 1 = rw here refl in omega arith
-set_once n (h ∷ hs) values once =
-    elim (cases_Bool (nat_eq n h.0)) [
-      | inl is ↦ rw is (let here : one (nat_eq n h.0) ≡ 1 = rw is refl in omega arith)
-      | inr other ↦
-          let none : one (nat_eq n h.0) ≡ 0 = rw other refl in
-          let rest = set_once n hs values (omega arith) in
-          rw other (omega arith)
-    ]
-
 set_others : (k n : ℕ) (held : Held) (values : Values) → nat_eq k n ≡ false → times k (with_values held n values) ≡ times k held
 set_others k n [] values apart = let none : one (nat_eq k n) ≡ 0 = rw apart refl in omega arith
 set_others k n (h ∷ hs) values apart =
     elim (cases_Bool (nat_eq n h.0)) [
       | inl is ↦ rw is refl
-      | inr other ↦ rw other (ap (λ m. one (is_of k h) + m) (set_others k n hs values apart))
+      | inr other ↦
+          elim (cases_Bool (nat_lt n h.0)) [
+            | inl before ↦ let none : one (nat_eq k n) ≡ 0 = rw apart refl in rw (other, before) (omega arith)
+            | inr behind ↦ rw (other, behind) (ap (λ m. one (is_of k h) + m) (set_others k n hs values apart))
+          ]
     ]
 
 -- those of one transaction are forgotten
-pub first_passes : (n : ℕ) (held : Held) (d : ℕ × Values) → position_or_len (is_of n) held < length held →
-    is_of n (get_or held (position_or_len (is_of n) held) d) ≡ true
-first_passes n [] d within = absurd (omega arith)
-first_passes n (h ∷ hs) d within =
-    elim (cases_Bool (nat_eq n h.0)) [
-      | inl is ↦ rw is is
-      | inr other ↦
-          let more : 1 + position_or_len (is_of n) hs < length (h ∷ hs) = rw other at within in
-          let m = position_or_len (is_of n) hs in
-          let step : suc m ≡ 1 + m = omega arith in
-          let behind : is_of n (get_or (h ∷ hs) (1 + m) d) ≡ true =
-          subst (λ i. is_of n (get_or (h ∷ hs) i d) ≡ true) step (first_passes n hs d (omega arith)) in
-          rw other behind
-    ]
-
-none_passes : (n : ℕ) (held : Held) → length held ≤ position_or_len (is_of n) held → times n held ≡ 0
-none_passes n [] beyond = refl
-none_passes n (h ∷ hs) beyond =
-    elim (cases_Bool (nat_eq n h.0)) [
-      | inl is ↦ absurd (let early : length (h ∷ hs) ≤ 0 = rw is at beyond in omega arith)
-      | inr other ↦
-          let more : length (h ∷ hs) ≤ 1 + position_or_len (is_of n) hs = rw other at beyond in
-          let rest = none_passes n hs (omega arith) in
-          let none : one (nat_eq n h.0) ≡ 0 = rw other refl in
-          omega arith
-    ]
-
--- the place where they stand, if they are kept
-pub place_is : (n : ℕ) (held : Held) (i : ℕ) → position (is_of n) held ≡ Some i → (i < length held) × (i ≡ position_or_len (is_of n) held)
-place_is n held i is =
-    elim (cases_Bool (nat_lt (position_or_len (is_of n) held) (length held))) [
-      | inl within ↦ let same : Some (position_or_len (is_of n) held) ≡ Some i = rw within at is in
-          let at : position_or_len (is_of n) held ≡ i = cc in (grind (arith, nat_tests), sym at)
-      | inr beyond ↦ absurd (let no : None ≡ Some i = rw beyond at is in cc)
-    ]
-
-no_place : (n : ℕ) (held : Held) → position (is_of n) held ≡ None → length held ≤ position_or_len (is_of n) held
-no_place n held is =
-    elim (cases_Bool (nat_lt (position_or_len (is_of n) held) (length held))) [
-      | inl within ↦ absurd (let no : Some (position_or_len (is_of n) held) ≡ None = rw within at is in cc)
-      | inr beyond ↦ grind (arith, nat_tests)
-    ]
-
-swapped : (k : ℕ) (held : Held) (i : ℕ) (d : ℕ × Values) → i < length held →
-    times k (swap_remove held i d) + one (is_of k (get_or held i d)) ≡ times k held
-swapped k held i d within =
-    rw (times_sum k (swap_remove held i d), times_sum k held) (sum_by-swap_remove (λ (e : ℕ × Values). one (is_of k e)) held i d within)
-
 pub forget_fewer : (k n : ℕ) (held : Held) → times k (without held n) ≤ times k held
 forget_fewer k n [] = omega arith
-forget_fewer k n (h ∷ hs) = go (position (is_of n) (h ∷ hs)) refl where
-  go : (o : Option ℕ) → position (is_of n) (h ∷ hs) ≡ o →
-      times k (option_map_or (λ i. swap_remove (h ∷ hs) i h) o (h ∷ hs)) ≤ times k (h ∷ hs)
-  go None is = omega arith
-  go (Some i) is = let less = swapped k (h ∷ hs) i h (place_is n (h ∷ hs) i is).0 in omega arith
+forget_fewer k n (h ∷ hs) =
+    let rest = forget_fewer k n hs in
+    elim (cases_Bool (nat_eq n h.0)) [ inl is ↦ rw is (omega arith) | inr other ↦ rw other (omega arith) ]
 
-forget_all : (n : ℕ) (held : Held) → times n held ≤ 1 → times n (without held n) ≡ 0
-forget_all n [] once = refl
-forget_all n (h ∷ hs) once = go (position (is_of n) (h ∷ hs)) refl where
-  go : (o : Option ℕ) → position (is_of n) (h ∷ hs) ≡ o → times n (option_map_or (λ i. swap_remove (h ∷ hs) i h) o (h ∷ hs)) ≡ 0
-  go None is = none_passes n (h ∷ hs) (no_place n (h ∷ hs) is)
-  go (Some i) is =
-      let at = place_is n (h ∷ hs) i is in
-      let less = swapped n (h ∷ hs) i h at.0 in
-      let passes = first_passes n (h ∷ hs) h (omega (arith, at.0, at.1)) in
-      let here : is_of n (get_or (h ∷ hs) i h) ≡ true = rw at.1 passes in
-      let is_one : one (is_of n (get_or (h ∷ hs) i h)) ≡ 1 = rw here refl in
-      omega arith
+forget_all : (n : ℕ) (held : Held) → times n (without held n) ≡ 0
+forget_all n [] = refl
+forget_all n (h ∷ hs) =
+    let rest = forget_all n hs in
+    elim (cases_Bool (nat_eq n h.0)) [
+      | inl is ↦ rw is rest
+      | inr other ↦ rw other (let none : one (nat_eq n h.0) ≡ 0 = rw other refl in omega arith)
+    ]
 
 -- what a block sets of the parameters of its transaction
 set_has : (k n : ℕ) (held : Held) (values : Values) → 1 ≤ times k (with_values held n values) → (k ≡ n) ⊎ (1 ≤ times k held)
@@ -146,23 +81,6 @@ set_has k n held values some =
       | inl is ↦ inl (eqb-true k n is)
       | inr other ↦ let same = set_others k n held values other in inr (omega arith)
     ]
-
-set_all_once : (k n : ℕ) (held : Held) (values : Values) → times k held ≤ 1 → times k (with_values held n values) ≤ 1
-set_all_once k n held values once =
-    elim (cases_Bool (nat_eq k n)) [
-      | inl is ↦ let same = eqb-true k n is in rw same (set_once n held values (rw same at once))
-      | inr other ↦ let same = set_others k n held values other in omega arith
-    ]
-
-pub change_once : (k n : ℕ) (change : Change) (held : Held) → times k held ≤ 1 → times k (held_by change n held) ≤ 1
-change_once k n (changes.Transaction (own.Assign key to)) held once = set_all_once k n held (with_value (values_at held n) key to) once
-change_once k n (changes.Transaction (own.Loop key left to)) held once = set_all_once k n held (with_value (values_at held n) key left) once
-change_once k n (changes.Transaction own.Mark) held once = once
-change_once k n (changes.Transaction (own.Priority to)) held once = once
-change_once k n (changes.Transaction (own.Transfer to)) held once = once
-change_once k n (changes.Generate next) held once = once
-change_once k n (changes.Entity change) held once = once
-change_once k n changes.Nothing held once = once
 
 change_has : (k n : ℕ) (change : Change) (held : Held) → 1 ≤ times k (held_by change n held) → (k ≡ n) ⊎ (1 ≤ times k held)
 change_has k n (changes.Transaction (own.Assign key to)) held some = set_has k n held (with_value (values_at held n) key to) some
@@ -176,16 +94,12 @@ change_has k n changes.Nothing held some = inr some
 
 -- ---- moves
 
--- the parameters of each transaction are kept once, and of the living alone
+-- parameters are kept of the living alone
 pub record AreKept (s : Machine) : Type 0 where
-  pub once : (k : ℕ) → times k s.parameters ≤ 1
   pub alive : (k : ℕ) → 1 ≤ times k s.parameters → Lives k s
 
 same_kept : (s v : Machine) → v.parameters ≡ s.parameters → ((k : ℕ) → Lives k s → Lives k v) → AreKept s → AreKept v
-same_kept s v same live h = record {
-  once = λ k. rw same (h.once k);
-  alive = λ k some. live k (h.alive k (rw same at some));
-}
+same_kept s v same live h = record { alive = λ k some. live k (h.alive k (rw same at some)) }
 
 module _ (s : Machine) (x : Transaction) (id : ℕ) (change : Change) (is : s.active ≡ Some x) (h : AreKept s) where
   abbrev number : ℕ
@@ -209,7 +123,6 @@ module _ (s : Machine) (x : Transaction) (id : ℕ) (change : Change) (is : s.ac
   stays_kept : (fate : Fate) → (settled s x id change fate).parameters ≡ held_by change x.number s.parameters →
       ((n : ℕ) → remains fate n ≡ n) → AreKept (settled s x id change fate)
   stays_kept fate parameters stays = record {
-    once = λ k. rw parameters (change_once k x.number change s.parameters (h.once k));
     alive = λ k some.
         let lived = alive_before k (rw parameters at some) in
         let was = active_crowd (has_number k) s x is in
@@ -226,12 +139,11 @@ module _ (s : Machine) (x : Transaction) (id : ℕ) (change : Change) (is : s.ac
   settled_kept (fates.Destroyed count) =
       let held = held_by change x.number s.parameters in
       record {
-        once = λ k. let fewer = forget_fewer k number held in let once = change_once k x.number change s.parameters (h.once k) in omega arith;
         alive = λ k some.
             elim (cases_Bool (nat_eq k number)) [
               | inl same ↦
                   let at = eqb-true k number same in
-                  let none = forget_all number held (change_once number x.number change s.parameters (h.once number)) in
+                  let none = forget_all number held in
                   let some_there : 1 ≤ times number (without held number) = rw at at some in
                   absurd (omega arith)
               | inr other ↦
@@ -279,8 +191,8 @@ moved_kept t s (moves.Clock time) decided h =
 -- over a run
 pub all_kept : (t : Listing) (seed n : ℕ) (s : Machine) → run t seed n ≡ Ok s → AreKept s
 all_kept t seed n s there =
-    over_run t seed (λ n s. AreKept s) (record { once = λ k. omega arith; alive = λ k some. absurd (omega arith) })
-    (λ n s m streams there decided h. (let k = moved_kept t s m decided h in record { once = k.once; alive = k.alive }))
+    over_run t seed (λ n s. AreKept s) (record { alive = λ k some. absurd (omega arith) })
+    (λ n s m streams there decided h. (let k = moved_kept t s m decided h in record { alive = k.alive }))
     n s there
 
 -- what that says of the list of parameters

@@ -2,7 +2,7 @@
 use Rattle.std.specs.Prelude.{ℕ, ℤ, Bool, List}
 use Rattle.gw_names.specs.declared.key.Key.{Key}
 use Rattle.gw_entities.specs.Records.{Ownership, Line, Store}
-use Rattle.gw_entities.specs.Comings.{ReadyArrivals}
+use Rattle.gw_entities.specs.Comings.{Arrivals}
 use Rattle.gw_meaning.specs.Entities.{Entities}
 
 -- the clocks
@@ -29,7 +29,7 @@ pub record Stock : Type 0 where
   pub storages : List (Key × Store)
   pub savevalues : List (Key × ℤ)
   pub switches : List (Key × Bool)
-  pub comings : ReadyArrivals
+  pub comings : Arrivals
 
 abbrev pub entities_of : Stock → Entities
 entities_of e =

@@ -251,9 +251,9 @@ impl Entities {
         }) }
         ensures err { OnErr result (entities_of self.new ≡ entities_of self.old) }
     {
-        self.comings.reserve(key)?;
+        let coming = self.comings.reserve(key)?;
         self.queues.change_at(key, place, Queue::new(), arrive)?;
-        self.comings.add(key, number);
+        self.comings.add(number, coming);
         Ok(())
     }
 
@@ -269,16 +269,16 @@ impl Entities {
         }
     }
 
-    /// Gets ready for the questions of many steps, which are answered sooner then. The entities stay.
-    pub fn get_ready(&mut self) -> Result<(), AllocError>
+    /// Copies share the entities from now on.
+    pub fn share(&mut self) -> Result<(), AllocError>
         ensures { entities_of self.new ≡ entities_of self.old }
     {
-        self.facilities.get_ready()?;
-        self.queues.get_ready()?;
-        self.storages.get_ready()?;
-        self.savevalues.get_ready()?;
-        self.switches.get_ready()?;
-        self.comings.get_ready()
+        self.facilities.share()?;
+        self.queues.share()?;
+        self.storages.share()?;
+        self.savevalues.share()?;
+        self.switches.share()?;
+        self.comings.share()
     }
 
     /// A copy.

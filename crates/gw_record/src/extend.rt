@@ -33,7 +33,6 @@ impl Recorded {
         ensures bound { self.new.moment ≤ self.old.moment + steps }
         ensures tally { tally.new ≡ tallied tally.old (self.new.moment - self.old.moment) }
     {
-        self.tip.get_ready()?;
         for made in 0..steps {
             if self.moment >= version.limit() {
                 return Ok(made);

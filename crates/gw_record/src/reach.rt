@@ -41,7 +41,6 @@ impl Recorded {
         ensures tally { tally.new ≡ tallied tally.old (self.new.moment - self.old.moment) }
         ensures reached { IfOk result (Reaches version.now seed k self.new) }
     {
-        self.tip.get_ready()?;
         for _moment in self.moment..version.limit() {
             if self.tip.complete() >= k {
                 return Ok(Reach::Complete);

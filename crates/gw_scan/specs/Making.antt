@@ -15,7 +15,7 @@ use Rattle.gw_meaning.specs.Statements.{B, operand}
 use Rattle.gw_meaning.specs.Step.{for_one, assign_with, left_of, loop_with}
 use Rattle.gw_meaning.specs.declared.statement.Block.{Block}
 use Rattle.gw_meaning.specs.declared.transaction.Transaction.{Transaction}
-use Rattle.gw_entities.specs.Parameters.{parameter_at}
+use Rattle.gw_entities.specs.Parameters.{Held, parameter_at, without}
 use Rattle.gw_asking.specs.Halts.{why_of_fault}
 use Rattle.gw_asking.specs.declared.halt.Why.{Why}
 
@@ -28,6 +28,11 @@ halted (Err fault) = Err (why_of_fault fault)
 abbrev pub entered : ℕ → Result Fate Why → Result Move Why
 entered id (Ok fate) = Ok (moves.Enter id changes.Nothing fate)
 entered id (Err halt) = Err halt
+
+-- the parameters of all transactions, behind what becomes of the one with a number
+abbrev pub kept_by : Fate → ℕ → Held → Held
+kept_by (fates.Destroyed count) number held = without held number
+kept_by fate number held = held
 
 -- a GENERATE is entered, where it was decided which transaction it makes next, if any
 abbrev pub generated : ℕ → Result (Option Arrival) Why → Result Move Why

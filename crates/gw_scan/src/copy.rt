@@ -26,22 +26,14 @@ pub struct Kept {
 }
 
 impl State {
-    /// Makes copies of it cheap: they share what seldom changes, the closed segments of the future chain. The state is
-    /// the same behind it, also where memory is refused.
+    /// Makes copies of it cheap: from now on they share what did not change, of the future chain, of the entities
+    /// and of the parameters. The state is the same behind it, also where memory is refused.
     pub fn share(&mut self) -> Result<(), AllocError>
         ensures { self.new ≡ self.old }
     {
-        self.future.share()
-    }
-
-    /// Gets it ready for many steps: the slots by which entities, delay chains and comings are found, which a copy
-    /// leaves out, are made anew. The state is the same behind it, also where memory is refused.
-    #[inline(never)]
-    pub fn get_ready(&mut self) -> Result<(), AllocError>
-        ensures { self.new ≡ self.old }
-    {
-        self.delays.get_ready()?;
-        self.entities.get_ready()
+        self.future.share()?;
+        self.entities.share()?;
+        self.parameters.share()
     }
 
     /// An equal state.

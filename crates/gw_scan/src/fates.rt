@@ -9,7 +9,7 @@ ghost use Rattle.gw_meaning.specs.declared.moves.Change.TheVariants as changes;
 ghost use Rattle.gw_meaning.specs.declared.moves.Move.TheVariants as moves;
 ghost use Rattle.gw_meaning.specs.declared.transaction.Transaction.{Transaction};
 ghost use Rattle.gw_asking.specs.Deciding.{Decides};
-ghost use Rattle.gw_scan.specs.Making.{entered};
+ghost use Rattle.gw_scan.specs.Making.{entered, kept_by};
 ghost use Rattle.gw_scan.specs.Stepping.{Acts, Makes};
 
 use crate::state::State;
@@ -151,6 +151,9 @@ impl State {
         self.current.reserve(1)?;
         self.counts.reserve(id)?;
         if self.active.is_some() {
+            // The last that may be refused.
+            let number = self.active.get().number;
+            forget_destroyed(&mut self.parameters, number, &fate)?;
             self.counts.cross(self.active.get().current, id, &fate);
             self.active.place(id);
             settle(
@@ -158,7 +161,6 @@ impl State {
                 &mut self.current,
                 &mut self.future,
                 &mut self.progress,
-                &mut self.parameters,
                 fate,
             );
         }
@@ -166,14 +168,25 @@ impl State {
     }
 }
 
-// What becomes of the active transaction.
+// Forgets the parameters of a transaction that is destroyed, or nothing where memory is refused.
+#[inline(always)]
+fn forget_destroyed(parameters: &mut Parameters, number: u64, fate: &Fate) -> Result<(), AllocError>
+    ensures ok { OnOk result (parameters.new ≡ kept_by fate.now number parameters.old) }
+    ensures err { OnErr result (parameters.new ≡ parameters.old) }
+{
+    match fate {
+        Fate::Destroyed { .. } => parameters.forget(number),
+        Fate::Active | Fate::Current | Fate::Delayed { .. } => Ok(()),
+    }
+}
+
+// What becomes of the active transaction, but for its parameters.
 #[inline(always)]
 fn settle(
     active: &mut Active,
     current: &mut PriorityChain,
     future: &mut FutureChain,
     progress: &mut Progress,
-    parameters: &mut Parameters,
     fate: Fate,
 )
     requires active { IsSome active.old }
@@ -186,13 +199,12 @@ fn settle(
           future = future.new.items;
           remaining = progress.new.remaining;
           complete = progress.new.complete;
-          parameters = parameters.new;
+          parameters = kept_by fate x.number s.parameters;
         } ≡ fated fate x (record s {
           current = current.old.items;
           future = future.old.items;
           remaining = progress.old.remaining;
           complete = progress.old.complete;
-          parameters = parameters.old;
         }) }
     ensures commands { (progress.new.commands ≡ progress.old.commands) × (progress.new.primed ≡ progress.old.primed) }
 {
@@ -208,7 +220,6 @@ fn settle(
             });
         }
         Fate::Destroyed { count } => {
-            parameters.forget(active.get().number);
             active.clear();
             progress.count_down(count);
         }

@@ -1,7 +1,6 @@
-// ASSIGN and LOOP: what a block sets of a parameter, which is looked up once where it is among the first few of its
-// transaction; and the value of a parameter.
+// ASSIGN and LOOP: what a block sets of a parameter; and the value of a parameter.
 ghost use Rattle.std.specs.Prelude.{◌≡◌, ℕ, ℤ, Some, IsSome, OnOk, OnErr, pos, option_copied};
-ghost use Rattle.gw_entities.specs.Parameters.{parameter_at, IsKnownPlace};
+ghost use Rattle.gw_entities.specs.Parameters.{parameter_at};
 ghost use Rattle.gw_meaning.specs.Statements.{A, B, operand};
 ghost use Rattle.gw_meaning.specs.Evaluation.{arithmetic, value_held, parameter_value};
 ghost use Rattle.gw_meaning.specs.Step.{for_one, by_sign, or_zero, assign_with, assign_prog, left_of, loop_back, loop_to, loop_with, loop_prog};
@@ -16,7 +15,7 @@ ghost use Rattle.gw_scan.specs.Making.{assign_key, loop_key, looped, looping};
 use crate::entering::enter_active;
 use crate::state::State;
 use gw_asking::{Case, EntityRef, Halt, Notes, ask_label};
-use gw_entities::{ParameterPlace, Parameters};
+use gw_entities::Parameters;
 use gw_expr::{Expr, Node, Operator};
 use gw_meaning::operands::B;
 use gw_meaning::{Asker, Auxiliary, Block, Destination, StatementId};
@@ -120,11 +119,11 @@ impl State {
             result self.old self.new }
     {
         let number = self.active.get().number;
-        let (place, was) = value_before(&self.parameters, number, sign, key);
+        let was = value_before(&self.parameters, number, sign, key);
         let to = arithmetic(by_sign(sign, was, value))?;
         self.counts.reserve(id)?;
         // The last that may be refused.
-        self.parameters.assign_at(number, key, place, to)?;
+        self.parameters.assign(number, key, to)?;
         enter_active(&mut self.active, &mut self.counts, id);
         Ok(())
     }
@@ -204,10 +203,10 @@ impl State {
             result self.old self.new notes.old notes.new }
     {
         let number = self.active.get().number;
-        let (place, was) = self.parameters.look(number, key);
+        let was = self.parameters.get(number, key);
         let left = left_of(was)?;
         let to = loop_with(case, notes, left, block.operand(B))?;
-        self.make_loop(id, key, place, left, to)?;
+        self.make_loop(id, key, left, to)?;
         self.take_draws(notes);
         Ok(())
     }
@@ -219,20 +218,17 @@ impl State {
         &mut self,
         id: StatementId,
         key: &Key,
-        place: Option<ParameterPlace>,
         left: Val,
         to: Destination,
     ) -> Result<(), AllocError>
-        requires there { IsSome self.old.active }
-        requires place { (x : Transaction) → self.old.active ≡ Some x →
-            IsKnownPlace self.old.parameters x.number key.now place }
+        requires { IsSome self.old.active }
         ensures ok { OnOk result (self.new ≡ moved self.old (looped id key.now left to)) }
         ensures err { OnErr result (self.new ≡ self.old) }
     {
         let number = self.active.get().number;
         self.counts.reserve(id)?;
         // The last that may be refused.
-        self.parameters.assign_at(number, key, place, left)?;
+        self.parameters.assign(number, key, left)?;
         enter_active(&mut self.active, &mut self.counts, id);
         self.active.set_destination(to);
         Ok(())
@@ -260,21 +256,15 @@ fn value_held(value: Option<Val>) -> Result<Val, Halt>
     }
 }
 
-// Where a parameter of a transaction lies before an ASSIGN, and its value. It is looked up only where the ASSIGN has a
-// sign: else what is set does not depend on it.
+// The value of a parameter of a transaction before an ASSIGN. It is looked up only where the ASSIGN has a sign: else what
+// is set does not depend on it.
 #[inline(always)]
-fn value_before(
-    parameters: &Parameters,
-    number: u64,
-    sign: Auxiliary,
-    key: &Key,
-) -> (Option<ParameterPlace>, Option<Val>)
-    ensures place { IsKnownPlace parameters.now number key.now result.0 }
-    ensures value { (v : ℤ) → by_sign sign result.1 v ≡ by_sign sign (parameter_at parameters.now number key.now) v }
+fn value_before(parameters: &Parameters, number: u64, sign: Auxiliary, key: &Key) -> Option<Val>
+    ensures { (v : ℤ) → by_sign sign result v ≡ by_sign sign (parameter_at parameters.now number key.now) v }
 {
     match sign {
-        Auxiliary::Plus | Auxiliary::Minus => parameters.look(number, key),
-        _ => (None, None),
+        Auxiliary::Plus | Auxiliary::Minus => parameters.get(number, key),
+        _ => None,
     }
 }
 

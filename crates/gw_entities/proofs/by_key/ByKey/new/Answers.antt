@@ -1,7 +1,7 @@
-use Rattle.std.proofs.Common.{arith, refl}
+use Rattle.std.proofs.Common.{refl}
 use Rattle.std.specs.List.{IsDistinct}
 use Rattle.gw_entities.proofs.by_key.ByKey.new.Goals as goal
 
 pub invariant_of-result : goal.invariant_of-result
 unfolding IsDistinct
-invariant_of-result g c = rw (c.new.ensures.items, c.new-2.ensures) (tt, omega arith, (λ less. refl), tt)
+invariant_of-result g c = rw (c.new.ensures, c.new-2.ensures) (refl, tt)

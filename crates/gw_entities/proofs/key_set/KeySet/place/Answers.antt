@@ -1,8 +1,15 @@
-use Rattle.gw_entities.proofs.LinkLaws.{none_bare}
+use Rattle.std.proofs.Common.{◌≡◌, Some, sym, ap, ◌∙◌}
+use Rattle.std.specs.List.{find}
+use Rattle.gw_names.specs.declared.key.Key.{Key}
+use Rattle.gw_names.specs.Keys.{key_eq}
+use Rattle.gw_entities.proofs.ComingLaws.{key_same, find_passes}
 use Rattle.gw_entities.proofs.key_set.KeySet.place.Goals as goal
 
-pub returns-in-Some-clause-none : goal.returns-in-Some-clause-none
-returns-in-Some-clause-none c =
-    let bare = rw c.in-Some.is at c.self.invariant in
-    let none = rw c.deref.ensures at c.place.ensures.none in
-    rw (← c.self.view_is, c.in-Some.is) (none_bare c.args.key.now c.in-Some.set.value.pairs c.place.result bare none)
+pub returns-in-Some-clause-there : goal.returns-in-Some-clause-there
+returns-in-Some-clause-there c =
+    let key = c.args.key.now in
+    let ks = c.set.result.now.keys in
+    let k = c.in-Some.field-0-1.now in
+    let found : Some k ≡ find (key_eq key) ks = c.in-Some.ensures.key in
+    let same = key_same key k (find_passes (key_eq key) ks k found) in
+    rw (← c.set.ensures) (c.in-Some.ensures.stored ∙ ap (λ (q : Key). Some q) (sym same))

@@ -1,18 +1,22 @@
-use Rattle.std.proofs.lemmas.Result.{on_ok_weaker}
-use Rattle.gw_entities.proofs.ParameterLaws.{assigned_in_place, kept_set}
+use Rattle.std.proofs.Common.{◌≡◌, ap, sym, subst, ◌∙◌}
+use Rattle.gw_entities.specs.Owned.{with_own, AreRising}
+use Rattle.gw_entities.specs.Parameters.{grouped}
+use Rattle.gw_entities.proofs.OwnLaws.{rising_with}
+use Rattle.gw_entities.proofs.ParameterLaws.{assigned_is}
 use Rattle.gw_entities.proofs.parameters.Parameters.assign.Goals as goal
 
-pub invariant_of-self : goal.invariant_of-self
-invariant_of-self c =
-    let (apart, behind, spare) = c.self.invariant in
-    let kept = kept_set c.self.inside.held.items c.self.inside.behind.keys c.in-Some.index _ c.put.new.self apart behind c.index_mut.ensures.value in
-    (kept.0, kept.1, spare)
+pub invariant_of-self-2 : goal.invariant_of-self-2
+invariant_of-self-2 c =
+    let es = c.self.inside.own.entries in
+    let key = c.args.key.now in
+    let now : c.put.new.self.entries ≡ with_own es c.args.number key c.args.value =
+    c.put.ensures.entries key c.in_ok-place.ensures.key ∙ ap (λ l. with_own l c.args.number key c.args.value) c.in_ok-place.ensures.entries in
+    subst AreRising (sym now) (rising_with c.args.number key c.args.value es c.self.invariant)
 
-pub returns-in-Some-clause-ok : goal.returns-in-Some-clause-ok
-returns-in-Some-clause-ok c =
-    let there = rw (← c.self.view_is) at c.in-Some.ensures.there in
-    rw (← c.self.view_is)
-    (on_ok_weaker c.put.result
-    (λ set_to. assigned_in_place c.self.inside.held.items c.in-Some.index c.args.number c.args.key.now c.args.value there.0 _
-    c.put.new.self c.self.invariant.0 there.1 c.index_mut.ensures.value set_to)
-    c.put.ensures.ok)
+pub returns-clause-ok : goal.returns-clause-ok
+returns-clause-ok c =
+    let es = c.self.inside.own.entries in
+    let key = c.args.key.now in
+    let now : c.put.new.self.entries ≡ with_own es c.args.number key c.args.value =
+    c.put.ensures.entries key c.in_ok-place.ensures.key ∙ ap (λ l. with_own l c.args.number key c.args.value) c.in_ok-place.ensures.entries in
+    rw (← c.self.view_is) (ap grouped now ∙ assigned_is es c.args.number key c.args.value c.self.invariant)

@@ -1,10 +1,11 @@
 use Rattle.std.proofs.Common.{◌≡◌, Some, ap, ◌∙◌, rules}
 use Rattle.gw_meaning.specs.Machine.{Machine}
 use Rattle.gw_meaning.specs.Changes.{fated, placed, crossed}
+use Rattle.gw_scan.specs.Making.{kept_by}
 use Rattle.gw_scan.proofs.state.State.enter.Goals as goal
 
-pub returns-then-is_some-clause-ok : goal.returns-then-is_some-clause-ok
-returns-then-is_some-clause-ok c =
+pub returns-in_ok-forget_destroyed-clause-ok : goal.returns-in_ok-forget_destroyed-clause-ok
+returns-in_ok-forget_destroyed-clause-ok c =
     let s = c.args.self.now in
     let x = c.get.result.now in
     let base : Machine = record s { counts = crossed c.args.fate s.counts x.current c.args.id } in
@@ -16,9 +17,9 @@ returns-then-is_some-clause-ok c =
       future = c.reserve.new.self.items;
       remaining = c.self.inside.progress.remaining;
       complete = c.self.inside.progress.complete;
-      parameters = c.self.inside.parameters;
     } ≡ base = search rules in
     let counts : c.cross.new.self.entries ≡ crossed c.args.fate s.counts x.current c.args.id = search rules in
+    let kept : c.forget_destroyed.new.parameters ≡ kept_by c.args.fate x.number s.parameters = search rules in
     let after : record s {
       active = c.settle.new.active;
       current = c.settle.new.current.items;
@@ -26,6 +27,6 @@ returns-then-is_some-clause-ok c =
       remaining = c.settle.new.progress.remaining;
       complete = c.settle.new.progress.complete;
       counts = c.cross.new.self.entries;
-      parameters = c.settle.new.parameters;
-    } ≡ fated c.args.fate (placed x c.args.id) base = rw counts (behind ∙ ap (fated c.args.fate (placed x c.args.id)) before) in
+      parameters = c.forget_destroyed.new.parameters;
+    } ≡ fated c.args.fate (placed x c.args.id) base = rw (counts, kept) (behind ∙ ap (fated c.args.fate (placed x c.args.id)) before) in
     rw active (search (rules, after))

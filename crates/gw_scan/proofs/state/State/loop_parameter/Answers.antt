@@ -24,7 +24,7 @@ returns-in_err-left c x is =
     let key = c.args.key.now in
     let first = left_of (parameter_at s.parameters x.number key) in
     let rest : ℤ → Eval Move = λ left. loop_with c.args.id key left (operand c.args.block.now B) in
-    let same : c.look-place.result.1 ≡ parameter_at s.parameters x.number key = search rules in
+    let same : c.get-was.result ≡ parameter_at s.parameters x.number key = search rules in
     let F : Option ℤ → Type 0 = λ was. Comes (left_of was) (Err c.in_err-left.field-0.0) in
     acts_exit t seed first rest _ _ _ c.in_err-left.field-0.0 s _ _ refl p.1 p.2
     (decides_comes t seed first (Err c.in_err-left.field-0.0) _ (subst F same c.in_err-left.ensures))
@@ -38,7 +38,7 @@ returns-in_err-to c x is =
     let key = c.args.key.now in
     let first = left_of (parameter_at s.parameters x.number key) in
     let rest : ℤ → Eval Move = λ left. loop_with c.args.id key left (operand c.args.block.now B) in
-    let same : c.look-place.result.1 ≡ parameter_at s.parameters x.number key = search rules in
+    let same : c.get-was.result ≡ parameter_at s.parameters x.number key = search rules in
     let F : Option ℤ → Type 0 = λ was. Comes (left_of was) (Ok c.in_ok-left.left) in
     let found = decides_comes t seed first (Ok c.in_ok-left.left) c.args.notes.now (subst F same c.in_ok-left.ensures) in
     let behind : Decides t seed (rest c.in_ok-left.left) (Err c.in_err-to.field-0.0) c.args.notes.now c.loop_with.new.notes =
@@ -72,7 +72,7 @@ returns c x is =
     let m = looped c.args.id key left c.in_ok-to.to in
     let first = left_of (parameter_at s.parameters x.number key) in
     let rest : ℤ → Eval Move = λ v. loop_with c.args.id key v (operand c.args.block.now B) in
-    let same : c.look-place.result.1 ≡ parameter_at s.parameters x.number key = search rules in
+    let same : c.get-was.result ≡ parameter_at s.parameters x.number key = search rules in
     let F : Option ℤ → Type 0 = λ was. Comes (left_of was) (Ok left) in
     let found = decides_comes t seed first (Ok left) c.args.notes.now (subst F same c.in_ok-left.ensures) in
     let behind : Decides t seed (rest left) (Ok m) c.args.notes.now c.loop_with.new.notes =
