@@ -29,7 +29,7 @@ impl Desk {
             Ok(new) => new,
             Err(fault) => return Err(fault),
         };
-        // (`and` in place of `?`, which would let go of what stands here at each exit: DECISIONS 120)
+        // (`and` in place of `?`: what stands here would be dropped, and proved, at each exit)
         let room = self.runs.reserve(new.replications().len());
         let room = room.and(self.edits.reserve(1));
         let touch = room.and(touch_of(&self.version, &edit, &new))?;

@@ -32,3 +32,4 @@ pub mod FutureLaws
 pub mod DestinationLaws
 pub mod TestLaws
 pub mod VerbLaws
+pub mod ItemLaws

@@ -16,5 +16,6 @@ pub mod Storages
 pub mod Starts
 pub mod Tests
 pub mod Verbs
+pub mod Items
 pub use Rattle.gw_meaning.specs.Step
 pub use Rattle.gw_model.specs.Well

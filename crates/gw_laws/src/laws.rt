@@ -12,6 +12,7 @@ ghost use Rattle.gw_laws.specs.Ends.{EndsBehindALastState, EndsForGood};
 ghost use Rattle.gw_laws.specs.Ends.{EndsDone, EndsDry, EndsAtHorizon, ErrorsAreOfAttempts};
 ghost use Rattle.gw_laws.specs.Facilities.{FacilitiesAreUsed};
 ghost use Rattle.gw_laws.specs.Numbering.{NumbersAreApart, NumbersAreGiven, NumbersAreGivenOnce, OnlyTheActiveGoes};
+ghost use Rattle.gw_laws.specs.Items.{AnItemIsItself};
 ghost use Rattle.gw_laws.specs.Owners.{OnlyTheOwnerGivesBack, TheFirstIsGivenIt, OnlyTheActiveTakes};
 ghost use Rattle.gw_laws.specs.Parameters.{ParametersAreOfTheLiving, ParametersAreOnesOwn, OneParameterIsSet};
 ghost use Rattle.gw_laws.specs.Places.{EachHasAPlace, EachHasOnePlace};
@@ -162,4 +163,10 @@ pub fn tests_hold_as_they_say()
 /// No verb of a block that is read is left out of the evaluation: some block of it is entered in some state.
 pub fn each_verb_is_evaluated()
     ensures { EachVerbIsEvaluated }
+{}
+
+/// Two questions of steps are one to the code where they are one, and not otherwise. So the first use of an item is that
+/// of no other one.
+pub fn items_are_told_apart()
+    ensures { AnItemIsItself }
 {}

@@ -17,6 +17,6 @@ mod laws;
 pub use laws::{
     chain_in_order, clock_goes_on, contents_are_counts, delays_in_order, each_has_one_place,
     each_keeps_his_own, each_verb_is_evaluated, facilities_are_used, facilities_have_owners,
-    goes_where_it_is_sent, numbers_apart, parameters_are_of_the_living, queues_are_within,
-    runs_end, starts_are_counted, storages_are_within, tests_hold_as_they_say,
+    goes_where_it_is_sent, items_are_told_apart, numbers_apart, parameters_are_of_the_living,
+    queues_are_within, runs_end, starts_are_counted, storages_are_within, tests_hold_as_they_say,
 };
