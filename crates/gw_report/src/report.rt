@@ -1,6 +1,5 @@
 ghost use Rattle.std.specs.Prelude.{◌≡◌, IsSome, IfOk};
 ghost use Rattle.gw_meaning.specs.Listing.{seed_at};
-ghost use Rattle.gw_chains.specs.Chains.{delays_of};
 ghost use Rattle.gw_report.specs.Report.{seed_of, text_of};
 
 use crate::blocks::put_blocks;
@@ -12,7 +11,6 @@ use crate::names::put_names;
 use crate::queues::put_queues;
 use crate::storages::put_storages;
 use crate::title::put_title;
-use gw_chains::DelayChains;
 use gw_meaning::Outcome;
 use gw_model::Version;
 use gw_scan::State;
@@ -39,23 +37,12 @@ pub fn print(
     put_head(&mut text, version, state)?;
     put_names(&mut text, version)?;
     put_blocks(&mut text, version, state)?;
-    let delays = ready_delays(state)?;
-    put_facilities(&mut text, state, &delays)?;
+    put_facilities(&mut text, state, state.delays())?;
     put_queues(&mut text, state)?;
-    put_storages(&mut text, version, state, &delays)?;
+    put_storages(&mut text, version, state, state.delays())?;
     put_current(&mut text, version, state)?;
     put_future(&mut text, version, state)?;
     Ok(text)
-}
-
-// The delay chains of a state, ready for a question for each facility and storage: in a kept state each would walk all
-// of them.
-fn ready_delays(state: &State) -> Result<DelayChains, AllocError>
-    ensures { IfOk result (λ delays. delays_of delays.chains ≡ state.now.delays) }
-{
-    let mut delays = state.delays().copy()?;
-    delays.get_ready()?;
-    Ok(delays)
 }
 
 // The seed of a replication of the version.

@@ -26,21 +26,22 @@ pub struct Kept {
 }
 
 impl State {
-    /// Makes copies of it cheap: they share what seldom changes, the closed segments of the future chain. The state is
-    /// the same behind it, also where memory is refused.
+    /// Makes copies of it cheap: they share what it holds now on its chains. The state is the same behind it, also where
+    /// memory is refused.
     pub fn share(&mut self) -> Result<(), AllocError>
         ensures { self.new ≡ self.old }
     {
+        self.current.share()?;
+        self.delays.share()?;
         self.future.share()
     }
 
-    /// Gets it ready for many steps: the slots by which entities, delay chains and comings are found, which a copy
+    /// Gets it ready for many steps: the slots by which entities and comings are found, which a copy
     /// leaves out, are made anew. The state is the same behind it, also where memory is refused.
     #[inline(never)]
     pub fn get_ready(&mut self) -> Result<(), AllocError>
         ensures { self.new ≡ self.old }
     {
-        self.delays.get_ready()?;
         self.entities.get_ready()
     }
 
