@@ -1,10 +1,12 @@
 -- The delay chains, each beside its key.
-use Rattle.std.proofs.Common.{◌≡◌, ℕ, zero, suc, ◌+◌, ◌-◌, ◌^◌, ◌<◌, ◌≤◌, min, false, List, [], ◌∷◌, ◌++◌, length, length-append, set, Option, Some, None, IfSome, IfNone, slice_get, refl, sym, ap, subst, ◌∙◌, arith}
-use Rattle.std.proofs.lemmas.Grind.{common_steps}
-use Rattle.std.proofs.lemmas.List.{map-set}
+use Rattle.std.proofs.Common.{◌≡◌, ℕ, zero, suc, ◌+◌, ◌<◌, ◌≤◌, cond, false, List, [], ◌∷◌, ◌++◌, length, length-append, set, Option, Some, None, IfSome, IfNone, slice_get, get_or, refl, sym, ap, subst, ◌∙◌, arith}
+use Rattle.std.proofs.lemmas.List.{length-map, length-set, get_or-set_same}
+use Rattle.std.proofs.lemmas.Option.{slice_get_read}
+use Rattle.std.proofs.Math.Seq.{map-set_same}
 use Rattle.std.specs.List.{IsDistinct, list_any, zip}
 use Rattle.std.specs.Map.{keys_of, set_value}
 use Rattle.indexmap.specs.IndexMap.{set_value_at}
+use Rattle.indexmap.specs.IndexSet.{insert_key}
 use Rattle.gw_names.specs.declared.key.Key.{Key}
 use Rattle.gw_names.specs.Keys.{key_eq}
 use Rattle.gw_entities.specs.Tables.{value_of, with_value, IsPlace}
@@ -15,10 +17,9 @@ use Rattle.std.proofs.lemmas.Map.Entries.{lookup_from_place}
 use Rattle.gw_meaning.specs.declared.transaction.Transaction.{Transaction}
 use Rattle.gw_meaning.specs.Changes.{lined_up}
 use Rattle.gw_meaning.specs.Machine.{delay_at, waiting}
-use Rattle.gw_chains.specs.Chains.{Chain, delays_of, items_of, HasPlace, HasRoomOn}
-use Rattle.gw_chains.specs.Delays.{queues_of, queue_at, room_of, room_at, IsChangedAt, AreStillThere, AreKept}
-use Rattle.gw_chains.proofs.DelayLaws.{delay_is, one_more_waits, value_is, with_delay, written_is}
-use Rattle.gw_chains.proofs.RowLaws.{changed_length, other_queue, same_row}
+use Rattle.gw_chains.specs.Chains.{Chain, delays_of}
+use Rattle.gw_chains.specs.Delays.{queues_of, AreKept}
+use Rattle.gw_chains.proofs.DelayLaws.{delay_is, one_more_waits, value_is, with_delay, with_same, written_is}
 
 abbrev Own : Type 0
 Own = Chain Transaction
@@ -80,15 +81,17 @@ chain_at (k ∷ ks) [] i key own at = absurd cc
 chain_at (k ∷ ks) (c ∷ cs) zero key own at = let same : (k, c) ≡ (key, own) = Some_same at in ap (λ (p : Key × Own). Some p.1) same
 chain_at (k ∷ ks) (c ∷ cs) (suc i) key own at = chain_at ks cs i key own at
 
-pub queue_beside : (ks : List Key) (cs : List Own) (i : ℕ) (key : Key) → IsPlace (zip ks cs) key (Some i) →
-    delay_at (delays_of (zip ks cs)) key ≡ queue_at cs i
-queue_beside ks cs i key there =
-    delay_is (zip ks cs) key (Some there.0) (sym there.2) ∙ ap items_of (sym (chain_at ks cs i key there.0 there.1))
+own_is : (ks : List Key) (cs : List Own) (i : ℕ) (key : Key) (own : Own) (there : IsPlace (zip ks cs) key (Some i)) → own ≡ get_or cs i own → there.0 ≡ own
+own_is ks cs i key own there read =
+    Some_same (sym (chain_at ks cs i key there.0 there.1) ∙ slice_get_read cs (length cs) i own refl (within_beside ks cs i key there) read)
 
-pub room_beside : (ks : List Key) (cs : List Own) (i : ℕ) (key : Key) (own : Own) → value_of (zip ks cs) key ≡ Some own →
-    IsPlace (zip ks cs) key (Some i) → room_at cs i ≡ own.room
-room_beside ks cs i key own value there =
-    ap room_of (chain_at ks cs i key there.0 there.1) ∙ ap room_of (sym there.2 ∙ value)
+pub value_there : (ks : List Key) (cs : List Own) (i : ℕ) (key : Key) (own : Own) → IsPlace (zip ks cs) key (Some i) → own ≡ get_or cs i own →
+    value_of (zip ks cs) key ≡ Some own
+value_there ks cs i key own there read = there.2 ∙ ap (λ (o : Own). Some o) (own_is ks cs i key own there read)
+
+pub queue_there : (ks : List Key) (cs : List Own) (i : ℕ) (key : Key) (own : Own) → IsPlace (zip ks cs) key (Some i) → own ≡ get_or cs i own →
+    delay_at (delays_of (zip ks cs)) key ≡ own.items
+queue_there ks cs i key own there read = delay_is (zip ks cs) key (Some own) (sym (value_there ks cs i key own there read))
 
 key_at : (ks : List Key) (cs : List Own) (i : ℕ) (key : Key) (own : Own) → slice_get (zip ks cs) i ≡ Some (key, own) → slice_get ks i ≡ Some key
 key_at [] cs i key own at = absurd cc
@@ -109,11 +112,40 @@ set_beside ks cs i key own apart long there =
     set_at ks cs i own ∙ written_at key_eq key_eq_equiv (zip ks cs) i key there.0 own
     (subst (IsDistinct key_eq) (sym (keys_beside ks cs long)) apart) there.1
 
+pub written_delays : (ks : List Key) (cs : List Own) (i : ℕ) (key : Key) (own : Own) → IsDistinct key_eq ks → length cs ≡ length ks →
+    IsPlace (zip ks cs) key (Some i) → delays_of (zip ks (set cs i own)) ≡ with_value (delays_of (zip ks cs)) key own.items
+written_delays ks cs i key own apart long there =
+    written_is (zip ks cs) (zip ks (set cs i own)) key there.0 own (sym there.2) (set_beside ks cs i key own apart (omega (arith, long)) there)
+
+pub written_kept : (ks : List Key) (cs : List Own) (i : ℕ) (own : Own) (before after : ℕ) → AreKept ks cs before →
+    after ≡ length (waiting (delays_of (zip ks (set cs i own)))) → AreKept ks (set cs i own) after
+written_kept ks cs i own before after kept counted = record { apart = kept.apart; beside = length-set cs i own ∙ kept.beside; counted = counted }
+
+-- with the same transactions
+pub same_written : (ks : List Key) (cs : List Own) (i : ℕ) (key : Key) (was own : Own) → IsDistinct key_eq ks → length cs ≡ length ks →
+    IsPlace (zip ks cs) key (Some i) → was ≡ get_or cs i was → own.items ≡ was.items → delays_of (zip ks (set cs i own)) ≡ delays_of (zip ks cs)
+same_written ks cs i key was own apart long there read same =
+    written_delays ks cs i key own apart long there ∙
+    (ap (with_value (delays_of (zip ks cs)) key) same ∙
+    with_same (delays_of (zip ks cs)) key was.items (value_is (zip ks cs) key was (sym (value_there ks cs i key was there read))))
+
+pub same_written_kept : (ks : List Key) (cs : List Own) (i : ℕ) (key : Key) (was own : Own) (count : ℕ) → AreKept ks cs count →
+    IsPlace (zip ks cs) key (Some i) → was ≡ get_or cs i was → own.items ≡ was.items → AreKept ks (set cs i own) count
+same_written_kept ks cs i key was own count kept there read same =
+    written_kept ks cs i own count count kept
+    (kept.counted ∙ ap (λ (l : Queues). length (waiting l)) (sym (same_written ks cs i key was own kept.apart kept.beside there read same)))
+
 -- which lies there from then on
-pub still_beside : (ks : List Key) (cs ds : List Own) (i : ℕ) (key : Key) (o : Option ℕ) → o ≡ Some i → IsDistinct key_eq ks →
-    length ks ≤ length ds → IsPlace (zip ks cs) key (Some i) → IsPlace (zip ks ds) key o
-still_beside ks cs ds i key o is apart long there =
-    subst (IsPlace (zip ks ds) key) (sym is) (place_beside ks ds i key apart long (key_at ks cs i key there.0 there.1))
+pub place_written : (ks : List Key) (cs : List Own) (i : ℕ) (key : Key) (own : Own) → IsDistinct key_eq ks → length cs ≡ length ks →
+    IsPlace (zip ks cs) key (Some i) → IsPlace (zip ks (set cs i own)) key (Some i)
+place_written ks cs i key own apart long there =
+    place_beside ks (set cs i own) i key apart (omega (arith, long, length-set cs i own)) (key_at ks cs i key there.0 there.1)
+
+pub value_written : (ks : List Key) (cs : List Own) (i : ℕ) (key : Key) (own : Own) → IsDistinct key_eq ks → length cs ≡ length ks →
+    IsPlace (zip ks cs) key (Some i) → value_of (zip ks (set cs i own)) key ≡ Some own
+value_written ks cs i key own apart long there =
+    value_there ks (set cs i own) i key own (place_written ks cs i key own apart long there)
+    (sym (get_or-set_same cs i own own (within_beside ks cs i key there)))
 
 -- chains of the same transactions
 pub same_delays : (ks : List Key) (cs ds : List Own) → queues_of cs ≡ queues_of ds → delays_of (zip ks cs) ≡ delays_of (zip ks ds)
@@ -127,87 +159,25 @@ same_delays (k ∷ ks) (c ∷ cs) (d ∷ ds) same =
     ap (λ (xs : List Transaction). (k, xs) ∷ delays_of (zip ks cs)) first ∙
     ap (λ (l : Queues). (k, d.items) ∷ l) (same_delays ks cs ds rest)
 
--- the same wait, maybe with further chains on which nobody does
-pub still_delays : (ks : List Key) (cs ds : List Own) → length ks ≤ length cs → AreStillThere cs ds →
-    delays_of (zip ks ds) ≡ delays_of (zip ks cs)
-still_delays [] cs ds long still = refl
-still_delays (k ∷ ks) [] ds long still = absurd (omega (arith, long))
-still_delays (k ∷ ks) (c ∷ cs) [] long still = let more = still.as_many in absurd (omega (arith, more))
-still_delays (k ∷ ks) (c ∷ cs) (d ∷ ds) long still =
-    let more = still.as_many in
-    let first : d.items ≡ c.items = still.same 0 in
-    let rest : AreStillThere cs ds = record { as_many = omega (arith, more); same = λ i. still.same (suc i) } in
-    ap (λ (xs : List Transaction). (k, xs) ∷ delays_of (zip ks ds)) first ∙
-    ap (λ (l : Queues). (k, c.items) ∷ l) (still_delays ks cs ds (omega (arith, long)) rest)
+-- one of them written again with the same transactions
+pub same_queues : (cs : List Own) (i : ℕ) (was own : Own) → was ≡ get_or cs i was → own.items ≡ was.items → queues_of (set cs i own) ≡ queues_of cs
+same_queues cs i was own read same = map-set_same (λ (c : Own). c.items) cs i own was (same ∙ ap (λ (c : Own). c.items) read)
 
-pub still_kept : (ks js : List Key) (cs ds : List Own) (count : ℕ) → js ≡ ks → AreStillThere cs ds → AreKept ks cs count → AreKept js ds count
-still_kept ks js cs ds count keys still kept =
-    let more = still.as_many in
-    let beside = kept.beside in
+pub same_kept : (ks js : List Key) (cs ds : List Own) (count : ℕ) → js ≡ ks → queues_of ds ≡ queues_of cs → AreKept ks cs count → AreKept js ds count
+same_kept ks js cs ds count keys same kept =
     rw keys (record {
       apart = kept.apart;
-      beside = omega (arith, more, beside);
-      empty = λ i behind. still.same i ∙ kept.empty i behind;
-      counted = kept.counted ∙ ap (λ (l : Queues). length (waiting l)) (sym (still_delays ks cs ds beside still));
+      beside = sym (length-map ds (λ (c : Own). c.items)) ∙ (ap length same ∙ (length-map cs (λ (c : Own). c.items) ∙ kept.beside));
+      counted = kept.counted ∙ ap (λ (l : Queues). length (waiting l)) (sym (same_delays ks ds cs same));
     })
 
--- a key that has no chain has none then
-pub still_none : (ks js : List Key) (cs ds : List Own) (key : Key) (count : ℕ) → js ≡ ks → AreStillThere cs ds → AreKept ks cs count →
-    value_of (zip ks cs) key ≡ None → value_of (zip js ds) key ≡ None
-still_none ks js cs ds key count keys still kept none =
-    let more = still.as_many in
-    let beside = kept.beside in
-    rw keys (none_beside ks ds key (omega (arith, more, beside)) (no_key_beside ks cs key beside none))
-
--- one that changed
-pub changed_delays : (ks : List Key) (cs ds : List Own) (i : ℕ) (key : Key) → IsDistinct key_eq ks → length ks ≤ length cs →
-    IsPlace (zip ks cs) key (Some i) → IsChangedAt i cs ds → delays_of (zip ks ds) ≡ with_value (delays_of (zip ks cs)) key (queue_at ds i)
-changed_delays ks cs ds i key apart long there is =
-    let own : Own = record { items = queue_at ds i; room = 0 } in
-    same_delays ks ds (set cs i own) (is ∙ sym (map-set (λ (c : Own). c.items) cs i own)) ∙
-    written_is (zip ks cs) (zip ks (set cs i own)) key there.0 own (sym there.2) (set_beside ks cs i key own apart long there)
-
-within_keys : (ks : List Key) (cs : List Own) (i : ℕ) (key : Key) → IsPlace (zip ks cs) key (Some i) → i < length ks
-within_keys ks cs i key there = go ks cs i there.1 where
-  go : (ks : List Key) (cs : List Own) (i : ℕ) → slice_get (zip ks cs) i ≡ Some (key, there.0) → i < length ks
-  go [] cs i at = absurd cc
-  go (k ∷ ks) [] i at = absurd cc
-  go (k ∷ ks) (c ∷ cs) zero at = omega arith
-  go (k ∷ ks) (c ∷ cs) (suc i) at = let rest = go ks cs i at in omega (arith, rest)
-
-pub changed_kept : (ks : List Key) (cs ds : List Own) (i : ℕ) (key : Key) (before after : ℕ) → AreKept ks cs before →
-    IsPlace (zip ks cs) key (Some i) → IsChangedAt i cs ds → after ≡ length (waiting (delays_of (zip ks ds))) → AreKept ks ds after
-changed_kept ks cs ds i key before after kept there is counted =
-    let within = within_keys ks cs i key there in
-    let long = changed_length cs ds i (queue_at ds i) is in
-    let beside = kept.beside in
-    record {
-      apart = kept.apart;
-      beside = omega (arith, beside, long);
-      empty = λ j behind.
-          other_queue cs ds i j (queue_at ds i) is (λ same. absurd (omega (arith, same, behind, within))) ∙ kept.empty j behind;
-      counted = counted;
-    }
-
--- a further key, with the first of the further chains
-delays_pushed : (es : Pairs) (key : Key) (own : Own) → delays_of (es ++ (key, own) ∷ []) ≡ delays_of es ++ (key, own.items) ∷ []
-delays_pushed [] key own = refl
-delays_pushed (e ∷ es) key own = ap (λ (l : Queues). (e.0, e.1.items) ∷ l) (delays_pushed es key own)
-
-zip_pushed : (ks : List Key) (cs ds : List Own) (key : Key) (q : List Transaction) → length ks < length cs →
-    queues_of ds ≡ set (queues_of cs) (length ks) q → delays_of (zip (ks ++ key ∷ []) ds) ≡ delays_of (zip ks cs) ++ (key, q) ∷ []
-zip_pushed [] [] ds key q long is = absurd (omega (arith, long))
-zip_pushed [] (c ∷ cs) [] key q long is = absurd cc
-zip_pushed [] (c ∷ cs) (d ∷ ds) key q long is =
-    let first : d.items ≡ q = cc in
-    ap (λ (xs : List Transaction). (key, xs) ∷ []) first
-zip_pushed (k ∷ ks) [] ds key q long is = absurd (omega (arith, long))
-zip_pushed (k ∷ ks) (c ∷ cs) [] key q long is = absurd cc
-zip_pushed (k ∷ ks) (c ∷ cs) (d ∷ ds) key q long is =
-    let first : d.items ≡ c.items = cc in
-    let rest : queues_of ds ≡ set (queues_of cs) (length ks) q = cc in
-    ap (λ (xs : List Transaction). (k, xs) ∷ delays_of (zip (ks ++ key ∷ []) ds)) first ∙
-    ap (λ (l : Queues). (k, c.items) ∷ l) (zip_pushed ks cs ds key q (omega (arith, long)) rest)
+-- a further key
+zip_more : (ks : List Key) (cs : List Own) (key : Key) (own : Own) → length cs ≡ length ks →
+    zip (ks ++ key ∷ []) (cs ++ own ∷ []) ≡ zip ks cs ++ (key, own) ∷ []
+zip_more [] [] key own long = refl
+zip_more [] (c ∷ cs) key own long = absurd (omega (arith, long))
+zip_more (k ∷ ks) [] key own long = absurd (omega (arith, long))
+zip_more (k ∷ ks) (c ∷ cs) key own long = ap (λ (l : Pairs). (k, c) ∷ l) (zip_more ks cs key own (omega (arith, long)))
 
 keys_pushed : (es : Pairs) (key : Key) (own : Own) → keys_of (es ++ (key, own) ∷ []) ≡ keys_of es ++ key ∷ []
 keys_pushed [] key own = refl
@@ -224,74 +194,26 @@ pub record Pushed (ks js : List Key) (cs ds : List Own) (key : Key) (x : Transac
   pub delays : delays_of (zip js ds) ≡ with_value (delays_of (zip ks cs)) key (lined_up x (delay_at (delays_of (zip ks cs)) key))
   pub kept : AreKept js ds (count + 1)
 
-pub pushed_beside : (ks js : List Key) (cs ds : List Own) (key : Key) (x : Transaction) (count : ℕ) → AreKept ks cs count →
-    value_of (zip ks cs) key ≡ None → length ks < length cs → js ≡ ks ++ key ∷ [] → queue_at ds (length ks) ≡ lined_up x (queue_at cs (length ks)) →
-    IsChangedAt (length ks) cs ds → Pushed ks js cs ds key x count
-pushed_beside ks js cs ds key x count kept none less keys longer is =
-    let own : Own = record { items = queue_at ds (length ks); room = 0 } in
-    let alone = longer ∙ ap (lined_up x) (kept.empty (length ks) (omega arith)) in
-    let pushed = ap delays_of (pushed_is (zip ks cs) key own none) ∙ delays_pushed (zip ks cs) key own in
-    let first = ap (lined_up x) (sym (delay_is (zip ks cs) key None (sym none))) in
-    let delays : delays_of (zip (ks ++ key ∷ []) ds) ≡ with_value (delays_of (zip ks cs)) key (lined_up x (delay_at (delays_of (zip ks cs)) key)) =
-    zip_pushed ks cs ds key own.items less is ∙ (sym pushed ∙
-    (with_delay (zip ks cs) key own ∙ ap (with_value (delays_of (zip ks cs)) key) (alone ∙ first))) in
-    let long = changed_length cs ds (length ks) own.items is in
-    let more = length-append ks (key ∷ []) in
-    rw keys (record {
+pub pushed : (ks js : List Key) (cs : List Own) (key : Key) (own : Own) (x : Transaction) (count : ℕ) → AreKept ks cs count →
+    value_of (zip ks cs) key ≡ None → js ≡ insert_key key_eq ks key → own.items ≡ lined_up x [] → Pushed ks js cs (cs ++ own ∷ []) key x count
+pushed ks js cs key own x count kept none keys alone =
+    let beside = kept.beside in
+    let long : length ks ≤ length cs = omega (arith, beside) in
+    let new : js ≡ ks ++ key ∷ [] = keys ∙ ap (λ b. cond b ks (ks ++ key ∷ [])) (no_key_beside ks cs key long none) in
+    let first : own.items ≡ lined_up x (delay_at (delays_of (zip ks cs)) key) = alone ∙ ap (lined_up x) (sym (delay_is (zip ks cs) key None (sym none))) in
+    let delays : delays_of (zip (ks ++ key ∷ []) (cs ++ own ∷ [])) ≡ with_value (delays_of (zip ks cs)) key (lined_up x (delay_at (delays_of (zip ks cs)) key)) =
+    ap delays_of (zip_more ks cs key own beside ∙ sym (pushed_is (zip ks cs) key own none)) ∙
+    (with_delay (zip ks cs) key own ∙ ap (with_value (delays_of (zip ks cs)) key) first) in
+    rw new (record {
       delays = delays;
       kept = record {
-        apart = apart_beside ks cs key own kept.apart kept.beside none;
-        beside = omega (arith, long, more, less);
-        empty = λ j behind.
-            other_queue cs ds (length ks) j own.items is (λ same. absurd (omega (arith, same, behind, more))) ∙
-            kept.empty j (omega (arith, behind, more));
-        counted = one_more_waits (delays_of (zip ks cs)) (delays_of (zip (ks ++ key ∷ []) ds)) key x count kept.counted delays;
+        apart = apart_beside ks cs key own kept.apart long none;
+        beside = omega (arith, length-append cs (own ∷ []), length-append ks (key ∷ []), beside);
+        counted = one_more_waits (delays_of (zip ks cs)) (delays_of (zip (ks ++ key ∷ []) (cs ++ own ∷ []))) key x count kept.counted delays;
       };
     })
-
--- room for one more
-pub has_room_beside : (ks : List Key) (cs : List Own) (i : ℕ) (key : Key) (spare : ℕ) → IsPlace (zip ks cs) key (Some i) →
-    HasRoomOn (value_of (zip ks cs) key) spare → 0 < room_at cs i
-has_room_beside ks cs i key spare there room =
-    let some : 0 < there.0.room = subst (λ o. HasRoomOn o spare) there.2 room in
-    let is = room_beside ks cs i key there.0 there.2 there in
-    omega (arith, is, some)
-
-pub spare_beside : (es : Pairs) (key : Key) (spare : ℕ) → value_of es key ≡ None → HasRoomOn (value_of es key) spare → 0 < spare
-spare_beside es key spare none room = subst (λ o. HasRoomOn o spare) none room
-
-pub keys_of_spare : (a b : ℕ) → 0 < min a b → 0 < a
-keys_of_spare a b spare = grind (arith, common_steps)
-
-pub room_of_spare : (a b : ℕ) → 0 < min a b → 0 < b
-room_of_spare a b spare = grind (arith, common_steps)
-
-both_spare : (a b : ℕ) → 0 < a → 0 < b → 0 < min a b
-both_spare a b some more = grind (arith, common_steps)
-
-pub has_place_beside : (ks : List Key) (ds : List Own) (i : ℕ) (key : Key) (count spare : ℕ) → IsPlace (zip ks ds) key (Some i) →
-    0 < room_at ds i → count ≡ length (waiting (delays_of (zip ks ds))) → count < 2 ^ 64 - 1 →
-    HasPlace (record { chains = zip ks ds; spare = spare }) key
-has_place_beside ks ds i key count spare there room all few =
-    let is = room_beside ks ds i key there.0 there.2 there in
-    (subst (λ o. HasRoomOn o spare) (sym there.2) (omega (arith, is, room)), omega (arith, all, few))
-
-pub has_place_fresh : (ks : List Key) (ds : List Own) (key : Key) (count a b : ℕ) → value_of (zip ks ds) key ≡ None → 0 < a → 0 < b →
-    count ≡ length (waiting (delays_of (zip ks ds))) → count < 2 ^ 64 - 1 → HasPlace (record { chains = zip ks ds; spare = min a b }) key
-has_place_fresh ks ds key count a b none some more all few =
-    (subst (λ o. HasRoomOn o (min a b)) (sym none) (both_spare a b some more), omega (arith, all, few))
-
--- who waits on a chain
-pub value_beside : (ks : List Key) (cs : List Own) (i : ℕ) (key : Key) → IsPlace (zip ks cs) key (Some i) →
-    value_of (delays_of (zip ks cs)) key ≡ Some (queue_at cs i)
-value_beside ks cs i key there =
-    value_is (zip ks cs) key there.0 (sym there.2) ∙ ap (λ o. Some (items_of o)) (sym (chain_at ks cs i key there.0 there.1))
-
--- where nobody went
-pub unchanged_queues : (cs ds : List Own) (i : ℕ) → queue_at ds i ≡ queue_at cs i → IsChangedAt i cs ds → queues_of ds ≡ queues_of cs
-unchanged_queues cs ds i same is = is ∙ (ap (λ q. set (queues_of cs) i q) same ∙ sym (same_row cs i))
 
 -- where nobody waited yet
 pub none_kept : (ks : List Key) (cs : List Own) → ks ≡ [] → cs ≡ [] → AreKept ks cs 0
 unfolding IsDistinct
-none_kept ks cs no_key no_chain = rw (no_key, no_chain) (record { apart = tt; beside = omega arith; empty = λ i behind. refl; counted = refl })
+none_kept ks cs no_key no_chain = rw (no_key, no_chain) (record { apart = tt; beside = refl; counted = refl })

@@ -1,7 +1,8 @@
 -- Laws of the lists behind the chains.
-use Rattle.std.proofs.Common.{◌≡◌, ℕ, ◌+◌, ◌<◌, ◌≤◌, arith, drop_of_length-le, ◌-◌, false, List, [], ◌∷◌, Option, None, Some, option_to_list, ◌++◌, length, get_or, take, drop, insert, refl, sym, ap, subst, ◌∙◌, append_assoc}
+use Rattle.std.proofs.Common.{◌≡◌, ℕ, ◌+◌, ◌<◌, arith, drop_of_length-le, ◌-◌, true, false, List, [], ◌∷◌, Option, None, Some, option_to_list, ◌++◌, length, get_or, take, drop, insert, slice_get, refl, sym, ap, subst, ◌∙◌, append_assoc}
 use Rattle.std.proofs.lemmas.List.{drop_more, take_more, take-append-drop}
 use Rattle.std.proofs.lemmas.List.Edits.{insert_end}
+use Rattle.std.proofs.lemmas.Option.{slice_get_within, get_or_from_slice_get}
 use Rattle.gw_nums.specs.Range.{is_below}
 use Rattle.gw_meaning.specs.declared.transaction.Transaction.{Transaction}
 use Rattle.gw_meaning.specs.Machine.{AreInOrder}
@@ -20,29 +21,38 @@ pub rest_in_order : (first : Option Transaction) (xs whole : List Transaction) �
 rest_in_order None xs whole is h = subst AreInOrder is h
 rest_in_order (Some x) xs whole is h = in_order xs (ordered (x ∷ xs) (subst AreInOrder is h)).1
 
+item_at : (xs : List Transaction) (i : ℕ) (y : Transaction) → slice_get xs i ≡ Some y → drop i xs ≡ y ∷ drop (i + 1) xs
+item_at xs i y there = item_drop xs i y (slice_get_within xs i y there) (sym (get_or_from_slice_get xs i y y there))
+
 -- behind the item at i of a chain in order, where it is not of lower priority and those after it are
-pub lined_up_at : (x : Transaction) (xs : List Transaction) (i : ℕ) (y : Transaction) → AreInOrder xs → i < length xs → y ≡ get_or xs i y →
+pub lined_up_at : (x : Transaction) (xs : List Transaction) (i : ℕ) (y : Transaction) → AreInOrder xs → slice_get xs i ≡ Some y →
     is_below y.priority x.priority ≡ false → lined_up x (drop (i + 1) xs) ≡ x ∷ drop (i + 1) xs → lined_up x xs ≡ insert xs (i + 1) x
-lined_up_at x xs i y order h is above rest =
-    let whole : xs ≡ take i xs ++ y ∷ drop (i + 1) xs = sym (take-append-drop i xs) ∙ ap (λ zs. take i xs ++ zs) (item_drop xs i y h is) in
-    let front : take (i + 1) xs ≡ take i xs ++ y ∷ [] = take_more xs i y h ∙ ap (λ z. take i xs ++ z ∷ []) (sym is) in
+lined_up_at x xs i y order there above rest =
+    let h = slice_get_within xs i y there in
+    let is = get_or_from_slice_get xs i y y there in
+    let whole : xs ≡ take i xs ++ y ∷ drop (i + 1) xs = sym (take-append-drop i xs) ∙ ap (λ zs. take i xs ++ zs) (item_at xs i y there) in
+    let front : take (i + 1) xs ≡ take i xs ++ y ∷ [] = take_more xs i y h ∙ ap (λ z. take i xs ++ z ∷ []) is in
     let split : take (i + 1) xs ++ x ∷ drop (i + 1) xs ≡ take i xs ++ y ∷ x ∷ drop (i + 1) xs =
     ap (λ zs. zs ++ x ∷ drop (i + 1) xs) front ∙ append_assoc (take i xs) (y ∷ []) (x ∷ drop (i + 1) xs) in
     ap (lined_up x) whole ∙ (lined_up_behind x (take i xs) y (drop (i + 1) xs) (subst IsOrdered whole (ordered xs order)) above rest ∙ sym split)
 
--- the same, where the search for it came down to n
-pub lined_up_behind_it : (x : Transaction) (xs : List Transaction) (n : ℕ) (y : Transaction) → AreInOrder xs → 0 < n → n ≤ length xs →
-    y ≡ get_or xs (n - 1) y → is_below y.priority x.priority ≡ false → lined_up x (drop n xs) ≡ x ∷ drop n xs → lined_up x xs ≡ insert xs (n - 1 + 1) x
-lined_up_behind_it x xs n y order some h is above rest =
-    let one : n - 1 + 1 ≡ n = omega (arith, some) in
-    lined_up_at x xs (n - 1) y order (omega (arith, some, h)) is above (rw one rest)
+-- in front of one of lower priority, where it would come first of those from there on
+pub comes_first : (x : Transaction) (xs : List Transaction) (i : ℕ) (y : Transaction) → slice_get xs i ≡ Some y → is_below y.priority x.priority ≡ true →
+    lined_up x (drop i xs) ≡ x ∷ drop i xs
+comes_first x xs i y there below =
+    let item = item_at xs i y there in
+    ap (lined_up x) item ∙ (rw below refl ∙ ap (λ l. x ∷ l) (sym item))
+
+-- behind the last one
+pub nobody_left : (x : Transaction) (xs : List Transaction) (n : ℕ) → n ≡ length xs → lined_up x (drop n xs) ≡ x ∷ drop n xs
+nobody_left x xs n all =
+    let none : drop n xs ≡ [] = drop_of_length-le xs (omega (arith, all)) in
+    rw none refl
 
 -- behind the last one of a chain in order, where that is not of lower priority
-pub lined_up_last : (x : Transaction) (xs : List Transaction) (n : ℕ) (y : Transaction) → AreInOrder xs → n ≡ length xs → 0 < n → y ≡ get_or xs (n - 1) y →
+pub lined_up_last : (x : Transaction) (xs : List Transaction) (n : ℕ) (y : Transaction) → AreInOrder xs → n ≡ length xs → 0 < n → slice_get xs (n - 1) ≡ Some y →
     is_below y.priority x.priority ≡ false → lined_up x xs ≡ xs ++ x ∷ []
-lined_up_last x xs n y order all some is above =
-    let i : ℕ = n - 1 in
-    let one : i + 1 ≡ length xs = omega (arith, some, all) in
-    let none : drop (i + 1) xs ≡ [] = drop_of_length-le xs (omega (arith, one)) in
-    let rest : lined_up x (drop (i + 1) xs) ≡ x ∷ drop (i + 1) xs = rw none refl in
-    lined_up_at x xs i y order (omega (arith, some, all)) is above rest ∙ (ap (λ n. insert xs n x) one ∙ insert_end xs x)
+lined_up_last x xs n y order all some there above =
+    let one : n - 1 + 1 ≡ n = omega (arith, some) in
+    lined_up_at x xs (n - 1) y order there above (nobody_left x xs (n - 1 + 1) (omega (arith, some, all))) ∙
+    (ap (λ k. insert xs k x) (one ∙ all) ∙ insert_end xs x)

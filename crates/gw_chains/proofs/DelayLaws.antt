@@ -1,5 +1,6 @@
 -- The delay chains by key, and how many wait.
 use Rattle.std.proofs.Common.{◌≡◌, ℕ, ◌+◌, ◌≤◌, ◌-◌, Bool, true, false, cond, List, [], ◌∷◌, length, Option, Some, None, unwrap_or, option_copied, Bor, refl, sym, ap, subst, ◌∙◌, arith}
+use Rattle.std.specs.Prelude.{Result, Ok, Err, OnErr}
 use Rattle.std.proofs.lemmas.List.{length-append}
 use Rattle.std.proofs.lemmas.Bool.{cond_both}
 use Rattle.std.specs.Slice.{IsItemAt}
@@ -19,6 +20,11 @@ Chains = List (Key × Chain Transaction)
 
 abbrev Delays : Type 0
 Delays = List (Key × List Transaction)
+
+-- what holds holds after an error
+pub on_err : {A E : Type 0} (r : Result A E) (P : Type 0) → P → OnErr r P
+on_err (Ok x) P p = tt
+on_err (Err e) P p = p
 
 -- where a chain lies
 pub place_there : (cs : Chains) (key : Key) (o : Option ℕ) (i : ℕ) → o ≡ Some i → IsPlace cs key o → IsPlace cs key (Some i)

@@ -1,16 +1,18 @@
 -- Whom a deed lets in: those with a share are let in, and the others go on waiting, in their order.
-use Rattle.std.proofs.Common.{◌≡◌, ℕ, zero, suc, ◌+◌, ◌-◌, ◌≤◌, ◌<◌, Bool, true, false, cond, List, [], ◌∷◌, ◌++◌, length, drop, get_or, Option, Some, None, refl, sym, ap, subst, ◌∙◌, arith, append_assoc, append-nil, add-one, drop_of_length-le}
-use Rattle.std.proofs.lemmas.List.{drop_more}
+use Rattle.std.proofs.Common.{◌≡◌, ℕ, zero, suc, ◌+◌, ◌-◌, ◌≤◌, ◌<◌, Bool, true, false, cond, List, [], ◌∷◌, ◌++◌, length, drop, get_or, min, slice_get, remove, Option, Some, None, IfSome, refl, sym, ap, subst, ◌∙◌, arith, append_assoc, add-one}
+use Rattle.std.proofs.lemmas.Grind.{common_steps}
+use Rattle.std.proofs.lemmas.List.{drop_more, length-append, length-drop}
 use Rattle.gw_names.specs.declared.key.Key.{Key}
 use Rattle.gw_names.specs.Keys.{key_eq}
 use Rattle.gw_entities.specs.Tables.{value_of, with_value}
+use Rattle.gw_entities.proofs.Lookups.{Some_same}
 use Rattle.gw_entities.proofs.TableLaws.{key_eq_equiv}
 use Rattle.gw_entities.proofs.Finding.{value_of-with_value}
 use Rattle.gw_meaning.specs.declared.transaction.Transaction.{Transaction}
 use Rattle.gw_meaning.specs.Machine.{Machine, delay_at, waiting, AreInOrder}
 use Rattle.gw_meaning.specs.Changes.{let_in, some_let_in}
 use Rattle.gw_meaning.proofs.Chains.{AreNotAbove, IsOrdered, ordered, in_order}
-use Rattle.gw_chains.specs.Chains.{has_share, with_share, without_share, IsWithin, AreWithin, HasRoomToLetAllIn, all_let_in}
+use Rattle.gw_chains.specs.Chains.{Chain, delays_of, IsWaitingPlace, has_share, with_share, without_share, IsWithin, AreWithin, HasRoomToLetAllIn, all_let_in}
 use Rattle.gw_chains.proofs.DelayLaws.{with_same, waiting_with}
 
 abbrev Shares : Type 0
@@ -151,10 +153,12 @@ some_let_in_is key (Some units ∷ shares) passed (x ∷ xs) s h =
     (ap (λ (u : Machine). record u { delays = with_value ds key kept }) (all_beside (with_share shares xs) t ds) ∙
     ap (λ (es : Delays). record (all_let_in (with_share shares xs) t) { delays = es }) (with_again s.delays key (passed ++ xs) kept)))
 
--- how many went
-pub gone_is : (gone : ℕ) (chain left without : List Transaction) → gone + length left ≡ length chain → left ≡ without →
-    gone ≡ length chain - length without
-gone_is gone chain left without is same = rw (← same) (omega (arith, is))
+-- where there is room for so many to go, there is for those with a share
+pub room_for : (cs : List (Key × Chain Transaction)) (key : Key) (place : Option ℕ) (shares : Shares) (count room : ℕ) → IsWaitingPlace cs key place →
+    length (with_share shares (delay_at (delays_of cs) key)) ≤ count → IfSome place (λ _. count ≤ room) →
+    length (with_share shares (delay_at (delays_of cs) key)) ≤ room
+room_for cs key None shares count room none all more = rw (none, with_nobody shares) (omega arith)
+room_for cs key (Some i) shares count room there all more = omega (arith, all, more)
 
 -- how many wait, when those with a share are gone
 pub fewer_wait : (ds : Delays) (key : Key) (shares : Shares) (chain : List Transaction) (n : ℕ) → delay_at ds key ≡ chain → n ≡ length (waiting ds) →
@@ -166,62 +170,116 @@ fewer_wait ds key shares chain n is all =
     let fewer = without_fewer shares chain in
     (omega (arith, both, long, fewer, all), omega (arith, both, long, fewer, all))
 
--- After i of a chain F: the rest of it stands in front of those that were kept, and what is left to be let in.
-pub record Sifting (shares : Shares) (F : List Transaction) (i : ℕ) (items : List Transaction) : Type 0 where
+-- After i of a chain F: those that were kept stand in front of the rest of it.
+pub record Sifting (shares : Shares) (F : List Transaction) (i kept : ℕ) (items : List Transaction) : Type 0 where
   pub passed : List Transaction
-  pub items_are : items ≡ drop i F ++ passed
-  pub kept : passed ++ without_share (drop i shares) (drop i F) ≡ without_share shares F
+  pub number : kept ≡ length passed
+  pub items_are : items ≡ passed ++ drop i F
+  pub left : passed ++ without_share (drop i shares) (drop i F) ≡ without_share shares F
 
--- the first that is taken off
-taken : (F items rest passed : List Transaction) (i : ℕ) (x : Transaction) → i < length F → items ≡ drop i F ++ passed → items ≡ x ∷ rest →
-    (drop i F ≡ x ∷ drop (i + 1) F) × (rest ≡ drop (i + 1) F ++ passed)
-taken F items rest passed i x h are is =
-    let more : drop i F ≡ get_or F i x ∷ drop (i + 1) F = drop_more F i x h in
-    let both : x ∷ rest ≡ get_or F i x ∷ (drop (i + 1) F ++ passed) = sym is ∙ (are ∙ ap (λ ys. ys ++ passed) more) in
-    let first : x ≡ get_or F i x = cc in
-    (more ∙ ap (λ y. y ∷ drop (i + 1) F) (sym first), cc)
+-- the next one
+next : (F : List Transaction) (i : ℕ) → i < length F → (x : Transaction) × (drop i F ≡ x ∷ drop (i + 1) F)
+next [] i h = absurd (omega (arith, h))
+next (x ∷ xs) i h = (get_or (x ∷ xs) i x, drop_more (x ∷ xs) i x h)
 
-pub first_in : (shares : Shares) (F items rest : List Transaction) (i : ℕ) (x : Transaction) → i < length F → has_share shares i ≡ true →
-    items ≡ x ∷ rest → Sifting shares F i items →
+get_behind : (ps rest : List Transaction) (x : Transaction) → slice_get (ps ++ x ∷ rest) (length ps) ≡ Some x
+get_behind [] rest x = refl
+get_behind (p ∷ ps) rest x = get_behind ps rest x
+
+remove_behind : (ps rest : List Transaction) (x : Transaction) → remove (ps ++ x ∷ rest) (length ps) ≡ ps ++ rest
+remove_behind [] rest x = refl
+remove_behind (p ∷ ps) rest x = ap (λ l. p ∷ l) (remove_behind ps rest x)
+
+pub within_items : (shares : Shares) (F items : List Transaction) (i kept : ℕ) → i < length F → Sifting shares F i kept items → kept < length items
+within_items shares F items i kept h s =
+    let more = next F i h in
+    let long = ap length (s.items_are ∙ ap (λ l. s.passed ++ l) more.1) ∙ length-append s.passed (more.0 ∷ drop (i + 1) F) in
+    let number = s.number in
+    omega (arith, long, number)
+
+-- the one that is taken off, and what is left
+taken : (shares : Shares) (F items : List Transaction) (i kept : ℕ) (x : Transaction) → i < length F → Sifting shares F i kept items →
+    slice_get items kept ≡ Some x → drop i F ≡ x ∷ drop (i + 1) F
+taken shares F items i kept x h s there =
+    let more = next F i h in
+    let are = s.items_are ∙ ap (λ l. s.passed ++ l) more.1 in
+    let same : x ≡ more.0 = Some_same (sym there ∙ (ap (λ k. slice_get items k) s.number ∙ (ap (λ l. slice_get l (length s.passed)) are ∙ get_behind s.passed (drop (i + 1) F) more.0))) in
+    more.1 ∙ ap (λ y. y ∷ drop (i + 1) F) (sym same)
+
+pub first_in : (shares : Shares) (F items : List Transaction) (i kept : ℕ) (x : Transaction) → i < length F → has_share shares i ≡ true →
+    slice_get items kept ≡ Some x → Sifting shares F i kept items →
     with_share (drop i shares) (drop i F) ≡ x ∷ with_share (drop (i + 1) shares) (drop (i + 1) F)
-first_in shares F items rest i x h some is s =
-    ap (with_share (drop i shares)) (taken F items rest s.passed i x h s.items_are is).0 ∙ with_first shares i x (drop (i + 1) F) some
+first_in shares F items i kept x h some there s =
+    ap (with_share (drop i shares)) (taken shares F items i kept x h s there) ∙ with_first shares i x (drop (i + 1) F) some
 
-pub first_out : (shares : Shares) (F items rest : List Transaction) (i : ℕ) (x : Transaction) → i < length F → has_share shares i ≡ false →
-    items ≡ x ∷ rest → Sifting shares F i items → with_share (drop i shares) (drop i F) ≡ with_share (drop (i + 1) shares) (drop (i + 1) F)
-first_out shares F items rest i x h none is s =
-    ap (with_share (drop i shares)) (taken F items rest s.passed i x h s.items_are is).0 ∙ with_rest shares i x (drop (i + 1) F) none
+pub first_out : (shares : Shares) (F : List Transaction) (i : ℕ) → i < length F → has_share shares i ≡ false →
+    with_share (drop i shares) (drop i F) ≡ with_share (drop (i + 1) shares) (drop (i + 1) F)
+first_out shares F i h none =
+    let more = next F i h in
+    ap (with_share (drop i shares)) more.1 ∙ with_rest shares i more.0 (drop (i + 1) F) none
 
-pub sifted_in : (shares : Shares) (F items rest : List Transaction) (i : ℕ) (x : Transaction) → i < length F → has_share shares i ≡ true →
-    items ≡ x ∷ rest → Sifting shares F i items → Sifting shares F (i + 1) rest
-sifted_in shares F items rest i x h some is s =
-    let next = taken F items rest s.passed i x h s.items_are is in
+pub room_to_go : (shares : Shares) (F : List Transaction) (i room : ℕ) → i < length F → has_share shares i ≡ true →
+    length (with_share (drop i shares) (drop i F)) ≤ room → 0 < room
+room_to_go shares F i room h some all =
+    let more = next F i h in
+    let front = ap length (ap (with_share (drop i shares)) more.1 ∙ with_first shares i more.0 (drop (i + 1) F) some) in
+    omega (arith, front, all)
+
+pub sifted_in : (shares : Shares) (F items rest : List Transaction) (i kept : ℕ) (x : Transaction) → i < length F → has_share shares i ≡ true →
+    slice_get items kept ≡ Some x → rest ≡ remove items kept → Sifting shares F i kept items → Sifting shares F (i + 1) kept rest
+sifted_in shares F items rest i kept x h some there is s =
+    let more = taken shares F items i kept x h s there in
     record {
       passed = s.passed;
-      items_are = next.1;
-      kept = ap (λ ys. s.passed ++ ys)
-          (sym (ap (without_share (drop i shares)) next.0 ∙ without_rest shares i x (drop (i + 1) F) some)) ∙ s.kept;
+      number = s.number;
+      items_are = is ∙ (ap (λ k. remove items k) s.number ∙
+          (ap (λ l. remove l (length s.passed)) (s.items_are ∙ ap (λ l. s.passed ++ l) more) ∙ remove_behind s.passed (drop (i + 1) F) x));
+      left = ap (λ ys. s.passed ++ ys) (sym (ap (without_share (drop i shares)) more ∙ without_rest shares i x (drop (i + 1) F) some)) ∙ s.left;
     }
 
-pub sifted_out : (shares : Shares) (F items rest : List Transaction) (i : ℕ) (x : Transaction) → i < length F → has_share shares i ≡ false →
-    items ≡ x ∷ rest → Sifting shares F i items → Sifting shares F (i + 1) (rest ++ x ∷ [])
-sifted_out shares F items rest i x h none is s =
-    let next = taken F items rest s.passed i x h s.items_are is in
+pub sifted_out : (shares : Shares) (F items : List Transaction) (i kept : ℕ) → i < length F → has_share shares i ≡ false →
+    Sifting shares F i kept items → Sifting shares F (i + 1) (kept + 1) items
+sifted_out shares F items i kept h none s =
+    let more = next F i h in
+    let x = more.0 in
+    let number = s.number in
     let first : without_share (drop i shares) (drop i F) ≡ x ∷ without_share (drop (i + 1) shares) (drop (i + 1) F) =
-    ap (without_share (drop i shares)) next.0 ∙ without_first shares i x (drop (i + 1) F) none in
+    ap (without_share (drop i shares)) more.1 ∙ without_first shares i x (drop (i + 1) F) none in
     record {
       passed = s.passed ++ x ∷ [];
-      items_are = ap (λ ys. ys ++ x ∷ []) next.1 ∙ append_assoc (drop (i + 1) F) s.passed (x ∷ []);
-      kept = append_assoc s.passed (x ∷ []) (without_share (drop (i + 1) shares) (drop (i + 1) F)) ∙
-          (ap (λ ys. s.passed ++ ys) (sym first) ∙ s.kept);
+      number = omega (arith, number, length-append s.passed (x ∷ []));
+      items_are = s.items_are ∙ (ap (λ l. s.passed ++ l) more.1 ∙ sym (append_assoc s.passed (x ∷ []) (drop (i + 1) F)));
+      left = append_assoc s.passed (x ∷ []) (without_share (drop (i + 1) shares) (drop (i + 1) F)) ∙
+          (ap (λ ys. s.passed ++ ys) (sym first) ∙ s.left);
     }
 
-pub sifted : (shares : Shares) (F items : List Transaction) (i : ℕ) → i ≡ length F → Sifting shares F i items → items ≡ without_share shares F
-sifted shares F items i all s =
-    let end : drop i F ≡ [] = drop_of_length-le F (omega (arith, all)) in
-    let none : without_share (drop i shares) (drop i F) ≡ [] = ap (without_share (drop i shares)) end ∙ without_nobody (drop i shares) in
-    s.items_are ∙ (ap (λ ys. ys ++ s.passed) end ∙
-    (sym (append-nil s.passed) ∙ (ap (λ ys. s.passed ++ ys) (sym none) ∙ s.kept)))
+ends : (shares : Shares) (F : List Transaction) (i : ℕ) (s : Option ℕ) (x : Transaction) (ss : Shares) (xs : List Transaction) →
+    i ≡ min (length F) (length shares) → drop i shares ≡ s ∷ ss → drop i F ≡ x ∷ xs → ⊥
+ends shares F i s x ss xs all shares_are are =
+    let a = ap length shares_are in
+    let b = ap length are in
+    let c = length-drop i shares in
+    let d = length-drop i F in
+    grind (arith, common_steps)
+
+-- no share is left, or nobody
+pub with_none : (shares : Shares) (F : List Transaction) (i : ℕ) → i ≡ min (length F) (length shares) → with_share (drop i shares) (drop i F) ≡ []
+with_none shares F i all = go (drop i shares) (drop i F) refl refl where
+  go : (ss : Shares) (xs : List Transaction) → drop i shares ≡ ss → drop i F ≡ xs → with_share ss xs ≡ []
+  go [] xs none is = refl
+  go (s ∷ ss) [] none is = with_nobody (s ∷ ss)
+  go (s ∷ ss) (x ∷ xs) none is = absurd (ends shares F i s x ss xs all none is)
+
+pub without_none : (shares : Shares) (F : List Transaction) (i : ℕ) → i ≡ min (length F) (length shares) → without_share (drop i shares) (drop i F) ≡ drop i F
+without_none shares F i all = go (drop i shares) (drop i F) refl refl where
+  go : (ss : Shares) (xs : List Transaction) → drop i shares ≡ ss → drop i F ≡ xs → without_share ss xs ≡ xs
+  go [] xs none is = refl
+  go (s ∷ ss) [] none is = without_nobody (s ∷ ss)
+  go (s ∷ ss) (x ∷ xs) none is = absurd (ends shares F i s x ss xs all none is)
+
+pub sifted : (shares : Shares) (F items : List Transaction) (i kept : ℕ) → i ≡ min (length F) (length shares) → Sifting shares F i kept items →
+    items ≡ without_share shares F
+sifted shares F items i kept all s = s.items_are ∙ (ap (λ ys. s.passed ++ ys) (sym (without_none shares F i all)) ∙ s.left)
 
 -- in order, where the chain was
 behind : (x : Transaction) (shares : Shares) (chain : List Transaction) → AreNotAbove x chain → AreNotAbove x (without_share shares chain)

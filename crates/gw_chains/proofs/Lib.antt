@@ -7,5 +7,3 @@ pub mod ClosingUp
 pub mod Leasts
 pub mod Earliest
 pub mod Beside
-pub mod KeyLaws
-pub mod RowLaws

@@ -1,10 +1,10 @@
 -- The chains of transactions, and who is let in from one to another. (Our own.)
-use Rattle.std.specs.Prelude.{◌≡◌, ℕ, ◌-◌, ◌<◌, ◌^◌, Bool, false, List, [], ◌∷◌, ◌≤◌, Option, Some, None, is_some}
+use Rattle.std.specs.Prelude.{◌≡◌, ℕ, ◌<◌, Bool, false, List, [], ◌∷◌, ◌≤◌, Option, Some, None, is_some}
 use Rattle.std.specs.Prelude.{option_map, unwrap_or, slice_get, length}
 use Rattle.gw_names.specs.declared.key.Key.{Key}
-use Rattle.gw_entities.specs.Tables.{value_of, with_value, IsPlace}
+use Rattle.gw_entities.specs.Tables.{with_value, IsPlace}
 use Rattle.gw_meaning.specs.declared.transaction.Transaction.{Transaction}
-use Rattle.gw_meaning.specs.Machine.{Machine, delay_at, waiting}
+use Rattle.gw_meaning.specs.Machine.{Machine, delay_at}
 use Rattle.gw_meaning.specs.Changes.{let_in}
 
 -- a chain
@@ -14,26 +14,10 @@ pub record Chain (A : Type 0) : Type 0 where
   -- how many more it takes without memory
   pub room : ℕ
 
--- the delay chains, with what there is room for
-pub record Delays : Type 0 where
-  -- the chain of each facility and storage, with its room
-  pub chains : List (Key × Chain Transaction)
-  -- for how many further chains there is room, each of one transaction at least
-  pub spare : ℕ
-
+-- who waits on each delay chain
 abbrev pub delays_of : List (Key × Chain Transaction) → List (Key × List Transaction)
 delays_of [] = []
 delays_of (c ∷ cs) = (c.0, c.1.items) ∷ delays_of cs
-
--- there is room for one more on a chain, which may be a further one
-abbrev pub HasRoomOn : Option (Chain Transaction) → ℕ → Type 0
-HasRoomOn None spare = 0 < spare
-HasRoomOn (Some chain) spare = 0 < chain.room
-
--- one more may wait for a facility or a storage
-abbrev pub HasPlace : Delays → Key → Type 0
-HasPlace d key =
-    HasRoomOn (value_of d.chains key) d.spare × (length (waiting (delays_of d.chains)) < 2 ^ 64 - 1)
 
 -- where those lie who wait for a facility or a storage, if any do
 abbrev pub IsWaitingPlace : List (Key × Chain Transaction) → Key → Option ℕ → Type 0
@@ -44,6 +28,11 @@ IsWaitingPlace chains key (Some index) = IsPlace chains key (Some index)
 abbrev pub items_of : Option (Chain Transaction) → List Transaction
 items_of None = []
 items_of (Some c) = c.items
+
+-- how many changes there is room for on it
+abbrev pub room_of : Option (Chain Transaction) → ℕ
+room_of None = 0
+room_of (Some c) = c.room
 
 -- the first of a chain
 abbrev pub first_of : List Transaction → Option Transaction

@@ -8,29 +8,24 @@ ghost use Rattle.gw_chains.specs.Chains.{with_share, without_share, has_share, H
 use crate::counts::Counts;
 use crate::entering::let_in;
 use gw_meaning::Transaction;
+use gw_shared::SharedList;
 use std::alloc::{AllocError, Global};
-use std::collections::VecDeque;
 use std::marker::Model;
 
 /// A chain of transactions, always in order: by priority, first in first out within.
 #[derive(Drop)]
 pub struct PriorityChain {
-    transactions: VecDeque<Transaction>,
+    transactions: SharedList<Transaction>,
 }
 
 impl Model for PriorityChain {
-    ghost use Rattle.std.specs.Prelude.{◌-◌};
-    ghost use Rattle.std.specs.VecDeque.{deque_len, deque_capacity};
     ghost use Rattle.gw_meaning.specs.Machine.{AreInOrder};
     ghost use Rattle.gw_meaning.specs.declared.transaction.Transaction.{Transaction};
     ghost use Rattle.gw_chains.specs.Chains.{Chain};
 
     ghost Value = { Chain Transaction };
 
-    ghost view = { λ c. record {
-      items = c.transactions.items;
-      room = deque_capacity c.transactions - deque_len c.transactions;
-    } };
+    ghost view = { λ c. record { items = c.transactions.items; room = c.transactions.room } };
 
     ghost invariant = { λ c. AreInOrder c.transactions.items };
 }
@@ -41,7 +36,7 @@ impl PriorityChain {
         ensures { result.items ≡ [] }
     {
         PriorityChain {
-            transactions: VecDeque::new(alloc),
+            transactions: SharedList::new(alloc),
         }
     }
 
@@ -67,18 +62,13 @@ impl PriorityChain {
         self.transactions.get(index)
     }
 
-    /// Makes room for so many more; where it has to grow, for twice as many, since each clock step asks for room for
-    /// the whole future chain, which may have grown by one.
+    /// Makes room for so many more.
     #[inline(always)]
     pub fn reserve(&mut self, count: usize) -> Result<(), AllocError>
         ensures ok { OnOk result (count ≤ self.new.room) }
         ensures items { self.new.items ≡ self.old.items }
     {
-        let room = self.transactions.capacity() - self.transactions.len();
-        if count <= room {
-            return Ok(());
-        }
-        self.transactions.reserve(count.saturating_mul(2))
+        self.transactions.reserve(count)
     }
 
     /// Puts a transaction on it: behind its equals, in front of the first of lower priority.
@@ -98,7 +88,7 @@ impl PriorityChain {
         ensures room { self.old.room ≤ self.new.room + 1 }
     {
         if self.goes_last(x) {
-            self.transactions.push_back_reserved(*x);
+            self.transactions.push(*x);
         } else {
             self.insert(*x);
         }
@@ -108,10 +98,12 @@ impl PriorityChain {
     fn goes_last(&self, x: &Transaction) -> bool
         ensures { IsTrue result → lined_up x.now self.now.items ≡ self.now.items ++ x.now ∷ [] }
     {
-        match self.transactions.back() {
-            Some(last) => !last.priority.is_below(x.priority),
-            None => true,
+        let count = self.transactions.len();
+        if count == 0 {
+            return true;
         }
+        let last = self.transactions.at(count - 1);
+        !last.priority.is_below(x.priority)
     }
 
     // Puts a transaction where it goes.
@@ -124,24 +116,26 @@ impl PriorityChain {
         ensures room { self.old.room ≤ self.new.room + 1 }
     {
         let index = self.place_behind(&x);
-        match self.transactions.insert(index, x) {
-            Ok(()) => (),
-            Err(_) => unreachable!(),
-        }
+        self.transactions.insert(index, x);
     }
 
-    // Where a transaction goes. Most go far back, so the search begins at the back.
-    #[tactic(auto, using(crate::proofs::ChainLaws::item_drop, crate::proofs::ChainLaws::lined_up_behind_it))]
+    // Where a transaction goes: halved out, since the chain is in order.
+    #[tactic(auto, using(crate::proofs::ChainLaws::lined_up_at, crate::proofs::ChainLaws::comes_first, crate::proofs::ChainLaws::nobody_left))]
     fn place_behind(&self, x: &Transaction) -> usize
         ensures within { result ≤ length self.now.items }
         ensures index { lined_up x.now self.now.items ≡ insert self.now.items result x.now }
     {
-        for index in (0..self.transactions.len()).rev() {
-            if !self.transactions[index].priority.is_below(x.priority) {
-                return index + 1;
+        let mut low = 0;
+        let mut high = self.transactions.len();
+        while low < high {
+            let middle = low + (high - low) / 2;
+            if self.transactions.at(middle).priority.is_below(x.priority) {
+                high = middle;
+            } else {
+                low = middle + 1;
             }
         }
-        0
+        low
     }
 
     /// Takes the first one off.
@@ -153,39 +147,47 @@ impl PriorityChain {
         self.transactions.pop_front()
     }
 
-    // Each with a share is let in, one by one from the front. The others stay in their order: each of them goes round
-    // to the back once.
+    // Each with a share is let in, one by one from the front. The others stay in their order.
     pub(crate) fn let_in_some(
         &mut self,
         shares: &[Option<u64>],
         current: &mut PriorityChain,
         counts: &mut Counts,
     )
-        requires { HasRoomToLetAllIn (with_share shares.now self.old.items) current.old.room counts.old.limit }
+        requires room { HasRoomToLetAllIn (with_share shares.now self.old.items) current.old.room counts.old.limit }
+        requires going { length (with_share shares.now self.old.items) ≤ self.old.room }
         ensures items { self.new.items ≡ without_share shares.now self.old.items }
         ensures let_in { (s : Machine) →
             record s { current = current.new.items; counts = counts.new.entries } ≡
             all_let_in (with_share shares.now self.old.items)
             (record s { current = current.old.items; counts = counts.old.entries }) }
     {
-        for i in 0..self.transactions.len() {
-            let Some(x) = self.transactions.pop_front() else {
-                unreachable!()
-            };
+        let mut kept = 0;
+        for i in 0..self.transactions.len().min(shares.len()) {
             if has_share(shares, i) {
+                let x = self.transactions.remove(kept);
                 let_in(current, counts, x);
             } else {
-                self.transactions.push_back_reserved(x);
+                kept += 1;
             }
         }
+    }
+
+    /// Copies share from now on what it holds now. Its room is gone, but it holds the same, also where memory is
+    /// refused.
+    pub fn share(&mut self) -> Result<(), AllocError>
+        ensures { self.new.items ≡ self.old.items }
+    {
+        self.transactions.share()
     }
 
     /// An equal chain.
     pub fn copy(&self) -> Result<PriorityChain, AllocError>
         ensures { IfOk result (λ c. c.items ≡ self.now.items) }
     {
-        let transactions = self.transactions.clone()?;
-        Ok(PriorityChain { transactions })
+        Ok(PriorityChain {
+            transactions: self.transactions.copy()?,
+        })
     }
 }
 

@@ -1,14 +1,14 @@
-ghost use Rattle.std.specs.Prelude.{◌≡◌, ◌<◌, [], length, option_copied, Some, None, IfOk, OnOk};
-ghost use Rattle.gw_entities.specs.Tables.{with_value, IsPlace};
+ghost use Rattle.std.specs.Prelude.{◌≡◌, ◌<◌, ◌≤◌, ◌-◌, ◌^◌, [], length, option_copied, Some, None, IfSome, IfOk, OnOk, OnErr};
+ghost use Rattle.gw_entities.specs.Tables.{value_of, with_value, IsPlace};
 ghost use Rattle.gw_meaning.specs.Changes.{lined_up, some_let_in};
 ghost use Rattle.gw_meaning.specs.Machine.{Machine, delay_at, waiting};
-ghost use Rattle.gw_chains.specs.Chains.{delays_of, items_of, first_of, without_first, with_share};
-ghost use Rattle.gw_chains.specs.Chains.{IsWaitingPlace, HasPlace, HasRoomToLetAllIn};
+ghost use Rattle.gw_chains.specs.Chains.{delays_of, items_of, room_of, first_of, without_first, with_share};
+ghost use Rattle.gw_chains.specs.Chains.{IsWaitingPlace, HasRoomToLetAllIn};
+ghost use Rattle.gw_chains.specs.Delays.{queues_of};
 
 use crate::chain::PriorityChain;
 use crate::counts::Counts;
-use crate::keys::Keys;
-use crate::rows::Rows;
+use gw_entities::KeySet;
 use gw_meaning::Transaction;
 use gw_names::Key;
 use std::alloc::{AllocError, Global};
@@ -17,44 +17,43 @@ use std::marker::Model;
 /// The delay chain of each facility and storage that somebody waited for, in the order of first waiting.
 #[derive(Drop)]
 pub struct DelayChains {
-    keys: Keys,
-    // The chain of each key, and further ones, on which nobody waits: the first of them is for the next key.
-    chains: Rows,
+    keys: KeySet,
+    // The chain of each key.
+    chains: Vec<PriorityChain>,
     // How many wait on all chains.
     count: usize,
 }
 
 impl Model for DelayChains {
-    ghost use Rattle.std.specs.Prelude.{length, min};
+    ghost use Rattle.std.specs.Prelude.{List};
     ghost use Rattle.std.specs.List.{zip};
-    ghost use Rattle.gw_chains.specs.Chains.{Delays};
-    ghost use Rattle.gw_chains.specs.Delays.{AreKept, room_at};
+    ghost use Rattle.gw_names.specs.declared.key.Key.{Key};
+    ghost use Rattle.gw_meaning.specs.declared.transaction.Transaction.{Transaction};
+    ghost use Rattle.gw_chains.specs.Chains.{Chain};
+    ghost use Rattle.gw_chains.specs.Delays.{AreKept};
 
-    ghost Value = { Delays };
+    ghost Value = { List (Key × Chain Transaction) };
 
-    ghost view = { λ d. record {
-      chains = zip d.keys.keys d.chains;
-      spare = min d.keys.room (room_at d.chains (length d.keys.keys));
-    } };
+    ghost view = { λ d. zip d.keys.keys d.chains.items };
 
-    ghost invariant = { λ d. AreKept d.keys.keys d.chains d.count };
+    ghost invariant = { λ d. AreKept d.keys.keys d.chains.items d.count };
 }
 
 impl DelayChains {
     /// Nobody has waited yet.
     pub fn new(alloc: Global) -> DelayChains
-        ensures { result.chains ≡ [] }
+        ensures { result ≡ [] }
     {
         DelayChains {
-            keys: Keys::new(alloc),
-            chains: Rows::new(alloc),
+            keys: KeySet::new(alloc),
+            chains: Vec::new(alloc),
             count: 0,
         }
     }
 
     /// How many wait for a facility or a storage.
     pub fn len(&self, key: &Key) -> usize
-        ensures { result ≡ length (delay_at (delays_of self.now.chains) key.now) }
+        ensures { result ≡ length (delay_at (delays_of self.now) key.now) }
     {
         match self.chain(key) {
             Some(chain) => chain.len(),
@@ -64,16 +63,15 @@ impl DelayChains {
 
     /// How many wait on all chains.
     pub fn count(&self) -> usize
-        ensures { result ≡ length (waiting (delays_of self.now.chains)) }
+        ensures { result ≡ length (waiting (delays_of self.now)) }
     {
         self.count
     }
 
-    /// Where the chain of a facility or a storage lies, if it has one: for [`DelayChains::reserve_at`],
-    /// [`DelayChains::line_up_there`] and [`DelayChains::line_up_first`].
+    // Where the chain of a facility or a storage lies, if it has one.
     #[inline(always)]
-    pub fn place(&self, key: &Key) -> Option<usize>
-        ensures { IsPlace self.now.chains key.now result }
+    fn place(&self, key: &Key) -> Option<usize>
+        ensures { IsPlace self.now key.now result }
     {
         self.keys.place(key)
     }
@@ -82,18 +80,18 @@ impl DelayChains {
     /// on any chain now, and then none is looked for.
     #[inline(always)]
     pub fn waiting_place(&self, key: &Key) -> Option<usize>
-        ensures { IsWaitingPlace self.now.chains key.now result }
+        ensures { IsWaitingPlace self.now key.now result }
     {
         if self.count == 0 {
             return None;
         }
-        self.keys.place(key)
+        self.place(key)
     }
 
     /// The chain of a facility or a storage, where somebody waited for it; none where nobody waits at all now.
     #[inline(always)]
     pub fn chain(&self, key: &Key) -> Option<&PriorityChain>
-        ensures { items_of (option_copied result) ≡ delay_at (delays_of self.now.chains) key.now }
+        ensures { items_of (option_copied result) ≡ delay_at (delays_of self.now) key.now }
     {
         let place = self.waiting_place(key);
         self.chain_at(key, place)
@@ -102,30 +100,21 @@ impl DelayChains {
     /// The same, where it is known where those lie who wait for the facility or the storage.
     #[inline(always)]
     pub fn chain_at(&self, key: &Key, place: Option<usize>) -> Option<&PriorityChain>
-        requires { IsWaitingPlace self.now.chains key.now place }
-        ensures { items_of (option_copied result) ≡ delay_at (delays_of self.now.chains) key.now }
+        requires { IsWaitingPlace self.now key.now place }
+        ensures { items_of (option_copied result) ≡ delay_at (delays_of self.now) key.now }
     {
         let Some(index) = place else {
             return None;
         };
-        self.chains.chain(index)
+        Some(&self.chains[index])
     }
 
-    /// The first that waits for a facility.
-    #[inline(always)]
-    pub fn first(&self, key: &Key) -> Option<&Transaction>
-        ensures { option_copied result ≡ first_of (delay_at (delays_of self.now.chains) key.now) }
-    {
-        let place = self.waiting_place(key);
-        self.first_at(key, place)
-    }
-
-    /// The same, where it is known where those lie who wait for the facility.
+    /// The first of those who wait for a facility, where it is known where they lie.
     #[inline(always)]
     #[tactic(auto, using(crate::proofs::DelayLaws::first_is))]
     pub fn first_at(&self, key: &Key, place: Option<usize>) -> Option<&Transaction>
-        requires { IsWaitingPlace self.now.chains key.now place }
-        ensures { option_copied result ≡ first_of (delay_at (delays_of self.now.chains) key.now) }
+        requires { IsWaitingPlace self.now key.now place }
+        ensures { option_copied result ≡ first_of (delay_at (delays_of self.now) key.now) }
     {
         match self.chain_at(key, place) {
             Some(chain) => chain.get(0),
@@ -133,122 +122,83 @@ impl DelayChains {
         }
     }
 
-    /// Makes room for one more to wait for a facility or a storage.
-    pub fn reserve(&mut self, key: &Key) -> Result<(), AllocError>
-        ensures ok { OnOk result (HasPlace self.new key.now) }
-        ensures delays { delays_of self.new.chains ≡ delays_of self.old.chains }
-    {
-        let place = self.place(key);
-        self.reserve_at(key, place)
-    }
-
-    /// The same, where it is known where the chain of the facility or the storage lies. It stays there.
+    /// A transaction waits for a facility or a storage: behind its equals, in front of the first of lower priority.
+    /// Where memory is refused, nobody waits but those who did.
     #[inline(always)]
-    pub fn reserve_at(&mut self, key: &Key, place: Option<usize>) -> Result<(), AllocError>
-        requires { IsPlace self.old.chains key.now place }
-        ensures ok { OnOk result (HasPlace self.new key.now) }
-        ensures delays { delays_of self.new.chains ≡ delays_of self.old.chains }
-        ensures place { IsPlace self.new.chains key.now place }
+    pub fn line_up(&mut self, key: &Key, x: Transaction) -> Result<(), AllocError>
+        ensures ok { OnOk result (delays_of self.new ≡
+            with_value (delays_of self.old) key.now (lined_up x (delay_at (delays_of self.old) key.now))) }
+        ensures err { OnErr result (delays_of self.new ≡ delays_of self.old) }
     {
-        let is_full = self.count >= usize::MAX;
-        if is_full {
+        if self.count == usize::MAX {
             return Err(AllocError);
         }
-        let Some(index) = place else {
-            self.keys.reserve()?;
-            return self.chains.reserve_next(self.keys.len());
+        let Some(index) = self.place(key) else {
+            return self.line_up_first(key, x);
         };
-        self.chains.reserve(index)
-    }
-
-    /// A transaction waits for a facility or a storage: behind its equals, in front of the first of lower priority.
-    pub fn line_up(&mut self, key: Key, x: Transaction)
-        requires { HasPlace self.old key }
-        ensures { delays_of self.new.chains ≡
-            with_value (delays_of self.old.chains) key (lined_up x (delay_at (delays_of self.old.chains) key)) }
-    {
-        match self.place(&key) {
-            Some(index) => self.line_up_there(&key, index, x),
-            None => self.line_up_first(key, x),
-        }
-    }
-
-    /// The same, where somebody has waited for the facility or the storage before, and it is known where its chain
-    /// lies: the key is not kept.
-    #[inline(always)]
-    pub fn line_up_there(&mut self, key: &Key, index: usize, x: Transaction)
-        requires room { HasPlace self.old key.now }
-        requires place { IsPlace self.old.chains key.now (Some index) }
-        ensures { delays_of self.new.chains ≡
-            with_value (delays_of self.old.chains) key.now (lined_up x (delay_at (delays_of self.old.chains) key.now)) }
-    {
-        self.chains.line_up(index, x);
+        let chain = &mut self.chains[index];
+        chain.reserve(1)?;
+        chain.line_up(x);
         self.count += 1;
+        Ok(())
     }
 
-    /// The same, where nobody has waited for the facility or the storage.
+    // The same, where nobody has waited for the facility or the storage.
     #[inline(never)]
-    pub fn line_up_first(&mut self, key: Key, x: Transaction)
-        requires room { HasPlace self.old key }
-        requires none { IsPlace self.old.chains key None }
-        ensures { delays_of self.new.chains ≡
-            with_value (delays_of self.old.chains) key (lined_up x (delay_at (delays_of self.old.chains) key)) }
+    fn line_up_first(&mut self, key: &Key, x: Transaction) -> Result<(), AllocError>
+        requires none { value_of self.old key.now ≡ None }
+        requires count { length (waiting (delays_of self.old)) < 2 ^ 64 - 1 }
+        ensures ok { OnOk result (delays_of self.new ≡
+            with_value (delays_of self.old) key.now (lined_up x (delay_at (delays_of self.old) key.now))) }
+        ensures err { OnErr result (delays_of self.new ≡ delays_of self.old) }
     {
-        self.chains.line_up(self.keys.len(), x);
-        self.keys.push(key);
+        let own = key.clone()?;
+        self.keys.reserve()?;
+        self.chains.reserve(1)?;
+        let mut chain = PriorityChain::new(*self.chains.allocator());
+        chain.reserve(1)?;
+        chain.line_up(x);
+        self.keys.insert(own);
+        self.chains.push_reserved(chain);
         self.count += 1;
+        Ok(())
     }
 
-    /// The first that waits for a facility goes.
-    #[inline(always)]
-    pub fn take_first(&mut self, key: &Key) -> Option<Transaction>
-        ensures first { result ≡ first_of (delay_at (delays_of self.old.chains) key.now) }
-        ensures delays { delays_of self.new.chains ≡
-            without_first (delays_of self.old.chains) key.now (delay_at (delays_of self.old.chains) key.now) }
-    {
-        let place = self.waiting_place(key);
-        self.take_first_at(key, place)
-    }
-
-    /// The same, where it is known where those lie who wait for the facility.
+    /// The first of those who wait for a facility goes, where it is known where they lie.
     #[inline(always)]
     pub fn take_first_at(&mut self, key: &Key, place: Option<usize>) -> Option<Transaction>
-        requires { IsWaitingPlace self.old.chains key.now place }
-        ensures first { result ≡ first_of (delay_at (delays_of self.old.chains) key.now) }
-        ensures delays { delays_of self.new.chains ≡
-            without_first (delays_of self.old.chains) key.now (delay_at (delays_of self.old.chains) key.now) }
+        requires { IsWaitingPlace self.old key.now place }
+        ensures first { result ≡ first_of (delay_at (delays_of self.old) key.now) }
+        ensures delays { delays_of self.new ≡
+            without_first (delays_of self.old) key.now (delay_at (delays_of self.old) key.now) }
     {
         let Some(index) = place else {
             return None;
         };
-        let x = self.chains.take_first(index)?;
+        let x = self.chains[index].take_first()?;
         self.count -= 1;
         Some(x)
     }
 
-    /// Of those who wait for a storage each with a share is let in.
-    pub fn let_in_some(
+    /// Makes room for so many to go who wait for a storage, where it is known where they lie. They stay there.
+    pub fn reserve_at(
         &mut self,
         key: &Key,
-        shares: &[Option<u64>],
-        current: &mut PriorityChain,
-        counts: &mut Counts,
-    )
-        requires { HasRoomToLetAllIn (with_share shares.now (delay_at (delays_of self.old.chains) key.now))
-            current.old.room counts.old.limit }
-        ensures { (s : Machine) →
-            record s { delays = delays_of self.new.chains; current = current.new.items; counts = counts.new.entries } ≡
-            some_let_in key.now shares.now [] (delay_at (delays_of self.old.chains) key.now) (record s {
-              delays = delays_of self.old.chains;
-              current = current.old.items;
-              counts = counts.old.entries;
-            }) }
+        place: Option<usize>,
+        count: usize,
+    ) -> Result<(), AllocError>
+        requires { IsWaitingPlace self.old key.now place }
+        ensures ok { OnOk result (IfSome place (λ _. count ≤ room_of (value_of self.new key.now))) }
+        ensures delays { delays_of self.new ≡ delays_of self.old }
+        ensures place { IsWaitingPlace self.new key.now place }
     {
-        let place = self.waiting_place(key);
-        self.let_in_some_at(key, place, shares, current, counts);
+        let Some(index) = place else {
+            return Ok(());
+        };
+        self.chains[index].reserve(count)
     }
 
-    /// The same, where it is known where those lie who wait for the storage.
+    /// Of those who wait for a storage each with a share is let in, where it is known where they lie.
     #[inline(always)]
     pub fn let_in_some_at(
         &mut self,
@@ -258,13 +208,15 @@ impl DelayChains {
         current: &mut PriorityChain,
         counts: &mut Counts,
     )
-        requires place { IsWaitingPlace self.old.chains key.now place }
-        requires room { HasRoomToLetAllIn (with_share shares.now (delay_at (delays_of self.old.chains) key.now))
+        requires place { IsWaitingPlace self.old key.now place }
+        requires room { HasRoomToLetAllIn (with_share shares.now (delay_at (delays_of self.old) key.now))
             current.old.room counts.old.limit }
+        requires going { length (with_share shares.now (delay_at (delays_of self.old) key.now)) ≤
+            room_of (value_of self.old key.now) }
         ensures { (s : Machine) →
-            record s { delays = delays_of self.new.chains; current = current.new.items; counts = counts.new.entries } ≡
-            some_let_in key.now shares.now [] (delay_at (delays_of self.old.chains) key.now) (record s {
-              delays = delays_of self.old.chains;
+            record s { delays = delays_of self.new; current = current.new.items; counts = counts.new.entries } ≡
+            some_let_in key.now shares.now [] (delay_at (delays_of self.old) key.now) (record s {
+              delays = delays_of self.old;
               current = current.old.items;
               counts = counts.old.entries;
             }) }
@@ -272,18 +224,50 @@ impl DelayChains {
         let Some(index) = place else {
             return;
         };
-        let gone = self.chains.let_in_some(index, shares, current, counts);
+        let chain = &mut self.chains[index];
+        let before = chain.len();
+        chain.let_in_some(shares, current, counts);
+        let gone = before - chain.len();
         self.count -= gone;
     }
 
-    /// A copy.
-    pub fn copy(&self) -> Result<DelayChains, AllocError>
-        ensures { IfOk result (λ d. delays_of d.chains ≡ delays_of self.now.chains) }
+    /// Copies share from now on what it holds now. It holds the same, also where memory is refused.
+    pub fn share(&mut self) -> Result<(), AllocError>
+        ensures { delays_of self.new ≡ delays_of self.old }
     {
+        share_all(&mut self.chains)
+    }
+
+    /// The same chains.
+    pub fn copy(&self) -> Result<DelayChains, AllocError>
+        ensures { IfOk result (λ d. delays_of d ≡ delays_of self.now) }
+    {
+        let keys = self.keys.copy()?;
         Ok(DelayChains {
-            keys: self.keys.copy()?,
-            chains: self.chains.copy()?,
+            keys,
+            chains: copy_chains(*self.chains.allocator(), &self.chains)?,
             count: self.count,
         })
     }
+}
+
+// Copies share from now on what these hold.
+fn share_all(chains: &mut Vec<PriorityChain>) -> Result<(), AllocError>
+    ensures { queues_of chains.new.items ≡ queues_of chains.old.items }
+{
+    for index in 0..chains.len() {
+        chains[index].share()?;
+    }
+    Ok(())
+}
+
+// Chains of the same transactions.
+fn copy_chains(alloc: Global, chains: &[PriorityChain]) -> Result<Vec<PriorityChain>, AllocError>
+    ensures { IfOk result (λ cs. queues_of cs.items ≡ queues_of chains.now) }
+{
+    let mut copies = Vec::with_capacity(alloc, chains.len())?;
+    for chain in chains {
+        copies.push(chain.copy()?)?;
+    }
+    Ok(copies)
 }

@@ -9,9 +9,6 @@ mod counts;
 mod delays;
 mod entering;
 mod future;
-mod keys;
-mod row;
-mod rows;
 mod segment;
 mod times;
 

@@ -2,9 +2,10 @@
 ghost use Rattle.std.specs.Prelude.{◌≡◌, ◌+◌, ◌-◌, ◌<◌, ◌≤◌, [], ◌∷◌, Some, length, IfOk, OnOk};
 ghost use Rattle.std.specs.Option.{option_map};
 ghost use Rattle.gw_meaning.specs.declared.transaction.Transaction.{Transaction};
+ghost use Rattle.gw_entities.specs.Tables.{value_of};
 ghost use Rattle.gw_meaning.specs.Machine.{Machine, delay_at};
 ghost use Rattle.gw_meaning.specs.Changes.{some_let_in};
-ghost use Rattle.gw_chains.specs.Chains.{delays_of, first_of, IsWaitingPlace, with_share, IsWithin, AreWithin, HasRoomToLetIn, HasRoomToLetAllIn};
+ghost use Rattle.gw_chains.specs.Chains.{delays_of, room_of, first_of, IsWaitingPlace, with_share, IsWithin, AreWithin, HasRoomToLetIn, HasRoomToLetAllIn};
 
 use gw_chains::{Counts, DelayChains, PriorityChain, has_share, let_in};
 use gw_meaning::Transaction;
@@ -21,10 +22,10 @@ pub fn reserve_first(
     key: &Key,
     place: Option<usize>,
 ) -> Result<Option<u64>, AllocError>
-    requires { IsWaitingPlace delays.now.chains key.now place }
+    requires { IsWaitingPlace delays.now key.now place }
     ensures number { IfOk result (λ number. number ≡
-        option_map (λ (x : Transaction). x.number) (first_of (delay_at (delays_of delays.now.chains) key.now))) }
-    ensures ok { OnOk result (HasRoomToLetIn (first_of (delay_at (delays_of delays.now.chains) key.now))
+        option_map (λ (x : Transaction). x.number) (first_of (delay_at (delays_of delays.now) key.now))) }
+    ensures ok { OnOk result (HasRoomToLetIn (first_of (delay_at (delays_of delays.now) key.now))
         (current.new.room - 1) counts.new.limit) }
     ensures one { OnOk result (0 < current.new.room) }
     ensures current { current.new.items ≡ current.old.items }
@@ -39,20 +40,24 @@ pub fn reserve_first(
     Ok(Some(x.number))
 }
 
-/// Makes room to let in those of the delay chain at a place who have a share.
+/// Makes room to let in those of the delay chain at a place who have a share. The chain stays there.
 #[inline(always)]
 pub fn reserve_some(
-    delays: &DelayChains,
+    delays: &mut DelayChains,
     current: &mut PriorityChain,
     counts: &mut Counts,
     key: &Key,
     place: Option<usize>,
     shares: &[Option<u64>],
 ) -> Result<(), AllocError>
-    requires { IsWaitingPlace delays.now.chains key.now place }
-    ensures ok { OnOk result (HasRoomToLetAllIn (with_share shares.now (delay_at (delays_of delays.now.chains) key.now))
+    requires { IsWaitingPlace delays.old key.now place }
+    ensures ok { OnOk result (HasRoomToLetAllIn (with_share shares.now (delay_at (delays_of delays.old) key.now))
         (current.new.room - 1) counts.new.limit) }
+    ensures going { OnOk result (length (with_share shares.now (delay_at (delays_of delays.old) key.now)) ≤
+        room_of (value_of delays.new key.now)) }
     ensures one { OnOk result (0 < current.new.room) }
+    ensures delays { delays_of delays.new ≡ delays_of delays.old }
+    ensures place { IsWaitingPlace delays.new key.now place }
     ensures current { current.new.items ≡ current.old.items }
     ensures counts { counts.new.entries ≡ counts.old.entries }
     ensures limit { counts.old.limit ≤ counts.new.limit }
@@ -66,17 +71,21 @@ pub fn reserve_some(
 // The same, where there are shares.
 #[inline(always)]
 fn reserve_shares(
-    delays: &DelayChains,
+    delays: &mut DelayChains,
     current: &mut PriorityChain,
     counts: &mut Counts,
     key: &Key,
     place: Option<usize>,
     shares: &[Option<u64>],
 ) -> Result<(), AllocError>
-    requires { IsWaitingPlace delays.now.chains key.now place }
-    ensures ok { OnOk result (HasRoomToLetAllIn (with_share shares.now (delay_at (delays_of delays.now.chains) key.now))
+    requires { IsWaitingPlace delays.old key.now place }
+    ensures ok { OnOk result (HasRoomToLetAllIn (with_share shares.now (delay_at (delays_of delays.old) key.now))
         (current.new.room - 1) counts.new.limit) }
+    ensures going { OnOk result (length (with_share shares.now (delay_at (delays_of delays.old) key.now)) ≤
+        room_of (value_of delays.new key.now)) }
     ensures one { OnOk result (0 < current.new.room) }
+    ensures delays { delays_of delays.new ≡ delays_of delays.old }
+    ensures place { IsWaitingPlace delays.new key.now place }
     ensures current { current.new.items ≡ current.old.items }
     ensures counts { counts.new.entries ≡ counts.old.entries }
     ensures limit { counts.old.limit ≤ counts.new.limit }
@@ -86,7 +95,8 @@ fn reserve_shares(
         return Ok(());
     };
     let count = reserve_blocks(chain, shares, counts)?;
-    current.reserve(count)
+    current.reserve(count)?;
+    delays.reserve_at(key, place, count)
 }
 
 // Makes room for the counts of the blocks at which those with a share wait. Returns how many they are, and one more.
@@ -134,13 +144,13 @@ pub fn let_first_in(
     key: &Key,
     place: Option<usize>,
 )
-    requires place { IsWaitingPlace delays.old.chains key.now place }
-    requires room { HasRoomToLetIn (first_of (delay_at (delays_of delays.old.chains) key.now))
+    requires place { IsWaitingPlace delays.old key.now place }
+    requires room { HasRoomToLetIn (first_of (delay_at (delays_of delays.old) key.now))
         current.old.room counts.old.limit }
     ensures { (s : Machine) →
-        record s { delays = delays_of delays.new.chains; current = current.new.items; counts = counts.new.entries } ≡
-        some_let_in key.now (Some 1 ∷ []) [] (delay_at (delays_of delays.old.chains) key.now) (record s {
-          delays = delays_of delays.old.chains;
+        record s { delays = delays_of delays.new; current = current.new.items; counts = counts.new.entries } ≡
+        some_let_in key.now (Some 1 ∷ []) [] (delay_at (delays_of delays.old) key.now) (record s {
+          delays = delays_of delays.old;
           current = current.old.items;
           counts = counts.old.entries;
         }) }
@@ -160,13 +170,15 @@ pub fn let_some_in(
     place: Option<usize>,
     shares: &[Option<u64>],
 )
-    requires place { IsWaitingPlace delays.old.chains key.now place }
-    requires room { HasRoomToLetAllIn (with_share shares.now (delay_at (delays_of delays.old.chains) key.now))
+    requires place { IsWaitingPlace delays.old key.now place }
+    requires room { HasRoomToLetAllIn (with_share shares.now (delay_at (delays_of delays.old) key.now))
         current.old.room counts.old.limit }
+    requires going { length (with_share shares.now (delay_at (delays_of delays.old) key.now)) ≤
+        room_of (value_of delays.old key.now) }
     ensures { (s : Machine) →
-        record s { delays = delays_of delays.new.chains; current = current.new.items; counts = counts.new.entries } ≡
-        some_let_in key.now shares.now [] (delay_at (delays_of delays.old.chains) key.now) (record s {
-          delays = delays_of delays.old.chains;
+        record s { delays = delays_of delays.new; current = current.new.items; counts = counts.new.entries } ≡
+        some_let_in key.now shares.now [] (delay_at (delays_of delays.old) key.now) (record s {
+          delays = delays_of delays.old;
           current = current.old.items;
           counts = counts.old.entries;
         }) }

@@ -32,7 +32,7 @@ pub fn put_facilities(
     state: &State,
     delays: &DelayChains,
 ) -> Result<(), AllocError>
-    requires { delays_of delays.now.chains ≡ state.now.delays }
+    requires { delays_of delays.now ≡ state.now.delays }
     ensures { OnOk result (out.new.items ≡ out.old.items ++ facilities_text state.now) }
 {
     let lines = facility_lines(*out.allocator(), state, delays)?;
@@ -49,7 +49,7 @@ fn facility_heading() -> &'static [u8]
 
 // The lines of the facilities.
 fn facility_lines(alloc: Global, state: &State, delays: &DelayChains) -> Result<Sheet, AllocError>
-    requires { delays_of delays.now.chains ≡ state.now.delays }
+    requires { delays_of delays.now ≡ state.now.delays }
     ensures { IfOk result (λ lines. lines ≡
         rows_of facility_columns (map (facility_line state.now) state.now.entities.facilities)) }
 {
@@ -72,7 +72,7 @@ fn put_facility(
     key: &Key,
     facility: Facility,
 ) -> Result<(), AllocError>
-    requires { delays_of delays.now.chains ≡ state.now.delays }
+    requires { delays_of delays.now ≡ state.now.delays }
     ensures { OnOk result (out.new ≡ out.old ++
         row_of facility_columns (facility_line state.now (key.now, facility))) }
 {

@@ -37,7 +37,7 @@ pub fn put_storages(
     state: &State,
     delays: &DelayChains,
 ) -> Result<(), AllocError>
-    requires { delays_of delays.now.chains ≡ state.now.delays }
+    requires { delays_of delays.now ≡ state.now.delays }
     ensures { OnOk result (out.new.items ≡ out.old.items ++ storages_text version.now state.now) }
 {
     let lines = storage_lines(*out.allocator(), version, state, delays)?;
@@ -59,7 +59,7 @@ fn storage_lines(
     state: &State,
     delays: &DelayChains,
 ) -> Result<Sheet, AllocError>
-    requires { delays_of delays.now.chains ≡ state.now.delays }
+    requires { delays_of delays.now ≡ state.now.delays }
     ensures { IfOk result (λ lines. lines ≡
         rows_of storage_columns (map (storage_line version.now state.now) state.now.entities.storages)) }
 {
@@ -94,7 +94,7 @@ fn put_storage(
     key: &Key,
     storage: Storage,
 ) -> Result<(), AllocError>
-    requires { delays_of delays.now.chains ≡ state.now.delays }
+    requires { delays_of delays.now ≡ state.now.delays }
     ensures { (t : Listing) → units_of t key.now ≡ capacity → OnOk result (out.new ≡ out.old ++
         row_of storage_columns (storage_line t state.now (key.now, storage))) }
 {

@@ -10,7 +10,7 @@ use Rattle.gw_scan.specs.declared.copy.Kept.{Kept}
 pub record ChainsOf (s : Machine) (chains : Chains) : Type 0 where
   pub current : chains.current.items ≡ s.current
   pub future : chains.future.items ≡ s.future
-  pub delays : delays_of chains.delays.chains ≡ s.delays
+  pub delays : delays_of chains.delays ≡ s.delays
 
 -- the counts, the entities and the parameters are those of the state
 pub record KeptOf (s : Machine) (kept : Kept) : Type 0 where

@@ -26,11 +26,13 @@ pub struct Kept {
 }
 
 impl State {
-    /// Makes copies of it cheap: from now on they share what did not change, of the future chain, of the entities
-    /// and of the parameters. The state is the same behind it, also where memory is refused.
+    /// Makes copies of it cheap: from now on they share what did not change of its chains, its entities and its
+    /// parameters. The state is the same behind it, also where memory is refused.
     pub fn share(&mut self) -> Result<(), AllocError>
         ensures { self.new ≡ self.old }
     {
+        self.current.share()?;
+        self.delays.share()?;
         self.future.share()?;
         self.entities.share()?;
         self.parameters.share()

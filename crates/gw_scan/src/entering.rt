@@ -19,8 +19,7 @@ use gw_parts::Active;
 use std::alloc::AllocError;
 
 impl State {
-    // The active transaction is refused at a block, and waits on the delay chain of a key for so many units. The chain
-    // takes a key of its own only where it is the first.
+    // The active transaction is refused at a block, and waits on the delay chain of a key for so many units.
     #[inline(never)]
     pub(crate) fn refuse(
         &mut self,
@@ -32,19 +31,9 @@ impl State {
         ensures ok { OnOk result (self.new ≡ moved self.old (moves.Refuse id key.now units)) }
         ensures err { OnErr result (self.new ≡ self.old) }
     {
-        let place = self.delays.place(key);
-        self.delays.reserve_at(key, place)?;
-        match place {
-            Some(index) => {
-                let x = self.active.take();
-                self.delays.line_up_there(key, index, bind(x, id, units));
-            }
-            None => {
-                let first = key.clone()?;
-                let x = self.active.take();
-                self.delays.line_up_first(first, bind(x, id, units));
-            }
-        }
+        let x = *self.active.get();
+        self.delays.line_up(key, bind(x, id, units))?;
+        self.active.clear();
         Ok(())
     }
 

@@ -47,7 +47,7 @@ impl Model for State {
       active = s.active;
       current = s.current.items;
       future = s.future.items;
-      delays = delays_of s.delays.chains;
+      delays = delays_of s.delays;
       counts = s.counts.entries;
       entities = entities_of s.entities;
       parameters = s.parameters;
@@ -146,7 +146,7 @@ impl State {
 
     /// The delay chains of the facilities and the storages.
     pub fn delays(&self) -> &DelayChains
-        ensures { delays_of result.now.chains ≡ self.now.delays }
+        ensures { delays_of result.now ≡ self.now.delays }
     {
         &self.delays
     }

@@ -261,7 +261,7 @@ impl State {
         self.counts.reserve(id)?;
         let waiting = self.delays.waiting_place(key);
         reserve_some(
-            &self.delays,
+            &mut self.delays,
             &mut self.current,
             &mut self.counts,
             key,

@@ -1,4 +1,4 @@
-use Rattle.std.proofs.Common.{◌≡◌, drop}
+use Rattle.std.proofs.Common.{◌≡◌, ◌≤◌, drop, length}
 use Rattle.gw_meaning.specs.Machine.{Machine}
 use Rattle.gw_chains.specs.Chains.{with_share, HasRoomToLetAllIn, all_let_in}
 use Rattle.gw_chains.proofs.LetIn.{Sifting}
@@ -7,7 +7,9 @@ use Rattle.gw_chains.proofs.chain.PriorityChain.let_in_some.Given as goal
 -- what the rest comes to is what all come to
 abbrev pub invariant-loop-i : goal.invariant-loop-i
 invariant-loop-i l = record {
-  sifting : Sifting l.shares l.initial.self-inside.transactions.items l.i l.self-inside.transactions.items;
+  sifting : Sifting l.shares l.initial.self-inside.transactions.items l.i l.kept l.self-inside.transactions.items;
+  fewer : l.kept ≤ l.i;
+  going : length (with_share (drop l.i l.shares) (drop l.i l.initial.self-inside.transactions.items)) ≤ l.self-inside.transactions.room;
   room : HasRoomToLetAllIn (with_share (drop l.i l.shares) (drop l.i l.initial.self-inside.transactions.items)) l.current.room l.counts.limit;
   let_in : (s : Machine) →
       all_let_in (with_share (drop l.i l.shares) (drop l.i l.initial.self-inside.transactions.items))

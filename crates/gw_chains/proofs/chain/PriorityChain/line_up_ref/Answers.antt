@@ -6,5 +6,5 @@ use Rattle.gw_chains.proofs.chain.PriorityChain.line_up_ref.Goals as goal
 pub invariant_of-self : goal.invariant_of-self
 invariant_of-self c =
     let last = rw (← c.self.view_is) at c.if-goes_last.ensures in
-    subst AreInOrder (last refl ∙ sym c.push_back_reserved.ensures.items)
+    subst AreInOrder (last refl ∙ sym c.push.ensures.items)
     (lined_up_in_order c.args.x.now c.self.inside.transactions.items c.self.invariant)

@@ -1,89 +1,118 @@
-use Rattle.std.proofs.Common.{[], subst, sym, ap, ◌∙◌}
+use Rattle.std.proofs.Common.{◌≡◌, ◌<◌, ◌-◌, [], length, subst, sym, ap, ◌∙◌, arith, rules}
 use Rattle.std.specs.List.{zip}
 use Rattle.gw_entities.specs.Tables.{with_value}
 use Rattle.gw_meaning.specs.Machine.{Machine}
 use Rattle.gw_chains.specs.Chains.{IsWaitingPlace, delays_of, without_share}
-use Rattle.gw_chains.specs.Delays.{queue_at}
-use Rattle.gw_chains.proofs.Beside.{changed_delays, changed_kept, queue_beside, value_beside, within_beside}
-use Rattle.gw_chains.proofs.DelayLaws.{place_of_queue}
-use Rattle.gw_chains.proofs.LetIn.{some_let_in_is, nobody_let_in, gone_is, fewer_wait}
+use Rattle.gw_chains.proofs.Beside.{queue_there, value_there, within_beside, written_delays, written_kept}
+use Rattle.gw_chains.proofs.DelayLaws.{place_of_queue, value_is}
+use Rattle.gw_chains.proofs.LetIn.{some_let_in_is, nobody_let_in, fewer_wait, without_fewer}
 use Rattle.gw_chains.proofs.delays.DelayChains.let_in_some_at.Goals as goal
 
 pub returns-in_default : goal.returns-in_default
 returns-in_default c = λ s.
-    let none = subst (IsWaitingPlace c.args.self.now.chains c.args.key.now) c.in_default.is c.requires.place in
+    let none = subst (IsWaitingPlace c.args.self.now c.args.key.now) c.in_default.is c.requires.place in
     rw none (sym (nobody_let_in c.args.key.now c.args.shares.now [] _))
 
-pub let_in_some-gone-requires-clause-within : goal.let_in_some-gone-requires-clause-within
-let_in_some-gone-requires-clause-within c =
+pub index_mut-chain-requires : goal.index_mut-chain-requires
+index_mut-chain-requires c =
     let ks = c.self.inside.keys.keys in
-    let cs = c.self.inside.chains in
+    let cs = c.self.inside.chains.items in
     let key = c.args.key.now in
-    let there = place_of_queue (zip ks cs) key c.args.place c.in-Some.index c.in-Some.is (rw (← c.self.view_is) at c.requires.place) in
     let i = c.in-Some.index in
-    within_beside ks cs i key there
+    let there = place_of_queue (zip ks cs) key c.args.place i c.in-Some.is (rw (← c.self.view_is) at c.requires.place) in
+    let within : i < length cs = within_beside ks cs i key there in
+    search rules
 
-pub let_in_some-gone-requires-clause-room : goal.let_in_some-gone-requires-clause-room
-let_in_some-gone-requires-clause-room c =
+pub let_in_some-requires-clause-room : goal.let_in_some-requires-clause-room
+let_in_some-requires-clause-room c =
     let ks = c.self.inside.keys.keys in
-    let cs = c.self.inside.chains in
+    let cs = c.self.inside.chains.items in
     let key = c.args.key.now in
-    let there = place_of_queue (zip ks cs) key c.args.place c.in-Some.index c.in-Some.is (rw (← c.self.view_is) at c.requires.place) in
     let i = c.in-Some.index in
-    let queue = queue_beside ks cs i key there in
+    let there = place_of_queue (zip ks cs) key c.args.place i c.in-Some.is (rw (← c.self.view_is) at c.requires.place) in
+    let was = c.index_mut-chain.result.now in
+    let queue = queue_there ks cs i key was there c.index_mut-chain.ensures.value in
     rw (← c.self.view_is, queue) at c.requires.room
+
+pub let_in_some-requires-clause-going : goal.let_in_some-requires-clause-going
+let_in_some-requires-clause-going c =
+    let ks = c.self.inside.keys.keys in
+    let cs = c.self.inside.chains.items in
+    let key = c.args.key.now in
+    let i = c.in-Some.index in
+    let there = place_of_queue (zip ks cs) key c.args.place i c.in-Some.is (rw (← c.self.view_is) at c.requires.place) in
+    let was = c.index_mut-chain.result.now in
+    let queue = queue_there ks cs i key was there c.index_mut-chain.ensures.value in
+    rw (← c.self.view_is, queue, value_there ks cs i key was there c.index_mut-chain.ensures.value) at c.requires.going
+
+pub overflow_sub-gone : goal.overflow_sub-gone
+overflow_sub-gone c =
+    let before = c.len-before.ensures.len in
+    let after = c.len.ensures.len in
+    let left = ap length c.let_in_some.ensures.items in
+    let fewer = without_fewer c.args.shares.now c.index_mut-chain.result.now.items in
+    omega (arith, before, after, left, fewer)
 
 pub overflow_sub-self : goal.overflow_sub-self
 overflow_sub-self c =
     let ks = c.self.inside.keys.keys in
-    let cs = c.self.inside.chains in
+    let cs = c.self.inside.chains.items in
     let key = c.args.key.now in
-    let there = place_of_queue (zip ks cs) key c.args.place c.in-Some.index c.in-Some.is (rw (← c.self.view_is) at c.requires.place) in
     let i = c.in-Some.index in
-    let ds = c.let_in_some-gone.new.self in
-    let queue = queue_beside ks cs i key there in
-    let chain = queue_at cs i in
+    let there = place_of_queue (zip ks cs) key c.args.place i c.in-Some.is (rw (← c.self.view_is) at c.requires.place) in
+    let was = c.index_mut-chain.result.now in
+    let queue = queue_there ks cs i key was there c.index_mut-chain.ensures.value in
+    let own = c.let_in_some.new.self in
+    let chain = was.items in
     let shares = c.args.shares.now in
-    let gone = gone_is c.let_in_some-gone.result chain (queue_at ds i) _ c.let_in_some-gone.ensures.gone c.let_in_some-gone.ensures.items in
+    let before = c.len-before.ensures.len in
+    let after = c.len.ensures.len in
+    let left = ap length c.let_in_some.ensures.items in
+    let gone : c.len-before.result - c.len.result ≡ length chain - length (without_share shares chain) = omega (arith, before, after, left) in
     let fewer = fewer_wait (delays_of (zip ks cs)) key shares chain c.self.inside.count queue c.self.invariant.counted in
     rw gone fewer.0
 
 pub invariant_of-self : goal.invariant_of-self
 invariant_of-self c =
     let ks = c.self.inside.keys.keys in
-    let cs = c.self.inside.chains in
+    let cs = c.self.inside.chains.items in
     let key = c.args.key.now in
-    let there = place_of_queue (zip ks cs) key c.args.place c.in-Some.index c.in-Some.is (rw (← c.self.view_is) at c.requires.place) in
     let i = c.in-Some.index in
-    let ds = c.let_in_some-gone.new.self in
-    let queue = queue_beside ks cs i key there in
-    let chain = queue_at cs i in
+    let there = place_of_queue (zip ks cs) key c.args.place i c.in-Some.is (rw (← c.self.view_is) at c.requires.place) in
+    let was = c.index_mut-chain.result.now in
+    let queue = queue_there ks cs i key was there c.index_mut-chain.ensures.value in
+    let own = c.let_in_some.new.self in
+    let chain = was.items in
     let shares = c.args.shares.now in
-    let gone = gone_is c.let_in_some-gone.result chain (queue_at ds i) _ c.let_in_some-gone.ensures.gone c.let_in_some-gone.ensures.items in
-    let written = changed_delays ks cs ds i key c.self.invariant.apart c.self.invariant.beside there c.let_in_some-gone.ensures.others ∙
-    ap (with_value (delays_of (zip ks cs)) key) c.let_in_some-gone.ensures.items in
+    let before = c.len-before.ensures.len in
+    let after = c.len.ensures.len in
+    let left = ap length c.let_in_some.ensures.items in
+    let gone : c.len-before.result - c.len.result ≡ length chain - length (without_share shares chain) = omega (arith, before, after, left) in
     let fewer = fewer_wait (delays_of (zip ks cs)) key shares chain c.self.inside.count queue c.self.invariant.counted in
-    changed_kept ks cs ds i key c.self.inside.count _ c.self.invariant there c.let_in_some-gone.ensures.others
-    (rw (gone, written) fewer.1)
+    let written = written_delays ks cs i key own c.self.invariant.apart c.self.invariant.beside there ∙
+    ap (with_value (delays_of (zip ks cs)) key) c.let_in_some.ensures.items in
+    written_kept ks cs i own c.self.inside.count _ c.self.invariant (rw (gone, written) fewer.1)
 
 pub returns : goal.returns
 returns c = λ s.
     let ks = c.self.inside.keys.keys in
-    let cs = c.self.inside.chains in
+    let cs = c.self.inside.chains.items in
     let key = c.args.key.now in
-    let there = place_of_queue (zip ks cs) key c.args.place c.in-Some.index c.in-Some.is (rw (← c.self.view_is) at c.requires.place) in
     let i = c.in-Some.index in
-    let ds = c.let_in_some-gone.new.self in
-    let queue = queue_beside ks cs i key there in
-    let chain = queue_at cs i in
+    let there = place_of_queue (zip ks cs) key c.args.place i c.in-Some.is (rw (← c.self.view_is) at c.requires.place) in
+    let was = c.index_mut-chain.result.now in
+    let queue = queue_there ks cs i key was there c.index_mut-chain.ensures.value in
+    let own = c.let_in_some.new.self in
+    let chain = was.items in
     let shares = c.args.shares.now in
-    let written = changed_delays ks cs ds i key c.self.invariant.apart c.self.invariant.beside there c.let_in_some-gone.ensures.others ∙
-    ap (with_value (delays_of (zip ks cs)) key) c.let_in_some-gone.ensures.items in
-    let current = c.let_in_some-gone.new.current.items in
-    let counts = c.let_in_some-gone.new.counts.entries in
+    let written = written_delays ks cs i key own c.self.invariant.apart c.self.invariant.beside there ∙
+    ap (with_value (delays_of (zip ks cs)) key) c.let_in_some.ensures.items in
+    let value = value_is (zip ks cs) key was (sym (value_there ks cs i key was there c.index_mut-chain.ensures.value)) in
+    let current = c.let_in_some.new.current.items in
+    let counts = c.let_in_some.new.counts.entries in
     let old : Machine = record s { delays = delays_of (zip ks cs); current = c.args.current.now.items; counts = c.args.counts.now.entries } in
     let kept = with_value (delays_of (zip ks cs)) key (without_share shares chain) in
     rw (← c.self.view_is, queue)
     (ap (λ ds. record s { delays = ds; current = current; counts = counts }) written ∙
-    (ap (λ (t : Machine). record t { delays = kept }) (c.let_in_some-gone.ensures.let_in (record s { delays = delays_of (zip ks cs) })) ∙
-    sym (some_let_in_is key shares [] chain old (value_beside ks cs i key there))))
+    (ap (λ (t : Machine). record t { delays = kept }) (c.let_in_some.ensures.let_in (record s { delays = delays_of (zip ks cs) })) ∙
+    sym (some_let_in_is key shares [] chain old value)))

@@ -1,62 +1,36 @@
-use Rattle.std.proofs.Common.{length}
-use Rattle.std.specs.List.{zip}
-use Rattle.gw_chains.specs.Delays.{room_at}
-use Rattle.gw_chains.proofs.Beside.{keys_of_spare, no_key_beside, pushed_beside, room_of_spare, spare_beside}
-use Rattle.gw_chains.proofs.RowLaws.{within_room}
+use Rattle.std.proofs.Common.{◌≡◌, ◌++◌, ◌∷◌, [], ap, ◌∙◌, rules}
+use Rattle.indexmap.specs.IndexSet.{insert_key}
+use Rattle.gw_names.specs.Keys.{key_eq}
+use Rattle.gw_meaning.specs.Changes.{lined_up}
+use Rattle.gw_chains.proofs.Beside.{pushed}
 use Rattle.gw_chains.proofs.delays.DelayChains.line_up_first.Goals as goal
 
-pub line_up-requires : goal.line_up-requires
-line_up-requires c =
+pub invariant_of-self-2 : goal.invariant_of-self-2
+invariant_of-self-2 c =
     let ks = c.self.inside.keys.keys in
-    let cs = c.self.inside.chains in
-    let key = c.args.key in
-    let none = rw (← c.self.view_is) at c.requires.none in
-    let room = rw (← c.self.view_is) at c.requires.room in
-    let spare = spare_beside (zip ks cs) key _ none room.0 in
-    rw c.len.ensures (room_of_spare c.self.inside.keys.room (room_at cs (length ks)) spare)
+    let js = c.insert.new.self.keys in
+    let cs = c.self.inside.chains.items in
+    let key = c.args.key.now in
+    let own = c.line_up.new.self in
+    let same : c.in_ok-own.own ≡ key = search rules in
+    let keys : js ≡ insert_key key_eq ks key =
+    c.insert.ensures ∙ (ap (λ l. insert_key key_eq l c.in_ok-own.own) c.reserve.ensures.keys ∙ ap (λ k. insert_key key_eq ks k) same) in
+    let chains : c.push_reserved.new.self.items ≡ cs ++ own ∷ [] = c.push_reserved.ensures.items ∙ ap (λ l. l ++ own ∷ []) c.reserve-2.ensures.items in
+    let alone : own.items ≡ lined_up c.args.x [] = c.line_up.ensures.items ∙ ap (lined_up c.args.x) (c.reserve-3.ensures.items ∙ c.new-chain.ensures) in
+    let all = pushed ks js cs key own c.args.x c.self.inside.count c.self.invariant (rw (← c.self.view_is) at c.requires.none) keys alone in
+    rw chains all.kept
 
-pub push-requires-clause-room : goal.push-requires-clause-room
-push-requires-clause-room c =
+pub returns-clause-ok : goal.returns-clause-ok
+returns-clause-ok c =
     let ks = c.self.inside.keys.keys in
-    let cs = c.self.inside.chains in
-    let key = c.args.key in
-    let none = rw (← c.self.view_is) at c.requires.none in
-    let room = rw (← c.self.view_is) at c.requires.room in
-    let spare = spare_beside (zip ks cs) key _ none room.0 in
-    keys_of_spare c.self.inside.keys.room (room_at cs (length ks)) spare
-
-pub push-requires-clause-none : goal.push-requires-clause-none
-push-requires-clause-none c =
-    let ks = c.self.inside.keys.keys in
-    let cs = c.self.inside.chains in
-    let key = c.args.key in
-    let none = rw (← c.self.view_is) at c.requires.none in
-    no_key_beside ks cs key c.self.invariant.beside none
-
-pub returns : goal.returns
-returns c =
-    let ks = c.self.inside.keys.keys in
-    let cs = c.self.inside.chains in
-    let key = c.args.key in
-    let none = rw (← c.self.view_is) at c.requires.none in
-    let room = rw (← c.self.view_is) at c.requires.room in
-    let spare = spare_beside (zip ks cs) key _ none room.0 in
-    let items = rw c.len.ensures at c.line_up.ensures.items in
-    let others = rw c.len.ensures at c.line_up.ensures.others in
-    let pushed = pushed_beside ks c.push.new.self.keys cs c.line_up.new.self key c.args.x c.self.inside.count c.self.invariant none
-    (within_room cs (length ks) (room_of_spare c.self.inside.keys.room (room_at cs (length ks)) spare)) c.push.ensures items others in
-    rw (← c.self.view_is) pushed.delays
-
-pub invariant_of-self : goal.invariant_of-self
-invariant_of-self c =
-    let ks = c.self.inside.keys.keys in
-    let cs = c.self.inside.chains in
-    let key = c.args.key in
-    let none = rw (← c.self.view_is) at c.requires.none in
-    let room = rw (← c.self.view_is) at c.requires.room in
-    let spare = spare_beside (zip ks cs) key _ none room.0 in
-    let items = rw c.len.ensures at c.line_up.ensures.items in
-    let others = rw c.len.ensures at c.line_up.ensures.others in
-    let pushed = pushed_beside ks c.push.new.self.keys cs c.line_up.new.self key c.args.x c.self.inside.count c.self.invariant none
-    (within_room cs (length ks) (room_of_spare c.self.inside.keys.room (room_at cs (length ks)) spare)) c.push.ensures items others in
-    pushed.kept
+    let js = c.insert.new.self.keys in
+    let cs = c.self.inside.chains.items in
+    let key = c.args.key.now in
+    let own = c.line_up.new.self in
+    let same : c.in_ok-own.own ≡ key = search rules in
+    let keys : js ≡ insert_key key_eq ks key =
+    c.insert.ensures ∙ (ap (λ l. insert_key key_eq l c.in_ok-own.own) c.reserve.ensures.keys ∙ ap (λ k. insert_key key_eq ks k) same) in
+    let chains : c.push_reserved.new.self.items ≡ cs ++ own ∷ [] = c.push_reserved.ensures.items ∙ ap (λ l. l ++ own ∷ []) c.reserve-2.ensures.items in
+    let alone : own.items ≡ lined_up c.args.x [] = c.line_up.ensures.items ∙ ap (lined_up c.args.x) (c.reserve-3.ensures.items ∙ c.new-chain.ensures) in
+    let all = pushed ks js cs key own c.args.x c.self.inside.count c.self.invariant (rw (← c.self.view_is) at c.requires.none) keys alone in
+    rw (chains, ← c.self.view_is) all.delays

@@ -28,12 +28,12 @@ returns c x is =
     let inside = c.self.inside in
     let counts : c.enter_active.new.counts.entries ≡ base.counts = search (rules, is) in
     let start : Machine = record rest {
-      delays = delays_of inside.delays.chains;
+      delays = delays_of inside.delays;
       current = c.reserve_first.new.current.items;
       counts = c.enter_active.new.counts.entries;
     } in
     let after : Machine = record rest {
-      delays = delays_of c.let_first_in.new.delays.chains;
+      delays = delays_of c.let_first_in.new.delays;
       current = c.let_first_in.new.current.items;
       counts = c.let_first_in.new.counts.entries;
     } in

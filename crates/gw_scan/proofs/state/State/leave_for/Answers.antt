@@ -14,7 +14,7 @@ pub reserve_some-requires : goal.reserve_some-requires
 reserve_some-requires c = c.waiting_place-waiting.ensures
 
 pub let_some_in-requires-clause-place : goal.let_some_in-requires-clause-place
-let_some_in-requires-clause-place c = c.waiting_place-waiting.ensures
+let_some_in-requires-clause-place c = c.reserve_some.ensures.place
 
 pub returns : goal.returns
 returns c x is =
@@ -28,12 +28,12 @@ returns c x is =
     let inside = c.self.inside in
     let counts : c.enter_active.new.counts.entries ≡ base.counts = search (rules, is) in
     let start : Machine = record rest {
-      delays = delays_of inside.delays.chains;
+      delays = delays_of c.reserve_some.new.delays;
       current = c.reserve_some.new.current.items;
       counts = c.enter_active.new.counts.entries;
     } in
     let after : Machine = record rest {
-      delays = delays_of c.let_some_in.new.delays.chains;
+      delays = delays_of c.let_some_in.new.delays;
       current = c.let_some_in.new.current.items;
       counts = c.let_some_in.new.counts.entries;
     } in
