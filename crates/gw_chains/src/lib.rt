@@ -3,17 +3,16 @@
 //! All that grows is reserved first, so a refused growth changes no list and no count.
 #![tactic(auto)]
 
+mod block;
 mod chain;
-mod closed;
 mod counts;
 mod delays;
 mod entering;
+mod full;
 mod future;
 mod keys;
 mod row;
 mod rows;
-mod segment;
-mod times;
 
 pub use chain::{PriorityChain, has_share};
 pub use counts::Counts;

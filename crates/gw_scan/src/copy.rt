@@ -26,7 +26,7 @@ pub struct Kept {
 }
 
 impl State {
-    /// Makes copies of it cheap: they share what seldom changes, the closed segments of the future chain. The state is
+    /// Makes copies of it cheap: they share what seldom changes, the full blocks of the future chain. The state is
     /// the same behind it, also where memory is refused.
     pub fn share(&mut self) -> Result<(), AllocError>
         ensures { self.new ≡ self.old }
