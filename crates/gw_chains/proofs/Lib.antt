@@ -2,8 +2,8 @@ pub mod CountLaws
 pub mod DelayLaws
 pub mod LetIn
 pub mod ChainLaws
-pub mod SegmentLaws
-pub mod ClosingUp
+pub mod EventLaws
+pub mod BlockLaws
 pub mod Leasts
-pub mod Earliest
+pub mod FutureLaws
 pub mod Beside

@@ -2,6 +2,6 @@ pub use Rattle.gw_meaning.specs.Machine
 pub use Rattle.gw_meaning.specs.Changes
 pub use Rattle.gw_meaning.specs.Step
 pub mod Chains
-pub mod Segments
-pub mod ClosingUp
+pub mod Blocks
+pub mod Forms
 pub mod Delays

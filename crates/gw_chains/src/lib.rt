@@ -3,14 +3,13 @@
 //! All that grows is reserved first, so a refused growth changes no list and no count.
 #![tactic(auto)]
 
+mod block;
 mod chain;
-mod closed;
 mod counts;
 mod delays;
 mod entering;
+mod full;
 mod future;
-mod segment;
-mod times;
 
 pub use chain::{PriorityChain, has_share};
 pub use counts::Counts;

@@ -32,7 +32,7 @@ fn future_lines(alloc: Global, version: &Version, future: &FutureChain) -> Resul
     ensures { IfOk result (λ lines. lines ≡
         rows_of future_columns (map (future_line version.now) (by_time future.now.items))) }
 {
-    let events = by_time(alloc, future)?;
+    let events = by_time(future)?;
     let mut lines = Sheet::new(alloc);
     for event in &events {
         put_line(&mut lines, version, event.time, &event.transaction)?;
@@ -41,33 +41,10 @@ fn future_lines(alloc: Global, version: &Version, future: &FutureChain) -> Resul
 }
 
 // The events by time, and at equal times in the order of coming.
-fn by_time(alloc: Global, future: &FutureChain) -> Result<Vec<&Event>, AllocError>
-    ensures { IfOk result (λ events. map (λ e. e.now) events.items ≡ by_time future.now.items) }
+fn by_time(future: &FutureChain) -> Result<Vec<Event>, AllocError>
+    ensures { IfOk result (λ events. events.items ≡ by_time future.now.items) }
 {
-    let mut events = in_order_of_coming(alloc, future)?;
+    let mut events = future.events()?;
     events.sort_by_key(|event| event.time.ticks())?;
     Ok(events)
-}
-
-// The events in the order of coming.
-fn in_order_of_coming(alloc: Global, future: &FutureChain) -> Result<Vec<&Event>, AllocError>
-    ensures { IfOk result (λ events. map (λ e. e.now) events.items ≡ future.now.items) }
-{
-    let count = future.len();
-    let mut events = Vec::with_capacity(alloc, count)?;
-    while events.len() < count {
-        let part = future.part(events.len());
-        push_part(&mut events, part)?;
-    }
-    Ok(events)
-}
-
-// Appends the events of a part of the chain.
-fn push_part<'a>(events: &mut Vec<&'a Event>, part: &'a [Event]) -> Result<(), AllocError>
-    ensures { OnOk result (map (λ e. e.now) events.new.items ≡ map (λ e. e.now) events.old.items ++ part.now) }
-{
-    for event in part {
-        events.push(event)?;
-    }
-    Ok(())
 }

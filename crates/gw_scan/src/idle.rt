@@ -1,5 +1,5 @@
 // None is active: the first of the current chain is picked, or the clock moves on.
-ghost use Rattle.std.specs.Prelude.{◌≡◌, OnOk, OnErr};
+ghost use Rattle.std.specs.Prelude.{◌≡◌, Some, IfOk, OnOk, OnErr};
 ghost use Rattle.gw_meaning.specs.Changes.{moved};
 ghost use Rattle.gw_meaning.specs.Step.{pick_prog, clock_prog, least_time};
 ghost use Rattle.gw_meaning.specs.declared.moves.Move.TheVariants as moves;
@@ -35,6 +35,7 @@ impl State {
         ensures told { Decides case.entry.version.now case.entry.seed (clock_prog (least_time self.now.future))
             (clocked result) notes.old notes.new }
         ensures streams { notes.new.streams ≡ notes.old.streams }
+        ensures least { IfOk result (λ clock. least_time self.now.future ≡ Some clock) }
     {
         let Some(time) = self.future.least_time() else {
             return Err(Halt::DRY);
@@ -57,6 +58,7 @@ impl State {
 
     // The clock moves on, and those who are due stand on the current chain.
     fn advance(&mut self, clock: Clock) -> Result<(), AllocError>
+        requires { least_time self.old.future ≡ Some clock }
         ensures ok { OnOk result (self.new ≡ moved self.old (moves.Clock clock)) }
         ensures err { OnErr result (self.new ≡ self.old) }
     {

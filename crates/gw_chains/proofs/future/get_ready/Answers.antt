@@ -1,62 +1,41 @@
-use Rattle.std.proofs.Common.{◌≡◌, ◌<◌, ◌+◌, length, set, arith, refl, sym, ◌∙◌}
-use Rattle.std.proofs.lemmas.List.{take_all}
-use Rattle.std.proofs.lemmas.List.Elements.{All-same}
-use Rattle.gw_chains.specs.Segments.{IsReady, least_times, AreLeasts}
-use Rattle.gw_chains.proofs.SegmentLaws.{replaced, one_ready}
-use Rattle.gw_chains.proofs.Leasts.{same_long, times_kept, ready_start, ready_to}
+use Rattle.std.proofs.Common.{◌≡◌, ◌<◌, ◌+◌, length, length-set, arith, refl, ◌∙◌}
+use Rattle.gw_chains.proofs.FutureLaws.{replaced, own_start, own_next}
+use Rattle.gw_chains.proofs.Leasts.{same_long, times_kept}
 use Rattle.gw_chains.proofs.future.get_ready.Goals as goal
 
 pub loop-index-init : goal.loop-index-init
-loop-index-init c =
-    let S = c.args.segments.now.items in
-    let ns = c.args.leasts.now in
-    let long = same_long ns S c.requires.leasts in
-    record {
-      within = c.next_due-index.ensures.within;
-      times = refl;
-      readying = ready_to c.args.time S S ns c.requires.leasts 0 c.next_due-index.result (omega arith) (omega (arith, long, c.next_due-index.ensures.within))
-          c.next_due-index.ensures.later (ready_start c.args.time S);
-    }
+loop-index-init c = record {
+  within = c.next_due-index.ensures.within;
+  long = refl;
+  items = refl;
+  times = refl;
+  own = own_start c.args.time c.args.leasts.now c.args.blocks.now.items c.next_due-index.result c.next_due-index.ensures.others;
+}
 
-pub returns-in_err-get_ready-clause-items : goal.returns-in_err-get_ready-clause-items
-returns-in_err-get_ready-clause-items c =
-    let ss = c.loop-index.segments.items in
-    let readying = c.loop-index.invariant.readying in
-    let long = readying.long in
-    let count = same_long c.args.leasts.now c.args.segments.now.items c.requires.leasts in
-    let within : c.loop-index.index < length ss = omega (arith, long, count) in
-    replaced ss c.loop-index.index c.index_mut.result.now c.get_ready.new.self within c.index_mut.ensures.value c.get_ready.ensures.items ∙ readying.items
+pub returns-in_err-make_own-clause-items : goal.returns-in_err-make_own-clause-items
+returns-in_err-make_own-clause-items c =
+    let bs = c.loop-index.blocks.items in
+    let h = c.loop-index.invariant in
+    let within : c.loop-index.index < length bs = omega (arith, h.long, same_long c.args.leasts.now c.args.blocks.now.items c.requires.leasts) in
+    replaced bs c.loop-index.index c.index_mut.result.now c.make_own.new.self within c.index_mut.ensures.value c.make_own.ensures.items ∙ h.items
 
-pub returns-in_err-get_ready-clause-times : goal.returns-in_err-get_ready-clause-times
-returns-in_err-get_ready-clause-times c =
-    times_kept c.loop-index.segments.items c.loop-index.index c.index_mut.result.now c.get_ready.new.self c.index_mut.ensures.value
-    c.get_ready.ensures.items ∙ c.loop-index.invariant.times
+pub returns-in_err-make_own-clause-times : goal.returns-in_err-make_own-clause-times
+returns-in_err-make_own-clause-times c =
+    times_kept c.loop-index.blocks.items c.loop-index.index c.index_mut.result.now c.make_own.new.self c.index_mut.ensures.value
+    c.make_own.ensures.items ∙ c.loop-index.invariant.times
 
 pub loop-index-preserved : goal.loop-index-preserved
 loop-index-preserved c =
-    let t = c.args.time in
-    let S = c.args.segments.now.items in
-    let ns = c.args.leasts.now in
+    let bs = c.loop-index.blocks.items in
     let i = c.loop-index.index in
-    let s = c.index_mut.result.now in
-    let u = c.get_ready.new.self in
-    let new = set c.loop-index.segments.items i u in
+    let h = c.loop-index.invariant in
     let next = c.next_due-index-in-loop-index.ensures in
-    let count = same_long ns S c.requires.leasts in
-    let times : least_times new ≡ least_times S =
-    times_kept c.loop-index.segments.items i s u c.index_mut.ensures.value c.get_ready.ensures.items ∙ c.loop-index.invariant.times in
-    let leasts : AreLeasts ns new = c.requires.leasts ∙ sym times in
-    let one = one_ready t S i s u c.loop-index.segments.items (omega (arith, count)) c.index_mut.ensures.value c.get_ready.ensures.items
-    c.in_ok-get_ready.ensures.ok c.loop-index.invariant.readying in
+    let within : i < length bs = omega (arith, h.long, same_long c.args.leasts.now c.args.blocks.now.items c.requires.leasts) in
     record {
       within = next.within;
-      times = times;
-      readying = ready_to t S new ns leasts (i + 1) c.next_due-index-in-loop-index.result next.from (omega (arith, count, next.within)) next.later one;
+      long = length-set bs i c.make_own.new.self ∙ h.long;
+      items = replaced bs i c.index_mut.result.now c.make_own.new.self within c.index_mut.ensures.value c.make_own.ensures.items ∙ h.items;
+      times = times_kept bs i c.index_mut.result.now c.make_own.new.self c.index_mut.ensures.value c.make_own.ensures.items ∙ h.times;
+      own = own_next c.args.time c.args.leasts.now bs i c.next_due-index-in-loop-index.result c.make_own.new.self within
+          c.in_ok-make_own.ensures.ok h.own next.others;
     }
-
-pub returns-clause-ok : goal.returns-clause-ok
-returns-clause-ok c =
-    let readying = c.loop-index.invariant.readying in
-    let long = readying.long in
-    let count = same_long c.args.leasts.now c.args.segments.now.items c.requires.leasts in
-    All-same (IsReady c.args.time) _ _ (sym (take_all c.loop-index.index c.loop-index.segments.items (omega (arith, long, count)))) readying.ready

@@ -5,4 +5,4 @@ use Rattle.gw_report.specs.Chains.{future_columns, future_line}
 use Rattle.gw_report.proofs.future.future_lines.Given as goal
 
 abbrev pub invariant-loop-event : goal.invariant-loop-event
-invariant-loop-event l = l.lines ≡ flat_map (λ e. row_of future_columns (future_line l.version e.now)) (take l.event-index l.event-items)
+invariant-loop-event l = l.lines ≡ flat_map (λ e. row_of future_columns (future_line l.version e)) (take l.event-index l.event-items)
