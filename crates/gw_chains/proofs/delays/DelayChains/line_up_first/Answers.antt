@@ -14,7 +14,7 @@ invariant_of-self-2 c =
     let own = c.line_up.new.self in
     let same : c.in_ok-own.own ≡ key = search rules in
     let keys : js ≡ insert_key key_eq ks key =
-    c.insert.ensures ∙ (ap (λ l. insert_key key_eq l c.in_ok-own.own) c.reserve.ensures.keys ∙ ap (λ k. insert_key key_eq ks k) same) in
+    c.insert.ensures.keys ∙ (ap (λ l. insert_key key_eq l c.in_ok-own.own) c.reserve.ensures.keys ∙ ap (λ k. insert_key key_eq ks k) same) in
     let chains : c.push_reserved.new.self.items ≡ cs ++ own ∷ [] = c.push_reserved.ensures.items ∙ ap (λ l. l ++ own ∷ []) c.reserve-2.ensures.items in
     let alone : own.items ≡ lined_up c.args.x [] = c.line_up.ensures.items ∙ ap (lined_up c.args.x) (c.reserve-3.ensures.items ∙ c.new-chain.ensures) in
     let all = pushed ks js cs key own c.args.x c.self.inside.count c.self.invariant (rw (← c.self.view_is) at c.requires.none) keys alone in
@@ -29,7 +29,7 @@ returns-clause-ok c =
     let own = c.line_up.new.self in
     let same : c.in_ok-own.own ≡ key = search rules in
     let keys : js ≡ insert_key key_eq ks key =
-    c.insert.ensures ∙ (ap (λ l. insert_key key_eq l c.in_ok-own.own) c.reserve.ensures.keys ∙ ap (λ k. insert_key key_eq ks k) same) in
+    c.insert.ensures.keys ∙ (ap (λ l. insert_key key_eq l c.in_ok-own.own) c.reserve.ensures.keys ∙ ap (λ k. insert_key key_eq ks k) same) in
     let chains : c.push_reserved.new.self.items ≡ cs ++ own ∷ [] = c.push_reserved.ensures.items ∙ ap (λ l. l ++ own ∷ []) c.reserve-2.ensures.items in
     let alone : own.items ≡ lined_up c.args.x [] = c.line_up.ensures.items ∙ ap (lined_up c.args.x) (c.reserve-3.ensures.items ∙ c.new-chain.ensures) in
     let all = pushed ks js cs key own c.args.x c.self.inside.count c.self.invariant (rw (← c.self.view_is) at c.requires.none) keys alone in
