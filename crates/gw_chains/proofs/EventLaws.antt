@@ -1,8 +1,7 @@
 -- Laws of transactions with their times: the least time, who is due and who stays.
-use Rattle.std.proofs.Common.{◌≡◌, ◌≢◌, ℕ, suc, ◌+◌, ◌<◌, ◌≤◌, Bool, nat_eq, arith, true, false, not, List, [], ◌∷◌, Option, None, Some, ◌++◌, length, refl, sym, ap, ◌∙◌, filter, min, inl, inr}
+use Rattle.std.proofs.Common.{◌≡◌, ◌≢◌, ℕ, suc, ◌+◌, ◌<◌, ◌≤◌, Bool, arith, true, false, not, List, [], ◌∷◌, Option, None, Some, ◌++◌, length, refl, ap, ◌∙◌, filter, min, inl, inr}
 use Rattle.std.proofs.lemmas.Bool.{cases_eq}
 use Rattle.std.proofs.lemmas.Bool.Decides.{nat_tests}
-use Rattle.std.proofs.lemmas.List.Elements.{filter-append}
 use Rattle.gw_meaning.specs.declared.transaction.Transaction.{Transaction}
 use Rattle.gw_meaning.specs.declared.transaction.Event.{Event}
 use Rattle.gw_meaning.specs.Changes.{lined_up, all_lined_up, due, is_due}

@@ -1,5 +1,5 @@
 -- Laws of the future chain in blocks.
-use Rattle.std.proofs.Common.{◌≡◌, ◌≢◌, ℕ, zero, suc, ◌+◌, ◌-◌, ◌<◌, ◌≤◌, Bool, arith, true, false, not, List, [], ◌∷◌, Option, None, Some, ◌++◌, length, length-append, refl, sym, ap, subst, ◌∙◌, filter, append_assoc, append-nil, take, drop, get_or, set, map, inl, inr, ◌⊎◌}
+use Rattle.std.proofs.Common.{◌≡◌, ◌≢◌, ℕ, zero, suc, ◌+◌, ◌<◌, ◌≤◌, Bool, arith, true, false, not, List, [], ◌∷◌, Some, ◌++◌, length, length-append, refl, sym, ap, subst, ◌∙◌, filter, append_assoc, append-nil, take, drop, get_or, set, map, inl, inr, ◌⊎◌}
 use Rattle.std.specs.Prelude.{nat_lt}
 use Rattle.std.proofs.lemmas.Bool.Decides.{nat_tests}
 use Rattle.std.proofs.lemmas.Bool.{cases_eq}
@@ -8,7 +8,7 @@ use Rattle.std.proofs.lemmas.List.Elements.{filter-append}
 use Rattle.std.proofs.lemmas.List.{get_or-map}
 use Rattle.gw_meaning.specs.declared.transaction.Transaction.{Transaction}
 use Rattle.gw_meaning.specs.declared.transaction.Event.{Event}
-use Rattle.gw_meaning.specs.Changes.{lined_up, all_lined_up, due, is_due}
+use Rattle.gw_meaning.specs.Changes.{all_lined_up, due, is_due}
 use Rattle.gw_meaning.specs.Step.{least_time}
 use Rattle.gw_lanes.specs.FirstAt.{IsFirstAt}
 use Rattle.gw_chains.specs.Blocks.{Full, all_items, is_in_use, AreLeasts, AreOthers, AreOwn, IsNoneBefore, time_of}

@@ -1,10 +1,10 @@
 -- Laws of the least times of blocks, which stand as numbers side by side.
-use Rattle.std.proofs.Common.{◌≡◌, ◌≢◌, ℕ, zero, suc, ◌+◌, ◌-◌, ◌^◌, ◌<◌, ◌≤◌, Bool, true, false, arith, rules, List, [], ◌∷◌, ◌++◌, Option, Some, None, All, length, map, get_or, set, take, drop, min, filter, unwrap_or, refl, sym, ap, subst, ◌∙◌, length-set}
+use Rattle.std.proofs.Common.{◌≡◌, ◌≢◌, ℕ, zero, suc, ◌+◌, ◌-◌, ◌^◌, ◌<◌, ◌≤◌, Bool, true, false, arith, rules, List, [], ◌∷◌, ◌++◌, Option, Some, None, All, length, map, get_or, set, take, drop, min, filter, unwrap_or, refl, sym, ap, subst, ◌∙◌}
 use Rattle.std.specs.Prelude.{nat_le, nat_lt, IsSome, IfSome}
 use Rattle.std.proofs.lemmas.Bool.Decides.{nat_tests}
 use Rattle.std.proofs.lemmas.List.{map-append, map-set, length-map, length-drop, take_all, get_or-map, get_or-drop, take_more, set-get_or}
 use Rattle.gw_lanes.specs.FirstAt.{IsFirstAt}
-use Rattle.gw_lanes.specs.Least.{least, lesser}
+use Rattle.gw_lanes.specs.Least.{least}
 use Rattle.gw_meaning.specs.declared.transaction.Event.{Event}
 use Rattle.gw_meaning.specs.Changes.{due}
 use Rattle.gw_meaning.specs.Step.{least_time, sooner}

@@ -77,7 +77,8 @@ IsNoneBefore time (e ∷ es) = (time ≤ e.time) × IsNoneBefore time es
 -- of the blocks in front of an index those with this least time are the state's own
 abbrev pub AreOwn : ℕ → ℕ → List ℕ → List Full → Type 0
 AreOwn time to leasts blocks =
-    (k : ℕ) → k < to → k < length leasts → get_or leasts k 0 ≡ time → get_or (map (λ (b : Full). b.is_shared) blocks) k false ≡ false
+    (k : ℕ) → k < to → k < length leasts → get_or leasts k 0 ≡ time →
+    get_or (map (λ (b : Full). b.is_shared) blocks) k false ≡ false
 
 -- of these numbers none from one index on and in front of another is this
 abbrev pub AreOthers : ℕ → ℕ → ℕ → List ℕ → Type 0

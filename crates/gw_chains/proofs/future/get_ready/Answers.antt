@@ -1,4 +1,4 @@
-use Rattle.std.proofs.Common.{◌≡◌, ◌<◌, ◌+◌, length, length-set, arith, refl, ◌∙◌}
+use Rattle.std.proofs.Common.{◌<◌, length, length-set, arith, refl, ◌∙◌}
 use Rattle.gw_chains.proofs.FutureLaws.{replaced, own_start, own_next}
 use Rattle.gw_chains.proofs.Leasts.{same_long, times_kept}
 use Rattle.gw_chains.proofs.future.get_ready.Goals as goal

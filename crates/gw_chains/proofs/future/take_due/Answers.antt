@@ -1,4 +1,4 @@
-use Rattle.std.proofs.Common.{◌≡◌, ◌<◌, ◌≤◌, length, length-set, arith}
+use Rattle.std.proofs.Common.{◌<◌, ◌≤◌, length, arith}
 use Rattle.gw_chains.specs.Blocks.{all_items}
 use Rattle.gw_chains.proofs.BlockLaws.{first_in}
 use Rattle.gw_chains.proofs.Leasts.{same_long, leasts_set, others_all}

@@ -1,4 +1,4 @@
-use Rattle.std.proofs.Common.{◌≡◌, ap, ◌∙◌}
+use Rattle.std.proofs.Common.{ap, ◌∙◌}
 use Rattle.gw_chains.proofs.BlockLaws.{slots_copied, numbers_copied, events_same, block_same}
 use Rattle.gw_chains.proofs.block.Block.copy.Goals as goal
 

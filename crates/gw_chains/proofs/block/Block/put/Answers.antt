@@ -1,5 +1,4 @@
-use Rattle.std.proofs.Common.{◌≡◌, ◌++◌, ◌∷◌, List, [], ap, ◌∙◌}
-use Rattle.gw_meaning.specs.declared.transaction.Event.{Event}
+use Rattle.std.proofs.Common.{◌≡◌, ◌++◌, ◌∷◌, [], ap, ◌∙◌}
 use Rattle.gw_chains.proofs.BlockLaws.{put_block, put_events}
 use Rattle.gw_chains.proofs.block.Block.put.Goals as goal
 

@@ -1,4 +1,4 @@
-use Rattle.std.proofs.Common.{◌≡◌, ◌≢◌, ◌∷◌, ◌-◌, ◌^◌, All, List, ℕ, filter, length, not, unwrap_or, ap, subst, sym, ◌∙◌, arith}
+use Rattle.std.proofs.Common.{◌≢◌, ◌-◌, ◌^◌, All, List, ℕ, filter, length, not, unwrap_or, ap, subst, sym, ◌∙◌}
 use Rattle.gw_lanes.specs.Least.{least}
 use Rattle.gw_meaning.specs.Changes.{due, is_due}
 use Rattle.gw_chains.proofs.BlockLaws.{first_in, none_there, contains_at, block_left, due_left, stay_left, len_left}
@@ -22,23 +22,27 @@ invariant_of-self c =
     let new = c.least_of-self-inside.ensures ∙
     ap (λ ts. unwrap_or (least ts) (2 ^ 64 - 1)) (c.deref-2.ensures.value ∙ c.remove-self-inside.ensures.items) in
     rw (c.remove-self-inside.ensures.items, c.remove-key.ensures.items)
-    (block_left c.remove.ensures.updates c.remove.ensures.value c.self.invariant c.args.time c.in-Some.index (first_in c.ticks.ensures.value c.deref.ensures.value c.in-Some.ensures.found) c.remove-key.ensures.value
+    (block_left c.remove.ensures.updates c.remove.ensures.value c.self.invariant c.args.time c.in-Some.index
+    (first_in c.ticks.ensures.value c.deref.ensures.value c.in-Some.ensures.found) c.remove-key.ensures.value
     c.least_of-self-inside.result new)
 
 pub returns-clause-due : goal.returns-clause-due
 returns-clause-due c =
     ap (λ s. due c.args.time s.items) (sym c.self.view_is)
     ∙ rw (c.remove-self-inside.ensures.items, c.remove-key.ensures.items)
-    (due_left c.remove.ensures.updates c.remove.ensures.value c.self.invariant c.args.time c.in-Some.index (first_in c.ticks.ensures.value c.deref.ensures.value c.in-Some.ensures.found) c.remove-key.ensures.value)
+    (due_left c.remove.ensures.updates c.remove.ensures.value c.self.invariant c.args.time c.in-Some.index
+    (first_in c.ticks.ensures.value c.deref.ensures.value c.in-Some.ensures.found) c.remove-key.ensures.value)
 
 pub returns-clause-stay : goal.returns-clause-stay
 returns-clause-stay c =
     rw (c.remove-self-inside.ensures.items, c.remove-key.ensures.items)
-    (stay_left c.remove.ensures.updates c.remove.ensures.value c.self.invariant c.args.time c.in-Some.index (first_in c.ticks.ensures.value c.deref.ensures.value c.in-Some.ensures.found) c.remove-key.ensures.value)
+    (stay_left c.remove.ensures.updates c.remove.ensures.value c.self.invariant c.args.time c.in-Some.index
+    (first_in c.ticks.ensures.value c.deref.ensures.value c.in-Some.ensures.found) c.remove-key.ensures.value)
     ∙ ap (λ s. filter (λ e. not (is_due c.args.time e)) s.items) c.self.view_is
 
 pub returns-clause-len : goal.returns-clause-len
 returns-clause-len c =
     rw (c.remove-self-inside.ensures.items, c.remove-key.ensures.items)
-    (len_left c.remove.ensures.updates c.remove.ensures.value c.self.invariant c.args.time c.in-Some.index (first_in c.ticks.ensures.value c.deref.ensures.value c.in-Some.ensures.found) c.remove-key.ensures.value)
+    (len_left c.remove.ensures.updates c.remove.ensures.value c.self.invariant c.args.time c.in-Some.index
+    (first_in c.ticks.ensures.value c.deref.ensures.value c.in-Some.ensures.found) c.remove-key.ensures.value)
     ∙ ap (λ s. length s.items) c.self.view_is

@@ -1,4 +1,4 @@
-use Rattle.std.proofs.Common.{◌≡◌, ◌-◌, ◌^◌, unwrap_or, ap, ◌∙◌}
+use Rattle.std.proofs.Common.{◌-◌, ◌^◌, unwrap_or, ap, ◌∙◌}
 use Rattle.gw_lanes.specs.Least.{least}
 use Rattle.gw_meaning.specs.Step.{least_time}
 use Rattle.gw_chains.specs.Blocks.{time_of}

@@ -1,6 +1,4 @@
-use Rattle.std.proofs.Common.{◌≡◌, ◌++◌, List, ap, arith, filter, length, not, subst, sym, ◌∙◌}
-use Rattle.gw_meaning.specs.declared.transaction.Transaction.{Transaction}
-use Rattle.gw_meaning.specs.declared.transaction.Event.{Event}
+use Rattle.std.proofs.Common.{ap, arith, filter, not, subst, sym, ◌∙◌}
 use Rattle.gw_meaning.specs.Changes.{all_lined_up, due, is_due}
 use Rattle.gw_chains.specs.Blocks.{all_items, IsNoneBefore}
 use Rattle.gw_chains.proofs.EventLaws.{none_before, before_front}
