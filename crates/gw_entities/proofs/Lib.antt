@@ -9,5 +9,3 @@ pub mod ParameterLaws
 pub mod Sums
 pub mod TableLaws
 pub mod Ticks
-pub mod PieceLaws
-pub mod SharedLaws

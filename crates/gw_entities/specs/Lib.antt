@@ -3,6 +3,5 @@ pub mod KeySets
 pub mod Levels
 pub mod Owned
 pub mod Parameters
-pub mod Pieces
 pub mod Records
 pub mod Tables

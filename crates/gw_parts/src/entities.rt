@@ -281,22 +281,64 @@ impl Entities {
         self.comings.share()
     }
 
-    /// A copy.
+    /// A copy. Its parts are copied in two groups: what is proved of a function grows fast with the exits at which it
+    /// lets go of copies.
     pub fn copy(&self) -> Result<Entities, AllocError>
         ensures { IfOk result (λ e. entities_of e ≡ entities_of self.now) }
     {
+        let used = self.copy_used()?;
+        let set = self.copy_set()?;
+        Ok(Entities {
+            facilities: used.facilities,
+            queues: used.queues,
+            storages: used.storages,
+            savevalues: set.savevalues,
+            switches: set.switches,
+            comings: set.comings,
+        })
+    }
+
+    fn copy_used(&self) -> Result<Used, AllocError>
+        ensures facilities { IfOk result (λ u. u.facilities ≡ self.now.facilities) }
+        ensures queues { IfOk result (λ u. u.queues ≡ self.now.queues) }
+        ensures storages { IfOk result (λ u. u.storages ≡ self.now.storages) }
+    {
         let facilities = self.facilities.copy()?;
         let queues = self.queues.copy()?;
-        let storages = self.storages.copy()?;
-        let savevalues = self.savevalues.copy()?;
-        let switches = self.switches.copy()?;
-        Ok(Entities {
+        Ok(Used {
             facilities,
             queues,
-            storages,
+            storages: self.storages.copy()?,
+        })
+    }
+
+    fn copy_set(&self) -> Result<Set, AllocError>
+        ensures savevalues { IfOk result (λ s. s.savevalues ≡ self.now.savevalues) }
+        ensures switches { IfOk result (λ s. s.switches ≡ self.now.switches) }
+        ensures comings { IfOk result (λ s. s.comings.comings ≡ self.now.comings.comings) }
+    {
+        let savevalues = self.savevalues.copy()?;
+        let switches = self.switches.copy()?;
+        Ok(Set {
             savevalues,
             switches,
             comings: self.comings.copy()?,
         })
     }
+}
+
+// What is in use, or stood in.
+#[derive(Drop)]
+struct Used {
+    facilities: ByKey<Facility>,
+    queues: ByKey<Queue>,
+    storages: ByKey<Storage>,
+}
+
+// What blocks set, and who came.
+#[derive(Drop)]
+struct Set {
+    savevalues: ByKey<Val>,
+    switches: ByKey<bool>,
+    comings: Comings,
 }
