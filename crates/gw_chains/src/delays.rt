@@ -235,6 +235,7 @@ impl DelayChains {
     pub fn share(&mut self) -> Result<(), AllocError>
         ensures { delays_of self.new ≡ delays_of self.old }
     {
+        self.keys.share()?;
         share_all(&mut self.chains)
     }
 

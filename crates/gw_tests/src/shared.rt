@@ -44,7 +44,15 @@ fn chunks_split_and_go(rt: HostRuntime) -> Result<(), Fail> {
     list.insert(70, 1000);
     list.insert(0, 1001);
     list.set(1, 1002);
-    for (place, number) in [(0, 1001), (1, 1002), (2, 1), (70, 69), (71, 1000), (72, 70), (201, 199)] {
+    for (place, number) in [
+        (0, 1001),
+        (1, 1002),
+        (2, 1),
+        (70, 69),
+        (71, 1000),
+        (72, 70),
+        (201, 199),
+    ] {
         assert_eq!(rt; at(&list, place), Some(number));
     }
     for _ in 0..100 {

@@ -15,8 +15,11 @@ unreachable-requires c =
 
 pub index-requires-2 : goal.index-requires-2
 index-requires-2 c =
-    omega (arith,
-    (is_within c.self.invariant c.args.self.now.items (ap (λ s. s.items) c.self.view_is) c.args.index c.requires), c.self.invariant.long)
+    omega (
+      arith,
+      (is_within c.self.invariant c.args.self.now.items (ap (λ s. s.items) c.self.view_is) c.args.index c.requires),
+      c.self.invariant.long,
+    )
 
 pub index-requires-3 : goal.index-requires-3
 index-requires-3 c =
