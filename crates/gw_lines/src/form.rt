@@ -60,11 +60,7 @@ pub fn forms_of(verb: Verb, beside: Auxiliary, given: bool) -> Option<&'static [
     }
 }
 
-fn forms_of_block(
-    verb: BlockVerb,
-    beside: Auxiliary,
-    given: bool,
-) -> Option<&'static [Form]>
+fn forms_of_block(verb: BlockVerb, beside: Auxiliary, given: bool) -> Option<&'static [Form]>
     ensures forms { option_copied result ≡ forms_of_block verb beside given }
     ensures few { IfSome result (λ f. length f.now ≤ 7) }
 {
