@@ -94,7 +94,7 @@ impl State {
         };
         match expr.node() {
             Node::Defined(name) => self.gated_at_storage(case, notes, condition, name, label),
-            _ => self.gated_at_entity(case, x, notes, condition, entity, label),
+            _ => self.gated_at_entity(case, x, notes, condition, expr, label),
         }
     }
 
@@ -105,15 +105,15 @@ impl State {
         x: &Transaction,
         notes: &mut Notes,
         condition: Condition,
-        entity: Option<&Expr>,
+        entity: &Expr,
         label: Option<&Expr>,
     ) -> Result<Destination, Halt>
         ensures { (id : ℕ) → Decides case.entry.version.now case.entry.seed
-            (entity_prog self.now (for_one self.now x.now) (option_copied entity.entry) ~>
+            (entity_prog self.now (for_one self.now x.now) (Some entity.now) ~>
             (λ key. gate_at self.now id condition (option_copied label.entry) key 0))
             (sending id result) notes.old notes.new }
     {
-        let entity = self.entity(case, x, notes, entity)?;
+        let entity = self.entity(case, x, notes, Some(entity))?;
         let passes = self.is_open_to(condition, entity);
         lead_unless(case, notes, passes, label)
     }
