@@ -36,7 +36,7 @@ returns-clause-reached c =
     let t = c.args.version.now in
     let Ends : Option End → Tape → Type 0 = λ end r. EndsAs (step t c.args.seed r.tip) end in
     let fewer : c.loop-moment.self.tip.complete < c.args.k = search rules in
-    elim c.match-branch-5.branch [
+    elim c.match-branch-4.branch [
       | in-Some w ↦
           let end = w.in-Some.end in
           let ends = subst (Ends (Some end)) c.self-2.view_is (rw w.in-Some.is at c.in_ok-end.ensures) in
