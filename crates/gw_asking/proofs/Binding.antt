@@ -1,5 +1,6 @@
 -- A function that calls two functions that ask stands for one evaluation and then the other.
 use Rattle.std.proofs.Common.{◌≡◌, ℕ, List, [], ◌∷◌, ◌++◌, Bool, true, false, cond, ◌||◌, Option, Some, None, Result, Ok, Err, refl, sym, ap, ◌∙◌, subst, arith}
+use Rattle.std.specs.Prelude.{IsErrAnd}
 use Rattle.std.specs.List.{list_any}
 use Rattle.std.proofs.lemmas.List.Folds.{list_any-append}
 use Rattle.gw_streams.specs.declared.stream.Stream.{Stream}
@@ -102,6 +103,13 @@ module _ (t : Listing) (seed : ℕ) where
       let F : Eval B → Type 0 = λ m. Decides t seed m r xs ys in
       let G : Result B Why → Type 0 = λ m. Decides t seed (p ~> k) m xs ys in
       subst F (sym whole) (subst G (sym exit) (decides_halt p k halt xs ys h))
+
+  -- the same, of what the exit says
+  pub decides_left : {A B : Type 0} (p : Eval A) (k : A → Eval B) (r : Result B Why) (halt : Why) (xs ys : Noted) →
+      IsErrAnd r (λ e. e ≡ halt) → Decides t seed p (Err halt) xs ys → Decides t seed (p ~> k) r xs ys
+  decides_left p k (Ok b) halt xs ys exit h = absurd exit
+  decides_left p k (Err e) halt xs ys exit h =
+      subst (λ (f : Why). Decides t seed (p ~> k) (Err f) xs ys) (sym exit) (decides_halt p k halt xs ys h)
 
   -- the rest behind the first evaluation
   pub decides_whole : {A B : Type 0} (p : Eval A) (k : A → Eval B) (q : Eval B) (a : A) (r : Result B Why) (xs ys zs : Noted) →

@@ -32,29 +32,3 @@ abbrev pub Comes : {A : Type 0} → Eval A → Result A Why → Type 0
 Comes p (Ok a) = p ≡ gives a
 Comes p (Err (whys.End end)) = p ≡ ends_with end
 Comes p (Err whys.Memory) = Unit {0}
-
--- a TRANSFER or a TEST is entered, where it was decided to which block the transaction goes, if not to the next one
-abbrev pub sent : ℕ → Option ℕ → Move
-sent id None = moves.Enter id changes.Nothing fates.Active
-sent id (Some to) = moves.Enter id (changes.Transaction (own.Transfer to)) fates.Active
-
--- the same, of what was decided
-abbrev pub sending : ℕ → Result (Option ℕ) Why → Result Move Why
-sending id (Ok to) = Ok (sent id to)
-sending id (Err halt) = Err halt
-
--- an ENTER asks first whether the empty storage holds its units, and the run ends where it does not; this storage has
--- so many
-abbrev pub large_enough : List ℕ → ℕ → ℕ → Eval ℕ
-large_enough name units capacity = asks (items.Named (asking.Fits units) name)
-    (λ large. stops_if (not large) TooManyUnits (gives capacity))
-
--- an ENTER is entered with its units, where it was decided that they come into use, or else refuses its transaction
-abbrev pub stored : ℕ → Key → ℕ → Bool → Move
-stored id key units true = moves.Enter id (changes.Entity (key, deeds.Storage (of_storage.Enter units))) fates.Active
-stored id key units false = moves.Refuse id key units
-
--- the same, of what was decided
-abbrev pub storing : ℕ → Key → ℕ → Result Bool Why → Result Move Why
-storing id key units (Ok fits) = Ok (stored id key units fits)
-storing id key units (Err halt) = Err halt

@@ -37,8 +37,8 @@ pub fn ask_block<'a>(
     Ok(version.block(id))
 }
 
-/// Which block comes after this one?
-pub fn ask_after(
+// Which block comes after this one?
+fn ask_after(
     version: &Version,
     notes: &mut Notes,
     id: StatementId,
@@ -96,21 +96,19 @@ pub fn ask_number(
     Ok(version.number_of(name))
 }
 
-// Do so many units fit into the storage of this name, which has this capacity? The caller has looked the capacity up
-// in the version; the question is noted.
-#[inline(always)]
-pub(crate) fn ask_fits(
+/// Do so many units fit into the storage of this name?
+pub fn ask_fits(
+    version: &Version,
     notes: &mut Notes,
     name: &Name,
     units: u64,
-    capacity: u64,
 ) -> Result<bool, AllocError>
-    ensures answer { IfOk result (λ fits. fits ≡ nat_le units capacity) }
+    ensures answer { IfOk result (λ fits. fits ≡ nat_le units (capacity_at version.now name.now)) }
     ensures ok { OnOk result (Asks notes.old (items.Named (asking.Fits units) name.now) notes.new) }
     ensures err { OnErr result (notes.new ≡ notes.old) }
 {
     notes.note_asked(Asked::Fits(units), name)?;
-    Ok(units <= capacity)
+    Ok(units <= version.capacity(name))
 }
 
 /// How many units does the storage of this name have?

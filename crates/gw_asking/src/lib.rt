@@ -7,21 +7,13 @@
 
 mod case;
 mod draws;
-mod entity_ref;
 mod halt;
-mod leading;
 mod notes;
-mod shares;
-mod storing;
 
 pub use case::{
-    Case, ask_after, ask_block, ask_capacity, ask_command, ask_generates, ask_label, ask_next,
+    Case, ask_block, ask_capacity, ask_command, ask_fits, ask_generates, ask_label, ask_next,
     ask_number, ask_within,
 };
 pub use draws::{draw, millionths, modifier_of, multiplied, sample};
-pub use entity_ref::{EntityRef, named, numbered};
 pub use halt::{Halt, Why};
-pub use leading::{lead_to, test_of, transfer_of};
 pub use notes::Notes;
-pub use shares::{all_shares, shares_of};
-pub use storing::{enter_fits, is_too_many, large_enough};

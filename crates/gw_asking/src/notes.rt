@@ -1,18 +1,16 @@
-ghost use Rattle.std.specs.Prelude.{◌≡◌, ◌+◌, ◌<◌, ◌^◌, ◌-◌, [], OnOk, OnErr};
+ghost use Rattle.std.specs.Prelude.{◌≡◌, ◌+◌, ◌<◌, ◌^◌, ◌-◌, OnOk, OnErr};
 ghost use Rattle.gw_streams.specs.Draws.{all_set};
 ghost use Rattle.gw_meaning.specs.declared.item.Item.TheVariants as items;
 ghost use Rattle.gw_uses.specs.Steps.{AreBelow};
 ghost use Rattle.gw_uses.specs.Uses.{nothing_used};
 ghost use Rattle.gw_asking.specs.Noted.{Asks, Forgets};
 
-use gw_expr::Row;
 use gw_meaning::{Asked, Item};
 use gw_names::Name;
 use gw_streams::Streams;
 use gw_uses::FirstUses;
 use std::alloc::{AllocError, Global};
 use std::marker::Model;
-use std::mem;
 
 /// The last number that a step may have; the next one stands for no step.
 const LAST: u64 = u64::MAX - 1;
@@ -23,8 +21,6 @@ pub struct Notes {
     firsts: FirstUses,
     step: u64,
     pub(crate) streams: Streams,
-    // The memory of the last list of shares of a LEAVE, for the next one.
-    spare: Vec<Option<u64>>,
 }
 
 impl Model for Notes {
@@ -48,7 +44,6 @@ impl Notes {
             firsts: FirstUses::new(alloc),
             step: 0,
             streams,
-            spare: Vec::new(alloc),
         }
     }
 
@@ -97,25 +92,6 @@ impl Notes {
         self.firsts.forget(step);
         self.step = step.min(LAST);
         self.streams = streams;
-    }
-
-    /// An empty list, in the memory of the one that was given back last.
-    #[inline(always)]
-    pub fn take_spare(&mut self, alloc: Global) -> Vec<Option<u64>>
-        ensures empty { result.items ≡ [] }
-        ensures same { self.new ≡ self.old }
-    {
-        let mut spare = mem::replace(&mut self.spare, Vec::new(alloc));
-        spare.clear();
-        spare
-    }
-
-    /// Keeps the memory of a list for the next one.
-    #[inline(always)]
-    pub fn give_back(&mut self, shares: Row<Option<u64>>)
-        ensures { self.new ≡ self.old }
-    {
-        self.spare = shares.into_vec();
     }
 
     /// Forgets the step that reads, and its draws behind these streams.

@@ -55,26 +55,11 @@ module _ {V : Type 0} where
   place_beside ks vs i key value long apart at there =
       (value, value_beside ks vs i key value at there, found_beside ks vs i key value long apart at there)
 
-  pub within_beside : (ks : List Key) (vs : List V) (i : ℕ) (key : Key) → IsPlace (zip ks vs) key (Some i) → i < length vs
-  within_beside ks vs i key there = go ks vs i there.1 where
-    go : (ks : List Key) (vs : List V) (i : ℕ) → slice_get (zip ks vs) i ≡ Some (key, there.0) → i < length vs
-    go [] vs i at = absurd cc
-    go (k ∷ ks) [] i at = absurd cc
-    go (k ∷ ks) (v ∷ vs) zero at = omega arith
-    go (k ∷ ks) (v ∷ vs) (suc i) at = let rest = go ks vs i at in omega (arith, rest)
-
-  value_at : (ks : List Key) (vs : List V) (i : ℕ) (key : Key) (value : V) → slice_get (zip ks vs) i ≡ Some (key, value) →
-      slice_get vs i ≡ Some value
-  value_at [] vs i key value at = absurd cc
-  value_at (k ∷ ks) [] i key value at = absurd cc
-  value_at (k ∷ ks) (v ∷ vs) zero key value at =
-      let same : (k, v) ≡ (key, value) = Some_same at in ap (λ (p : Key × V). Some p.1) same
-  value_at (k ∷ ks) (v ∷ vs) (suc i) key value at = value_at ks vs i key value at
-
-  -- the value that is read where a key lies
-  pub read_beside : (ks : List Key) (vs : List V) (i : ℕ) (key : Key) (was : V) → IsPlace (zip ks vs) key (Some i) → slice_get vs i ≡ Some was →
-      value_of (zip ks vs) key ≡ Some was
-  read_beside ks vs i key was there read = there.2 ∙ (sym (value_at ks vs i key there.0 there.1) ∙ read)
+  -- a value stands at each index
+  value_at : (vs : List V) (i : ℕ) → i < length vs → (v : V) × (slice_get vs i ≡ Some v)
+  value_at [] i within = absurd (omega (arith, within))
+  value_at (v ∷ vs) zero within = (v, refl)
+  value_at (v ∷ vs) (suc i) within = value_at vs i (omega (arith, within))
 
   set_at : (ks : List Key) (vs : List V) (i : ℕ) (value : V) → zip ks (set vs i value) ≡ set_value_at (zip ks vs) i value
   set_at [] vs i value = refl
@@ -82,10 +67,12 @@ module _ {V : Type 0} where
   set_at (k ∷ ks) (v ∷ vs) zero value = refl
   set_at (k ∷ ks) (v ∷ vs) (suc i) value = ap (λ (l : List (Key × V)). (k, v) ∷ l) (set_at ks vs i value)
 
-  -- and one that is written there
+  -- a value that is written beside its key
   pub set_beside : (ks : List Key) (vs : List V) (i : ℕ) (key : Key) (value : V) → length vs ≡ length ks → IsDistinct key_eq ks →
-      IsPlace (zip ks vs) key (Some i) → zip ks (set vs i value) ≡ with_value (zip ks vs) key value
-  set_beside ks vs i key value long apart there =
+      slice_get ks i ≡ Some key → i < length ks → zip ks (set vs i value) ≡ with_value (zip ks vs) key value
+  set_beside ks vs i key value long apart at within =
+      let was = value_at vs i (omega (arith, long, within)) in
+      let there = place_beside ks vs i key was.0 long apart at was.1 in
       set_at ks vs i value
       ∙ (written_at key_eq key_eq_equiv (zip ks vs) i key there.0 value (apart_beside ks vs long apart) there.1
       ∙ set_value_is (zip ks vs) key value there.0 there.2)

@@ -1,9 +1,8 @@
-ghost use Rattle.std.specs.Prelude.{◌≡◌, ◌<◌, ◌∷◌, [], length, None, Some, slice_get, unwrap_or};
+ghost use Rattle.std.specs.Prelude.{◌≡◌, [], length, None, slice_get};
 ghost use Rattle.std.specs.Prelude.{IfOk, OnOk, OnErr};
 ghost use Rattle.std.specs.Option.{option_map};
-ghost use Rattle.gw_entities.specs.Tables.{value_of, with_value, IsPlace, AreApart};
+ghost use Rattle.gw_entities.specs.Tables.{value_of, with_value, AreApart};
 
-use crate::change::Change;
 use crate::key_set::KeySet;
 use gw_names::Key;
 use gw_shared::SharedList;
@@ -60,41 +59,16 @@ impl<V: Copy> ByKey<V> {
         Some(*self.values.at(index))
     }
 
-    /// Where an entity lies, and its value: `fresh` where it has none.
-    #[inline(always)]
-    pub fn look(&self, key: &Key, fresh: V) -> (Option<usize>, V)
-        ensures place { IsPlace self.now key.now result.0 }
-        ensures value { result.1 ≡ unwrap_or (value_of self.now key.now) fresh }
-    {
-        match self.keys.place(key) {
-            Some(index) => (Some(index), *self.values.at(index)),
-            None => (None, fresh),
-        }
-    }
-
-    /// Changes the value of an entity of which it is known where it lies: in place where it has one, else `fresh` is
-    /// changed and comes behind the others. Where memory is refused, nothing changes.
-    #[inline(always)]
-    pub fn change_at<C: Change<V> + Copy>(
-        &mut self,
-        key: &Key,
-        place: Option<usize>,
-        fresh: V,
-        change: C,
-    ) -> Result<(), AllocError>
-        requires place { IsPlace self.old key.now place }
-        ensures ok { OnOk result (self.new ≡ with_value self.old key.now
-            (C.changed change (unwrap_or (value_of self.old key.now) fresh))) }
+    /// Sets the value of an entity: in place where it has one, else behind the others. Where memory is refused, nothing
+    /// changes.
+    pub fn put(&mut self, key: &Key, value: V) -> Result<(), AllocError>
+        ensures ok { OnOk result (self.new ≡ with_value self.old key.now value) }
         ensures err { OnErr result (self.new ≡ self.old) }
     {
-        let Some(index) = place else {
-            let mut value = fresh;
-            change.change(&mut value);
+        let Some(index) = self.keys.place(key) else {
             return self.push(key, value);
         };
         self.values.reserve(1)?;
-        let mut value = *self.values.at(index);
-        change.change(&mut value);
         self.values.set(index, value);
         Ok(())
     }
@@ -113,15 +87,6 @@ impl<V: Copy> ByKey<V> {
         self.keys.insert(own);
         self.values.push(value);
         Ok(())
-    }
-
-    /// Sets the value of an entity, or changes none where memory is refused.
-    pub fn put(&mut self, key: &Key, value: V) -> Result<(), AllocError>
-        ensures ok { OnOk result (self.new ≡ with_value self.old key.now value) }
-        ensures err { OnErr result (self.new ≡ self.old) }
-    {
-        let (place, _) = self.look(key, value);
-        self.change_at(key, place, value, Given { value })
     }
 
     /// The entity at an index, in order of first touch, and its value.
@@ -152,20 +117,5 @@ impl<V: Copy> ByKey<V> {
             keys,
             values: self.values.copy()?,
         })
-    }
-}
-
-// A value is given, whatever it was.
-#[derive(Clone, Copy)]
-struct Given<V: Copy> {
-    value: V,
-}
-
-impl<V: Copy> Change<V> for Given<V> {
-    ghost changed = { λ g value. g.value };
-
-    #[inline(always)]
-    fn change(&self, entity: &mut V) {
-        *entity = self.value;
     }
 }

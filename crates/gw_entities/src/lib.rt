@@ -1,13 +1,12 @@
 //! What facilities, queues and storages keep, and the entities of a run in order of first touch.
 //!
 //! A [`Level`] is a content over time: its sum is exact, tick by tick. [`Facility`], [`Queue`] and [`Storage`] count
-//! what a report tells of them; each takes any change. [`ByKey`] keeps a value for each entity, and makes a [`Change`]
-//! to one, or none where memory is refused. [`Parameters`] keeps the parameters of transactions, and [`Comings`] who came
-//! to which queue. [`KeySet`] finds keys by their hash. Copies of each share what did not change.
+//! what a report tells of them; each takes any change. [`ByKey`] keeps a value for each entity. [`Parameters`]
+//! keeps the parameters of transactions, and [`Comings`] who came to which queue. [`KeySet`] finds keys by their hash.
+//! Copies of each share what did not change.
 #![tactic(auto)]
 
 mod by_key;
-mod change;
 mod comings;
 mod facility;
 mod key_set;
@@ -19,7 +18,6 @@ mod queue;
 mod storage;
 
 pub use by_key::ByKey;
-pub use change::Change;
 pub use comings::Comings;
 pub use facility::Facility;
 pub use key_set::KeySet;

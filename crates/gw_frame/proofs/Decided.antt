@@ -150,7 +150,7 @@ module _ (t : Listing) (seed : ℕ) (s : Machine) where
       keeps_stops (not (nat_eq x.current 0)) _
       (keeps_bind (arrival_decides (for_none s.remaining) id _ mean range limit priority named) (λ next h. keeps_gives (named, h, tt)))
 
-  delay_decided : (n : ℕ) → IsDecidedFate s (delay_of s n)
+  delay_decided : (n : ℕ) → IsDecidedFate s changes.Nothing (delay_of s n)
   delay_decided zero = tt
   delay_decided (suc n) = omega arith
 
@@ -160,7 +160,7 @@ module _ (t : Listing) (seed : ℕ) (s : Machine) where
 
   terminate_decides : (q : Asker) (id : ℕ) (count : Option Term) → IsBlockId t id → Decides t seed s (IsDecided t s) (terminate_prog s q id count)
   terminate_decides q id count named =
-      keeps_bind (value_or_zero_decides t seed s q count) (λ n h. keeps_stops (is_negative n) _ (keeps_gives (named, tt, tt)))
+      keeps_bind (value_or_zero_decides t seed s q count) (λ n h. keeps_stops (is_negative n) _ (keeps_gives (named, tt, refl)))
 
   queue_units_decides : (id : ℕ) (key : Key) (units : ℕ) → IsBlockId t id → Decides t seed s (IsDecided t s) (queue_units id key (line_at s.entities key) units)
   queue_units_decides id key units named =
@@ -435,6 +435,10 @@ module _ (t : Listing) (seed : ℕ) (s : Machine) where
         (let h = (command_decides (ask t seed (items.Cmd (raised s.commands))) before).runs r is in (h.0, ((λ numbered named. tt), h.1), h.2));
   }
   move_decides (suc n) before = steps before (scan_prog s s.active) (scan_decides s.active refl)
+
+  -- the move of a step
+  pub decide_decides : (d : Move × List Stream) → result_of t seed (decide s) ≡ Ok d → IsDecided t s d.0
+  decide_decides d is = ((move_decides s.remaining s.streams).runs d is).0
 
   -- the step
   pub step_decides : ProgKeeps t seed (λ v is. IsAfter t s v × AllByRecursion (IsRead t s) is × ReadsSeed s.streams v.streams is) (step_prog s)

@@ -118,9 +118,10 @@ IsDecidedChange t s (changes.Transaction change) = IsDecidedOwn t change
 IsDecidedChange t s (changes.Entity change) = IsDecidedDeed t s change.0 change.1
 IsDecidedChange t s change = Unit {0}
 
-abbrev pub IsDecidedFate : Machine → Fate → Type 0
-IsDecidedFate s (fates.Delayed until) = s.clock ≤ until
-IsDecidedFate s fate = Unit {0}
+abbrev pub IsDecidedFate : Machine → Change → Fate → Type 0
+IsDecidedFate s change (fates.Delayed until) = s.clock ≤ until
+IsDecidedFate s change (fates.Destroyed count) = change ≡ changes.Nothing
+IsDecidedFate s change fate = Unit {0}
 
 -- a facility refuses while it is owned, and a storage so many units that do not fit beside those in use
 abbrev pub IsRefused : Listing → Machine → Key → ℕ → Type 0
@@ -131,7 +132,7 @@ IsRefused t s key units = is_some (facility_at s.entities key).owner ≡ true
 abbrev pub IsDecided : Listing → Machine → Move → Type 0
 IsDecided t s (moves.Start count arrivals) = AreFirst t s arrivals
 IsDecided t s moves.Command = Unit {0}
-IsDecided t s (moves.Enter id change fate) = IsBlockId t id × IsDecidedChange t s change × IsDecidedFate s fate
+IsDecided t s (moves.Enter id change fate) = IsBlockId t id × IsDecidedChange t s change × IsDecidedFate s change fate
 IsDecided t s (moves.Refuse id key units) = IsBlockId t id × IsRefused t s key units
 IsDecided t s moves.Pick = s.active ≡ None
 IsDecided t s (moves.Clock time) = (least_time s.future ≡ Some time) × (nat_le time t.horizon ≡ true)

@@ -77,11 +77,11 @@ all_made_ahead t s [] w coming h = h
 all_made_ahead t s (a ∷ rest) w coming h =
     all_made_ahead t s rest (made a w) coming.1 (all_with (λ (e : Event). s.clock ≤ e.time) w.future _ h (coming.0.ahead, tt))
 
-fated_ahead : (fate : Fate) (x : Transaction) (s : Machine) → IsDecidedFate s fate → AreAhead s.clock s.future → AreAhead s.clock (fated fate x s).future
-fated_ahead fates.Active x s decided h = h
-fated_ahead fates.Current x s decided h = h
-fated_ahead (fates.Delayed until) x s decided h = all_with (λ (e : Event). s.clock ≤ e.time) s.future _ h (decided, tt)
-fated_ahead (fates.Destroyed count) x s decided h = h
+fated_ahead : (change : Change) (fate : Fate) (x : Transaction) (s : Machine) → IsDecidedFate s change fate → AreAhead s.clock s.future → AreAhead s.clock (fated fate x s).future
+fated_ahead change fates.Active x s decided h = h
+fated_ahead change fates.Current x s decided h = h
+fated_ahead change (fates.Delayed until) x s decided h = all_with (λ (e : Event). s.clock ≤ e.time) s.future _ h (decided, tt)
+fated_ahead change (fates.Destroyed count) x s decided h = h
 
 -- each move
 pub moved_goes_on : (t : Listing) (s : Machine) (m : Move) → IsDecided t s m → IsInTime t s → GoesOn t s.clock (moved s m)
@@ -90,7 +90,7 @@ moved_goes_on t s moves.Command decided h = (omega arith, h)
 moved_goes_on t s (moves.Enter id change fate) decided h =
     let P : Machine → Type 0 = λ v. (v.clock ≡ s.clock) × AreAhead s.clock v.future in
     let whole : P (moved s (moves.Enter id change fate)) =
-    entered_has P P t s id change fate decided.1 (refl, h.1) (λ x is. ((settled_is s x id change fate).clock, fated_ahead fate _ _ decided.2 h.1))
+    entered_has P P t s id change fate decided.1 (refl, h.1) (λ x is. ((settled_is s x id change fate).clock, fated_ahead change fate _ _ decided.2 h.1))
     (λ v. record {
       nothing = λ k. k;
       one = λ a coming k. (k.0, all_with (λ (e : Event). s.clock ≤ e.time) v.future _ k.1 (coming.ahead, tt));

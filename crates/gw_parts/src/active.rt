@@ -1,9 +1,8 @@
-ghost use Rattle.std.specs.Prelude.{◌≡◌, Some, None, IsSome, is_some, not, option_copied};
+ghost use Rattle.std.specs.Prelude.{◌≡◌, Some, None, IsSome, is_some, option_copied};
 ghost use Rattle.gw_meaning.specs.declared.transaction.Transaction.{Transaction};
 ghost use Rattle.gw_meaning.specs.Changes.{placed};
 
 use gw_chains::place;
-use gw_entities::Facility;
 use gw_meaning::{Destination, StatementId, Transaction};
 use gw_nums::{Clock, Time, Val};
 use std::marker::Model;
@@ -65,14 +64,6 @@ impl Active {
         ensures { self.now ≡ Some result.now }
     {
         &self.x
-    }
-
-    /// Whether it may take a facility: one that nobody owns, also not the transaction itself.
-    #[inline(always)]
-    pub fn may_take(&self, facility: Facility) -> bool
-        ensures { result ≡ not (is_some facility.owner) }
-    {
-        !facility.is_owned()
     }
 
     /// A transaction becomes active.

@@ -1,13 +1,13 @@
 // The entities of a run.
 ghost use Rattle.std.specs.Prelude.{◌≡◌, IfOk, OnOk, OnErr};
-ghost use Rattle.gw_entities.specs.Comings.{came, with_coming};
-ghost use Rattle.gw_entities.specs.Records.{queued};
-ghost use Rattle.gw_entities.specs.Tables.{with_value, IsPlace};
-ghost use Rattle.gw_meaning.specs.Entities.{no_entities, facility_at, line_at, store_at, savevalue_at, switch_at, later};
+ghost use Rattle.gw_entities.specs.Comings.{came};
+ghost use Rattle.gw_meaning.specs.declared.entity_change.Deed.TheVariants as deeds;
+ghost use Rattle.gw_meaning.specs.Entities.{no_entities, facility_at, line_at, store_at, savevalue_at, switch_at, done, later};
 ghost use Rattle.gw_parts.specs.Parts.{entities_of};
 
-use crate::deeds::Arrive;
-use gw_entities::{ByKey, Change, Comings, Facility, Queue, Storage};
+use crate::deeds::{done_to_facility, done_to_queue, done_to_storage};
+use gw_entities::{ByKey, Comings, Facility, Queue, Storage};
+use gw_meaning::{Deed, QueueDeed};
 use gw_names::Key;
 use gw_nums::{Clock, Val};
 use std::alloc::{AllocError, Global};
@@ -125,44 +125,6 @@ impl Entities {
         }
     }
 
-    /// Gives a savevalue a value, or changes nothing where memory is refused.
-    pub fn set_savevalue(&mut self, key: &Key, to: Val) -> Result<(), AllocError>
-        ensures ok { OnOk result (entities_of self.new ≡ record (entities_of self.old) {
-          savevalues = with_value self.old.savevalues key.now to;
-        }) }
-        ensures err { OnErr result (entities_of self.new ≡ entities_of self.old) }
-    {
-        self.savevalues.put(key, to)
-    }
-
-    /// Sets a switch, or resets it; where memory is refused, nothing changes.
-    pub fn set_switch(&mut self, key: &Key, set: bool) -> Result<(), AllocError>
-        ensures ok { OnOk result (entities_of self.new ≡ record (entities_of self.old) {
-          switches = with_value self.old.switches key.now set;
-        }) }
-        ensures err { OnErr result (entities_of self.new ≡ entities_of self.old) }
-    {
-        self.switches.put(key, set)
-    }
-
-    /// Where a facility lies, and the facility.
-    #[inline(always)]
-    pub fn look_for_facility(&self, key: &Key) -> (Option<usize>, Facility)
-        ensures place { IsPlace self.now.facilities key.now result.0 }
-        ensures value { result.1 ≡ facility_at (entities_of self.now) key.now }
-    {
-        self.facilities.look(key, Facility::new())
-    }
-
-    /// Where a queue lies, and the queue.
-    #[inline(always)]
-    pub fn look_for_queue(&self, key: &Key) -> (Option<usize>, Queue)
-        ensures place { IsPlace self.now.queues key.now result.0 }
-        ensures value { result.1 ≡ line_at (entities_of self.now) key.now }
-    {
-        self.queues.look(key, Queue::new())
-    }
-
     /// Whether the transaction with a number came to a queue while the clock stands as it does.
     #[inline(always)]
     pub fn has_come(&self, key: &Key, number: u64) -> bool
@@ -171,90 +133,55 @@ impl Entities {
         self.comings.has(key, number)
     }
 
-    /// Where a storage lies, and the storage.
-    #[inline(always)]
-    pub fn look_for_storage(&self, key: &Key) -> (Option<usize>, Storage)
-        ensures place { IsPlace self.now.storages key.now result.0 }
-        ensures value { result.1 ≡ store_at (entities_of self.now) key.now }
-    {
-        self.storages.look(key, Storage::new())
-    }
-
-    /// Changes a facility of which it is known where it lies, or nothing where memory is refused.
-    #[inline(always)]
-    pub fn change_facility<C: Change<Facility> + Copy>(
+    /// Makes of the entity with a key what a deed says, at a clock, where the transaction with a number enters the block.
+    /// Where memory is refused, nothing changes.
+    pub fn make(
         &mut self,
         key: &Key,
-        place: Option<usize>,
-        change: C,
-    ) -> Result<(), AllocError>
-        requires { IsPlace self.old.facilities key.now place }
-        ensures ok { OnOk result (entities_of self.new ≡ record (entities_of self.old) {
-          facilities = with_value self.old.facilities key.now
-              (C.changed change (facility_at (entities_of self.old) key.now));
-        }) }
-        ensures err { OnErr result (entities_of self.new ≡ entities_of self.old) }
-    {
-        self.facilities
-            .change_at(key, place, Facility::new(), change)
-    }
-
-    /// Changes a queue of which it is known where it lies, or nothing where memory is refused.
-    #[inline(always)]
-    pub fn change_queue<C: Change<Queue> + Copy>(
-        &mut self,
-        key: &Key,
-        place: Option<usize>,
-        change: C,
-    ) -> Result<(), AllocError>
-        requires { IsPlace self.old.queues key.now place }
-        ensures ok { OnOk result (entities_of self.new ≡ record (entities_of self.old) {
-          queues = with_value self.old.queues key.now (C.changed change (line_at (entities_of self.old) key.now));
-        }) }
-        ensures err { OnErr result (entities_of self.new ≡ entities_of self.old) }
-    {
-        self.queues.change_at(key, place, Queue::new(), change)
-    }
-
-    /// Changes a storage of which it is known where it lies, or nothing where memory is refused.
-    #[inline(always)]
-    pub fn change_storage<C: Change<Storage> + Copy>(
-        &mut self,
-        key: &Key,
-        place: Option<usize>,
-        change: C,
-    ) -> Result<(), AllocError>
-        requires { IsPlace self.old.storages key.now place }
-        ensures ok { OnOk result (entities_of self.new ≡ record (entities_of self.old) {
-          storages = with_value self.old.storages key.now (C.changed change (store_at (entities_of self.old) key.now));
-        }) }
-        ensures err { OnErr result (entities_of self.new ≡ entities_of self.old) }
-    {
-        self.storages.change_at(key, place, Storage::new(), change)
-    }
-
-    /// So many units come to a queue of which it is known where it lies, with the transaction with a number. Where
-    /// memory is refused, nothing changes.
-    #[inline(always)]
-    pub fn come(
-        &mut self,
-        key: &Key,
-        place: Option<usize>,
+        deed: &Deed,
+        clock: Clock,
         number: u64,
-        arrive: Arrive,
     ) -> Result<(), AllocError>
-        requires { IsPlace self.old.queues key.now place }
-        ensures ok { OnOk result (entities_of self.new ≡ record (entities_of self.old) {
-          queues = with_value self.old.queues key.now
-              (queued arrive.units arrive.clock (line_at (entities_of self.old) key.now));
-          comings = with_coming self.old.comings.comings key.now number;
-        }) }
+        ensures ok { OnOk result (entities_of self.new ≡ done key.now deed.now clock number (entities_of self.old)) }
         ensures err { OnErr result (entities_of self.new ≡ entities_of self.old) }
     {
-        let coming = self.comings.reserve(key)?;
-        self.queues.change_at(key, place, Queue::new(), arrive)?;
-        self.comings.add(number, coming);
-        Ok(())
+        match deed {
+            Deed::Facility(deed) => {
+                let facility = done_to_facility(*deed, clock, number, self.facility(key));
+                self.facilities.put(key, facility)
+            }
+            Deed::Queue(deed) => self.make_of_queue(key, *deed, clock, number),
+            Deed::Storage(deed) => {
+                let storage = done_to_storage(deed, clock, self.storage(key));
+                self.storages.put(key, storage)
+            }
+            Deed::Savevalue { to } => self.savevalues.put(key, *to),
+            Deed::Switch { set } => self.switches.put(key, *set),
+        }
+    }
+
+    // The same, of a queue: it is kept who came.
+    fn make_of_queue(
+        &mut self,
+        key: &Key,
+        deed: QueueDeed,
+        clock: Clock,
+        number: u64,
+    ) -> Result<(), AllocError>
+        ensures ok { OnOk result (entities_of self.new ≡
+            done key.now (deeds.Queue deed) clock number (entities_of self.old)) }
+        ensures err { OnErr result (entities_of self.new ≡ entities_of self.old) }
+    {
+        let queue = done_to_queue(deed, clock, self.queue(key));
+        match deed {
+            QueueDeed::Queue { .. } => {
+                let coming = self.comings.reserve(key)?;
+                self.queues.put(key, queue)?;
+                self.comings.add(number, coming);
+                Ok(())
+            }
+            QueueDeed::Depart { .. } => self.queues.put(key, queue),
+        }
     }
 
     /// The clock goes on from one time to another. Where they differ, who came to which queue is forgotten.

@@ -1,30 +1,54 @@
-// Room for those who are let in behind a RELEASE or a LEAVE, and the first of a delay chain let in.
+// Who is let in behind a RELEASE or a LEAVE: room for them first, then the change, which cannot fail.
 ghost use Rattle.std.specs.Prelude.{◌≡◌, ◌+◌, ◌-◌, ◌<◌, ◌≤◌, [], ◌∷◌, Some, length, IfOk, OnOk};
-ghost use Rattle.std.specs.Option.{option_map};
-ghost use Rattle.gw_meaning.specs.declared.transaction.Transaction.{Transaction};
 ghost use Rattle.gw_entities.specs.Tables.{value_of};
 ghost use Rattle.gw_meaning.specs.Machine.{Machine, delay_at};
-ghost use Rattle.gw_meaning.specs.Changes.{some_let_in};
-ghost use Rattle.gw_chains.specs.Chains.{delays_of, room_of, first_of, IsWaitingPlace, with_share, IsWithin, AreWithin, HasRoomToLetIn, HasRoomToLetAllIn};
+ghost use Rattle.gw_meaning.specs.Changes.{some_let_in, admitted};
+ghost use Rattle.gw_chains.specs.Chains.{delays_of, room_of, first_of, with_share, IsWithin, AreWithin, HasRoomToLetIn, HasRoomToLetAllIn};
+ghost use Rattle.gw_parts.specs.Admitting.{HasRoomToAdmit};
 
 use gw_chains::{Counts, DelayChains, PriorityChain, has_share, let_in};
-use gw_meaning::Transaction;
+use gw_meaning::{Deed, FacilityDeed, StorageDeed, Transaction};
 use gw_names::Key;
 use std::alloc::AllocError;
 
-/// Makes room to let in the first of the delay chain at a place, and returns its number where somebody waits. Room for
-/// one more stays on the current chain, for the active transaction.
-#[inline(always)]
-pub fn reserve_first(
+/// Makes room to let in those of the delay chain of a key whom a deed lets in. Room for one more stays on the current
+/// chain, for the active transaction. Nobody moves.
+///
+/// # Errors
+///
+/// Where memory is refused.
+pub fn reserve_to_admit(
+    delays: &mut DelayChains,
+    current: &mut PriorityChain,
+    counts: &mut Counts,
+    key: &Key,
+    deed: &Deed,
+) -> Result<(), AllocError>
+    ensures ok { OnOk result (HasRoomToAdmit key.now deed.now delays.new (current.new.room - 1) counts.new.limit) }
+    ensures one { OnOk result (0 < current.new.room) }
+    ensures delays { delays_of delays.new ≡ delays_of delays.old }
+    ensures current { current.new.items ≡ current.old.items }
+    ensures counts { counts.new.entries ≡ counts.old.entries }
+    ensures limit { counts.old.limit ≤ counts.new.limit }
+{
+    match deed {
+        Deed::Facility(FacilityDeed::Release { .. }) => {
+            reserve_first(delays, current, counts, key)
+        }
+        Deed::Storage(StorageDeed::Leave { shares, .. }) => {
+            reserve_some(delays, current, counts, key, shares.as_slice())
+        }
+        _ => current.reserve(1),
+    }
+}
+
+// Room to let in the first of the delay chain of a facility.
+fn reserve_first(
     delays: &DelayChains,
     current: &mut PriorityChain,
     counts: &mut Counts,
     key: &Key,
-    place: Option<usize>,
-) -> Result<Option<u64>, AllocError>
-    requires { IsWaitingPlace delays.now key.now place }
-    ensures number { IfOk result (λ number. number ≡
-        option_map (λ (x : Transaction). x.number) (first_of (delay_at (delays_of delays.now) key.now))) }
+) -> Result<(), AllocError>
     ensures ok { OnOk result (HasRoomToLetIn (first_of (delay_at (delays_of delays.now) key.now))
         (current.new.room - 1) counts.new.limit) }
     ensures one { OnOk result (0 < current.new.room) }
@@ -33,64 +57,33 @@ pub fn reserve_first(
     ensures limit { counts.old.limit ≤ counts.new.limit }
 {
     current.reserve(2)?;
-    let Some(x) = delays.first_at(key, place) else {
-        return Ok(None);
-    };
-    reserve_block(x, counts)?;
-    Ok(Some(x.number))
-}
-
-/// Makes room to let in those of the delay chain at a place who have a share. The chain stays there.
-#[inline(always)]
-pub fn reserve_some(
-    delays: &mut DelayChains,
-    current: &mut PriorityChain,
-    counts: &mut Counts,
-    key: &Key,
-    place: Option<usize>,
-    shares: &[Option<u64>],
-) -> Result<(), AllocError>
-    requires { IsWaitingPlace delays.old key.now place }
-    ensures ok { OnOk result (HasRoomToLetAllIn (with_share shares.now (delay_at (delays_of delays.old) key.now))
-        (current.new.room - 1) counts.new.limit) }
-    ensures going { OnOk result (length (with_share shares.now (delay_at (delays_of delays.old) key.now)) ≤
-        room_of (value_of delays.new key.now)) }
-    ensures one { OnOk result (0 < current.new.room) }
-    ensures delays { delays_of delays.new ≡ delays_of delays.old }
-    ensures place { IsWaitingPlace delays.new key.now place }
-    ensures current { current.new.items ≡ current.old.items }
-    ensures counts { counts.new.entries ≡ counts.old.entries }
-    ensures limit { counts.old.limit ≤ counts.new.limit }
-{
-    if shares.is_empty() {
-        return current.reserve(1);
+    let place = delays.waiting_place(key);
+    match delays.first_at(key, place) {
+        Some(x) => reserve_block(x, counts),
+        None => Ok(()),
     }
-    reserve_shares(delays, current, counts, key, place, shares)
 }
 
-// The same, where there are shares.
-#[inline(always)]
-fn reserve_shares(
+// Room to let in those of the delay chain of a storage who have a share. The chain stays as it is.
+fn reserve_some(
     delays: &mut DelayChains,
     current: &mut PriorityChain,
     counts: &mut Counts,
     key: &Key,
-    place: Option<usize>,
     shares: &[Option<u64>],
 ) -> Result<(), AllocError>
-    requires { IsWaitingPlace delays.old key.now place }
     ensures ok { OnOk result (HasRoomToLetAllIn (with_share shares.now (delay_at (delays_of delays.old) key.now))
         (current.new.room - 1) counts.new.limit) }
     ensures going { OnOk result (length (with_share shares.now (delay_at (delays_of delays.old) key.now)) ≤
         room_of (value_of delays.new key.now)) }
     ensures one { OnOk result (0 < current.new.room) }
     ensures delays { delays_of delays.new ≡ delays_of delays.old }
-    ensures place { IsWaitingPlace delays.new key.now place }
     ensures current { current.new.items ≡ current.old.items }
     ensures counts { counts.new.entries ≡ counts.old.entries }
     ensures limit { counts.old.limit ≤ counts.new.limit }
 {
     current.reserve(1)?;
+    let place = delays.waiting_place(key);
     let Some(chain) = delays.chain_at(key, place) else {
         return Ok(());
     };
@@ -135,18 +128,44 @@ fn reserve_block(x: &Transaction, counts: &mut Counts) -> Result<(), AllocError>
     }
 }
 
-/// The first of the delay chain at a place is let in, where somebody waits.
-#[inline(always)]
-pub fn let_first_in(
+/// Those of the delay chain of a key whom a deed lets in go to the current chain, one by one from the front: of a
+/// facility the first, of a storage each with a share.
+pub fn admit(
     delays: &mut DelayChains,
     current: &mut PriorityChain,
     counts: &mut Counts,
     key: &Key,
-    place: Option<usize>,
+    deed: &Deed,
 )
-    requires place { IsWaitingPlace delays.old key.now place }
-    requires room { HasRoomToLetIn (first_of (delay_at (delays_of delays.old) key.now))
-        current.old.room counts.old.limit }
+    requires { HasRoomToAdmit key.now deed.now delays.old current.old.room counts.old.limit }
+    ensures { (s : Machine) →
+        record s { delays = delays_of delays.new; current = current.new.items; counts = counts.new.entries } ≡
+        admitted key.now deed.now (record s {
+          delays = delays_of delays.old;
+          current = current.old.items;
+          counts = counts.old.entries;
+        }) }
+{
+    match deed {
+        Deed::Facility(FacilityDeed::Release { .. }) => {
+            let_first_in(delays, current, counts, key);
+        }
+        Deed::Storage(StorageDeed::Leave { shares, .. }) => {
+            let place = delays.waiting_place(key);
+            delays.let_in_some_at(key, place, shares.as_slice(), current, counts);
+        }
+        _ => (),
+    }
+}
+
+// The first of the delay chain of a facility is let in, where somebody waits.
+fn let_first_in(
+    delays: &mut DelayChains,
+    current: &mut PriorityChain,
+    counts: &mut Counts,
+    key: &Key,
+)
+    requires { HasRoomToLetIn (first_of (delay_at (delays_of delays.old) key.now)) current.old.room counts.old.limit }
     ensures { (s : Machine) →
         record s { delays = delays_of delays.new; current = current.new.items; counts = counts.new.entries } ≡
         some_let_in key.now (Some 1 ∷ []) [] (delay_at (delays_of delays.old) key.now) (record s {
@@ -155,35 +174,8 @@ pub fn let_first_in(
           counts = counts.old.entries;
         }) }
 {
+    let place = delays.waiting_place(key);
     if let Some(x) = delays.take_first_at(key, place) {
         let_in(current, counts, x);
-    }
-}
-
-/// Of the delay chain at a place each with a share is let in.
-#[inline(always)]
-pub fn let_some_in(
-    delays: &mut DelayChains,
-    current: &mut PriorityChain,
-    counts: &mut Counts,
-    key: &Key,
-    place: Option<usize>,
-    shares: &[Option<u64>],
-)
-    requires place { IsWaitingPlace delays.old key.now place }
-    requires room { HasRoomToLetAllIn (with_share shares.now (delay_at (delays_of delays.old) key.now))
-        current.old.room counts.old.limit }
-    requires going { length (with_share shares.now (delay_at (delays_of delays.old) key.now)) ≤
-        room_of (value_of delays.old key.now) }
-    ensures { (s : Machine) →
-        record s { delays = delays_of delays.new; current = current.new.items; counts = counts.new.entries } ≡
-        some_let_in key.now shares.now [] (delay_at (delays_of delays.old) key.now) (record s {
-          delays = delays_of delays.old;
-          current = current.old.items;
-          counts = counts.old.entries;
-        }) }
-{
-    if !shares.is_empty() {
-        delays.let_in_some_at(key, place, shares, current, counts);
     }
 }

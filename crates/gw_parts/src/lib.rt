@@ -13,8 +13,7 @@ mod progress;
 
 pub use active::Active;
 pub use clocks::Clocks;
-pub use deeds::{Arrive, Become, Depart, Enter, Leave, Release, Seize, enter_all};
 pub use entities::Entities;
-pub use letting_in::{let_first_in, let_some_in, reserve_first, reserve_some};
+pub use letting_in::{admit, reserve_to_admit};
 pub use making::{make, make_all};
 pub use progress::Progress;

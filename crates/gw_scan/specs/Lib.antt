@@ -6,10 +6,10 @@ pub use Rattle.gw_meaning.specs.Changes
 pub use Rattle.gw_meaning.specs.Step
 pub use Rattle.gw_meaning.specs.Point
 pub use Rattle.gw_asking.specs.Halts
-pub use Rattle.gw_asking.specs.EntityRef
 pub use Rattle.gw_asking.specs.Noted
 pub use Rattle.gw_asking.specs.Deciding
 pub use Rattle.gw_parts.specs.Parts
+pub use Rattle.gw_parts.specs.Admitting
 pub mod Copies
 pub mod Making
 pub mod Seeing

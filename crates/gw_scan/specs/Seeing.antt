@@ -11,9 +11,15 @@ use Rattle.gw_meaning.specs.Evaluation.{reply_prog}
 use Rattle.gw_meaning.specs.Listing.{Listing}
 use Rattle.gw_meaning.specs.Machine.{Machine}
 use Rattle.gw_asking.specs.Deciding.{Decides}
-use Rattle.gw_scan.specs.Making.{halted}
+use Rattle.gw_asking.specs.Halts.{why_of_fault}
+use Rattle.gw_asking.specs.declared.halt.Why.{Why}
 use Rattle.gw_asking.specs.Noted.{Noted, Asks}
 use Rattle.gw_scan.specs.declared.seen.Seen.{Seen}
+
+-- the result of an evaluation of operands, whose fault halts the run
+abbrev pub halted : {A : Type 0} → Result A Fault → Result A Why
+halted (Ok a) = Ok a
+halted (Err fault) = Err (why_of_fault fault)
 
 -- a question that definitions reply to is noted, whatever they reply; where memory is refused, nothing is
 abbrev pub Marks : {A : Type 0} → Item → Noted → Result A Fault → Noted → Type 0

@@ -7,8 +7,8 @@ use Rattle.gw_streams.specs.declared.stream.Stream.{Stream}
 use Rattle.gw_meaning.specs.declared.moves.Move.{Move}
 use Rattle.gw_meaning.specs.Listing.{Listing}
 use Rattle.gw_meaning.specs.Machine.{Machine, raised}
-use Rattle.gw_meaning.specs.Changes.{decided, moved}
-use Rattle.gw_meaning.specs.Evaluation.{Eval, gives, ends_with}
+use Rattle.gw_meaning.specs.Changes.{decided}
+use Rattle.gw_meaning.specs.Evaluation.{Eval}
 use Rattle.gw_asking.specs.Deciding.{Decides}
 use Rattle.gw_asking.specs.declared.halt.Why.{Why}
 use Rattle.gw_asking.specs.declared.halt.Why.TheVariants as whys
@@ -30,27 +30,12 @@ abbrev pub Follows : Turn → List Item → Noted → Noted → Type 0
 Follows turns.Moved items old new = Reads old items new
 Follows (turns.Ended end) items old new = Forgets old.step old.streams old new
 
--- the move that was decided is made, with these streams behind its draws; where none was, or memory is refused, nothing
--- changes
-abbrev pub Makes : Result Move Why → List Stream → Result (Unit {0}) Why → Machine → Machine → Type 0
-Makes (Ok m) streams (Ok u) before after = after ≡ decided before m streams
-Makes (Ok m) streams (Err halt) before after = (halt ≡ whys.Memory) × (after ≡ before)
-Makes (Err halt) streams (Err other) before after = (other ≡ halt) × (after ≡ before)
-Makes (Err halt) streams (Ok u) before after = ⊥
-
 -- the move to which an evaluation comes is made, with the streams behind its draws; where it comes to none, nothing
 -- changes
 abbrev pub Acts : Listing → ℕ → Eval Move → Result (Unit {0}) Why → Machine → Machine → Noted → Noted → Type 0
 Acts t seed p (Ok u) before after old new =
     (m : Move) × Decides t seed p (Ok m) old new × (after ≡ decided before m new.streams)
 Acts t seed p (Err halt) before after old new = Decides t seed p (Err halt) old new × (after ≡ before)
-
--- the move to which an evaluation that neither asks nor draws comes is made; where it comes to none, or memory is
--- refused, nothing changes
-abbrev pub Goes : Eval Move → Result (Unit {0}) Why → Machine → Machine → Type 0
-Goes p (Ok u) before after = (m : Move) × (p ≡ gives m) × (after ≡ moved before m)
-Goes p (Err (whys.End end)) before after = (p ≡ ends_with end) × (after ≡ before)
-Goes p (Err whys.Memory) before after = after ≡ before
 
 -- no step was made: the run ends here, or out of memory
 abbrev pub Halts : {E : Type 0} → Why → Result Turn E → Type 0

@@ -275,7 +275,7 @@ fn subject(case: Case, notes: &mut Notes, of: &Subject) -> Result<Key, Halt>
 }
 
 // The key of the entity with a name, or with the number that the name stands for.
-fn key_named(name: &Name, number: Option<Val>) -> Result<Key, Halt>
+pub fn key_named(name: &Name, number: Option<Val>) -> Result<Key, Halt>
     ensures { Comes (named name.now number) result }
 {
     match number {
@@ -285,7 +285,7 @@ fn key_named(name: &Name, number: Option<Val>) -> Result<Key, Halt>
 }
 
 // The key of the entity with a number, from 1.
-fn key_numbered(number: Val) -> Result<Key, Halt>
+pub fn key_numbered(number: Val) -> Result<Key, Halt>
     ensures { Comes (numbered number) result }
 {
     if number.get() < 1 {

@@ -1,156 +1,128 @@
 // GATE: a transaction passes where a condition of an entity holds, and else goes to a block.
-ghost use Rattle.std.specs.Prelude.{◌≡◌, ℕ, IsSome, Some, None, if◌then◌else◌, option_copied};
-ghost use Rattle.gw_meaning.specs.declared.transaction.Transaction.{Transaction};
+ghost use Rattle.std.specs.Prelude.{◌≡◌, Some, option_copied};
 ghost use Rattle.gw_meaning.specs.Entities.{store_at};
 ghost use Rattle.gw_meaning.specs.Evaluation.{entity_prog, ◌~>◌};
-ghost use Rattle.gw_meaning.specs.Statements.{A, B, operand};
-ghost use Rattle.gw_meaning.specs.Step.{for_one, lead_to, reads_capacity, is_open, gate_at, gate_storage, gate_of, gate_prog};
-ghost use Rattle.gw_asking.specs.Deciding.{Decides, sending};
-ghost use Rattle.gw_asking.specs.EntityRef.{key_of};
-ghost use Rattle.gw_scan.specs.Stepping.{Acts};
+ghost use Rattle.gw_meaning.specs.Step.{lead_to, reads_capacity, is_open, gate_at, gate_storage, gate_of, gate_prog};
+ghost use Rattle.gw_asking.specs.Deciding.{Decides};
 
+use crate::entering::pass;
+use crate::leading::lead_to;
 use crate::state::State;
-use gw_asking::{Case, EntityRef, Halt, Notes, ask_capacity, lead_to};
+use gw_asking::{Case, Halt, Notes, ask_capacity};
 use gw_expr::{Expr, Node};
-use gw_meaning::operands::{A, B};
-use gw_meaning::{Auxiliary, Block, Condition, Destination, StatementId, Transaction};
+use gw_meaning::{Asker, Auxiliary, Condition, Move, StatementId};
 use gw_names::{Key, StorageName};
 
 impl State {
     // A transaction goes on where a condition holds, and else to a block.
-    pub(crate) fn act_gate(
-        &mut self,
+    pub(crate) fn decide_gate(
+        &self,
         case: Case,
+        asker: &Asker,
         notes: &mut Notes,
         id: StatementId,
-        block: &Block,
-    ) -> Result<(), Halt>
-        requires { IsSome self.old.active }
-        ensures { (x : Transaction) → self.old.active ≡ Some x → Acts case.entry.version.now case.entry.seed
-            (gate_prog self.old (for_one self.old x) id block.now.auxiliary
-            (operand block.now A) (operand block.now B)) result self.old self.new notes.old notes.new }
+        operator: Auxiliary,
+        entity: Option<&Expr>,
+        label: Option<&Expr>,
+    ) -> Result<Move, Halt>
+        ensures { Decides case.entry.version.now case.entry.seed
+            (gate_prog self.now asker.now id operator (option_copied entity.entry) (option_copied label.entry))
+            result notes.old notes.new }
     {
-        let to = self.gated(case, notes, block)?;
-        self.send(id, to)?;
-        self.take_draws(notes);
-        Ok(())
-    }
-
-    // Where it goes, or none where it goes on.
-    fn gated(&self, case: Case, notes: &mut Notes, block: &Block) -> Result<Destination, Halt>
-        requires { IsSome self.now.active }
-        ensures { (x : Transaction) → self.now.active ≡ Some x → (id : ℕ) →
-            Decides case.entry.version.now case.entry.seed
-            (gate_prog self.now (for_one self.now x) id block.now.auxiliary
-            (operand block.now A) (operand block.now B)) (sending id result) notes.old notes.new }
-    {
-        match block.auxiliary {
+        match operator {
             Auxiliary::Gate(condition) => {
-                self.gated_by(case, self.active.get(), notes, condition, block)
+                self.gate_of(case, asker, notes, id, condition, entity, label)
             }
             _ => Err(Halt::NO_NEXT_BLOCK),
         }
     }
 
-    // The same, by the condition of the block.
-    fn gated_by(
-        &self,
-        case: Case,
-        x: &Transaction,
-        notes: &mut Notes,
-        condition: Condition,
-        block: &Block,
-    ) -> Result<Destination, Halt>
-        ensures { (id : ℕ) → Decides case.entry.version.now case.entry.seed
-            (gate_of self.now (for_one self.now x.now) id condition (operand block.now A) (operand block.now B))
-            (sending id result) notes.old notes.new }
-    {
-        self.gated_at(
-            case,
-            x,
-            notes,
-            condition,
-            block.operand(A),
-            block.operand(B),
-        )
-    }
-
     // The same, of the storage or the entity that an operand names.
-    fn gated_at(
+    fn gate_of(
         &self,
         case: Case,
-        x: &Transaction,
+        asker: &Asker,
         notes: &mut Notes,
+        id: StatementId,
         condition: Condition,
         entity: Option<&Expr>,
         label: Option<&Expr>,
-    ) -> Result<Destination, Halt>
-        ensures { (id : ℕ) → Decides case.entry.version.now case.entry.seed
-            (gate_of self.now (for_one self.now x.now) id condition
-            (option_copied entity.entry) (option_copied label.entry)) (sending id result) notes.old notes.new }
+    ) -> Result<Move, Halt>
+        ensures { Decides case.entry.version.now case.entry.seed
+            (gate_of self.now asker.now id condition (option_copied entity.entry) (option_copied label.entry))
+            result notes.old notes.new }
     {
         let Some(expr) = entity else {
             return Err(Halt::RANGE);
         };
         match expr.node() {
-            Node::Defined(name) => self.gated_at_storage(case, notes, condition, name, label),
-            _ => self.gated_at_entity(case, x, notes, condition, expr, label),
+            Node::Defined(name) => self.gate_storage(case, notes, id, condition, name, label),
+            _ => self.gate_entity(case, asker, notes, id, condition, expr, label),
         }
     }
 
     // The same, of a facility or a switch.
-    fn gated_at_entity(
+    fn gate_entity(
         &self,
         case: Case,
-        x: &Transaction,
+        asker: &Asker,
         notes: &mut Notes,
+        id: StatementId,
         condition: Condition,
         entity: &Expr,
         label: Option<&Expr>,
-    ) -> Result<Destination, Halt>
-        ensures { (id : ℕ) → Decides case.entry.version.now case.entry.seed
-            (entity_prog self.now (for_one self.now x.now) (Some entity.now) ~>
-            (λ key. gate_at self.now id condition (option_copied label.entry) key 0))
-            (sending id result) notes.old notes.new }
+    ) -> Result<Move, Halt>
+        ensures { Decides case.entry.version.now case.entry.seed
+            (entity_prog self.now asker.now (Some entity.now) ~>
+            (λ key. gate_at self.now id condition (option_copied label.entry) key 0)) result notes.old notes.new }
     {
-        let entity = self.entity(case, x, notes, Some(entity))?;
-        let passes = self.is_open_to(condition, entity);
-        lead_unless(case, notes, passes, label)
+        let key = self.entity(case, asker, notes, Some(entity))?;
+        self.gate_at(case, notes, id, condition, label, &key, 0)
     }
 
     // The same, of a storage: its capacity is asked for only where the condition hangs on it.
-    fn gated_at_storage(
+    fn gate_storage(
         &self,
         case: Case,
         notes: &mut Notes,
+        id: StatementId,
         condition: Condition,
         name: &StorageName,
         label: Option<&Expr>,
-    ) -> Result<Destination, Halt>
-        ensures { (id : ℕ) → Decides case.entry.version.now case.entry.seed
+    ) -> Result<Move, Halt>
+        ensures { Decides case.entry.version.now case.entry.seed
             (gate_storage self.now id condition (option_copied label.entry) name.now (reads_capacity condition))
-            (sending id result) notes.old notes.new }
+            result notes.old notes.new }
     {
         if !reads_capacity(condition) {
-            let passes = self.is_open(condition, name.key(), 0);
-            return lead_unless(case, notes, passes, label);
+            return self.gate_at(case, notes, id, condition, label, name.key(), 0);
         }
         let capacity = ask_capacity(case.version, notes, name.name())?;
-        let passes = self.is_open(condition, name.key(), capacity);
-        lead_unless(case, notes, passes, label)
+        self.gate_at(case, notes, id, condition, label, name.key(), capacity)
     }
 
-    // Whether a condition holds of the facility or the switch that was named.
-    fn is_open_to(&self, condition: Condition, entity: EntityRef) -> bool
-        ensures { result ≡ is_open self.now condition (key_of entity.entry) 0 }
+    // The same, of the entity with a key, which is of so many units where it is a storage.
+    fn gate_at(
+        &self,
+        case: Case,
+        notes: &mut Notes,
+        id: StatementId,
+        condition: Condition,
+        label: Option<&Expr>,
+        key: &Key,
+        capacity: u64,
+    ) -> Result<Move, Halt>
+        ensures { Decides case.entry.version.now case.entry.seed
+            (gate_at self.now id condition (option_copied label.entry) key.now capacity)
+            result notes.old notes.new }
     {
-        match entity {
-            EntityRef::Named(key) => self.is_open(condition, key, 0),
-            EntityRef::Numbered(number) => self.is_open(condition, &Key::Num(number), 0),
+        if self.is_open(condition, key, capacity) {
+            return Ok(pass(id));
         }
+        lead_to(case, notes, id, label)
     }
 
-    // Whether a condition holds of the entity with a key, which is of so many units where it is a storage.
+    // Whether a condition holds of the entity with a key.
     fn is_open(&self, condition: Condition, key: &Key, capacity: u64) -> bool
         ensures { result ≡ is_open self.now condition key.now capacity }
     {
@@ -182,20 +154,4 @@ fn reads_capacity(condition: Condition) -> bool
         Condition::Full | Condition::NotFull => true,
         _ => false,
     }
-}
-
-// To the block with a label, unless the way is open: then on to the next block.
-fn lead_unless(
-    case: Case,
-    notes: &mut Notes,
-    passes: bool,
-    label: Option<&Expr>,
-) -> Result<Destination, Halt>
-    ensures { (id : ℕ) → Decides case.entry.version.now case.entry.seed
-        (lead_to id (if passes then None else option_copied label.entry)) (sending id result) notes.old notes.new }
-{
-    if passes {
-        return Ok(Destination::none());
-    }
-    lead_to(case, notes, label)
 }

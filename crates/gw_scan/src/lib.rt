@@ -4,29 +4,31 @@
 //! follows and changes nothing. A refused growth changes nothing either.
 #![tactic(auto)]
 
-mod act;
 mod arrival;
 mod attributes;
 mod commands;
 mod copy;
+mod decide;
 mod entering;
 mod fates;
 mod gates;
 mod generating;
-mod idle;
+mod leading;
+mod make;
 mod parameters;
 mod priorities;
 mod queueing;
 mod savevalues;
+mod scanning;
 mod seen;
 mod seizing;
+mod shares;
 mod state;
 mod steps;
 mod storing;
 mod switches;
 mod tally;
 mod times;
-mod transfer;
 mod value;
 
 pub use gw_asking::Notes;

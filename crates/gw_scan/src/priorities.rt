@@ -1,73 +1,35 @@
 // MARK and PRIORITY: the mark time and the priority that a block gives to its transaction.
-ghost use Rattle.std.specs.Prelude.{◌≡◌, ℕ, Some, IsSome};
-ghost use Rattle.gw_meaning.specs.Statements.{A, operand};
-ghost use Rattle.gw_meaning.specs.Step.{for_one, mark_prog, priority_prog};
-ghost use Rattle.gw_meaning.specs.Evaluation.{gives};
-ghost use Rattle.gw_meaning.specs.Listing.{Listing};
-ghost use Rattle.gw_meaning.specs.declared.transaction.Transaction.{Transaction};
-ghost use Rattle.gw_scan.specs.Making.{prioritized};
-ghost use Rattle.gw_scan.specs.Stepping.{Acts, Goes};
+ghost use Rattle.std.specs.Prelude.{option_copied};
+ghost use Rattle.gw_meaning.specs.Step.{mark_prog, priority_prog};
+ghost use Rattle.gw_asking.specs.Deciding.{Decides, Comes};
 
-use crate::entering::enter_active;
+use crate::entering::enter_with;
 use crate::state::State;
 use gw_asking::{Case, Halt, Notes};
-use gw_meaning::operands::A;
-use gw_meaning::{Block, StatementId};
-use gw_nums::Val;
+use gw_expr::Expr;
+use gw_meaning::{Asker, Move, StatementId, TransactionChange};
 
 impl State {
-    // A transaction is marked with the clock.
-    #[inline(never)]
-    pub(crate) fn act_mark(&mut self, notes: &Notes, id: StatementId) -> Result<(), Halt>
-        requires { IsSome self.old.active }
-        ensures { (version : Listing) (seed : ℕ) →
-            Acts version seed (mark_prog id) result self.old self.new notes.now notes.now }
-    {
-        let marked = self.mark(id);
-        self.with_draws(marked, notes)
-    }
-
-    // The block is entered, and its transaction marked; the draws come behind.
-    #[inline(always)]
-    fn mark(&mut self, id: StatementId) -> Result<(), Halt>
-        requires { IsSome self.old.active }
-        ensures { Goes (mark_prog id) result self.old self.new }
-    {
-        self.counts.reserve(id)?;
-        enter_active(&mut self.active, &mut self.counts, id);
-        self.active.mark(self.clocks.clock());
-        Ok(())
-    }
-
     // A transaction gets another priority, and stays active.
-    #[inline(never)]
-    pub(crate) fn act_priority(
-        &mut self,
+    pub(crate) fn decide_priority(
+        &self,
         case: Case,
+        asker: &Asker,
         notes: &mut Notes,
         id: StatementId,
-        block: &Block,
-    ) -> Result<(), Halt>
-        requires { IsSome self.old.active }
-        ensures { (x : Transaction) → self.old.active ≡ Some x → Acts case.entry.version.now case.entry.seed
-            (priority_prog self.old (for_one self.old x) id (operand block.now A))
-            result self.old self.new notes.old notes.new }
+        priority: Option<&Expr>,
+    ) -> Result<Move, Halt>
+        ensures { Decides case.entry.version.now case.entry.seed
+            (priority_prog self.now asker.now id (option_copied priority.entry)) result notes.old notes.new }
     {
-        let x = self.active.get();
-        let to = self.value_there(case, &self.for_one(x), notes, block.operand(A))?;
-        let given = self.give_priority(id, to);
-        self.with_draws(given, notes)
+        let to = self.value_there(case, asker, notes, priority)?;
+        Ok(enter_with(id, TransactionChange::Priority { to }))
     }
+}
 
-    // The block is entered, and its transaction gets the priority; the draws come behind.
-    #[inline(always)]
-    fn give_priority(&mut self, id: StatementId, to: Val) -> Result<(), Halt>
-        requires { IsSome self.old.active }
-        ensures { Goes (gives (prioritized id to)) result self.old self.new }
-    {
-        self.counts.reserve(id)?;
-        enter_active(&mut self.active, &mut self.counts, id);
-        self.active.set_priority(to);
-        Ok(())
-    }
+// A transaction is marked with the clock.
+pub fn decide_mark(id: StatementId) -> Result<Move, Halt>
+    ensures { Comes (mark_prog id) result }
+{
+    Ok(enter_with(id, TransactionChange::Mark))
 }

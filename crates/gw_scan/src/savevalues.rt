@@ -1,72 +1,49 @@
 // SAVEVALUE: a savevalue is set, or something is added to it or taken from it.
-ghost use Rattle.std.specs.Prelude.{◌≡◌, Some, IsSome};
-ghost use Rattle.gw_meaning.specs.declared.transaction.Transaction.{Transaction};
-ghost use Rattle.gw_meaning.specs.Entities.{savevalue_at};
-ghost use Rattle.gw_meaning.specs.Statements.{A, B, operand};
-ghost use Rattle.gw_meaning.specs.Step.{for_one, savevalue_with, savevalue_prog};
-ghost use Rattle.gw_asking.specs.EntityRef.{key_of};
-ghost use Rattle.gw_scan.specs.Stepping.{Acts, Goes};
+ghost use Rattle.std.specs.Prelude.{option_copied};
+ghost use Rattle.gw_meaning.specs.Step.{savevalue_with, savevalue_prog};
+ghost use Rattle.gw_asking.specs.Deciding.{Decides, Comes};
 
-use crate::entering::enter_active;
+use crate::entering::enter_doing;
 use crate::parameters::{arithmetic, by_sign};
 use crate::state::State;
-use gw_asking::{Case, EntityRef, Halt, Notes};
-use gw_meaning::{Auxiliary, Block, StatementId};
+use gw_asking::{Case, Halt, Notes};
+use gw_expr::Expr;
+use gw_meaning::{Asker, Auxiliary, Deed, Move, StatementId};
 use gw_names::Key;
 use gw_nums::Val;
 
 impl State {
     // A savevalue is set to the value of B, or that is added to it or taken from it.
-    pub(crate) fn act_savevalue(
-        &mut self,
+    pub(crate) fn decide_savevalue(
+        &self,
         case: Case,
+        asker: &Asker,
         notes: &mut Notes,
         id: StatementId,
-        block: &Block,
-    ) -> Result<(), Halt>
-        requires { IsSome self.old.active }
-        ensures { (x : Transaction) → self.old.active ≡ Some x → Acts case.entry.version.now case.entry.seed
-            (savevalue_prog self.old (for_one self.old x) id block.now.auxiliary
-            (operand block.now A) (operand block.now B)) result self.old self.new notes.old notes.new }
-    {
-        let entity = self.own_entity(case, notes, block)?;
-        let value = self.own_second_value(case, notes, block)?;
-        let saved = self.save_entity(id, block.auxiliary, entity, value);
-        self.with_draws(saved, notes)
-    }
-
-    // The same, of the entity that was named.
-    fn save_entity(
-        &mut self,
-        id: StatementId,
         sign: Auxiliary,
-        entity: EntityRef,
-        value: Val,
-    ) -> Result<(), Halt>
-        requires { IsSome self.old.active }
-        ensures { (x : Transaction) → self.old.active ≡ Some x →
-            Goes (savevalue_with id sign (key_of entity.entry)
-            (savevalue_at self.old.entities (key_of entity.entry)) value) result self.old self.new }
+        entity: Option<&Expr>,
+        value: Option<&Expr>,
+    ) -> Result<Move, Halt>
+        ensures { Decides case.entry.version.now case.entry.seed
+            (savevalue_prog self.now asker.now id sign (option_copied entity.entry) (option_copied value.entry))
+            result notes.old notes.new }
     {
-        match entity {
-            EntityRef::Named(key) => self.save(id, sign, key, value),
-            EntityRef::Numbered(number) => self.save(id, sign, &Key::Num(number), value),
-        }
+        let key = self.entity(case, asker, notes, entity)?;
+        let value = self.value_there(case, asker, notes, value)?;
+        let was = self.entities.savevalue(&key);
+        savevalue_with(id, sign, key, was, value)
     }
+}
 
-    // The same, of the savevalue with a key.
-    fn save(&mut self, id: StatementId, sign: Auxiliary, key: &Key, value: Val) -> Result<(), Halt>
-        requires { IsSome self.old.active }
-        ensures { (x : Transaction) → self.old.active ≡ Some x →
-            Goes (savevalue_with id sign key.now (savevalue_at self.old.entities key.now) value)
-            result self.old self.new }
-    {
-        let was = self.entities.savevalue(key);
-        let to = arithmetic(by_sign(sign, was, value))?;
-        self.counts.reserve(id)?;
-        // The last that may be refused.
-        self.entities.set_savevalue(key, to)?;
-        enter_active(&mut self.active, &mut self.counts, id);
-        Ok(())
-    }
+fn savevalue_with(
+    id: StatementId,
+    sign: Auxiliary,
+    key: Key,
+    was: Option<Val>,
+    value: Val,
+) -> Result<Move, Halt>
+    ensures { Comes (savevalue_with id sign key was value) result }
+{
+    let to = arithmetic(by_sign(sign, was, value))?;
+    Ok(enter_doing(id, key, Deed::Savevalue { to }))
 }

@@ -1,7 +1,7 @@
 // One step, and the end that stands in its place.
 ghost use Rattle.std.specs.Prelude.{◌≡◌, IfOk, OnErr};
-ghost use Rattle.gw_meaning.specs.Step.{step, step_items};
-ghost use Rattle.gw_scan.specs.Stepping.{Steps, Counts, EndsAs, Follows, Halts};
+ghost use Rattle.gw_meaning.specs.Step.{move_prog, step, step_items};
+ghost use Rattle.gw_scan.specs.Stepping.{Acts, Steps, Counts, EndsAs, Follows, Halts};
 ghost use Rattle.gw_asking.specs.Noted.{Forgets};
 
 use crate::state::State;
@@ -68,7 +68,20 @@ fn halted(halt: Halt, state: &State, notes: &mut Notes) -> Result<Turn, AllocErr
     }
 }
 
-/// The end that a step would come to here, or `None` where the run goes on: a step of a copy tells.
+impl State {
+    // Makes the next move; or says why none follows, and then nothing changes.
+    fn act(&mut self, case: Case, notes: &mut Notes) -> Result<(), Halt>
+        ensures { Acts case.entry.version.now case.entry.seed (move_prog self.old self.old.remaining)
+            result self.old self.new notes.old notes.new }
+    {
+        let to = self.decide(case, notes)?;
+        self.make(to)?;
+        self.streams = notes.streams();
+        Ok(())
+    }
+}
+
+/// The end that a step would come to here, or `None` where the run goes on: no move is made.
 pub fn end_at(
     alloc: Global,
     version: &Version,
@@ -82,26 +95,14 @@ pub fn end_at(
         version,
         seed,
     };
-    let mut probe = state.copy()?;
-    let end = probe.next_end(case);
-    drop(probe);
-    end
-}
-
-impl State {
-    // The end that the next step comes to, or `None` where it is made.
-    fn next_end(&mut self, case: Case) -> Result<Option<End>, AllocError>
-        ensures { IfOk result (EndsAs (step case.entry.version.now case.entry.seed self.old)) }
-    {
-        let mut notes = Notes::new(case.alloc, self.streams());
-        let made = self.act(case, &mut notes);
-        drop(notes);
-        match made {
-            Ok(()) => Ok(None),
-            Err(halt) => match halt.why() {
-                Why::End(end) => Ok(Some(end)),
-                Why::Memory => Err(AllocError),
-            },
-        }
+    let mut notes = Notes::new(alloc, state.streams());
+    let decided = state.decide(case, &mut notes);
+    drop(notes);
+    match decided {
+        Ok(_) => Ok(None),
+        Err(halt) => match halt.why() {
+            Why::End(end) => Ok(Some(end)),
+            Why::Memory => Err(AllocError),
+        },
     }
 }

@@ -1,18 +1,15 @@
 // What operands stand for: values, entities and units.
-ghost use Rattle.std.specs.Prelude.{◌≡◌, Some, IsSome, option_copied};
-ghost use Rattle.gw_meaning.specs.declared.transaction.Transaction.{Transaction};
+ghost use Rattle.std.specs.Prelude.{option_copied};
 ghost use Rattle.gw_meaning.specs.Evaluation.{value_prog, value_or_zero, value_there, numbered, entity_prog, units_prog, ◌~>◌};
-ghost use Rattle.gw_meaning.specs.Statements.{A, B, operand};
-ghost use Rattle.gw_meaning.specs.Step.{for_one};
 ghost use Rattle.gw_asking.specs.Deciding.{Decides};
-ghost use Rattle.gw_asking.specs.EntityRef.{keyed};
 
+use crate::attributes::{key_named, key_numbered};
 use crate::seen::Seen;
 use crate::state::State;
-use gw_asking::{Case, EntityRef, Halt, Notes, ask_number, named, numbered};
+use gw_asking::{Case, Halt, Notes, ask_number};
 use gw_expr::{Atom, Expr, Node, eval};
-use gw_meaning::operands::{A, B};
-use gw_meaning::{Asker, Block, Transaction};
+use gw_meaning::Asker;
+use gw_names::Key;
 use gw_nums::Val;
 
 impl State {
@@ -93,19 +90,16 @@ impl State {
         }
     }
 
-    // The entity that an operand names, for a transaction.
-    #[inline(always)]
-    #[tactic(auto, using(crate::proofs::Evaluating::constant_gives))]
-    pub(crate) fn entity<'a>(
+    // The entity that an operand names.
+    pub(crate) fn entity(
         &self,
         case: Case,
-        x: &Transaction,
+        asker: &Asker,
         notes: &mut Notes,
-        operand: Option<&'a Expr>,
-    ) -> Result<EntityRef<'a>, Halt>
+        operand: Option<&Expr>,
+    ) -> Result<Key, Halt>
         ensures { Decides case.entry.version.now case.entry.seed
-            (entity_prog self.now (for_one self.now x.now) (option_copied operand.entry))
-            (keyed result) notes.old notes.new }
+            (entity_prog self.now asker.now (option_copied operand.entry)) result notes.old notes.new }
     {
         let Some(expr) = operand else {
             return Err(Halt::RANGE);
@@ -113,96 +107,45 @@ impl State {
         match expr.node() {
             Node::Named(name) => {
                 let number = ask_number(case.version, notes, name.name())?;
-                named(name, number)
+                key_named(name.name(), number)
             }
-            Node::Value(Atom::Constant(number)) => numbered(*number),
-            _ => self.computed_entity(case, &self.for_one(x), notes, expr),
+            _ => self.computed_entity(case, asker, notes, expr),
         }
     }
 
     // The entity whose number is the value of an operand.
-    #[inline(always)]
-    fn computed_entity<'a>(
+    fn computed_entity(
         &self,
         case: Case,
         asker: &Asker,
         notes: &mut Notes,
         operand: &Expr,
-    ) -> Result<EntityRef<'a>, Halt>
+    ) -> Result<Key, Halt>
         ensures { Decides case.entry.version.now case.entry.seed
-            (value_prog self.now asker.now operand.now ~> numbered) (keyed result) notes.old notes.new }
+            (value_prog self.now asker.now operand.now ~> numbered) result notes.old notes.new }
     {
         let number = self.value(case, asker, notes, operand)?;
-        numbered(number)
+        key_numbered(number)
     }
 
-    // How many units an operand says, for a transaction, and 1 where it is absent.
-    #[inline(always)]
+    // How many units an operand says, and 1 where it is absent.
     pub(crate) fn units(
         &self,
         case: Case,
-        x: &Transaction,
+        asker: &Asker,
         notes: &mut Notes,
         operand: Option<&Expr>,
     ) -> Result<u32, Halt>
         ensures { Decides case.entry.version.now case.entry.seed
-            (units_prog self.now (for_one self.now x.now) (option_copied operand.entry))
-            result notes.old notes.new }
+            (units_prog self.now asker.now (option_copied operand.entry)) result notes.old notes.new }
     {
         let Some(expr) = operand else {
             return Ok(1);
         };
-        let units = self.value(case, &self.for_one(x), notes, expr)?;
+        let units = self.value(case, asker, notes, expr)?;
         if units.get() < 1 {
             return Err(Halt::BAD_COUNT);
         }
         Ok(units.magnitude() as u32)
-    }
-
-    // The entity that a block names, for the active transaction.
-    #[inline(always)]
-    pub(crate) fn own_entity<'a>(
-        &self,
-        case: Case,
-        notes: &mut Notes,
-        block: &'a Block,
-    ) -> Result<EntityRef<'a>, Halt>
-        requires { IsSome self.now.active }
-        ensures { (x : Transaction) → self.now.active ≡ Some x → Decides case.entry.version.now case.entry.seed
-            (entity_prog self.now (for_one self.now x) (operand block.now A)) (keyed result) notes.old notes.new }
-    {
-        let x = self.active.get();
-        self.entity(case, x, notes, block.operand(A))
-    }
-
-    // The value of a block's second operand, for the active transaction.
-    pub(crate) fn own_second_value(
-        &self,
-        case: Case,
-        notes: &mut Notes,
-        block: &Block,
-    ) -> Result<Val, Halt>
-        requires { IsSome self.now.active }
-        ensures { (x : Transaction) → self.now.active ≡ Some x → Decides case.entry.version.now case.entry.seed
-            (value_there self.now (for_one self.now x) (operand block.now B)) result notes.old notes.new }
-    {
-        let x = self.active.get();
-        self.value_there(case, &self.for_one(x), notes, block.operand(B))
-    }
-
-    // How many units a block says, for the active transaction.
-    #[inline(always)]
-    pub(crate) fn own_units(
-        &self,
-        case: Case,
-        notes: &mut Notes,
-        block: &Block,
-    ) -> Result<u32, Halt>
-        requires { IsSome self.now.active }
-        ensures { (x : Transaction) → self.now.active ≡ Some x → Decides case.entry.version.now case.entry.seed
-            (units_prog self.now (for_one self.now x) (operand block.now B)) result notes.old notes.new }
-    {
-        let x = self.active.get();
-        self.units(case, x, notes, block.operand(B))
     }
 }

@@ -1,0 +1,153 @@
+// TRANSFER and TEST: a label is asked for only where the transaction goes there.
+ghost use Rattle.std.specs.Prelude.{◌≡◌, if◌then◌else◌, nat_lt, option_copied};
+ghost use Rattle.gw_meaning.specs.Evaluation.{millionths};
+ghost use Rattle.gw_meaning.specs.Step.{by_fraction, go_to, holds, lead_to, test_prog, test_values, transfer_prog};
+ghost use Rattle.gw_asking.specs.Deciding.{Decides, Comes};
+
+use crate::entering::{enter_with, pass};
+use crate::state::State;
+use gw_asking::{Case, Halt, Notes, ask_label, draw, millionths};
+use gw_expr::{Expr, Node};
+use gw_meaning::{Asker, Auxiliary, Move, StatementId, TransactionChange};
+use gw_nums::Val;
+
+impl State {
+    // A transaction goes on where a relation of two values holds, and else to a block.
+    pub(crate) fn decide_test(
+        &self,
+        case: Case,
+        asker: &Asker,
+        notes: &mut Notes,
+        id: StatementId,
+        relation: Auxiliary,
+        first: Option<&Expr>,
+        second: Option<&Expr>,
+        label: Option<&Expr>,
+    ) -> Result<Move, Halt>
+        ensures { Decides case.entry.version.now case.entry.seed
+            (test_prog self.now asker.now id relation (option_copied first.entry) (option_copied second.entry)
+            (option_copied label.entry)) result notes.old notes.new }
+    {
+        let first = self.value_there(case, asker, notes, first)?;
+        let second = self.value_there(case, asker, notes, second)?;
+        test_values(case, notes, id, relation, label, first, second)
+    }
+}
+
+// A transaction is sent to a block, or goes on to the next one.
+pub fn decide_transfer(
+    case: Case,
+    notes: &mut Notes,
+    id: StatementId,
+    fraction: Option<&Expr>,
+    near: Option<&Expr>,
+    far: Option<&Expr>,
+) -> Result<Move, Halt>
+    ensures { Decides case.entry.version.now case.entry.seed
+        (transfer_prog id (option_copied fraction.entry) (option_copied near.entry) (option_copied far.entry))
+        result notes.old notes.new }
+{
+    let Some(expr) = fraction else {
+        return lead_to(case, notes, id, near);
+    };
+    match expr.node() {
+        Node::Fraction(part) => by_fraction(case, notes, id, *part, near, far),
+        _ => lead_to(case, notes, id, near),
+    }
+}
+
+fn by_fraction(
+    case: Case,
+    notes: &mut Notes,
+    id: StatementId,
+    part: u32,
+    near: Option<&Expr>,
+    far: Option<&Expr>,
+) -> Result<Move, Halt>
+    ensures { Decides case.entry.version.now case.entry.seed
+        (by_fraction id part (option_copied near.entry) (option_copied far.entry)) result notes.old notes.new }
+{
+    let number = draw(case, notes, 1)?;
+    lead_to(case, notes, id, chosen(number, part, near, far))
+}
+
+// The far operand where the number that was drawn is below the fraction, else the near one.
+fn chosen<'a>(
+    number: u32,
+    part: u32,
+    near: Option<&'a Expr>,
+    far: Option<&'a Expr>,
+) -> Option<&'a Expr>
+    ensures { option_copied result ≡
+        (if nat_lt (millionths number) part then option_copied far.entry else option_copied near.entry) }
+{
+    if millionths(number) < u64::from(part) {
+        far
+    } else {
+        near
+    }
+}
+
+fn test_values(
+    case: Case,
+    notes: &mut Notes,
+    id: StatementId,
+    relation: Auxiliary,
+    label: Option<&Expr>,
+    first: Val,
+    second: Val,
+) -> Result<Move, Halt>
+    ensures { Decides case.entry.version.now case.entry.seed
+        (test_values id relation (option_copied label.entry) first second) result notes.old notes.new }
+{
+    if holds(relation, first, second) {
+        return Ok(pass(id));
+    }
+    lead_to(case, notes, id, label)
+}
+
+// Whether the relation of one value to another holds.
+fn holds(relation: Auxiliary, first: Val, second: Val) -> bool
+    ensures { result ≡ holds relation first second }
+{
+    match relation {
+        Auxiliary::Equal => first == second,
+        Auxiliary::NotEqual => first != second,
+        Auxiliary::Greater => first > second,
+        Auxiliary::GreaterOrEqual => first >= second,
+        Auxiliary::Less => first < second,
+        Auxiliary::LessOrEqual => first <= second,
+        _ => false,
+    }
+}
+
+// To the block with a label, or to the next block where there is none.
+pub fn lead_to(
+    case: Case,
+    notes: &mut Notes,
+    id: StatementId,
+    label: Option<&Expr>,
+) -> Result<Move, Halt>
+    ensures { Decides case.entry.version.now case.entry.seed (lead_to id (option_copied label.entry))
+        result notes.old notes.new }
+{
+    let Some(expr) = label else {
+        return Ok(pass(id));
+    };
+    match expr.node() {
+        Node::Label(name) => {
+            let to = ask_label(case.version, notes, name)?;
+            go_to(id, to)
+        }
+        _ => Ok(pass(id)),
+    }
+}
+
+fn go_to(id: StatementId, to: Option<StatementId>) -> Result<Move, Halt>
+    ensures { Comes (go_to id to) result }
+{
+    match to {
+        Some(to) => Ok(enter_with(id, TransactionChange::Transfer { to })),
+        None => Err(Halt::NO_NEXT_BLOCK),
+    }
+}

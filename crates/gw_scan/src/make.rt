@@ -1,0 +1,350 @@
+// The one place where a state changes: a move is made. All that grows is reserved first, so where memory is refused
+// nothing changes.
+ghost use Rattle.std.specs.Prelude.{◌≡◌, ◌<◌, ◌-◌, ◌≤◌, ◌+◌, OnOk, OnErr};
+ghost use Rattle.gw_chains.specs.Chains.{delays_of};
+ghost use Rattle.gw_meaning.specs.declared.moves.Move.TheVariants as moves;
+ghost use Rattle.gw_meaning.specs.Changes.{moved, placed, own_marked, marked, own_held, held_by, fated, changed};
+ghost use Rattle.gw_meaning.specs.Entities.{touched};
+ghost use Rattle.gw_meaning.specs.Machine.{Machine};
+ghost use Rattle.gw_parts.specs.Parts.{entities_of};
+ghost use Rattle.gw_scan.specs.Making.{IsMade, IsAlone, HasRoom, kept_by};
+
+use crate::state::State;
+use gw_chains::{Counts, DelayChains, FutureChain, PriorityChain};
+use gw_entities::Parameters;
+use gw_meaning::{
+    Arrival, Change, Destination, EntityChange, Event, Fate, Move, StatementId, Transaction,
+    TransactionChange,
+};
+use gw_names::Key;
+use gw_nums::Clock;
+use gw_parts::{Active, Entities, Progress, admit, make, make_all, reserve_to_admit};
+use std::alloc::AllocError;
+
+impl State {
+    // Makes a move that was decided, or changes nothing where memory is refused.
+    pub(crate) fn make(&mut self, to: Move) -> Result<(), AllocError>
+        requires { IsMade self.old to }
+        ensures ok { OnOk result (self.new ≡ moved self.old to) }
+        ensures err { OnErr result (self.new ≡ self.old) }
+    {
+        match to {
+            Move::Start { count, arrivals } => self.begin(count, arrivals.as_slice()),
+            Move::Command => {
+                self.progress.count_command();
+                Ok(())
+            }
+            Move::Enter { id, change, fate } => self.enter(id, &change, fate),
+            Move::Refuse { id, key, units } => self.refuse(id, &key, units),
+            Move::Pick => {
+                self.pick();
+                Ok(())
+            }
+            Move::Clock { time } => self.go_on(time),
+        }
+    }
+
+    // A START begins, with these first transactions.
+    fn begin(&mut self, count: u64, arrivals: &[Arrival]) -> Result<(), AllocError>
+        ensures ok { OnOk result (self.new ≡ moved self.old (moves.Start count arrivals.now)) }
+        ensures err { OnErr result (self.new ≡ self.old) }
+    {
+        self.future.reserve(arrivals.len())?;
+        self.counts.reserve_all(arrivals)?;
+        make_all(&mut self.next, &mut self.future, &mut self.counts, arrivals);
+        self.progress.start(count);
+        Ok(())
+    }
+
+    // The active transaction is refused at a block, and waits on the delay chain of a key for so many units.
+    fn refuse(&mut self, id: StatementId, key: &Key, units: u32) -> Result<(), AllocError>
+        ensures ok { OnOk result (self.new ≡ moved self.old (moves.Refuse id key.now units)) }
+        ensures err { OnErr result (self.new ≡ self.old) }
+    {
+        let Some(x) = self.active.as_ref() else {
+            return Ok(());
+        };
+        let bound = Transaction {
+            destination: Destination::to(id),
+            asked: units,
+            ..*x
+        };
+        self.delays.line_up(key, bound)?;
+        self.active.clear();
+        Ok(())
+    }
+
+    // The first of the current chain becomes active.
+    fn pick(&mut self)
+        ensures { self.new ≡ moved self.old moves.Pick }
+    {
+        if let Some(x) = self.current.take_first() {
+            self.active.put(x);
+        }
+    }
+
+    // The clock moves on to the least time of the future chain, and those who are due stand on the current chain.
+    fn go_on(&mut self, clock: Clock) -> Result<(), AllocError>
+        requires { IsMade self.old (moves.Clock clock) }
+        ensures ok { OnOk result (self.new ≡ moved self.old (moves.Clock clock)) }
+        ensures err { OnErr result (self.new ≡ self.old) }
+    {
+        self.current.reserve(self.future.len())?;
+        self.future.take_due(&mut self.current, clock.time())?;
+        self.entities.go_on(self.clocks.clock(), clock);
+        self.clocks.advance(clock);
+        Ok(())
+    }
+
+    // The active transaction enters a block.
+    fn enter(&mut self, id: StatementId, change: &Change, fate: Fate) -> Result<(), AllocError>
+        requires { IsAlone change.now fate }
+        ensures ok { OnOk result (self.new ≡ moved self.old (moves.Enter id change.now fate)) }
+        ensures err { OnErr result (self.new ≡ self.old) }
+    {
+        let Some(x) = self.active.as_ref() else {
+            return Ok(());
+        };
+        let x = *x;
+        let clock = self.clocks.clock();
+        self.counts.reserve(id)?;
+        reserve(
+            change,
+            &mut self.delays,
+            &mut self.current,
+            &mut self.future,
+            &mut self.counts,
+        )?;
+        // The last that may be refused.
+        keep(
+            change,
+            fate,
+            &mut self.entities,
+            &mut self.parameters,
+            clock,
+            x.number,
+        )?;
+        self.counts.cross(x.current, id, &fate);
+        settle(
+            &mut self.active,
+            &mut self.current,
+            &mut self.future,
+            &mut self.progress,
+            marked(change, clock, placed(x, id)),
+            fate,
+        );
+        bring(
+            change,
+            &mut self.next,
+            &mut self.delays,
+            &mut self.current,
+            &mut self.future,
+            &mut self.counts,
+        );
+        Ok(())
+    }
+}
+
+// Makes room for the active transaction and for those whom a change brings. Nobody moves.
+fn reserve(
+    change: &Change,
+    delays: &mut DelayChains,
+    current: &mut PriorityChain,
+    future: &mut FutureChain,
+    counts: &mut Counts,
+) -> Result<(), AllocError>
+    ensures ok { OnOk result (HasRoom change.now delays.new (current.new.room - 1) (future.new.room - 1) counts.new.limit) }
+    ensures current_one { OnOk result (0 < current.new.room) }
+    ensures future_one { OnOk result (0 < future.new.room) }
+    ensures delays { delays_of delays.new ≡ delays_of delays.old }
+    ensures current { current.new.items ≡ current.old.items }
+    ensures future { future.new.items ≡ future.old.items }
+    ensures counts { counts.new.entries ≡ counts.old.entries }
+    ensures limit { counts.old.limit ≤ counts.new.limit }
+{
+    future.reserve(2)?;
+    match change {
+        Change::Entity(EntityChange { key, deed }) => {
+            reserve_to_admit(delays, current, counts, key, deed)
+        }
+        Change::Generate {
+            next: Some(arrival),
+        } => {
+            current.reserve(1)?;
+            counts.reserve(arrival.id)
+        }
+        _ => current.reserve(1),
+    }
+}
+
+// Changes what is kept of entities and of the transaction with a number, or nothing where memory is refused.
+fn keep(
+    change: &Change,
+    fate: Fate,
+    entities: &mut Entities,
+    parameters: &mut Parameters,
+    clock: Clock,
+    number: u64,
+) -> Result<(), AllocError>
+    requires { IsAlone change.now fate }
+    ensures entities { OnOk result (entities_of entities.new ≡ touched change.now clock number (entities_of entities.old)) }
+    ensures parameters { OnOk result (parameters.new ≡ kept_by fate number (held_by change.now number parameters.old)) }
+    ensures err_entities { OnErr result (entities_of entities.new ≡ entities_of entities.old) }
+    ensures err_parameters { OnErr result (parameters.new ≡ parameters.old) }
+{
+    match change {
+        Change::Entity(EntityChange { key, deed }) => entities.make(key, deed, clock, number),
+        Change::Transaction(change) => assign(parameters, number, change),
+        Change::Nothing | Change::Generate { .. } => forget(parameters, number, fate),
+    }
+}
+
+// Sets the parameter that a change sets, if it sets one.
+fn assign(
+    parameters: &mut Parameters,
+    number: u64,
+    change: &TransactionChange,
+) -> Result<(), AllocError>
+    ensures ok { OnOk result (parameters.new ≡ own_held change.now number parameters.old) }
+    ensures err { OnErr result (parameters.new ≡ parameters.old) }
+{
+    match change {
+        TransactionChange::Assign { key, to } => parameters.assign(number, key, *to),
+        TransactionChange::Loop { key, left, .. } => parameters.assign(number, key, *left),
+        _ => Ok(()),
+    }
+}
+
+// Forgets the parameters of a transaction that is destroyed.
+fn forget(parameters: &mut Parameters, number: u64, fate: Fate) -> Result<(), AllocError>
+    ensures ok { OnOk result (parameters.new ≡ kept_by fate number parameters.old) }
+    ensures err { OnErr result (parameters.new ≡ parameters.old) }
+{
+    match fate {
+        Fate::Destroyed { .. } => parameters.forget(number),
+        Fate::Active | Fate::Current | Fate::Delayed { .. } => Ok(()),
+    }
+}
+
+// The transaction in the block that it enters.
+fn placed(x: Transaction, id: StatementId) -> Transaction
+    ensures { result ≡ placed x id }
+{
+    Transaction {
+        current: id,
+        destination: Destination::none(),
+        asked: 0,
+        ..x
+    }
+}
+
+// What the block changes of its transaction, but for its parameters.
+fn marked(change: &Change, clock: Clock, x: Transaction) -> Transaction
+    ensures { result ≡ marked change.now clock x }
+{
+    match change {
+        Change::Generate { .. } => own_marked(&TransactionChange::Mark, clock, x),
+        Change::Transaction(change) => own_marked(change, clock, x),
+        Change::Nothing | Change::Entity(_) => x,
+    }
+}
+
+fn own_marked(change: &TransactionChange, clock: Clock, x: Transaction) -> Transaction
+    ensures { result ≡ own_marked change.now clock x }
+{
+    match change {
+        TransactionChange::Mark => Transaction {
+            mark: clock.time(),
+            ..x
+        },
+        TransactionChange::Priority { to } => Transaction { priority: *to, ..x },
+        TransactionChange::Transfer { to } | TransactionChange::Loop { to, .. } => Transaction {
+            destination: Destination::to(*to),
+            ..x
+        },
+        TransactionChange::Assign { .. } => x,
+    }
+}
+
+// What becomes of the transaction that entered a block, but for its parameters.
+fn settle(
+    active: &mut Active,
+    current: &mut PriorityChain,
+    future: &mut FutureChain,
+    progress: &mut Progress,
+    x: Transaction,
+    fate: Fate,
+)
+    requires current { 0 < current.old.room }
+    requires future { 0 < future.old.room }
+    ensures fated { (s : Machine) →
+        record s {
+          active = active.new;
+          current = current.new.items;
+          future = future.new.items;
+          remaining = progress.new.remaining;
+          complete = progress.new.complete;
+          parameters = kept_by fate x.number s.parameters;
+        } ≡ fated fate x (record s {
+          current = current.old.items;
+          future = future.old.items;
+          remaining = progress.old.remaining;
+          complete = progress.old.complete;
+        }) }
+    ensures commands { (progress.new.commands ≡ progress.old.commands) × (progress.new.primed ≡ progress.old.primed) }
+    ensures current_room { current.old.room ≤ current.new.room + 1 }
+    ensures future_room { future.old.room ≤ future.new.room + 1 }
+{
+    match fate {
+        Fate::Active => active.put(x),
+        Fate::Current => {
+            active.clear();
+            current.line_up(x);
+        }
+        Fate::Delayed { until } => {
+            active.clear();
+            future.put(Event {
+                time: until,
+                transaction: x,
+            });
+        }
+        Fate::Destroyed { count } => {
+            active.clear();
+            progress.count_down(count);
+        }
+    }
+}
+
+// Whom a change brings: a GENERATE the next transaction, a RELEASE and a LEAVE those whom they let in.
+fn bring(
+    change: &Change,
+    next: &mut u64,
+    delays: &mut DelayChains,
+    current: &mut PriorityChain,
+    future: &mut FutureChain,
+    counts: &mut Counts,
+)
+    requires { HasRoom change.now delays.old current.old.room future.old.room counts.old.limit }
+    ensures { (s : Machine) →
+        record s {
+          next = next.new;
+          delays = delays_of delays.new;
+          current = current.new.items;
+          future = future.new.items;
+          counts = counts.new.entries;
+        } ≡ changed change.now (record s {
+          next = next.old;
+          delays = delays_of delays.old;
+          current = current.old.items;
+          future = future.old.items;
+          counts = counts.old.entries;
+        }) }
+{
+    match change {
+        Change::Entity(EntityChange { key, deed }) => admit(delays, current, counts, key, deed),
+        Change::Generate {
+            next: Some(arrival),
+        } => make(next, future, counts, *arrival),
+        _ => (),
+    }
+}
