@@ -125,7 +125,7 @@ class Run:
         self.clock = self.remaining = self.commands = self.complete = self.steps = 0
         self.primed, self.next, self.active, self.starting = False, 1, None, 0
         self.streams = {j: ("set", j) for j in range(1, 8)}
-        self.current, self.future, self.waiting = [], [], {}
+        self.current, self.future, self.waiting, self.retrying = [], [], {}, []
         self.counts, self.facilities, self.queues, self.storages = {}, {}, {}, {}
         self.savevalues, self.switches = {}, {}
         self.reads, self.clocks, self.ends = [], [], []
@@ -161,6 +161,7 @@ class Run:
             return (self.draw(what) - 1) * 1000 // 2147483646
         if of in OF_BLOCKS:
             self.items.append(("label", what))
+            self.seen.add(("block", self.version.label(what)))
             count = self.counts.get(self.version.label(what), {"entries": 0, "content": 0})
             return count["entries" if of == "N" else "content"]
         if of in OF_VARIABLES:
@@ -174,6 +175,7 @@ class Run:
             if block.verb == "GENERATE" or key not in self.active.parameters:
                 raise End("X5")
             return self.active.parameters[key]
+        self.seen.add((KINDS[of], key))
         if of in ("F", "FC"):
             facility = self.facilities.get(key, Facility())
             return facility.captures if of == "FC" else int(facility.owner is not None)
@@ -207,6 +209,7 @@ class Run:
         return looked_up(function, argument)
 
     def of_storage(self, of, name):
+        self.seen.add(("storage", name))
         storage = self.storages.get(name, Storage())
         if of == "R":
             self.items.append(("storage", name))
@@ -293,14 +296,26 @@ class Run:
     # ---- steps
     def step(self):
         """Makes a step, or raises End and changes nothing."""
-        self.items, self.drawn, self.depth = [], dict(self.streams), 0
+        self.items, self.drawn, self.depth, self.seen, self.written = [], dict(self.streams), 0, set(), set()
         change = self.decide()
         self.streams = self.drawn
         change()
+        self.wake()
         self.reads.append(self.items)
         self.steps += 1
         if self.complete > len(self.ends):
             self.ends.append(self.steps)
+
+    def wake(self):
+        """Whoever waits for anything that the step wrote lines up on the current chain, in order of waiting."""
+        woken = [(x, read) for x, read in self.retrying if read & self.written]
+        self.retrying = [(x, read) for x, read in self.retrying if not read & self.written]
+        for x, _ in woken:
+            line_up(self.current, x)
+
+    def retries(self, *entity):
+        """How many wait for an entity, or for the counts of a block."""
+        return sum(entity in read for _, read in self.retrying)
 
     def decide(self):
         if self.remaining == 0:
@@ -392,6 +407,7 @@ class Run:
         count = self.count(block.id)
         count["entries"] += 1
         count["content"] += stays
+        self.written |= {("block", x.current), ("block", block.id)}
         x.current, x.destination = block.id, None
 
     # ---- blocks
@@ -466,6 +482,7 @@ class Run:
 
         def go():
             self.enter(x, block)
+            self.written.add(("savevalue", key))
             self.savevalues[key] = new
 
         return go
@@ -475,6 +492,7 @@ class Run:
 
         def go():
             self.enter(x, block)
+            self.written.add(("switch", key))
             self.switches[key] = {"S": True, "R": False, "I": not self.switches.get(key, False)}[block.auxiliary]
 
         return go
@@ -510,6 +528,7 @@ class Run:
 
         def go():
             self.enter(x, block)
+            self.written.add(("queue", key))
             self.queues[key] = queue
             queue.entries += units
             queue.change(queue.content + units, self.clock)
@@ -529,6 +548,7 @@ class Run:
 
         def go():
             self.enter(x, block)
+            self.written.add(("queue", key))
             self.queues[key] = queue
             queue.change(queue.content - units, self.clock)
             queue.zero += units * at_once
@@ -545,6 +565,7 @@ class Run:
 
         def go():
             self.enter(x, block)
+            self.written.add(("facility", key))
             self.facilities[key] = facility
             self.take(facility, x)
 
@@ -563,6 +584,7 @@ class Run:
 
         def go():
             self.enter(x, block)
+            self.written.add(("facility", key))
             facility.owner = None
             facility.change(0, self.clock)
             if self.waiting.get(key):
@@ -588,6 +610,7 @@ class Run:
 
         def go():
             self.enter(x, block)
+            self.written.add(("storage", name))
             self.storages[name] = storage
             storage.enter(units, self.clock)
 
@@ -608,6 +631,7 @@ class Run:
 
         def go():
             self.enter(x, block)
+            self.written.add(("storage", name))
             self.storages[name] = storage
             storage.change(storage.content - units, self.clock)
             storage.least = min(storage.least, storage.content)
@@ -630,22 +654,35 @@ class Run:
 
     def test(self, x, block):
         a, b = self.value(block, 0), self.value(block, 1)
-        return self.lead(x, block, None if HOLDS[block.auxiliary](a, b) else block.operand(2))
+        return self.pass_or_wait(x, block, HOLDS[block.auxiliary](a, b), block.operand(2))
 
     def gate(self, x, block):
-        return self.lead(x, block, None if self.is_open(block) else block.operand(1))
+        return self.pass_or_wait(x, block, self.is_open(block), block.operand(1))
+
+    def pass_or_wait(self, x, block, passes, label):
+        """On to the next block; or to the one with the label, or, without one, to those who wait for what was read."""
+        if passes or label is not None:
+            return self.lead(x, block, None if passes else label)
+
+        def wait():
+            self.active = None
+            self.retrying.append((x, self.seen))
+
+        return wait
 
     def is_open(self, block):
         """Whether the condition of a GATE holds; only SF and SNF read the capacity."""
         which = block.auxiliary
         if which in OF_A_STORAGE:
             name = block.operand(0)
+            self.seen.add(("storage", name))
             content = self.storages.get(name, Storage()).content
             if which in ("SE", "SNE"):
                 return (content == 0) == (which == "SE")
             self.items.append(("storage", name))
             return (content >= self.version.capacities[name]) == (which == "SF")
         key = self.key(block)
+        self.seen.add(("switch" if which in ("LS", "LR") else "facility", key))
         if which in ("LS", "LR"):
             return self.switches.get(key, False) == (which == "LS")
         return (self.facilities.get(key, Facility()).owner is not None) == (which == "U")
@@ -662,6 +699,8 @@ class Run:
         return go
 
 
+# Of which kind the entity is that an attribute reads.
+KINDS = {"F": "facility", "FC": "facility", "X": "savevalue", "LS": "switch"} | dict.fromkeys(["Q", "QC", "QM", "QZ"], "queue")
 # What each operator of a TEST asks of the two values.
 HOLDS = {"E": eq, "NE": ne, "G": gt, "GE": ge, "L": lt, "LE": le}
 
@@ -740,7 +779,8 @@ def report(run, replication, start, outcome):
     blocks = []
     for i, b in enumerate(v.blocks):
         count = run.counts.get(b.id, nothing)
-        blocks.append((b.label or "", i + 1, b.verb, count["entries"], count["content"], 0))
+        retries = run.retries("block", b.id)
+        blocks.append((b.label or "", i + 1, b.verb, count["entries"], count["content"], retries))
     columns = "<LABEL 10,LOC 5,<BLOCK TYPE 10,ENTRY COUNT 11,CURRENT COUNT 13,RETRY 6"
     text += section(titles(columns), blocks) or "\n" + " ".join(
         t.lstrip("<").ljust(w) if t[0] == "<" else t.rjust(w) for t, w in titles(columns)) + "\n"
@@ -748,7 +788,7 @@ def report(run, replication, start, outcome):
     text += section(titles(columns), [
         (
             key, f.captures, thousandths(f.total(clock), clock), thousandths(f.total(clock), f.captures), 1,
-            f.owner or 0, 0, 0, 0, len(run.waiting.get(key, [])),
+            f.owner or 0, 0, 0, run.retries("facility", key), len(run.waiting.get(key, [])),
         )
         for key, f in run.facilities.items()
     ])
@@ -756,7 +796,8 @@ def report(run, replication, start, outcome):
     text += section(titles(columns), [
         (
             key, q.most, q.content, q.entries, q.zero, thousandths(q.total(clock), clock),
-            thousandths(q.total(clock), q.entries), thousandths(q.total(clock), q.entries - q.zero), 0,
+            thousandths(q.total(clock), q.entries), thousandths(q.total(clock), q.entries - q.zero),
+            run.retries("queue", key),
         )
         for key, q in run.queues.items()
     ])
@@ -765,8 +806,8 @@ def report(run, replication, start, outcome):
     text += section(titles(columns), [
         (
             name, v.capacities[name], v.capacities[name] - s.content, s.least, s.most, s.entries, 1,
-            thousandths(s.total(clock), clock), thousandths(s.total(clock), v.capacities[name] * clock), 0,
-            len(run.waiting.get(("storage", name), [])),
+            thousandths(s.total(clock), clock), thousandths(s.total(clock), v.capacities[name] * clock),
+            run.retries("storage", name), len(run.waiting.get(("storage", name), [])),
         )
         for name, s in run.storages.items()
     ])

@@ -19,7 +19,7 @@ use Rattle.gw_meaning.specs.declared.statement.Body.TheVariants as bodies
 use Rattle.gw_meaning.specs.Statements.{verb_of_body}
 use Rattle.gw_lines.specs.declared.form.Form.{Form}
 use Rattle.gw_lines.specs.declared.operand.Operand.{Operand}
-use Rattle.gw_lines.specs.Forms.{a_definition, an_entity, a_label, asks_storage, forms_of_block, forms_of_definition, forms_of_command, forms_of, value, whole, fields_of, points_of}
+use Rattle.gw_lines.specs.Forms.{a_definition, an_entity, another_label, asks_storage, forms_of_block, forms_of_definition, forms_of_command, forms_of, value, whole, fields_of, points_of}
 use Rattle.gw_lines.specs.Bodies.{value_in, whole_in, body_with}
 use Rattle.gw_lines.specs.Auxiliaries.{HasAuxiliary}
 use Rattle.gw_lines.specs.Spelling.{SpellsAll}
@@ -57,7 +57,7 @@ abbrev forms_are_values : Option (List Form) → Bool
 forms_are_values None = true
 forms_are_values (Some forms) = are_all is_value forms
 
-gate_values : (storage : Bool) → are_all is_value ((if storage then a_definition else an_entity) ∷ a_label ∷ []) ≡ true
+gate_values : (storage : Bool) → are_all is_value ((if storage then a_definition else an_entity) ∷ another_label ∷ []) ≡ true
 gate_values true = refl
 gate_values false = refl
 

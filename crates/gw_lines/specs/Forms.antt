@@ -98,7 +98,7 @@ asks_storage (auxiliaries.Gate conditions.NotFull) = true
 asks_storage beside = false
 
 abbrev pub forms_of_gate : Auxiliary → List Form
-forms_of_gate beside = (if asks_storage beside then a_definition else an_entity) ∷ a_label ∷ []
+forms_of_gate beside = (if asks_storage beside then a_definition else an_entity) ∷ another_label ∷ []
 
 -- the forms of each verb's operands, for the verbs that are read so far, by what was read before: what stands beside
 -- the operands, and whether the first operand is given
@@ -113,7 +113,7 @@ forms_of_block blocks.Release beside given = Some (an_entity ∷ [])
 forms_of_block blocks.Enter beside given = Some (a_definition ∷ a_value ∷ [])
 forms_of_block blocks.Leave beside given = Some (a_definition ∷ a_value ∷ [])
 forms_of_block blocks.Transfer beside given = Some (forms_of_transfer given)
-forms_of_block blocks.Test beside given = Some (one_value ∷ one_value ∷ a_label ∷ [])
+forms_of_block blocks.Test beside given = Some (one_value ∷ one_value ∷ another_label ∷ [])
 forms_of_block blocks.Gate beside given = Some (forms_of_gate beside)
 forms_of_block blocks.Mark beside given = Some []
 forms_of_block blocks.Priority beside given = Some (one_value ∷ [])

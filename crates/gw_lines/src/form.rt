@@ -72,7 +72,7 @@ fn forms_of_block(verb: BlockVerb, beside: Auxiliary, given: bool) -> Option<&'s
         BlockVerb::Seize | BlockVerb::Release | BlockVerb::Logic => Some(&[ENTITY]),
         BlockVerb::Enter | BlockVerb::Leave => Some(&[DEFINED, VALUE]),
         BlockVerb::Transfer => Some(forms_of_transfer(given)),
-        BlockVerb::Test => Some(&[ONE_VALUE, ONE_VALUE, LABEL]),
+        BlockVerb::Test => Some(&[ONE_VALUE, ONE_VALUE, ANOTHER_LABEL]),
         BlockVerb::Gate => Some(forms_of_gate(beside)),
         BlockVerb::Mark | BlockVerb::Buffer => Some(&[]),
         BlockVerb::Priority => Some(&[ONE_VALUE]),
@@ -100,9 +100,9 @@ fn forms_of_gate(beside: Auxiliary) -> &'static [Form]
     ensures few { length result.now ≤ 7 }
 {
     if asks_storage(beside) {
-        &[DEFINED, LABEL]
+        &[DEFINED, ANOTHER_LABEL]
     } else {
-        &[ENTITY, LABEL]
+        &[ENTITY, ANOTHER_LABEL]
     }
 }
 
