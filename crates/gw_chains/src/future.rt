@@ -149,7 +149,8 @@ impl FutureChain {
     {
         get_ready(&mut self.full, &self.leasts, time)?;
         let before = current.len();
-        take_and_drop(&mut self.full, &mut self.leasts, current, time);
+        take_from_full(&mut self.full, &mut self.leasts, current, time);
+        drop_empty(&mut self.full, &mut self.leasts);
         self.last.take_due(current, time);
         self.len -= current.len() - before;
         Ok(())
@@ -206,30 +207,8 @@ fn get_ready(blocks: &mut Vec<FullBlock>, leasts: &[u64], time: Time) -> Result<
     Ok(())
 }
 
-// Moves the transactions of the least time from blocks that are ready. Those that hold something stay.
-fn take_and_drop(
-    blocks: &mut Vec<FullBlock>,
-    leasts: &mut Vec<u64>,
-    current: &mut PriorityChain,
-    time: Time,
-)
-    requires room { length (all_items blocks.old.items) ≤ current.old.room }
-    requires leasts { AreLeasts leasts.old.items blocks.old.items }
-    requires own { AreOwn time (length leasts.old.items) leasts.old.items blocks.old.items }
-    requires before { IsNoneBefore time (all_items blocks.old.items) }
-    ensures current { current.new.items ≡ all_lined_up (due time (all_items blocks.old.items)) current.old.items }
-    ensures future { all_items blocks.new.items ≡ filter (λ e. not (is_due time e)) (all_items blocks.old.items) }
-    ensures room { current.old.room ≤ current.new.room + length (all_items blocks.old.items) }
-    ensures leasts { AreLeasts leasts.new.items blocks.new.items }
-{
-    take_due(blocks, leasts, current, time);
-    if first_at(leasts, BEYOND).is_some() {
-        drop_empty(blocks, leasts);
-    }
-}
-
 // Moves the transactions of the least time to the current chain, from the first block on.
-fn take_due(
+fn take_from_full(
     blocks: &mut Vec<FullBlock>,
     leasts: &mut Vec<u64>,
     current: &mut PriorityChain,
@@ -249,12 +228,15 @@ fn take_due(
     }
 }
 
-// The blocks that hold something stay, in their order.
+// Blocks that hold nothing go. The others stay, in their order.
 fn drop_empty(blocks: &mut Vec<FullBlock>, leasts: &mut Vec<u64>)
     requires { AreLeasts leasts.old.items blocks.old.items }
     ensures blocks { all_items blocks.new.items ≡ all_items blocks.old.items }
     ensures leasts { AreLeasts leasts.new.items blocks.new.items }
 {
+    if first_at(leasts, BEYOND).is_none() {
+        return;
+    }
     blocks.retain(|block| block.len() > 0);
     leasts.retain(|ticks| *ticks <= LAST_TIME);
 }

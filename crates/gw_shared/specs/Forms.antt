@@ -1,4 +1,4 @@
--- How a list lies in memory.
+-- How a list lies in memory. (Our own.)
 use Rattle.std.specs.Prelude.{ℕ, ◌-◌, List, []}
 use Rattle.std.specs.VecDeque.{deque_len, deque_capacity}
 use Rattle.gw_shared.specs.declared.list.Form.{Form}

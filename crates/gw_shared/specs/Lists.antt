@@ -1,4 +1,4 @@
--- A list in chunks.
+-- A list in chunks. (Our own.)
 use Rattle.std.specs.Prelude.{◌≡◌, ℕ, zero, suc, ◌+◌, ◌<◌, List, [], ◌∷◌, length, take}
 use Rattle.std.specs.List.{flat_map, slice_index_or}
 use Rattle.gw_shared.specs.declared.chunk.Chunk.{Chunk}

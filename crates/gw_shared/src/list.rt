@@ -2,6 +2,7 @@ ghost use Rattle.std.specs.Prelude.{◌≡◌, ◌==◌, ◌<◌, ◌≤◌, ◌
 ghost use Rattle.std.specs.Slice.{IsItemAt};
 ghost use Rattle.std.specs.VecDeque.{deque_len, deque_capacity};
 
+use crate::buffer::CHUNK;
 use crate::long::LongList;
 use std::alloc::{AllocError, Global};
 use std::collections::VecDeque;
@@ -11,7 +12,7 @@ use std::marker::Model;
 const FEW: usize = 32;
 
 // A list in chunks has two buffers for each change that it has room for. For more changes than these it is laid out
-// plainly.
+// plainly, unless the buffers take less than its items.
 const CHANGES: usize = 8;
 
 /// A list whose copies share what did not change: they take the time and the memory of what changed since the list was
@@ -114,7 +115,8 @@ impl<T: Copy> SharedList<T> {
             Form::Empty(_) => self.lay_out(count),
             Form::Plain(items) => items.reserve(count),
             Form::Long(items) => {
-                if count <= CHANGES && items.len() > CHANGES {
+                let few = CHANGES.max(items.len() / (2 * CHUNK));
+                if count <= few && items.len() > CHANGES {
                     items.reserve(count)
                 } else {
                     self.lay_out(count)
@@ -225,10 +227,14 @@ impl<T: Copy> SharedList<T> {
         }
     }
 
-    /// All items go.
+    /// All items go. A list of a few keeps its room for others.
     pub fn clear(&mut self)
         ensures { self.new.items ≡ [] }
     {
+        if let Form::Plain(items) = &mut self.form {
+            items.clear();
+            return;
+        }
         let alloc = self.allocator();
         self.form = Form::Empty(alloc);
     }

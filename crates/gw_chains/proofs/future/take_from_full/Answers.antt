@@ -3,7 +3,7 @@ use Rattle.gw_chains.specs.Blocks.{all_items}
 use Rattle.gw_chains.proofs.BlockLaws.{first_in}
 use Rattle.gw_chains.proofs.Leasts.{same_long, leasts_set, others_all}
 use Rattle.gw_chains.proofs.FutureLaws.{on_block, block_taken, block_smaller, taking_start, taking_end, own_at, own_set}
-use Rattle.gw_chains.proofs.future.take_due.Goals as goal
+use Rattle.gw_chains.proofs.future.take_from_full.Goals as goal
 
 pub loop-index-init : goal.loop-index-init
 loop-index-init c = record {

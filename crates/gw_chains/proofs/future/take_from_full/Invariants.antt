@@ -1,7 +1,7 @@
 use Rattle.std.proofs.Common.{◌+◌, ◌≤◌, length}
 use Rattle.gw_chains.specs.Blocks.{all_items, AreLeasts, AreOwn}
 use Rattle.gw_chains.proofs.FutureLaws.{Taking}
-use Rattle.gw_chains.proofs.future.take_due.Given as goal
+use Rattle.gw_chains.proofs.future.take_from_full.Given as goal
 
 abbrev pub invariant-loop-index : goal.invariant-loop-index
 invariant-loop-index l = record {
