@@ -161,6 +161,7 @@ impl PriorityChain {
             record s { current = current.new.items; counts = counts.new.entries } ≡
             all_let_in (with_share shares.now self.old.items)
             (record s { current = current.old.items; counts = counts.old.entries }) }
+        ensures room { current.old.room ≤ current.new.room + length (with_share shares.now self.old.items) }
     {
         let mut kept = 0;
         for i in 0..self.transactions.len().min(shares.len()) {

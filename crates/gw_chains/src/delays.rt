@@ -1,4 +1,4 @@
-ghost use Rattle.std.specs.Prelude.{◌≡◌, ◌<◌, ◌≤◌, ◌-◌, ◌^◌, [], length, option_copied, Some, None, IfSome, IfOk, OnOk, OnErr};
+ghost use Rattle.std.specs.Prelude.{◌≡◌, ◌<◌, ◌≤◌, ◌+◌, ◌-◌, ◌^◌, [], length, option_copied, Some, None, IfSome, IfOk, OnOk, OnErr};
 ghost use Rattle.gw_entities.specs.Tables.{value_of, with_value, IsPlace};
 ghost use Rattle.gw_meaning.specs.Changes.{lined_up, some_let_in};
 ghost use Rattle.gw_meaning.specs.Machine.{Machine, delay_at, waiting};
@@ -213,13 +213,15 @@ impl DelayChains {
             current.old.room counts.old.limit }
         requires going { length (with_share shares.now (delay_at (delays_of self.old) key.now)) ≤
             room_of (value_of self.old key.now) }
-        ensures { (s : Machine) →
+        ensures let_in { (s : Machine) →
             record s { delays = delays_of self.new; current = current.new.items; counts = counts.new.entries } ≡
             some_let_in key.now shares.now [] (delay_at (delays_of self.old) key.now) (record s {
               delays = delays_of self.old;
               current = current.old.items;
               counts = counts.old.entries;
             }) }
+        ensures room { current.old.room ≤ current.new.room +
+            length (with_share shares.now (delay_at (delays_of self.old) key.now)) }
     {
         let Some(index) = place else {
             return;

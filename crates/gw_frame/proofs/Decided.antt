@@ -1,6 +1,6 @@
 -- Each evaluation decides a move of which what is said in Known holds, and reads items that name no ids but those of
 -- blocks: one line for each choice, and no law asks further.
-use Rattle.std.proofs.Common.{◌≡◌, ℕ, zero, suc, ◌+◌, ◌≤◌, nat_eq, nat_le, nat_lt, Bool, true, false, cond, not, ◌&&◌, ◌||◌, List, [], ◌∷◌, length, Option, Some, None, is_some, inr, ℤ, pos, ◌-◌, ◌++◌, append_assoc, refl, ap, sym, subst, ◌∙◌, append-nil, arith}
+use Rattle.std.proofs.Common.{◌≡◌, ℕ, zero, suc, ◌+◌, ◌≤◌, nat_eq, nat_le, nat_lt, Bool, true, false, cond, not, ◌&&◌, ◌||◌, List, [], ◌∷◌, length, Option, Some, None, Ok, is_some, inr, ℤ, pos, ◌-◌, ◌++◌, append_assoc, refl, ap, sym, subst, ◌∙◌, append-nil, arith}
 use Rattle.std.specs.List.{AllByRecursion}
 use Rattle.std.proofs.lemmas.Bool.{cond_both, not-false, or_parts}
 use Rattle.std.proofs.lemmas.Bool.Decides.{nat_tests}
@@ -22,6 +22,7 @@ use Rattle.gw_meaning.specs.declared.statement.Numbered.{Numbered}
 use Rattle.gw_meaning.specs.declared.transaction.Transaction.{Transaction}
 use Rattle.gw_meaning.specs.declared.moves.Arrival.{Arrival}
 use Rattle.gw_meaning.specs.declared.moves.Move.{Move}
+use Rattle.gw_meaning.specs.declared.moves.Change.TheVariants as changes
 use Rattle.gw_meaning.specs.declared.watched.Watched.{Watched}
 use Rattle.gw_meaning.specs.declared.watched.Watched.TheVariants as watched
 use Rattle.gw_meaning.specs.Listing.{Listing, capacity_at, block_at, label_at, generates_in, is_generate}
@@ -459,9 +460,9 @@ module _ (t : Listing) (seed : ℕ) (s : Machine) where
   }
   move_decides (suc n) before = steps before (scan_prog s s.active) (scan_decides s.active refl)
 
-  -- the move of a step
-  pub decide_decides : (d : Move × List Stream) → result_of t seed (decide s) ≡ Ok d → IsDecided t s d.0
-  decide_decides d is = ((move_decides s.remaining s.streams).runs d is).0
+  -- the move of a step, from any streams
+  pub move_is_decided : (before : List Stream) (d : Move × List Stream) → result_of t seed (move_prog s s.remaining before) ≡ Ok d → IsDecided t s d.0
+  move_is_decided before d is = ((move_decides s.remaining before).runs d is).0
 
   -- the step
   pub step_decides : ProgKeeps t seed (λ v is. IsAfter t s v × AllByRecursion (IsRead t s) is × ReadsSeed s.streams v.streams is) (step_prog s)

@@ -1,6 +1,6 @@
 -- What is watched, and who waits for a change of it, under a move.
-use Rattle.std.proofs.Common.{◌≡◌, Bool, not, ◌||◌, ℕ, List, [], ◌∷◌, ◌++◌, map, filter, Option, Some, None, option_map, refl, ap, ap₂, sym, ◌∙◌}
-use Rattle.std.proofs.lemmas.List.{map-append}
+use Rattle.std.proofs.Common.{◌≡◌, Bool, not, ◌||◌, ℕ, List, [], ◌∷◌, ◌++◌, map, filter, length, Option, Some, None, option_map, refl, ap, ap₂, sym, ◌∙◌}
+use Rattle.std.proofs.lemmas.List.{map-append, length-map}
 use Rattle.std.specs.List.{list_any}
 use Rattle.gw_names.specs.declared.key.Key.{Key}
 use Rattle.gw_meaning.specs.declared.transaction.Transaction.{Transaction}
@@ -9,7 +9,7 @@ use Rattle.gw_meaning.specs.declared.watched.Watched.TheVariants as watched
 use Rattle.gw_meaning.specs.Watching.{Waiter, same_watched, is_watched, with_watched, with_all_watched, transactions_of}
 use Rattle.gw_meaning.specs.Evaluation.{counts_of}
 use Rattle.gw_meaning.specs.Machine.{Machine}
-use Rattle.gw_meaning.specs.Changes.{all_lined_up, crossing, crossings, is_woken, woken}
+use Rattle.gw_meaning.specs.Changes.{all_lined_up, crossing, crossings, is_woken, retries, woken}
 use Rattle.gw_frame.specs.Moved.{IsMove, moved_transaction, moved_watched, moved_waiter, moved_machine}
 use Rattle.gw_frame.proofs.MovedLists.{cond_under, eq_moved, all_lined_up_moved}
 
@@ -83,3 +83,9 @@ module _ (move : ℕ → ℕ) (is : IsMove move) where
         all_lined_up_moved move (transactions_of ws) s.current,
       )
       refl
+
+  -- as many wait for a change of something
+  pub retries_moved : (s : Machine) (w : Watched) → retries (moved_machine move s) (moved_watched move w) ≡ retries s w
+  retries_moved s w =
+      ap length (filter_moved (moved_waiter move) (λ v. is_watched v.read (moved_watched move w)) (λ v. is_watched v.read w)
+      (λ v. is_watched_moved v.read w) s.retry) ∙ length-map (filter (λ (v : Waiter). is_watched v.read w) s.retry) (moved_waiter move)

@@ -4,15 +4,15 @@ ghost use Rattle.gw_entities.specs.Tables.{value_of};
 ghost use Rattle.gw_meaning.specs.Machine.{Machine, delay_at};
 ghost use Rattle.gw_meaning.specs.Changes.{some_let_in, admitted};
 ghost use Rattle.gw_chains.specs.Chains.{delays_of, room_of, first_of, with_share, IsWithin, AreWithin, HasRoomToLetIn, HasRoomToLetAllIn};
-ghost use Rattle.gw_parts.specs.Admitting.{HasRoomToAdmit};
+ghost use Rattle.gw_parts.specs.Admitting.{HasRoomToAdmit, going};
 
 use gw_chains::{Counts, DelayChains, PriorityChain, has_share, let_in};
 use gw_meaning::{Deed, FacilityDeed, StorageDeed, Transaction};
 use gw_names::Key;
 use std::alloc::AllocError;
 
-/// Makes room to let in those of the delay chain of a key whom a deed lets in. Room for one more stays on the current
-/// chain, for the active transaction. Nobody moves.
+/// Makes room to let in those of the delay chain of a key whom a deed lets in. Room for so many others stays on the
+/// current chain. Nobody moves.
 ///
 /// # Errors
 ///
@@ -23,9 +23,10 @@ pub fn reserve_to_admit(
     counts: &mut Counts,
     key: &Key,
     deed: &Deed,
+    others: usize,
 ) -> Result<(), AllocError>
-    ensures ok { OnOk result (HasRoomToAdmit key.now deed.now delays.new (current.new.room - 1) counts.new.limit) }
-    ensures one { OnOk result (0 < current.new.room) }
+    ensures ok { OnOk result (HasRoomToAdmit key.now deed.now delays.new (current.new.room - others) counts.new.limit) }
+    ensures others { OnOk result (others ≤ current.new.room) }
     ensures delays { delays_of delays.new ≡ delays_of delays.old }
     ensures current { current.new.items ≡ current.old.items }
     ensures counts { counts.new.entries ≡ counts.old.entries }
@@ -33,12 +34,12 @@ pub fn reserve_to_admit(
 {
     match deed {
         Deed::Facility(FacilityDeed::Release { .. }) => {
-            reserve_first(delays, current, counts, key)
+            reserve_first(delays, current, counts, key, others)
         }
         Deed::Storage(StorageDeed::Leave { shares, .. }) => {
-            reserve_some(delays, current, counts, key, shares.as_slice())
+            reserve_some(delays, current, counts, key, shares.as_slice(), others)
         }
-        _ => current.reserve(1),
+        _ => current.reserve(others),
     }
 }
 
@@ -48,15 +49,19 @@ fn reserve_first(
     current: &mut PriorityChain,
     counts: &mut Counts,
     key: &Key,
+    others: usize,
 ) -> Result<(), AllocError>
     ensures ok { OnOk result (HasRoomToLetIn (first_of (delay_at (delays_of delays.now) key.now))
-        (current.new.room - 1) counts.new.limit) }
-    ensures one { OnOk result (0 < current.new.room) }
+        (current.new.room - others) counts.new.limit) }
+    ensures others { OnOk result (others < current.new.room) }
     ensures current { current.new.items ≡ current.old.items }
     ensures counts { counts.new.entries ≡ counts.old.entries }
     ensures limit { counts.old.limit ≤ counts.new.limit }
 {
-    current.reserve(2)?;
+    let Some(all) = others.checked_add(1) else {
+        return Err(AllocError);
+    };
+    current.reserve(all)?;
     let place = delays.waiting_place(key);
     match delays.first_at(key, place) {
         Some(x) => reserve_block(x, counts),
@@ -71,39 +76,43 @@ fn reserve_some(
     counts: &mut Counts,
     key: &Key,
     shares: &[Option<u64>],
+    others: usize,
 ) -> Result<(), AllocError>
     ensures ok { OnOk result (HasRoomToLetAllIn (with_share shares.now (delay_at (delays_of delays.old) key.now))
-        (current.new.room - 1) counts.new.limit) }
+        (current.new.room - others) counts.new.limit) }
     ensures going { OnOk result (length (with_share shares.now (delay_at (delays_of delays.old) key.now)) ≤
         room_of (value_of delays.new key.now)) }
-    ensures one { OnOk result (0 < current.new.room) }
+    ensures others { OnOk result (others ≤ current.new.room) }
     ensures delays { delays_of delays.new ≡ delays_of delays.old }
     ensures current { current.new.items ≡ current.old.items }
     ensures counts { counts.new.entries ≡ counts.old.entries }
     ensures limit { counts.old.limit ≤ counts.new.limit }
 {
-    current.reserve(1)?;
     let place = delays.waiting_place(key);
     let Some(chain) = delays.chain_at(key, place) else {
+        current.reserve(others)?;
         return Ok(());
     };
     let count = reserve_blocks(chain, shares, counts)?;
-    current.reserve(count)?;
+    let Some(all) = count.checked_add(others) else {
+        return Err(AllocError);
+    };
+    current.reserve(all)?;
     delays.reserve_at(key, place, count)
 }
 
-// Makes room for the counts of the blocks at which those with a share wait. Returns how many they are, and one more.
+// Makes room for the counts of the blocks at which those with a share wait. Returns how many they are.
 fn reserve_blocks(
     chain: &PriorityChain,
     shares: &[Option<u64>],
     counts: &mut Counts,
 ) -> Result<usize, AllocError>
-    ensures count { IfOk result (λ count. count ≡ length (with_share shares.now chain.now.items) + 1) }
+    ensures count { IfOk result (λ count. count ≡ length (with_share shares.now chain.now.items)) }
     ensures within { OnOk result (AreWithin (with_share shares.now chain.now.items) counts.new.limit) }
     ensures entries { counts.new.entries ≡ counts.old.entries }
     ensures limit { counts.old.limit ≤ counts.new.limit }
 {
-    let mut count = 1;
+    let mut count = 0;
     for i in 0..chain.len() {
         let Some(x) = chain.get(i) else {
             unreachable!()
@@ -138,13 +147,14 @@ pub fn admit(
     deed: &Deed,
 )
     requires { HasRoomToAdmit key.now deed.now delays.old current.old.room counts.old.limit }
-    ensures { (s : Machine) →
+    ensures admitted { (s : Machine) →
         record s { delays = delays_of delays.new; current = current.new.items; counts = counts.new.entries } ≡
         admitted key.now deed.now (record s {
           delays = delays_of delays.old;
           current = current.old.items;
           counts = counts.old.entries;
         }) }
+    ensures room { current.old.room ≤ current.new.room + length (going key.now deed.now delays.old) }
 {
     match deed {
         Deed::Facility(FacilityDeed::Release { .. }) => {
@@ -166,13 +176,15 @@ fn let_first_in(
     key: &Key,
 )
     requires { HasRoomToLetIn (first_of (delay_at (delays_of delays.old) key.now)) current.old.room counts.old.limit }
-    ensures { (s : Machine) →
+    ensures let_in { (s : Machine) →
         record s { delays = delays_of delays.new; current = current.new.items; counts = counts.new.entries } ≡
         some_let_in key.now (Some 1 ∷ []) [] (delay_at (delays_of delays.old) key.now) (record s {
           delays = delays_of delays.old;
           current = current.old.items;
           counts = counts.old.entries;
         }) }
+    ensures room { current.old.room ≤ current.new.room +
+        length (with_share (Some 1 ∷ []) (delay_at (delays_of delays.old) key.now)) }
 {
     let place = delays.waiting_place(key);
     if let Some(x) = delays.take_first_at(key, place) {

@@ -6,18 +6,22 @@ use Rattle.std.proofs.lemmas.List.{length-map}
 use Rattle.gw_names.specs.declared.key.Key.{Key}
 use Rattle.gw_names.specs.declared.key.Key.TheVariants as keys
 use Rattle.gw_entities.specs.Levels.{sum_up_to}
-use Rattle.gw_entities.specs.Records.{Ownership, Store}
+use Rattle.gw_entities.specs.Records.{Ownership, Line, Store}
 use Rattle.gw_meaning.specs.declared.statement.Block.{Block}
 use Rattle.gw_meaning.specs.declared.statement.Statement.{Statement}
 use Rattle.gw_meaning.specs.declared.statement.Numbered.{Numbered}
 use Rattle.gw_meaning.specs.declared.transaction.Transaction.{Transaction}
 use Rattle.gw_meaning.specs.declared.transaction.Event.{Event}
 use Rattle.gw_meaning.specs.Listing.{Listing, block_of, block_of_body, operands_of_body, is_block, label_at, units_of, number_of, number_at, seed_in}
+use Rattle.gw_meaning.specs.declared.watched.EntityKind.TheVariants as kinds
+use Rattle.gw_meaning.specs.declared.watched.Watched.TheVariants as watched
+use Rattle.gw_meaning.specs.Changes.{retries}
 use Rattle.gw_meaning.specs.Machine.{Machine, count_at, delay_at}
-use Rattle.gw_frame.specs.Moved.{moved_machine, moved_transaction, moved_event, moved_count}
+use Rattle.gw_frame.specs.Moved.{IsMove, moved_machine, moved_transaction, moved_event, moved_count}
 use Rattle.gw_frame.specs.Renamed.{AreRenamed, IsRenamed}
 use Rattle.gw_frame.proofs.Delays.{delay_at_moved}
 use Rattle.gw_frame.proofs.MovedLists.{count_at_moved, cond_under}
+use Rattle.gw_frame.proofs.MovedWaiters.{retries_moved}
 use Rattle.gw_frame.proofs.Renaming.{after_renamed, position_renamed, said_renamed, label_renamed, same_kind}
 use Rattle.gw_report.specs.Layout.{section_of, table_of}
 use Rattle.gw_report.specs.Cells.{signed}
@@ -27,7 +31,7 @@ use Rattle.gw_report.specs.Storages.{storage_columns, storage_row, storage_line,
 use Rattle.gw_report.specs.Storages as storages
 use Rattle.gw_report.specs.Blocks.{label_text, block_line, block_lines_of, block_lines, block_columns, blocks_text}
 use Rattle.gw_report.specs.Facilities.{facility_columns, facility_row, facility_line, facilities_text}
-use Rattle.gw_report.specs.Queues.{queue_line, queues_text}
+use Rattle.gw_report.specs.Queues.{queue_columns, queue_row, queue_line, queues_text}
 use Rattle.gw_report.specs.Report.{seed_of, title_text, head_columns, head_text, text_of}
 use Rattle.gw_report.specs.Renamed.{RenamedText}
 
@@ -125,14 +129,17 @@ module _ (move : ℕ → ℕ) (t u : Listing) (r : IsRenamed move t u) where
 
   -- the lines of blocks
   row_renamed : (s : Machine) (l m : Numbered) (block : Block) → m.number ≡ move l.number → m.statement ≡ l.statement →
-      block_line u m block (count_at (map (moved_count move) s.counts) m.number) ≡ block_line t l block (count_at s.counts l.number)
+      block_line u m block (count_at (map (moved_count move) s.counts) m.number) (retries (moved_machine move s) (watched.Counts m.number)) ≡
+      block_line t l block (count_at s.counts l.number) (retries s (watched.Counts l.number))
   unfolding block_line
   row_renamed s l m block number statement =
       let label : label_text m.statement.label ≡ label_text l.statement.label = ap (λ (x : Statement). label_text x.label) statement in
       let position : position_of u (Some m.number) ≡ position_of t (Some l.number) = ap (λ n. position_of u (Some n)) number ∙ id_renamed l.number in
       let count : count_at (map (moved_count move) s.counts) m.number ≡ count_at s.counts l.number =
       ap (count_at (map (moved_count move) s.counts)) number ∙ count_at_moved move r.is_move s.counts l.number in
-      rw (label, position, count) refl
+      let retry : retries (moved_machine move s) (watched.Counts m.number) ≡ retries s (watched.Counts l.number) =
+      ap (λ n. retries (moved_machine move s) (watched.Counts n)) number ∙ retries_moved move r.is_move s (watched.Counts l.number) in
+      rw (label, position, count, retry) refl
 
   block_by : (s : Machine) (l m : Numbered) (o : Option Block) → m.number ≡ move l.number → m.statement ≡ l.statement →
       block_lines_of u (moved_machine move s) m o ≡ block_lines_of t s l o
@@ -180,24 +187,35 @@ blocks_text_renamed : (move : ℕ → ℕ) (t u : Listing) (s : Machine) → IsR
 unfolding blocks_text
 blocks_text_renamed move t u s r = ap (table_of block_columns) (blocks_renamed move t u r s t.lines u.lines r.lines)
 
--- as many wait for each facility
-facility_renamed : (move : ℕ → ℕ) (s : Machine) (f : Key × Ownership) → facility_line (moved_machine move s) f ≡ facility_line s f
+-- as many wait for each facility, and for a change of it
+facility_renamed : (move : ℕ → ℕ) → IsMove move → (s : Machine) (f : Key × Ownership) → facility_line (moved_machine move s) f ≡ facility_line s f
 unfolding facility_line
-facility_renamed move s f =
-    ap (λ n. facility_row (sum_up_to f.1.level s.clock) (s.clock - s.since) n f.0 f.1)
+facility_renamed move is s f =
+    ap₂ (λ r n. facility_row (sum_up_to f.1.level s.clock) (s.clock - s.since) r n f.0 f.1)
+    (retries_moved move is s (watched.Entity kinds.Facility f.0))
     (ap length (delay_at_moved move s.delays f.0) ∙ length-map (delay_at s.delays f.0) (moved_transaction move))
 
-facilities_renamed : (move : ℕ → ℕ) (s : Machine) (fs : List (Key × Ownership)) → map (facility_line (moved_machine move s)) fs ≡ map (facility_line s) fs
-facilities_renamed move s [] = refl
-facilities_renamed move s (f ∷ fs) = ap₂ (λ line lines. line ∷ lines) (facility_renamed move s f) (facilities_renamed move s fs)
+facilities_renamed : (move : ℕ → ℕ) → IsMove move → (s : Machine) (fs : List (Key × Ownership)) →
+    map (facility_line (moved_machine move s)) fs ≡ map (facility_line s) fs
+facilities_renamed move is s [] = refl
+facilities_renamed move is s (f ∷ fs) = ap₂ (λ line lines. line ∷ lines) (facility_renamed move is s f) (facilities_renamed move is s fs)
 
-facilities_text_renamed : (move : ℕ → ℕ) (s : Machine) → facilities_text (moved_machine move s) ≡ facilities_text s
+facilities_text_renamed : (move : ℕ → ℕ) → IsMove move → (s : Machine) → facilities_text (moved_machine move s) ≡ facilities_text s
 unfolding facilities_text
-facilities_text_renamed move s = ap (section_of facility_columns) (facilities_renamed move s s.entities.facilities)
+facilities_text_renamed move is s = ap (section_of facility_columns) (facilities_renamed move is s s.entities.facilities)
 
-queues_text_renamed : (move : ℕ → ℕ) (s : Machine) → queues_text (moved_machine move s) ≡ queues_text s
-unfolding queues_text queue_line
-queues_text_renamed move s = refl
+-- as many wait for a change of each queue
+queues_renamed : (move : ℕ → ℕ) → IsMove move → (s : Machine) (qs : List (Key × Line)) →
+    map (queue_line (moved_machine move s)) qs ≡ map (queue_line s) qs
+unfolding queue_line
+queues_renamed move is s [] = refl
+queues_renamed move is s (q ∷ qs) = ap₂ (λ line lines. line ∷ lines)
+    (ap (λ r. queue_row (sum_up_to q.1.level s.clock) (s.clock - s.since) r q.0 q.1) (retries_moved move is s (watched.Entity kinds.Queue q.0)))
+    (queues_renamed move is s qs)
+
+queues_text_renamed : (move : ℕ → ℕ) → IsMove move → (s : Machine) → queues_text (moved_machine move s) ≡ queues_text s
+unfolding queues_text
+queues_text_renamed move is s = ap (section_of queue_columns) (queues_renamed move is s s.entities.queues)
 
 -- the units of a storage, and as many wait for it
 units_renamed : (move : ℕ → ℕ) (t u : Listing) → IsRenamed move t u → (key : Key) → storages.units_of u key ≡ storages.units_of t key
@@ -209,8 +227,10 @@ storage_renamed : (move : ℕ → ℕ) (t u : Listing) → IsRenamed move t u �
     storage_line u (moved_machine move s) e ≡ storage_line t s e
 unfolding storage_line
 storage_renamed move t u r s e =
-    ap₂ (λ c n. storage_row c (sum_up_to e.1.level s.clock) (s.clock - s.since) n e.0 e.1) (units_renamed move t u r e.0)
-    (ap length (delay_at_moved move s.delays e.0) ∙ length-map (delay_at s.delays e.0) (moved_transaction move))
+    let units : storages.units_of u e.0 ≡ storages.units_of t e.0 = units_renamed move t u r e.0 in
+    let retry = retries_moved move r.is_move s (watched.Entity kinds.Storage e.0) in
+    let delayed = ap length (delay_at_moved move s.delays e.0) ∙ length-map (delay_at s.delays e.0) (moved_transaction move) in
+    rw (units, retry, delayed) refl
 
 storages_renamed : (move : ℕ → ℕ) (t u : Listing) → IsRenamed move t u → (s : Machine) (es : List (Key × Store)) →
     map (storage_line u (moved_machine move s)) es ≡ map (storage_line t s) es
@@ -232,8 +252,8 @@ renamed_text move t u rep k s outcome r =
     (ap₂ ◌++◌
     (ap₂ ◌++◌ (ap₂ ◌++◌ (ap (λ seed. title_text rep seed k outcome) (seed_renamed move t u rep r)) (head_renamed move t u s r)) (names_text_renamed move t u r))
     (blocks_text_renamed move t u s r))
-    (facilities_text_renamed move s))
-    (queues_text_renamed move s))
+    (facilities_text_renamed move r.is_move s))
+    (queues_text_renamed move r.is_move s))
     (storages_text_renamed move t u s r))
     (current_renamed move t u r s))
     (future_renamed move t u r s)

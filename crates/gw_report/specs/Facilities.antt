@@ -1,9 +1,12 @@
 -- The lines of facilities: how often each was taken, its averages, who owns it and how many wait for it. (Manual;
--- AVAIL. is 1, and PEND, INTER and RETRY are 0 so far.)
+-- AVAIL. is 1, and PEND and INTER are 0.)
 use Rattle.std.specs.Prelude.{ℕ, ◌-◌, List, [], ◌∷◌, map, length, decimal, codes, unwrap_or}
 use Rattle.gw_names.specs.declared.key.Key.{Key}
 use Rattle.gw_entities.specs.Levels.{sum_up_to}
 use Rattle.gw_entities.specs.Records.{Ownership}
+use Rattle.gw_meaning.specs.declared.watched.EntityKind.TheVariants as kinds
+use Rattle.gw_meaning.specs.declared.watched.Watched.TheVariants as watched
+use Rattle.gw_meaning.specs.Changes.{retries}
 use Rattle.gw_meaning.specs.Machine.{Machine, delay_at}
 use Rattle.gw_report.specs.declared.column.Side.TheVariants.{Left, Right}
 use Rattle.gw_report.specs.Layout.{Column, section_of}
@@ -22,16 +25,18 @@ facility_columns =
     record { title = codes "RETRY"; width = 5; side = Right } ∷
     record { title = codes "DELAY"; width = 5; side = Right } ∷ []
 
--- a facility's line, by the time for which it was owned, the relative clock and how many wait: the averages are over
+-- a facility's line, by the time for which it was owned, the relative clock, how many wait for a change and how many on
+-- its delay chain: the averages are over
 -- the time and the captures; the owner is 0 where there is none
-abbrev pub facility_row : ℕ → ℕ → ℕ → Key → Ownership → List (List ℕ)
-facility_row sum time delayed key f =
+abbrev pub facility_row : ℕ → ℕ → ℕ → ℕ → Key → Ownership → List (List ℕ)
+facility_row sum time retry delayed key f =
     key_text key ∷ decimal f.captures ∷ average sum time ∷ average sum f.captures ∷ decimal 1 ∷
-    decimal (unwrap_or f.owner 0) ∷ decimal 0 ∷ decimal 0 ∷ decimal 0 ∷ decimal delayed ∷ []
+    decimal (unwrap_or f.owner 0) ∷ decimal 0 ∷ decimal 0 ∷ decimal retry ∷ decimal delayed ∷ []
 
 unfoldable pub facility_line : Machine → Key × Ownership → List (List ℕ)
 facility_line s f =
-    facility_row (sum_up_to f.1.level s.clock) (s.clock - s.since) (length (delay_at s.delays f.0)) f.0 f.1
+    facility_row (sum_up_to f.1.level s.clock) (s.clock - s.since) (retries s (watched.Entity kinds.Facility f.0))
+    (length (delay_at s.delays f.0)) f.0 f.1
 
 -- the facilities, in order of first touch
 unfoldable pub facilities_text : Machine → List ℕ

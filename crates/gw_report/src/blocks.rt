@@ -6,7 +6,7 @@ use crate::column::Side;
 use crate::position::position_of;
 use crate::section::put_table;
 use crate::sheet::Sheet;
-use gw_meaning::{Body, Numbered};
+use gw_meaning::{Body, Numbered, Watched};
 use gw_model::Version;
 use gw_names::Name;
 use gw_scan::State;
@@ -51,7 +51,8 @@ fn put_block(
     out.put_text(1, 10, Side::Left, block.verb.word())?;
     out.put_number(1, 11, count.entries)?;
     out.put_number(1, 13, count.content)?;
-    out.put_number(1, 6, 0)?;
+    let retry = state.retry().count(&Watched::Counts(line.number));
+    out.put_number(1, 6, retry as u64)?;
     out.end_row()
 }
 

@@ -9,6 +9,7 @@ use crate::section::put_section;
 use crate::sheet::Sheet;
 use gw_chains::DelayChains;
 use gw_entities::Facility;
+use gw_meaning::{EntityKind, Watched};
 use gw_names::Key;
 use gw_scan::State;
 use std::alloc::{AllocError, Global};
@@ -79,6 +80,8 @@ fn put_facility(
     let sum = facility.level().sum_up_to(state.clock_now());
     let time = state.clock().ticks().saturating_sub(state.since().ticks());
     let captures = facility.captures();
+    let watched = Watched::Entity(EntityKind::Facility, key.clone()?);
+    let retry = state.retry().count(&watched) as u64;
     let delayed = delays.len(key) as u64;
     let cells = [
         key_cell(key),
@@ -89,7 +92,7 @@ fn put_facility(
         Cell::Number(facility.owner().unwrap_or(0)),
         Cell::Number(0),
         Cell::Number(0),
-        Cell::Number(0),
+        Cell::Number(retry),
         Cell::Number(delayed),
     ];
     put_row(out, &FACILITY_COLUMNS, &cells)

@@ -7,6 +7,7 @@ use crate::entity::{average_cell, key_cell};
 use crate::section::put_section;
 use crate::sheet::Sheet;
 use gw_entities::Queue;
+use gw_meaning::{EntityKind, Watched};
 use gw_names::Key;
 use gw_scan::State;
 use std::alloc::{AllocError, Global};
@@ -64,6 +65,8 @@ fn put_queue(out: &mut Sheet, state: &State, key: &Key, queue: Queue) -> Result<
     let time = state.clock().ticks().saturating_sub(state.since().ticks());
     let entries = queue.entries();
     let zero_entries = queue.zero_entries();
+    let watched = Watched::Entity(EntityKind::Queue, key.clone()?);
+    let retry = state.retry().count(&watched) as u64;
     let cells = [
         key_cell(key),
         Cell::Number(queue.greatest()),
@@ -73,7 +76,7 @@ fn put_queue(out: &mut Sheet, state: &State, key: &Key, queue: Queue) -> Result<
         average_cell(sum, u128::from(time)),
         average_cell(sum, u128::from(entries)),
         average_cell(sum, u128::from(entries.saturating_sub(zero_entries))),
-        Cell::Number(0),
+        Cell::Number(retry),
     ];
     put_row(out, &QUEUE_COLUMNS, &cells)
 }

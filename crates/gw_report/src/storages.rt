@@ -11,6 +11,7 @@ use crate::sheet::Sheet;
 use gw_chains::DelayChains;
 use gw_entities::Storage;
 use gw_model::Version;
+use gw_meaning::{EntityKind, Watched};
 use gw_names::Key;
 use gw_scan::State;
 use std::alloc::{AllocError, Global};
@@ -101,6 +102,8 @@ fn put_storage(
     let sum = storage.level().sum_up_to(state.clock_now());
     let time = state.clock().ticks().saturating_sub(state.since().ticks());
     let content = storage.level().content();
+    let watched = Watched::Entity(EntityKind::Storage, key.clone()?);
+    let retry = state.retry().count(&watched) as u64;
     let delayed = delays.len(key) as u64;
     let cells = [
         key_cell(key),
@@ -112,7 +115,7 @@ fn put_storage(
         Cell::Number(1),
         average_cell(sum, u128::from(time)),
         average_cell(sum, u128::from(capacity) * u128::from(time)),
-        Cell::Number(0),
+        Cell::Number(retry),
         Cell::Number(delayed),
     ];
     put_row(out, &STORAGE_COLUMNS, &cells)

@@ -19,14 +19,13 @@ use Rattle.gw_asking.specs.declared.halt.Why.{Why}
 use Rattle.gw_asking.specs.declared.halt.Why.TheVariants as whys
 use Rattle.gw_asking.specs.Halts.{why_of_fault}
 use Rattle.gw_asking.specs.Deciding.{Decides}
-use Rattle.gw_scan.specs.Making.{halted}
 use Rattle.gw_asking.specs.Noted.{Noted}
-use Rattle.gw_scan.specs.Seeing.{Marks, Replied, IsStill, Replies}
+use Rattle.gw_scan.specs.Seeing.{halted, Marks, Replied, IsStill, Replies}
 use Rattle.gw_scan.specs.declared.seen.Seen.{Seen}
 use Rattle.gw_asking.proofs.Binding.{keeps_all, decides_then, decides_halt, decides_asked, decides_gives, decides_comes}
 
 -- what the definitions of a version reply
-abbrev Replying : Listing → (question : Question) → Reply question → Type 0
+abbrev pub Replying : Listing → (question : Question) → Reply question → Type 0
 Replying t question reply = Says (variable_at t) (function_at t) question reply
 
 module _ (t : Listing) (seed : ℕ) (s : Machine) (q : Asker) where
@@ -48,7 +47,7 @@ module _ (t : Listing) (seed : ℕ) (s : Machine) (q : Asker) where
       decides_asked t seed (items.Named asking.Function name) (λ x. evaluated s q (k x)) r old between new there here
 
   -- a question that got none; where memory is refused, nothing is noted
-  mark_fails : {A : Type 0} (B : Type 0) (i : Item) (p : Eval A) (fault : Fault) (old new : Noted) → Marks {A = B} i old (Err fault) new →
+  pub mark_fails : {A : Type 0} (B : Type 0) (i : Item) (p : Eval A) (fault : Fault) (old new : Noted) → Marks {A = B} i old (Err fault) new →
       Decides t seed p (Err (why_of_fault fault)) old new
   mark_fails B i p faults.Memory old new same = rw same (keeps_all old)
   mark_fails B i p (faults.Stop stop) old new h = absurd h

@@ -1,4 +1,5 @@
-pub mod Acting
+pub mod Deciding
+pub mod Tracing
 pub mod StepLaws
 pub mod Stopping
 pub mod Evaluating

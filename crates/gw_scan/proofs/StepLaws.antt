@@ -4,12 +4,10 @@ use Rattle.std.proofs.Common.{◌≡◌, ℕ, List, [], ◌∷◌, None, Some, R
 use Rattle.gw_streams.specs.declared.stream.Stream.{Stream}
 use Rattle.gw_meaning.specs.declared.item.End.{End}
 use Rattle.gw_meaning.specs.declared.moves.Move.{Move}
-use Rattle.gw_meaning.specs.declared.moves.Move.TheVariants as moves
-use Rattle.gw_meaning.specs.declared.transaction.Transaction.{Transaction}
 use Rattle.gw_meaning.specs.Listing.{Listing}
 use Rattle.gw_meaning.specs.Machine.{Machine}
 use Rattle.gw_meaning.specs.Questions.{Prog, Gives, result_of, items_of}
-use Rattle.gw_meaning.specs.Changes.{decided, moved, picked}
+use Rattle.gw_meaning.specs.Changes.{decided}
 use Rattle.gw_meaning.specs.Evaluation.{Eval}
 use Rattle.gw_meaning.specs.Step.{decide, move_prog, step, step_prog, step_items, items_if_moved}
 use Rattle.gw_asking.specs.declared.halt.Why.{Why}
@@ -27,24 +25,6 @@ abbrev pub Foretells : Listing → ℕ → Machine → List Stream → Result Mo
 Foretells t seed s streams (Ok m) = step t seed s ≡ Ok (decided s m streams)
 Foretells t seed s streams (Err (whys.End end)) = step t seed s ≡ Err end
 Foretells t seed s streams (Err whys.Memory) = Unit
-
--- a move that picks or sets the clock
-abbrev pub IsIdle : Move → Type 0
-IsIdle moves.Pick = Unit {0}
-IsIdle (moves.Clock time) = Unit {0}
-IsIdle move = ⊥
-
--- who picks or sets the clock leaves the streams
-pub idle_undrawn : (s : Machine) (m : Move) → IsIdle m → decided s m s.streams ≡ moved s m
-idle_undrawn s moves.Pick h = go s.current where
-  go : (xs : List Transaction) → record (picked s xs) { streams = s.streams } ≡ picked s xs
-  go [] = refl
-  go (x ∷ xs) = refl
-idle_undrawn s (moves.Clock time) h = refl
-idle_undrawn s (moves.Start count arrivals) h = absurd h
-idle_undrawn s moves.Command h = absurd h
-idle_undrawn s (moves.Enter id change fate) h = absurd h
-idle_undrawn s (moves.Refuse id key units) h = absurd h
 
 -- what was noted of earlier steps stays
 pub decides_keeps : {A : Type 0} (t : Listing) (seed : ℕ) (p : Eval A) (r : Result A Why) (old new : Noted) → Decides t seed p r old new → Keeps old new

@@ -1,5 +1,5 @@
 -- The evaluation of an attribute ends a run by a stop alone.
-use Rattle.std.proofs.Common.{◌≡◌, ℕ, ◌-◌, nat_le, not, ◌&&◌, Bool, true, false, cond, List, Option, Some, None, Err, ℤ, pos, subst}
+use Rattle.std.proofs.Common.{◌≡◌, ℕ, ◌-◌, nat_le, not, ◌&&◌, Bool, true, false, cond, List, [], Option, Some, None, Err, ℤ, pos, subst}
 use Rattle.gw_expr.specs.declared.attribute.Subject.{Subject}
 use Rattle.gw_expr.specs.declared.attribute.Subject.TheVariants as subjects
 use Rattle.gw_expr.specs.declared.stop.Stop.{Stop}
@@ -22,12 +22,16 @@ use Rattle.gw_meaning.specs.declared.item.Item.TheVariants as items
 use Rattle.gw_meaning.specs.Listing.{Listing}
 use Rattle.gw_meaning.specs.Machine.{Machine}
 use Rattle.gw_meaning.specs.Questions.{Answer, ask, Prog, Gives, Ends, Asks, result_of, ◌>>=◌}
-use Rattle.gw_meaning.specs.Evaluation.{Eval, gives, ends_with, asks, ◌~>◌, stops_if, number_of_draw, draw, amount, own_value, numbered, named, subject_prog, storage_prog, left_prog, counted, block_count, drawn_prog, random_prog, random_part, entity_value, storage_value, block_value, value_held, parameter_value, attribute_prog}
+use Rattle.gw_meaning.specs.Evaluation.{Eval, gives, ends_with, asks, ◌~>◌, stops_if, number_of_draw, draw, amount, own_value, numbered, named, subject_prog, storage_prog, left_prog, counted, block_count, drawn_prog, random_prog, random_part, entity_value, storage_value, block_value, value_held, parameter_value, attribute_prog, entity_watched, storage_watched, counts_watched, watched_prog}
 use Rattle.gw_asking.specs.declared.halt.Why.{Why}
 use Rattle.gw_asking.specs.declared.halt.Why.TheVariants as whys
 use Rattle.gw_asking.specs.Halts.{IsFault}
 use Rattle.gw_asking.specs.Noted.{Noted}
 use Rattle.gw_asking.specs.Deciding.{Decides}
+use Rattle.gw_scan.specs.Tracing.{attribute_traced}
+use Rattle.gw_meaning.specs.declared.watched.EntityKind.{EntityKind}
+use Rattle.gw_meaning.specs.declared.watched.EntityKind.TheVariants as kinds
+use Rattle.gw_meaning.specs.declared.watched.Watched.{Watched}
 
 -- however its questions are answered, a program gives a result or ends by a stop
 abbrev MayStop : {A : Type 0} → Prog A → Type 0
@@ -194,6 +198,38 @@ attribute_stops s q class.W of = blocks_stop s class.W of
 attribute_stops s q class.Rn of = random_stops of
 attribute_stops s q class of = stopping_ends Range
 
+-- what an attribute reads
+entity_watched_stops : (kind : EntityKind) (of : Subject) → Stopping (entity_watched kind of)
+entity_watched_stops kind of = stopping_bind (subject_stops of) (λ key. stopping_gives _)
+
+storage_watched_stops : (of : Subject) → Stopping (storage_watched of)
+storage_watched_stops subjects.Own = stopping_gives []
+storage_watched_stops (subjects.Number n) = stopping_gives []
+storage_watched_stops (subjects.Name name) = stopping_gives _
+
+counts_watched_stops : (of : Subject) → Stopping (counts_watched of)
+counts_watched_stops subjects.Own = stopping_gives []
+counts_watched_stops (subjects.Number n) = stopping_gives []
+counts_watched_stops (subjects.Name name) = stopping_asks (items.Named asking.Label name) _ (λ id. stopping_gives _)
+
+watched_stops : (class : Class) (of : Subject) → Stopping (watched_prog class of)
+unfolding watched_prog
+watched_stops class.F of = entity_watched_stops kinds.Facility of
+watched_stops class.Fc of = entity_watched_stops kinds.Facility of
+watched_stops class.Q of = entity_watched_stops kinds.Queue of
+watched_stops class.Qc of = entity_watched_stops kinds.Queue of
+watched_stops class.Qm of = entity_watched_stops kinds.Queue of
+watched_stops class.Qz of = entity_watched_stops kinds.Queue of
+watched_stops class.X of = entity_watched_stops kinds.Savevalue of
+watched_stops class.Ls of = entity_watched_stops kinds.Switch of
+watched_stops class.S of = storage_watched_stops of
+watched_stops class.R of = storage_watched_stops of
+watched_stops class.Sc of = storage_watched_stops of
+watched_stops class.Sm of = storage_watched_stops of
+watched_stops class.N of = counts_watched_stops of
+watched_stops class.W of = counts_watched_stops of
+watched_stops class of = stopping_gives []
+
 -- what code came to is the fault of an evaluation
 pub attribute_faults : (t : Listing) (seed : ℕ) (s : Machine) (q : Asker) (class : Class) (of : Subject) (why : Why) (old new : Noted) →
     Decides t seed (attribute_prog s q class of) (Err why) old new → IsFault why
@@ -202,3 +238,8 @@ attribute_faults t seed s q class of why old new h = faults_alone t seed (attrib
 pub part_faults : (t : Listing) (seed : ℕ) (of : Subject) (why : Why) (old new : Noted) →
     Decides t seed (random_part of) (Err why) old new → IsFault why
 part_faults t seed of why old new h = faults_alone t seed (random_part of) why old new (part_stops of) h
+
+pub traced_faults : (t : Listing) (seed : ℕ) (s : Machine) (q : Asker) (read : List Watched) (class : Class) (of : Subject) (why : Why) (old new : Noted) →
+    Decides t seed (attribute_traced s q read class of) (Err why) old new → IsFault why
+traced_faults t seed s q read class of why old new h = faults_alone t seed (attribute_traced s q read class of) why old new
+    (stopping_bind (watched_stops class of) (λ more. stopping_bind (attribute_stops s q class of) (λ v. stopping_gives _))) h

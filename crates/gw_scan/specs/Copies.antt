@@ -11,6 +11,7 @@ pub record ChainsOf (s : Machine) (chains : Chains) : Type 0 where
   pub current : chains.current.items ≡ s.current
   pub future : chains.future.items ≡ s.future
   pub delays : delays_of chains.delays ≡ s.delays
+  pub retry : chains.retry.waiters ≡ s.retry
 
 -- the counts, the entities and the parameters are those of the state
 pub record KeptOf (s : Machine) (kept : Kept) : Type 0 where

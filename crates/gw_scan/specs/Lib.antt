@@ -14,3 +14,4 @@ pub mod Copies
 pub mod Making
 pub mod Seeing
 pub mod Stepping
+pub mod Tracing

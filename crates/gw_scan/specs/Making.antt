@@ -1,5 +1,5 @@
 -- What a move wants before it is made. (Our own.)
-use Rattle.std.specs.Prelude.{◌≡◌, ℕ, ◌<◌, List, Option, Some, None}
+use Rattle.std.specs.Prelude.{◌≡◌, ℕ, ◌<◌, List, [], Some}
 use Rattle.gw_names.specs.declared.key.Key.{Key}
 use Rattle.gw_chains.specs.Chains.{Chain}
 use Rattle.gw_entities.specs.Parameters.{Held, without}
@@ -12,7 +12,7 @@ use Rattle.gw_meaning.specs.declared.moves.Move.TheVariants as moves
 use Rattle.gw_meaning.specs.declared.transaction.Transaction.{Transaction}
 use Rattle.gw_meaning.specs.Machine.{Machine}
 use Rattle.gw_meaning.specs.Step.{least_time}
-use Rattle.gw_parts.specs.Admitting.{HasRoomToAdmit}
+use Rattle.gw_parts.specs.Admitting.{HasRoomToAdmit, going}
 
 -- where a transaction is destroyed, no entity and no parameter changes besides
 abbrev pub IsAlone : Change → Fate → Type 0
@@ -30,6 +30,11 @@ IsMade s move = Unit {0}
 abbrev pub kept_by : Fate → ℕ → Held → Held
 kept_by (fates.Destroyed count) number held = without held number
 kept_by fate number held = held
+
+-- those of a delay chain whom a change brings
+abbrev pub brought : Change → List (Key × Chain Transaction) → List Transaction
+brought (changes.Entity change) chains = going change.0 change.1 chains
+brought change chains = []
 
 -- there is room for those whom a change brings: on the current chain, on the future chain and among the counts of blocks
 abbrev pub HasRoom : Change → List (Key × Chain Transaction) → ℕ → ℕ → ℕ → Type 0

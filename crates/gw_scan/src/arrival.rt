@@ -22,7 +22,8 @@ impl State {
     {
         let active = if self.active.is_some() { 1 } else { 0 };
         let moving = active + self.current.len() + self.future.len();
-        moving.saturating_add(self.delays.count()) >= LIVE_LIMIT
+        let waiting = self.delays.count().saturating_add(self.retry.len());
+        moving.saturating_add(waiting) >= LIVE_LIMIT
     }
 
     // The next transaction of the GENERATE at `id`: its limit, then its time, then its priority.

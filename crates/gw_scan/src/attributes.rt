@@ -261,7 +261,7 @@ fn owned(owner: Option<u64>) -> u64
 }
 
 // The facility, the queue, the savevalue, the switch or the parameter that an attribute is of.
-fn subject(case: Case, notes: &mut Notes, of: &Subject) -> Result<Key, Halt>
+pub fn subject(case: Case, notes: &mut Notes, of: &Subject) -> Result<Key, Halt>
     ensures { Decides case.entry.version.now case.entry.seed (subject_prog of.now) result notes.old notes.new }
 {
     match of {

@@ -7,6 +7,7 @@ use crate::state::State;
 use gw_chains::{Counts, DelayChains, FutureChain, PriorityChain};
 use gw_entities::Parameters;
 use gw_parts::Entities;
+use gw_retry::Retry;
 use std::alloc::AllocError;
 
 // The chains of a state.
@@ -15,6 +16,7 @@ pub struct Chains {
     pub current: PriorityChain,
     pub future: FutureChain,
     pub delays: DelayChains,
+    pub retry: Retry,
 }
 
 // What a state keeps of blocks, of entities and of transactions.
@@ -33,6 +35,7 @@ impl State {
     {
         self.current.share()?;
         self.delays.share()?;
+        self.retry.share()?;
         self.future.share()?;
         self.entities.share()?;
         self.parameters.share()
@@ -53,6 +56,7 @@ impl State {
             current: chains.current,
             future: chains.future,
             delays: chains.delays,
+            retry: chains.retry,
             counts: kept.counts,
             entities: kept.entities,
             parameters: kept.parameters,
@@ -64,10 +68,12 @@ impl State {
     {
         let current = self.current.copy()?;
         let future = self.future.copy()?;
+        let delays = self.delays.copy()?;
         Ok(Chains {
             current,
             future,
-            delays: self.delays.copy()?,
+            delays,
+            retry: self.retry.copy()?,
         })
     }
 

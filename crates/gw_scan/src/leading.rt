@@ -1,18 +1,19 @@
 // TRANSFER and TEST: a label is asked for only where the transaction goes there.
-ghost use Rattle.std.specs.Prelude.{◌≡◌, if◌then◌else◌, nat_lt, option_copied};
+ghost use Rattle.std.specs.Prelude.{◌≡◌, Some, None, Ok, if◌then◌else◌, nat_lt, option_copied};
 ghost use Rattle.gw_meaning.specs.Evaluation.{millionths};
-ghost use Rattle.gw_meaning.specs.Step.{by_fraction, go_to, holds, lead_to, test_prog, test_values, transfer_prog};
+ghost use Rattle.gw_meaning.specs.Step.{by_fraction, go_to, holds, lead_to, pass_or_wait, test_or_wait, test_prog, transfer_prog};
 ghost use Rattle.gw_asking.specs.Deciding.{Decides, Comes};
 
 use crate::entering::{enter_with, pass};
 use crate::state::State;
 use gw_asking::{Case, Halt, Notes, ask_label, draw, millionths};
-use gw_expr::{Expr, Node};
-use gw_meaning::{Asker, Auxiliary, Move, StatementId, TransactionChange};
+use gw_expr::{Expr, Node, Row};
+use gw_meaning::{Asker, Auxiliary, Move, StatementId, TransactionChange, Watched};
 use gw_nums::Val;
 
 impl State {
-    // A transaction goes on where a relation of two values holds, and else to a block.
+    // A transaction goes on where a relation of two values holds. Else it goes to a block, or waits for a change of what
+    // they read where no label stands there.
     pub(crate) fn decide_test(
         &self,
         case: Case,
@@ -28,10 +29,67 @@ impl State {
             (test_prog self.now asker.now id relation (option_copied first.entry) (option_copied second.entry)
             (option_copied label.entry)) result notes.old notes.new }
     {
+        match label {
+            Some(label) => {
+                self.test_or_lead(case, asker, notes, id, relation, first, second, label)
+            }
+            None => self.test_or_wait(case, asker, notes, id, relation, first, second),
+        }
+    }
+
+    fn test_or_lead(
+        &self,
+        case: Case,
+        asker: &Asker,
+        notes: &mut Notes,
+        id: StatementId,
+        relation: Auxiliary,
+        first: Option<&Expr>,
+        second: Option<&Expr>,
+        label: &Expr,
+    ) -> Result<Move, Halt>
+        ensures { Decides case.entry.version.now case.entry.seed
+            (test_prog self.now asker.now id relation (option_copied first.entry) (option_copied second.entry)
+            (Some label.now)) result notes.old notes.new }
+    {
         let first = self.value_there(case, asker, notes, first)?;
         let second = self.value_there(case, asker, notes, second)?;
-        test_values(case, notes, id, relation, label, first, second)
+        if holds(relation, first, second) {
+            return Ok(pass(id));
+        }
+        lead_to(case, notes, id, Some(label))
     }
+
+    fn test_or_wait(
+        &self,
+        case: Case,
+        asker: &Asker,
+        notes: &mut Notes,
+        id: StatementId,
+        relation: Auxiliary,
+        first: Option<&Expr>,
+        second: Option<&Expr>,
+    ) -> Result<Move, Halt>
+        ensures { Decides case.entry.version.now case.entry.seed
+            (test_or_wait self.now asker.now id relation (option_copied first.entry) (option_copied second.entry))
+            result notes.old notes.new }
+    {
+        let mut read = Vec::new(case.alloc);
+        let first = self.value_traced(case, asker, notes, &mut read, first)?;
+        let second = self.value_traced(case, asker, notes, &mut read, second)?;
+        Ok(pass_or_watch(id, holds(relation, first, second), read))
+    }
+}
+
+// The block is entered, or the transaction waits for a change of what was read.
+pub fn pass_or_watch(id: StatementId, passes: bool, read: Vec<Watched>) -> Move
+    ensures { Comes (pass_or_wait id None read.items passes) (Ok result) }
+{
+    if passes {
+        return pass(id);
+    }
+    let read = Row::from_vec(read);
+    Move::Watch { read }
 }
 
 // A transaction is sent to a block, or goes on to the next one.
@@ -86,24 +144,6 @@ fn chosen<'a>(
     } else {
         near
     }
-}
-
-fn test_values(
-    case: Case,
-    notes: &mut Notes,
-    id: StatementId,
-    relation: Auxiliary,
-    label: Option<&Expr>,
-    first: Val,
-    second: Val,
-) -> Result<Move, Halt>
-    ensures { Decides case.entry.version.now case.entry.seed
-        (test_values id relation (option_copied label.entry) first second) result notes.old notes.new }
-{
-    if holds(relation, first, second) {
-        return Ok(pass(id));
-    }
-    lead_to(case, notes, id, label)
 }
 
 // Whether the relation of one value to another holds.

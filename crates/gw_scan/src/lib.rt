@@ -29,7 +29,9 @@ mod storing;
 mod switches;
 mod tally;
 mod times;
+mod traced;
 mod value;
+mod waking;
 
 pub use gw_asking::Notes;
 pub use state::State;

@@ -1,31 +1,33 @@
 // The one place where a state changes: a move is made. All that grows is reserved first, so where memory is refused
 // nothing changes.
-ghost use Rattle.std.specs.Prelude.{◌≡◌, ◌<◌, ◌-◌, ◌≤◌, ◌+◌, OnOk, OnErr};
+ghost use Rattle.std.specs.Prelude.{◌≡◌, ◌<◌, ◌-◌, ◌≤◌, ◌+◌, length, OnOk, OnErr};
 ghost use Rattle.gw_chains.specs.Chains.{delays_of};
 ghost use Rattle.gw_meaning.specs.declared.moves.Move.TheVariants as moves;
-ghost use Rattle.gw_meaning.specs.Changes.{moved, placed, own_marked, marked, own_held, held_by, fated, changed};
+ghost use Rattle.gw_meaning.specs.Changes.{moved, placed, own_marked, marked, own_held, held_by, fated, changed, written, woken};
 ghost use Rattle.gw_meaning.specs.Entities.{touched};
 ghost use Rattle.gw_meaning.specs.Machine.{Machine};
 ghost use Rattle.gw_parts.specs.Parts.{entities_of};
-ghost use Rattle.gw_scan.specs.Making.{IsMade, IsAlone, HasRoom, kept_by};
+ghost use Rattle.gw_scan.specs.Making.{IsMade, IsAlone, HasRoom, brought, kept_by};
 
 use crate::state::State;
 use gw_chains::{Counts, DelayChains, FutureChain, PriorityChain};
 use gw_entities::Parameters;
+use gw_expr::Row;
 use gw_meaning::{
     Arrival, Change, Destination, EntityChange, Event, Fate, Move, StatementId, Transaction,
-    TransactionChange,
+    TransactionChange, Watched,
 };
 use gw_names::Key;
 use gw_nums::Clock;
 use gw_parts::{Active, Entities, Progress, admit, make, make_all, reserve_to_admit};
-use std::alloc::AllocError;
+use std::alloc::{AllocError, Global};
 
 impl State {
-    // Makes a move that was decided, or changes nothing where memory is refused.
-    pub(crate) fn make(&mut self, to: Move) -> Result<(), AllocError>
+    // Makes a move that was decided, and wakes those who wait for something that it writes; or changes nothing, where
+    // memory is refused.
+    pub(crate) fn make(&mut self, alloc: Global, to: Move) -> Result<(), AllocError>
         requires { IsMade self.old to }
-        ensures ok { OnOk result (self.new ≡ moved self.old to) }
+        ensures ok { OnOk result (self.new ≡ woken (written self.old to) (moved self.old to)) }
         ensures err { OnErr result (self.new ≡ self.old) }
     {
         match to {
@@ -34,8 +36,9 @@ impl State {
                 self.progress.count_command();
                 Ok(())
             }
-            Move::Enter { id, change, fate } => self.enter(id, &change, fate),
+            Move::Enter { id, change, fate } => self.enter(alloc, id, &change, fate),
             Move::Refuse { id, key, units } => self.refuse(id, &key, units),
+            Move::Watch { read } => self.watch(read),
             Move::Pick => {
                 self.pick();
                 Ok(())
@@ -96,10 +99,30 @@ impl State {
         Ok(())
     }
 
-    // The active transaction enters a block.
-    fn enter(&mut self, id: StatementId, change: &Change, fate: Fate) -> Result<(), AllocError>
+    // The active transaction waits as it came for a change of something that its attempt read.
+    fn watch(&mut self, read: Row<Watched>) -> Result<(), AllocError>
+        ensures ok { OnOk result (self.new ≡ moved self.old (moves.Watch read)) }
+        ensures err { OnErr result (self.new ≡ self.old) }
+    {
+        let Some(x) = self.active.as_ref() else {
+            return Ok(());
+        };
+        self.retry.watch(*x, read)?;
+        self.active.clear();
+        Ok(())
+    }
+
+    // The active transaction enters a block, and those wake who wait for something that this writes.
+    fn enter(
+        &mut self,
+        alloc: Global,
+        id: StatementId,
+        change: &Change,
+        fate: Fate,
+    ) -> Result<(), AllocError>
         requires { IsAlone change.now fate }
-        ensures ok { OnOk result (self.new ≡ moved self.old (moves.Enter id change.now fate)) }
+        ensures ok { OnOk result (self.new ≡ woken (written self.old (moves.Enter id change.now fate))
+            (moved self.old (moves.Enter id change.now fate))) }
         ensures err { OnErr result (self.new ≡ self.old) }
     {
         let Some(x) = self.active.as_ref() else {
@@ -107,9 +130,12 @@ impl State {
         };
         let x = *x;
         let clock = self.clocks.clock();
+        let written = self.to_wake(alloc, &x, id, change)?;
+        let count = self.retry.reserve(written.as_slice())?;
         self.counts.reserve(id)?;
         reserve(
             change,
+            count + 1,
             &mut self.delays,
             &mut self.current,
             &mut self.future,
@@ -141,20 +167,23 @@ impl State {
             &mut self.future,
             &mut self.counts,
         );
+        self.retry.wake(written.as_slice(), &mut self.current);
         Ok(())
     }
 }
 
-// Makes room for the active transaction and for those whom a change brings. Nobody moves.
+// Makes room for those whom a change brings, and for so many others on the current chain. Nobody moves.
 fn reserve(
     change: &Change,
+    others: usize,
     delays: &mut DelayChains,
     current: &mut PriorityChain,
     future: &mut FutureChain,
     counts: &mut Counts,
 ) -> Result<(), AllocError>
-    ensures ok { OnOk result (HasRoom change.now delays.new (current.new.room - 1) (future.new.room - 1) counts.new.limit) }
-    ensures current_one { OnOk result (0 < current.new.room) }
+    ensures ok { OnOk result
+        (HasRoom change.now delays.new (current.new.room - others) (future.new.room - 1) counts.new.limit) }
+    ensures others { OnOk result (others ≤ current.new.room) }
     ensures future_one { OnOk result (0 < future.new.room) }
     ensures delays { delays_of delays.new ≡ delays_of delays.old }
     ensures current { current.new.items ≡ current.old.items }
@@ -165,15 +194,15 @@ fn reserve(
     future.reserve(2)?;
     match change {
         Change::Entity(EntityChange { key, deed }) => {
-            reserve_to_admit(delays, current, counts, key, deed)
+            reserve_to_admit(delays, current, counts, key, deed, others)
         }
         Change::Generate {
             next: Some(arrival),
         } => {
-            current.reserve(1)?;
+            current.reserve(others)?;
             counts.reserve(arrival.id)
         }
-        _ => current.reserve(1),
+        _ => current.reserve(others),
     }
 }
 
@@ -325,7 +354,7 @@ fn bring(
     counts: &mut Counts,
 )
     requires { HasRoom change.now delays.old current.old.room future.old.room counts.old.limit }
-    ensures { (s : Machine) →
+    ensures brought { (s : Machine) →
         record s {
           next = next.new;
           delays = delays_of delays.new;
@@ -339,6 +368,7 @@ fn bring(
           future = future.old.items;
           counts = counts.old.entries;
         }) }
+    ensures room { current.old.room ≤ current.new.room + length (brought change.now delays.old) }
 {
     match change {
         Change::Entity(EntityChange { key, deed }) => admit(delays, current, counts, key, deed),

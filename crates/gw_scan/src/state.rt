@@ -8,6 +8,7 @@ use gw_entities::Parameters;
 use gw_meaning::{Count, StatementId, Transaction};
 use gw_nums::{Clock, Time};
 use gw_parts::{Active, Clocks, Entities, Progress};
+use gw_retry::Retry;
 use gw_streams::Streams;
 use std::alloc::Global;
 use std::marker::Model;
@@ -23,6 +24,7 @@ pub struct State {
     pub(crate) current: PriorityChain,
     pub(crate) future: FutureChain,
     pub(crate) delays: DelayChains,
+    pub(crate) retry: Retry,
     pub(crate) counts: Counts,
     pub(crate) entities: Entities,
     pub(crate) parameters: Parameters,
@@ -48,6 +50,7 @@ impl Model for State {
       current = s.current.items;
       future = s.future.items;
       delays = delays_of s.delays;
+      retry = s.retry.waiters;
       counts = s.counts.entries;
       entities = entities_of s.entities;
       parameters = s.parameters;
@@ -68,6 +71,7 @@ impl State {
             current: PriorityChain::new(alloc),
             future: FutureChain::new(alloc),
             delays: DelayChains::new(alloc),
+            retry: Retry::new(alloc),
             counts: Counts::new(alloc),
             entities: Entities::new(alloc),
             parameters: Parameters::new(alloc),
@@ -149,6 +153,13 @@ impl State {
         ensures { delays_of result.now ≡ self.now.delays }
     {
         &self.delays
+    }
+
+    /// Who waits for a change of something that it read, in order of waiting.
+    pub fn retry(&self) -> &Retry
+        ensures { result.now.waiters ≡ self.now.retry }
+    {
+        &self.retry
     }
 
     /// The facilities, the queues and the storages, and who came to which queue while the clock stands as it does.

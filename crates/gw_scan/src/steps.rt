@@ -75,7 +75,7 @@ impl State {
             result self.old self.new notes.old notes.new }
     {
         let to = self.decide(case, notes)?;
-        self.make(to)?;
+        self.make(case.alloc, to)?;
         self.streams = notes.streams();
         Ok(())
     }

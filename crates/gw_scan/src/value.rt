@@ -1,14 +1,17 @@
 // What operands stand for: values, entities and units.
-ghost use Rattle.std.specs.Prelude.{option_copied};
-ghost use Rattle.gw_meaning.specs.Evaluation.{value_prog, value_or_zero, value_there, numbered, entity_prog, units_prog, ◌~>◌};
+ghost use Rattle.std.specs.Prelude.{◌≡◌, [], Some, option_copied};
+ghost use Rattle.gw_expr.specs.Evaluation.{value_of};
+ghost use Rattle.gw_meaning.specs.Evaluation.{value_prog, value_or_zero, value_there, numbered, entity_prog, units_prog, ◌~>◌, gives, traced, value_traced, entity_traced};
 ghost use Rattle.gw_asking.specs.Deciding.{Decides};
+ghost use Rattle.gw_scan.specs.Tracing.{with_read};
 
 use crate::attributes::{key_named, key_numbered};
 use crate::seen::Seen;
 use crate::state::State;
+use crate::traced::Traced;
 use gw_asking::{Case, Halt, Notes, ask_number};
 use gw_expr::{Atom, Expr, Node, eval};
-use gw_meaning::Asker;
+use gw_meaning::{Asker, Watched};
 use gw_names::Key;
 use gw_nums::Val;
 
@@ -147,5 +150,87 @@ impl State {
             return Err(Halt::BAD_COUNT);
         }
         Ok(units.magnitude() as u32)
+    }
+
+    // The value of an operand that is there; what it reads comes behind what was read before.
+    pub(crate) fn value_traced(
+        &self,
+        case: Case,
+        asker: &Asker,
+        notes: &mut Notes,
+        read: &mut Vec<Watched>,
+        operand: Option<&Expr>,
+    ) -> Result<Val, Halt>
+        ensures { Decides case.entry.version.now case.entry.seed
+            (value_traced self.now asker.now read.old.items (option_copied operand.entry))
+            (with_read result read.new.items) notes.old notes.new }
+    {
+        match operand {
+            Some(expr) => self.evaluation_traced(case, asker, notes, read, expr),
+            None => Err(Halt::RANGE),
+        }
+    }
+
+    fn evaluation_traced(
+        &self,
+        case: Case,
+        asker: &Asker,
+        notes: &mut Notes,
+        read: &mut Vec<Watched>,
+        operand: &Expr,
+    ) -> Result<Val, Halt>
+        ensures { Decides case.entry.version.now case.entry.seed
+            (traced self.now asker.now read.old.items (value_of operand.now))
+            (with_read result read.new.items) notes.old notes.new }
+    {
+        let mut traced = Traced {
+            state: self,
+            asker,
+            case,
+            notes,
+            read,
+        };
+        Ok(eval(operand, case.version, &mut traced)?)
+    }
+
+    // The entity that an operand names, with what was read to find it.
+    pub(crate) fn entity_traced(
+        &self,
+        case: Case,
+        asker: &Asker,
+        notes: &mut Notes,
+        read: &mut Vec<Watched>,
+        operand: &Expr,
+    ) -> Result<Key, Halt>
+        requires { read.old.items ≡ [] }
+        ensures { Decides case.entry.version.now case.entry.seed
+            (entity_traced self.now asker.now (Some operand.now)) (with_read result read.new.items)
+            notes.old notes.new }
+    {
+        match operand.node() {
+            Node::Named(name) => {
+                let number = ask_number(case.version, notes, name.name())?;
+                key_named(name.name(), number)
+            }
+            _ => self.computed_traced(case, asker, notes, read, operand),
+        }
+    }
+
+    // The entity whose number is the value of an operand, with what that reads.
+    fn computed_traced(
+        &self,
+        case: Case,
+        asker: &Asker,
+        notes: &mut Notes,
+        read: &mut Vec<Watched>,
+        operand: &Expr,
+    ) -> Result<Key, Halt>
+        ensures { Decides case.entry.version.now case.entry.seed
+            (traced self.now asker.now read.old.items (value_of operand.now) ~>
+            (λ r. numbered r.0 ~> (λ key. gives (key, r.1)))) (with_read result read.new.items)
+            notes.old notes.new }
+    {
+        let number = self.evaluation_traced(case, asker, notes, read, operand)?;
+        key_numbered(number)
     }
 }

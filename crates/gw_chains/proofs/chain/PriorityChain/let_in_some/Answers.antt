@@ -41,11 +41,14 @@ loop-i-preserved c =
           let front : with_share (drop i shares) (drop i F) ≡ x ∷ ws = first_in shares F items i kept x h some there s in
           let more = ap length front in
           let left = w.remove-x.ensures.room in
+          let taken = w.let_in.ensures.room in
+          let whole = was.left in
           record {
             sifting = rw (w.self-inside-is, w.kept-is) (sifted_in shares F items w.remove-x.new.self.items i kept x h some there w.remove-x.ensures.items s);
             fewer = rw w.kept-is (omega (arith, less));
             going = rw w.self-inside-is (omega (arith, more, left, going));
             room = rw (w.current-is, w.counts-is) (room_rest ws _ x _ _ _ _ front w.let_in.ensures.room w.let_in.ensures.limit was.room);
+            left = rw w.current-is (omega (arith, more, taken, whole));
             let_in = λ t. rw (w.current-is, w.counts-is) (ap (all_let_in ws) (w.let_in.ensures.let_in t) ∙
                 (sym (ap (λ ys. all_let_in ys (record t { current = c.loop-i.current.items; counts = c.loop-i.counts.entries })) front) ∙
                 was.let_in t));
@@ -58,6 +61,7 @@ loop-i-preserved c =
             fewer = rw w.kept-is (omega (arith, less));
             going = rw (w.self-inside-is, ← front) going;
             room = rw (w.current-is, w.counts-is, ← front) was.room;
+            left = rw (w.current-is, ← front) was.left;
             let_in = λ t. rw (w.current-is, w.counts-is, ← front) (was.let_in t);
           }
     ]
@@ -109,3 +113,13 @@ returns-clause-let_in c = λ t.
     let all = c.loop-i.invariant.let_in t in
     rw (← c.self.view_is)
     (sym (ap (λ ys. all_let_in ys (record t { current = c.loop-i.current.items; counts = c.loop-i.counts.entries })) none) ∙ all)
+
+pub returns-clause-room : goal.returns-clause-room
+returns-clause-room c =
+    let F = c.self.inside.transactions.items in
+    let shares = c.args.shares.now in
+    let i = c.loop-i.i in
+    let end : i ≡ min (length F) (length shares) = grind (arith, common_steps) in
+    let none : with_share (drop i shares) (drop i F) ≡ [] = with_none shares F i end in
+    let whole = c.loop-i.invariant.left in
+    rw (← c.self.view_is) (omega (arith, whole, ap length none))

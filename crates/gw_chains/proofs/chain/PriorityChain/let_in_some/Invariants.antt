@@ -1,4 +1,4 @@
-use Rattle.std.proofs.Common.{◌≡◌, ◌≤◌, drop, length}
+use Rattle.std.proofs.Common.{◌≡◌, ◌+◌, ◌≤◌, drop, length}
 use Rattle.gw_meaning.specs.Machine.{Machine}
 use Rattle.gw_chains.specs.Chains.{with_share, HasRoomToLetAllIn, all_let_in}
 use Rattle.gw_chains.proofs.LetIn.{Sifting}
@@ -11,6 +11,8 @@ invariant-loop-i l = record {
   fewer : l.kept ≤ l.i;
   going : length (with_share (drop l.i l.shares) (drop l.i l.initial.self-inside.transactions.items)) ≤ l.self-inside.transactions.room;
   room : HasRoomToLetAllIn (with_share (drop l.i l.shares) (drop l.i l.initial.self-inside.transactions.items)) l.current.room l.counts.limit;
+  left : l.initial.current.room + length (with_share (drop l.i l.shares) (drop l.i l.initial.self-inside.transactions.items)) ≤
+      l.current.room + length (with_share l.shares l.initial.self-inside.transactions.items);
   let_in : (s : Machine) →
       all_let_in (with_share (drop l.i l.shares) (drop l.i l.initial.self-inside.transactions.items))
       (record s { current = l.current.items; counts = l.counts.entries }) ≡

@@ -8,8 +8,8 @@ use Rattle.gw_chains.proofs.DelayLaws.{place_of_queue, value_is}
 use Rattle.gw_chains.proofs.LetIn.{some_let_in_is, nobody_let_in, fewer_wait, without_fewer}
 use Rattle.gw_chains.proofs.delays.DelayChains.let_in_some_at.Goals as goal
 
-pub returns-in_default : goal.returns-in_default
-returns-in_default c = λ s.
+pub returns-in_default-clause-let_in : goal.returns-in_default-clause-let_in
+returns-in_default-clause-let_in c = λ s.
     let none = subst (IsWaitingPlace c.args.self.now c.args.key.now) c.in_default.is c.requires.place in
     rw none (sym (nobody_let_in c.args.key.now c.args.shares.now [] _))
 
@@ -93,8 +93,8 @@ invariant_of-self c =
     ap (with_value (delays_of (zip ks cs)) key) c.let_in_some.ensures.items in
     written_kept ks cs i own c.self.inside.count _ c.self.invariant (rw (gone, written) fewer.1)
 
-pub returns : goal.returns
-returns c = λ s.
+pub returns-clause-let_in : goal.returns-clause-let_in
+returns-clause-let_in c = λ s.
     let ks = c.self.inside.keys.keys in
     let cs = c.self.inside.chains.items in
     let key = c.args.key.now in
@@ -116,3 +116,14 @@ returns c = λ s.
     (ap (λ ds. record s { delays = ds; current = current; counts = counts }) written ∙
     (ap (λ (t : Machine). record t { delays = kept }) (c.let_in_some.ensures.let_in (record s { delays = delays_of (zip ks cs) })) ∙
     sym (some_let_in_is key shares [] chain old value)))
+
+pub returns-clause-room : goal.returns-clause-room
+returns-clause-room c =
+    let ks = c.self.inside.keys.keys in
+    let cs = c.self.inside.chains.items in
+    let key = c.args.key.now in
+    let i = c.in-Some.index in
+    let there = place_of_queue (zip ks cs) key c.args.place i c.in-Some.is (rw (← c.self.view_is) at c.requires.place) in
+    let was = c.index_mut-chain.result.now in
+    let queue = queue_there ks cs i key was there c.index_mut-chain.ensures.value in
+    rw (← c.self.view_is, queue) c.let_in_some.ensures.room

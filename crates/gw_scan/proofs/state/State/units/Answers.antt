@@ -4,7 +4,6 @@ use Rattle.gw_nums.specs.Range.{is_below, magnitude}
 use Rattle.gw_expr.specs.declared.stop.Stop.TheVariants.{BadCount}
 use Rattle.gw_meaning.specs.declared.item.End.TheVariants as ends
 use Rattle.gw_meaning.specs.Evaluation.{Eval, gives, ends_with, stops_if, value_prog, units_prog, ◌~>◌}
-use Rattle.gw_meaning.specs.Step.{for_one}
 use Rattle.gw_asking.specs.declared.halt.Why.TheVariants as whys
 use Rattle.gw_asking.proofs.Binding.{decides_exit, decides_whole, decides_comes}
 use Rattle.gw_scan.proofs.state.State.units.Goals as goal
@@ -15,9 +14,9 @@ returns-in_err-units c =
     let t = c.args.case.version.now in
     let seed = c.args.case.seed in
     let s = c.args.self.now in
-    let first = value_prog s c.for_one.result c.in-Some.expr.now in
+    let first = value_prog s c.args.asker.now c.in-Some.expr.now in
     let rest : ℤ → Eval ℕ = λ n. stops_if (is_below n (pos 1)) BadCount (gives (magnitude n)) in
-    let whole : units_prog s (for_one s c.args.x.now) (option_copied c.args.operand) ≡ (first ~> rest) = search rules in
+    let whole : units_prog s c.args.asker.now (option_copied c.args.operand) ≡ (first ~> rest) = search rules in
     decides_exit t seed first rest _ _ _ c.in_err-units.field-0.0 _ _ whole p.1 p.2 c.in_err-units.ensures
 
 pub returns-then-get-lt1 : goal.returns-then-get-lt1
@@ -25,9 +24,9 @@ returns-then-get-lt1 c =
     let t = c.args.case.version.now in
     let seed = c.args.case.seed in
     let s = c.args.self.now in
-    let first = value_prog s c.for_one.result c.in-Some.expr.now in
+    let first = value_prog s c.args.asker.now c.in-Some.expr.now in
     let rest : ℤ → Eval ℕ = λ n. stops_if (is_below n (pos 1)) BadCount (gives (magnitude n)) in
-    let whole : units_prog s (for_one s c.args.x.now) (option_copied c.args.operand) ≡ (first ~> rest) = search rules in
+    let whole : units_prog s c.args.asker.now (option_copied c.args.operand) ≡ (first ~> rest) = search rules in
     let n = c.in_ok-units.units in
     let below : is_below n (pos 1) ≡ true = search rules in
     let here : rest n ≡ ends_with (ends.Error BadCount) = rw below refl in
@@ -39,9 +38,9 @@ returns c =
     let t = c.args.case.version.now in
     let seed = c.args.case.seed in
     let s = c.args.self.now in
-    let first = value_prog s c.for_one.result c.in-Some.expr.now in
+    let first = value_prog s c.args.asker.now c.in-Some.expr.now in
     let rest : ℤ → Eval ℕ = λ n. stops_if (is_below n (pos 1)) BadCount (gives (magnitude n)) in
-    let whole : units_prog s (for_one s c.args.x.now) (option_copied c.args.operand) ≡ (first ~> rest) = search rules in
+    let whole : units_prog s c.args.asker.now (option_copied c.args.operand) ≡ (first ~> rest) = search rules in
     let n = c.in_ok-units.units in
     let below : is_below n (pos 1) ≡ false = search rules in
     let size : c.magnitude.result ≡ magnitude n = c.magnitude.ensures.value in

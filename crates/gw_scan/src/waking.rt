@@ -1,0 +1,124 @@
+// What a block that is entered writes, for those who wait for a change.
+ghost use Rattle.std.specs.Prelude.{◌≡◌, ◌++◌, Some, IfOk, OnOk, option_copied};
+ghost use Rattle.gw_chains.specs.Chains.{items_of};
+ghost use Rattle.gw_meaning.specs.Changes.{crossing, crossings, deed_shares, written_by, woken};
+ghost use Rattle.gw_meaning.specs.Machine.{Machine};
+ghost use Rattle.gw_meaning.specs.Watching.{kind_of};
+
+use crate::state::State;
+use gw_chains::PriorityChain;
+use gw_meaning::{
+    Change, Deed, EntityChange, EntityKind, FacilityDeed, StatementId, StorageDeed, Transaction,
+    Watched,
+};
+use std::alloc::{AllocError, Global};
+
+impl State {
+    // What is written where the active transaction enters a block; nothing where nobody waits for a change.
+    pub(crate) fn to_wake(
+        &self,
+        alloc: Global,
+        x: &Transaction,
+        id: StatementId,
+        change: &Change,
+    ) -> Result<Vec<Watched>, AllocError>
+        ensures { IfOk result (λ list. (s : Machine) → s.retry ≡ self.now.retry →
+            woken list.items s ≡ woken (crossing x.now (Some id) ++ written_by change.now self.now) s) }
+    {
+        if self.retry.is_empty() {
+            return Ok(Vec::new(alloc));
+        }
+        self.written(alloc, x, id, change)
+    }
+
+    // What is written there.
+    fn written(
+        &self,
+        alloc: Global,
+        x: &Transaction,
+        id: StatementId,
+        change: &Change,
+    ) -> Result<Vec<Watched>, AllocError>
+        ensures { IfOk result (λ list.
+            list.items ≡ crossing x.now (Some id) ++ written_by change.now self.now) }
+    {
+        let mut written = Vec::new(alloc);
+        push_crossing(&mut written, x, Some(id))?;
+        if let Change::Entity(EntityChange { key, deed }) = change {
+            written.push(Watched::Entity(kind_of(deed), key.clone()?))?;
+            let chain = self.delays.chain(key);
+            push_admitted(&mut written, deed, chain)?;
+        }
+        Ok(written)
+    }
+}
+
+// The kind of the entity that a deed changes.
+fn kind_of(deed: &Deed) -> EntityKind
+    ensures { result ≡ kind_of deed.now }
+{
+    match deed {
+        Deed::Facility(_) => EntityKind::Facility,
+        Deed::Queue(_) => EntityKind::Queue,
+        Deed::Storage(_) => EntityKind::Storage,
+        Deed::Savevalue { .. } => EntityKind::Savevalue,
+        Deed::Switch { .. } => EntityKind::Switch,
+    }
+}
+
+// The counts of the block that a transaction leaves, and of the one to which it goes.
+fn push_crossing(
+    written: &mut Vec<Watched>,
+    x: &Transaction,
+    to: Option<StatementId>,
+) -> Result<(), AllocError>
+    ensures { OnOk result (written.new.items ≡ written.old.items ++ crossing x.now to) }
+{
+    if let Some(id) = to {
+        written.push(Watched::Counts(x.current))?;
+        written.push(Watched::Counts(id))?;
+    }
+    Ok(())
+}
+
+// The counts that those of a delay chain change whom a deed lets in.
+fn push_admitted(
+    written: &mut Vec<Watched>,
+    deed: &Deed,
+    chain: Option<&PriorityChain>,
+) -> Result<(), AllocError>
+    ensures { OnOk result (written.new.items ≡
+        written.old.items ++ crossings (deed_shares deed.now) (items_of (option_copied chain.entry))) }
+{
+    let Some(chain) = chain else {
+        return Ok(());
+    };
+    match deed {
+        Deed::Facility(FacilityDeed::Release { .. }) => {
+            push_crossings(written, &[Some(1)], chain)
+        }
+        Deed::Storage(StorageDeed::Leave { shares, .. }) => {
+            push_crossings(written, shares.as_slice(), chain)
+        }
+        _ => Ok(()),
+    }
+}
+
+// The counts that those of a chain change who have a share.
+fn push_crossings(
+    written: &mut Vec<Watched>,
+    shares: &[Option<u64>],
+    chain: &PriorityChain,
+) -> Result<(), AllocError>
+    ensures { OnOk result (written.new.items ≡ written.old.items ++ crossings shares.now chain.now.items) }
+{
+    for i in 0..shares.len().min(chain.len()) {
+        let Some(x) = chain.get(i) else {
+            unreachable!()
+        };
+        if shares[i].is_some() {
+            push_crossing(written, x, x.destination.id())?;
+        }
+    }
+    Ok(())
+}
