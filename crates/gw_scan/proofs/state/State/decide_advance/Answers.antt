@@ -1,4 +1,4 @@
-use Rattle.std.proofs.Common.{ℕ, ℤ, Option, option_copied}
+use Rattle.std.proofs.Common.{◌≡◌, ℕ, ℤ, Option, option_copied, rules}
 use Rattle.gw_meaning.specs.declared.moves.Move.{Move}
 use Rattle.std.proofs.Common.{◌≡◌, Ok, Err, true, refl, rules}
 use Rattle.gw_nums.specs.Range.{is_negative, magnitude}
@@ -31,7 +31,7 @@ returns c =
     let rest : ℤ → Eval Move = λ v. stops_if (is_negative v) NegativeTime (gives (moves.Enter c.args.id changes.Nothing (delay_of s (magnitude v)))) in
     let key = c.in_ok-time.time in
     let here : Comes (rest key) (Ok c.enter_for.result) = search rules in
-    decides_then t seed (time_prog s q (option_copied c.args.mean) (option_copied c.args.range)) rest key _ _ _ _ c.in_ok-time.ensures (decides_comes t seed (rest key) _ _ here)
+    decides_then t seed (time_prog s q (option_copied c.args.mean) (option_copied c.args.range)) rest key (Ok c.enter_for.result) _ _ _ c.in_ok-time.ensures (decides_comes t seed (rest key) (Ok c.enter_for.result) _ here)
 
 pub returns-then-is_negative : goal.returns-then-is_negative
 returns-then-is_negative c =

@@ -1,4 +1,4 @@
-use Rattle.std.proofs.Common.{ℕ, ℤ, Option, option_copied}
+use Rattle.std.proofs.Common.{◌≡◌, ℕ, ℤ, Option, option_copied, rules}
 use Rattle.gw_names.specs.declared.key.Key.{Key}
 use Rattle.gw_meaning.specs.declared.moves.Move.{Move}
 use Rattle.gw_entities.specs.Parameters.{parameter_at}
@@ -39,6 +39,7 @@ returns c =
     let key = c.in_ok-key.key in
     let last : ℤ → Eval Move = λ v. assign_with c.args.id c.args.sign key (parameter_at s.parameters q.number key) v in
     let n = c.in_ok-value.value in
-    let here : Comes (last n) c.assign_with.result = rw (c.get-was.ensures) at c.assign_with.ensures in
+    let was : c.get-was.result ≡ parameter_at s.parameters q.number key = search rules in
+    let here : Comes (last n) c.assign_with.result = rw (was) at c.assign_with.ensures in
     decides_then t seed (entity_prog s q (option_copied c.args.parameter)) rest key _ _ _ _ c.in_ok-key.ensures
     (decides_then t seed (value_there s q (option_copied c.args.value)) last n _ _ _ _ c.in_ok-value.ensures (decides_comes t seed (last n) _ _ here))

@@ -1,4 +1,4 @@
-use Rattle.std.proofs.Common.{ℕ, ℤ, Option, option_copied}
+use Rattle.std.proofs.Common.{◌≡◌, ℕ, ℤ, Option, option_copied, rules}
 use Rattle.gw_names.specs.declared.key.Key.{Key}
 use Rattle.gw_meaning.specs.declared.moves.Move.{Move}
 use Rattle.gw_entities.specs.Comings.{came}
@@ -40,6 +40,8 @@ returns c =
     let key = c.in_ok-key.key in
     let last : ℕ → Eval Move = λ n. depart_units c.args.id key (line_at s.entities key) (came s.entities.comings key c.args.x.now.number) n in
     let n = c.in_ok-units.units in
-    let here : Comes (last n) c.depart_units.result = rw (c.queue-line.ensures, c.has_come-at_once.ensures, c.from.ensures) at c.depart_units.ensures in
+    let line : c.queue-line.result ≡ line_at s.entities key = search rules in
+    let at_once : c.has_come-at_once.result ≡ came s.entities.comings key c.args.x.now.number = search rules in
+    let here : Comes (last n) c.depart_units.result = rw (line, at_once, c.from.ensures) at c.depart_units.ensures in
     decides_then t seed (entity_prog s q (option_copied c.args.entity)) rest key _ _ _ _ c.in_ok-key.ensures
     (decides_then t seed (units_prog s q (option_copied c.args.units)) last n _ _ _ _ c.in_ok-units.ensures (decides_comes t seed (last n) _ _ here))

@@ -1,4 +1,4 @@
-use Rattle.std.proofs.Common.{ℕ, ℤ, Option, option_copied}
+use Rattle.std.proofs.Common.{◌≡◌, ℕ, ℤ, Option, option_copied, rules}
 use Rattle.gw_meaning.specs.declared.moves.Move.{Move}
 use Rattle.std.proofs.Common.{Ok, refl}
 use Rattle.gw_meaning.specs.declared.moves.Change.TheVariants as changes
@@ -28,4 +28,4 @@ returns c =
     let rest : ℤ → Eval Move = λ p. gives (moves.Enter c.args.id (changes.Transaction (own.Priority p)) fates.Active) in
     let key = c.in_ok-to.to in
     let here : Comes (rest key) (Ok c.enter_with.result) = rw c.enter_with.ensures refl in
-    decides_then t seed (value_there s q (option_copied c.args.priority)) rest key _ _ _ _ c.in_ok-to.ensures (decides_comes t seed (rest key) _ _ here)
+    decides_then t seed (value_there s q (option_copied c.args.priority)) rest key (Ok c.enter_with.result) _ _ _ c.in_ok-to.ensures (decides_comes t seed (rest key) (Ok c.enter_with.result) _ here)

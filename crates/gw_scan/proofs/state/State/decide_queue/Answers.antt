@@ -1,4 +1,4 @@
-use Rattle.std.proofs.Common.{ℕ, ℤ, Option, option_copied}
+use Rattle.std.proofs.Common.{◌≡◌, ℕ, ℤ, Option, option_copied, rules}
 use Rattle.gw_names.specs.declared.key.Key.{Key}
 use Rattle.gw_meaning.specs.declared.moves.Move.{Move}
 use Rattle.gw_meaning.specs.Entities.{line_at}
@@ -39,6 +39,7 @@ returns c =
     let key = c.in_ok-key.key in
     let last : ℕ → Eval Move = λ n. queue_units c.args.id key (line_at s.entities key) n in
     let n = c.in_ok-units.units in
-    let here : Comes (last n) c.queue_units.result = rw (c.queue-line.ensures, c.from.ensures) at c.queue_units.ensures in
+    let line : c.queue-line.result ≡ line_at s.entities key = search rules in
+    let here : Comes (last n) c.queue_units.result = rw (line, c.from.ensures) at c.queue_units.ensures in
     decides_then t seed (entity_prog s q (option_copied c.args.entity)) rest key _ _ _ _ c.in_ok-key.ensures
     (decides_then t seed (units_prog s q (option_copied c.args.units)) last n _ _ _ _ c.in_ok-units.ensures (decides_comes t seed (last n) _ _ here))

@@ -1,4 +1,4 @@
-use Rattle.std.proofs.Common.{ℕ, ℤ, Option, option_copied}
+use Rattle.std.proofs.Common.{◌≡◌, ℕ, ℤ, Option, option_copied, rules}
 use Rattle.gw_names.specs.declared.key.Key.{Key}
 use Rattle.gw_meaning.specs.declared.moves.Move.{Move}
 use Rattle.gw_meaning.specs.Machine.{delay_at}
@@ -26,5 +26,6 @@ returns c =
     let q = c.args.asker.now in
     let rest : Key → Eval Move = λ key. release_to c.args.id key (is_owner (facility_at s.entities key).owner c.args.x.now.number) (first_number (delay_at s.delays key)) in
     let key = c.in_ok-key.key in
-    let here : Comes (rest key) c.release_to.result = rw (c.is_owner-owns.ensures, c.owner.ensures, c.facility.ensures, c.first_waiting-next.ensures) at c.release_to.ensures in
+    let owns : c.is_owner-owns.result ≡ is_owner (facility_at s.entities key).owner c.args.x.now.number = search rules in
+    let here : Comes (rest key) c.release_to.result = rw (owns, c.first_waiting-next.ensures) at c.release_to.ensures in
     decides_then t seed (entity_prog s q (option_copied c.args.entity)) rest key _ _ _ _ c.in_ok-key.ensures (decides_comes t seed (rest key) _ _ here)

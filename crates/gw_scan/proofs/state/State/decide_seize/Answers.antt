@@ -1,4 +1,4 @@
-use Rattle.std.proofs.Common.{ℕ, ℤ, Option, option_copied}
+use Rattle.std.proofs.Common.{◌≡◌, ℕ, ℤ, Option, option_copied, rules}
 use Rattle.gw_names.specs.declared.key.Key.{Key}
 use Rattle.gw_meaning.specs.declared.moves.Move.{Move}
 use Rattle.std.proofs.Common.{is_some}
@@ -26,5 +26,6 @@ returns c =
     let q = c.args.asker.now in
     let rest : Key → Eval Move = λ key. seize_or_wait c.args.id key (is_some (facility_at s.entities key).owner) in
     let key = c.in_ok-key.key in
-    let here : Comes (rest key) c.seize_or_wait.result = rw (c.is_owned-owned.ensures, c.facility.ensures) at c.seize_or_wait.ensures in
+    let owned : c.is_owned-owned.result ≡ is_some (facility_at s.entities key).owner = search rules in
+    let here : Comes (rest key) c.seize_or_wait.result = rw owned at c.seize_or_wait.ensures in
     decides_then t seed (entity_prog s q (option_copied c.args.entity)) rest key _ _ _ _ c.in_ok-key.ensures (decides_comes t seed (rest key) _ _ here)

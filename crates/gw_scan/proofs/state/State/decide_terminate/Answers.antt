@@ -1,4 +1,4 @@
-use Rattle.std.proofs.Common.{ℕ, ℤ, Option, option_copied}
+use Rattle.std.proofs.Common.{◌≡◌, ℕ, ℤ, Option, option_copied, rules}
 use Rattle.gw_meaning.specs.declared.moves.Move.{Move}
 use Rattle.std.proofs.Common.{◌≡◌, Ok, Err, true, refl, rules}
 use Rattle.gw_nums.specs.Range.{is_negative, magnitude}
@@ -31,7 +31,7 @@ returns c =
     let rest : ℤ → Eval Move = λ v. stops_if (is_negative v) BadCount (gives (moves.Enter c.args.id changes.Nothing (fates.Destroyed (magnitude v)))) in
     let key = c.in_ok-count.count in
     let here : Comes (rest key) (Ok c.enter_for.result) = search rules in
-    decides_then t seed (value_or_zero s q (option_copied c.args.count)) rest key _ _ _ _ c.in_ok-count.ensures (decides_comes t seed (rest key) _ _ here)
+    decides_then t seed (value_or_zero s q (option_copied c.args.count)) rest key (Ok c.enter_for.result) _ _ _ c.in_ok-count.ensures (decides_comes t seed (rest key) (Ok c.enter_for.result) _ here)
 
 pub returns-then-is_negative : goal.returns-then-is_negative
 returns-then-is_negative c =

@@ -1,4 +1,4 @@
-use Rattle.std.proofs.Common.{ℕ, ℤ, Option, option_copied}
+use Rattle.std.proofs.Common.{◌≡◌, ℕ, ℤ, Option, option_copied, rules}
 use Rattle.gw_names.specs.declared.key.Key.{Key}
 use Rattle.gw_meaning.specs.declared.moves.Move.{Move}
 use Rattle.std.proofs.Common.{Ok, refl}
@@ -26,5 +26,6 @@ returns c =
     let q = c.args.asker.now in
     let rest : Key → Eval Move = λ key. logic_to c.args.id key (switched c.args.switching (switch_at s.entities key)) in
     let key = c.in_ok-key.key in
-    let here : Comes (rest key) (Ok c.enter_doing.result) = rw (c.enter_doing.ensures, c.switched-set.ensures, c.is_set.ensures) refl in
-    decides_then t seed (entity_prog s q (option_copied c.args.entity)) rest key _ _ _ _ c.in_ok-key.ensures (decides_comes t seed (rest key) _ _ here)
+    let set : c.switched-set.result ≡ switched c.args.switching (switch_at s.entities key) = search rules in
+    let here : Comes (rest key) (Ok c.enter_doing.result) = rw (c.enter_doing.ensures, set) refl in
+    decides_then t seed (entity_prog s q (option_copied c.args.entity)) rest key (Ok c.enter_doing.result) _ _ _ c.in_ok-key.ensures (decides_comes t seed (rest key) (Ok c.enter_doing.result) _ here)
