@@ -1,6 +1,7 @@
 pub mod ClockLaws
 pub mod Entries
 pub mod Waiting
+pub mod Waking
 pub mod LettingIn
 pub mod Crowd
 pub mod Counts

@@ -74,16 +74,16 @@ pub fn each_keeps_his_own()
     ensures values { PrioritiesAreOnesOwn }
 {}
 
-/// Each transaction stands in exactly one place: it is active, on the current chain, on the future chain, or on the
-/// delay chain of one facility or storage.
+/// Each transaction stands in exactly one place: it is active, on the current chain, on the future chain, on the delay
+/// chain of one facility or storage, or on the retry chain.
 pub fn each_has_one_place()
     ensures some { EachHasAPlace }
     ensures one { EachHasOnePlace }
 {}
 
 /// The active transaction goes to its destination where it has one, and else to the block behind its own: in a step it
-/// enters that block, or waits to enter it. Whoever is on the current or the future chain stays in his block, with his
-/// destination.
+/// enters that block, waits to enter it, or waits as it came for a change of something that it read. Whoever is on the
+/// current, the future or the retry chain stays in his block, with his destination.
 pub fn goes_where_it_is_sent()
     ensures goes { GoesToItsDestination }
     ensures stays { OthersStayInTheirBlocks }

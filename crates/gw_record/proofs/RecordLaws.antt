@@ -206,6 +206,7 @@ complete_moved s moves.Command = omega arith
 complete_moved s (moves.Enter id change fate) =
     complete_active s s.active _ (λ x. complete_changed change _ s.complete (complete_fated fate _ _))
 complete_moved s (moves.Refuse id key units) = complete_active s s.active _ (λ x. omega arith)
+complete_moved s (moves.Watch read) = complete_active s s.active _ (λ x. omega arith)
 complete_moved s moves.Pick = complete_picked s s.current
 complete_moved s (moves.Clock time) = omega arith
 
