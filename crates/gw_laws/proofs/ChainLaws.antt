@@ -77,7 +77,7 @@ refused_ordered s x id key units h = record {
   delays = with_has IsOrdered s.delays key _ (ordered_lined (bound x id units) (delay_at s.delays key) (delay_ordered s key h)) h.delays;
 }
 
-moved_ordered : (t : Listing) (s : Machine) (m : Move) → IsDecided t s m → AreChained s → AreChained (moved s m)
+pub moved_ordered : (t : Listing) (s : Machine) (m : Move) → IsDecided t s m → AreChained s → AreChained (moved s m)
 moved_ordered t s (moves.Start count arrivals) decided h = record { current = h.current; delays = h.delays }
 moved_ordered t s moves.Command decided h = record { current = h.current; delays = h.delays }
 moved_ordered t s (moves.Enter id change fate) decided h =
@@ -118,7 +118,7 @@ unchanged ks = let h = joined ks [] tt in rw append-nil at h
 first_gone : (k : ℕ) (ks : List ℕ) → IsFirstInFirstOut (k ∷ ks) ks
 first_gone k ks = (1, [], sym (append-nil ks), All-from_recursion (λ j. is_in (k ∷ ks) j ≡ false) [] tt)
 
-never_below_itself : (a : ℤ) → is_below a a ≡ false
+pub never_below_itself : (a : ℤ) → is_below a a ≡ false
 never_below_itself a = elim (cases_Bool (is_below a a)) [ inl below ↦ below_one_way a a below | inr not' ↦ not' ]
 
 -- One more on a chain in order stands behind those of its priority that are there.

@@ -34,3 +34,4 @@ pub mod DestinationLaws
 pub mod TestLaws
 pub mod VerbLaws
 pub mod ItemLaws
+pub mod WaiterLaws

@@ -22,6 +22,7 @@ ghost use Rattle.gw_laws.specs.Starts.{StartsAreDoneInOrder, NoMoreStartsThanThe
 ghost use Rattle.gw_laws.specs.Storages.{StoragesAreWithin, NobodyWaitsAtRoom};
 ghost use Rattle.gw_laws.specs.Tests.{EachIsAnOperator, HoldsAsItSays};
 ghost use Rattle.gw_laws.specs.Verbs.{EachVerbIsEvaluated};
+ghost use Rattle.gw_laws.specs.Waiters.{WaitersKeepTheirOrder, WokenInOrder, WokenByWhatIsWritten};
 
 /// The current chain is in order of priority. Of one priority, the first transactions leave it in a step, those that
 /// stay keep their order, and those that come stand behind them. Whoever becomes active was the first of all, and where
@@ -50,6 +51,15 @@ pub fn delays_in_order()
     ensures leaves { WhoLeavesIsLetIn }
     ensures first { FirstTakesOver }
     ensures free { NobodyWaitsAtAFreeFacility }
+{}
+
+/// Whoever waits at a TEST or a GATE for a change keeps his place in a step, and at most one comes, behind the others.
+/// Whoever read something that the step writes wakes, and is on the current chain then, and whoever did not, waits on.
+/// Of two of one priority whom a step wakes, the one who came first stands in front.
+pub fn waiters_wake_in_order()
+    ensures places { WaitersKeepTheirOrder }
+    ensures turn { WokenInOrder }
+    ensures woken { WokenByWhatIsWritten }
 {}
 
 /// No two transactions have one number, and each number was given: it is below the next one. No number is given twice.

@@ -1,0 +1,77 @@
+-- Those who wait at a TEST or a GATE for a change of something that they read, over every run from zero. (Manual: retry
+-- chains.)
+use Rattle.std.specs.Prelude.{◌≡◌, ◌<◌, ◌≤◌, ◌⊎◌, ℕ, ℤ, suc, Bool, true, false, List, ◌++◌, Option, Some, None, Ok, Contains, filter, length, slice_get}
+use Rattle.gw_nums.specs.Range.{magnitude}
+use Rattle.gw_names.specs.declared.key.Key.{Key}
+use Rattle.gw_names.specs.declared.key.Key.TheVariants as keys
+use Rattle.gw_names.specs.declared.verb.BlockVerb.TheVariants as blocks
+use Rattle.gw_expr.specs.declared.atom.Atom.TheVariants as atoms
+use Rattle.gw_expr.specs.Term.{Term, Value, Named, Defined}
+use Rattle.gw_streams.specs.declared.stream.Stream.{Stream}
+use Rattle.gw_meaning.specs.declared.auxiliary.Auxiliary.TheVariants as auxiliaries
+use Rattle.gw_meaning.specs.declared.auxiliary.Condition.{Condition}
+use Rattle.gw_meaning.specs.declared.statement.Block.{Block}
+use Rattle.gw_meaning.specs.declared.moves.Move.{Move}
+use Rattle.gw_meaning.specs.Statements.{A, operand}
+use Rattle.gw_meaning.specs.Listing.{Listing, block_at, number_at, capacity_at}
+use Rattle.gw_meaning.specs.Watching.{Waiter}
+use Rattle.gw_meaning.specs.Machine.{Machine}
+use Rattle.gw_meaning.specs.Questions.{result_of}
+use Rattle.gw_meaning.specs.Changes.{written, is_woken}
+use Rattle.gw_meaning.specs.Step.{is_open, decide, step, run}
+use Rattle.gw_laws.specs.Destinations.{goes_to}
+
+-- w waits for a change
+abbrev pub Waits : Machine → Waiter → Type 0
+Waits s w = Contains s.retry w
+
+-- of a list, one stands in front of another
+abbrev pub StandsInFront : {X : Type 0} → List X → X → X → Type 0
+StandsInFront xs x y = (i j : ℕ) × (i < j) × (slice_get xs i ≡ Some x) × (slice_get xs j ≡ Some y)
+
+-- in a step some wait on, in the order in which they were there, and at most one comes, behind these
+abbrev pub WaitersKeepTheirOrder : Type 0
+WaitersKeepTheirOrder =
+    (t : Listing) (seed : ℕ) (s v : Machine) → step t seed s ≡ Ok v →
+    (stays : Waiter → Bool) × (come : List Waiter) × (v.retry ≡ filter stays s.retry ++ come) × (length come ≤ 1)
+
+-- of two of one priority whom a step wakes, the one who came first stands in front
+abbrev pub WokenInOrder : Type 0
+WokenInOrder =
+    (t : Listing) (seed n : ℕ) (s v : Machine) → run t seed n ≡ Ok s → run t seed (suc n) ≡ Ok v →
+    (w u : Waiter) → StandsInFront s.retry w u → w.transaction.priority ≡ u.transaction.priority →
+    (Waits v w → ⊥) → (Waits v u → ⊥) → StandsInFront v.current w.transaction u.transaction
+
+-- whoever read something that the step writes wakes, and is on the current chain then; whoever did not, waits on
+abbrev pub WokenByWhatIsWritten : Type 0
+WokenByWhatIsWritten =
+    (t : Listing) (seed : ℕ) (s v : Machine) (w : Waiter) (m : Move) (streams : List Stream) →
+    result_of t seed (decide s) ≡ Ok (m, streams) → step t seed s ≡ Ok v → Waits s w →
+    (is_woken (written s m) w ≡ true → Contains v.current w.transaction)
+    × (is_woken (written s m) w ≡ false → Waits v w)
+
+-- the entity that an operand names as it is written: by a name, which may stand for a number, by a number, or by the
+-- name of its definition
+abbrev pub named_key : List ℕ → Option ℤ → Key
+named_key name None = keys.Named name
+named_key name (Some n) = keys.Num (magnitude n)
+
+abbrev pub key_written : Listing → Option Term → Option Key
+key_written t (Some (Defined name)) = Some (keys.Defined name)
+key_written t (Some (Named name)) = Some (named_key name (number_at t name))
+key_written t (Some (Value (atoms.Constant n))) = Some (keys.Num (magnitude n))
+key_written t operand = None
+
+-- the capacity that a version gives an entity; what is no storage has none
+abbrev pub capacity_of : Listing → Key → ℕ
+capacity_of t (keys.Defined name) = capacity_at t name
+capacity_of t key = 0
+
+-- nobody waits at a GATE whose condition holds of the entity that its operand names
+abbrev pub NobodyWaitsAtAnOpenGate : Type 0
+NobodyWaitsAtAnOpenGate =
+    (t : Listing) (seed n : ℕ) (s : Machine) → run t seed n ≡ Ok s →
+    (w : Waiter) (id : ℕ) (b : Block) (condition : Condition) (key : Key) → Waits s w →
+    goes_to t w.transaction ≡ Some id → block_at t id ≡ Some b → b.verb ≡ blocks.Gate →
+    b.auxiliary ≡ auxiliaries.Gate condition → key_written t (operand b A) ≡ Some key →
+    is_open s condition key (capacity_of t key) ≡ false
