@@ -35,3 +35,4 @@ pub mod TestLaws
 pub mod VerbLaws
 pub mod ItemLaws
 pub mod WaiterLaws
+pub mod GateLaws

@@ -98,7 +98,7 @@ module _ {X : Type 0} where
         let rest = before_filter zs x y one' other before in
         elim (cases_Bool (p z)) [ inl yes' ↦ rw yes' (inr rest) | inr no' ↦ rw no' rest ]
 
-all_stands : {X : Type 0} (P : X → Type 0) (xs : List X) (x : X) → AllByRecursion P xs → Stands xs x → P x
+pub all_stands : {X : Type 0} (P : X → Type 0) (xs : List X) (x : X) → AllByRecursion P xs → Stands xs x → P x
 all_stands P [] x all there = absurd there
 all_stands P (y ∷ ys) x all (inl same) = subst P same all.0
 all_stands P (y ∷ ys) x all (inr there) = all_stands P ys x all.1 there
