@@ -403,7 +403,7 @@ AtGate t s w =
     b.verb ≡ blocks.Gate → b.auxiliary ≡ auxiliaries.Gate condition → key_written t (operand b A) ≡ Some key →
     IsShut s condition key (capacity_of t key) w.read
 
-one_of : {X : Type 0} (x y : X) → Some x ≡ Some y → x ≡ y
+pub one_of : {X : Type 0} (x y : X) → Some x ≡ Some y → x ≡ y
 one_of x y is = cc
 
 gate_tried : (t : Listing) (seed : ℕ) (s : Machine) (x : Transaction) (id : ℕ) (b : Block) (condition : Condition) →

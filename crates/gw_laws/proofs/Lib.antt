@@ -36,3 +36,4 @@ pub mod VerbLaws
 pub mod ItemLaws
 pub mod WaiterLaws
 pub mod GateLaws
+pub mod WaitingTests

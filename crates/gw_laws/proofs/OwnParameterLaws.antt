@@ -80,7 +80,7 @@ change_elsewhere k n change held apart = refl
 
 module _ (k : ℕ) where
   -- its parameters stay, or it was active
-  abbrev KeepsParameters : Machine → Machine → Type 0
+  abbrev pub KeepsParameters : Machine → Machine → Type 0
   KeepsParameters s v = (values_at v.parameters k ≡ values_at s.parameters k) ⊎ IsActive s k
 
   settled_elsewhere : (s : Machine) (x : Transaction) (id : ℕ) (change : Change) (fate : Fate) → x.number ≢ k →
@@ -94,7 +94,7 @@ module _ (k : ℕ) where
       ∙ change_elsewhere k x.number change s.parameters not_his
   settled_elsewhere s x id change fate other = change_elsewhere k x.number change s.parameters (ne_eqb k x.number (λ is. other (sym is)))
 
-  moved_elsewhere : (t : Listing) (s : Machine) (m : Move) → IsDecided t s m → KeepsParameters s (moved s m)
+  pub moved_elsewhere : (t : Listing) (s : Machine) (m : Move) → IsDecided t s m → KeepsParameters s (moved s m)
   moved_elsewhere t s (moves.Enter id change fate) decided =
       entered_has (KeepsParameters s) (KeepsParameters s) t s id change fate decided.1 (inl refl)
       (λ x is.

@@ -7,18 +7,24 @@ use Rattle.gw_names.specs.declared.key.Key.TheVariants as keys
 use Rattle.gw_names.specs.declared.verb.BlockVerb.TheVariants as blocks
 use Rattle.gw_expr.specs.declared.atom.Atom.TheVariants as atoms
 use Rattle.gw_expr.specs.Term.{Term, Value, Named, Defined}
+use Rattle.gw_expr.specs.Evaluation.{Question, AttributeOf, PartOf, Reply, Evaluation, Yields, Stops, Wants, value_of}
+use Rattle.gw_names.specs.declared.class.Class.{Class}
+use Rattle.gw_names.specs.declared.class.Class.TheVariants as class
 use Rattle.gw_streams.specs.declared.stream.Stream.{Stream}
 use Rattle.gw_meaning.specs.declared.auxiliary.Auxiliary.TheVariants as auxiliaries
 use Rattle.gw_meaning.specs.declared.auxiliary.Condition.{Condition}
 use Rattle.gw_meaning.specs.declared.statement.Block.{Block}
 use Rattle.gw_meaning.specs.declared.moves.Move.{Move}
-use Rattle.gw_meaning.specs.Statements.{A, operand}
+use Rattle.gw_meaning.specs.declared.asker.Asker.{Asker}
+use Rattle.gw_meaning.specs.Statements.{A, B, operand}
 use Rattle.gw_meaning.specs.Listing.{Listing, block_at, number_at, capacity_at}
 use Rattle.gw_meaning.specs.Watching.{Waiter}
 use Rattle.gw_meaning.specs.Machine.{Machine}
 use Rattle.gw_meaning.specs.Questions.{result_of}
 use Rattle.gw_meaning.specs.Changes.{written, is_woken}
-use Rattle.gw_meaning.specs.Step.{is_open, decide, step, run}
+use Rattle.gw_meaning.specs.Evaluation.{Eval, reply_prog, evaluated}
+use Rattle.gw_meaning.specs.Step.{for_one, holds, is_open, decide, step, run}
+use Rattle.gw_model.specs.Well.{Well}
 use Rattle.gw_laws.specs.Destinations.{goes_to}
 
 -- w waits for a change
@@ -75,3 +81,51 @@ NobodyWaitsAtAnOpenGate =
     goes_to t w.transaction ≡ Some id → block_at t id ≡ Some b → b.verb ≡ blocks.Gate →
     b.auxiliary ≡ auxiliaries.Gate condition → key_written t (operand b A) ≡ Some key →
     is_open s condition key (capacity_of t key) ≡ false
+
+-- what stays as it is until a block writes it: owners, contents, savevalues and switches, and what a transaction that
+-- waits has of its own. (Counts of entries are left out: they are to be set to 0 by a command, which wakes nobody.)
+abbrev pub is_lasting : Class → Bool
+is_lasting class.F = true
+is_lasting class.S = true
+is_lasting class.R = true
+is_lasting class.Q = true
+is_lasting class.W = true
+is_lasting class.X = true
+is_lasting class.Ls = true
+is_lasting class.P = true
+is_lasting class.Pr = true
+is_lasting class.Xn1 = true
+is_lasting class = false
+
+abbrev pub IsLasting : Question → Type 0
+IsLasting (AttributeOf class of) = is_lasting class ≡ true
+IsLasting (PartOf of) = ⊥
+IsLasting question = Unit {0}
+
+-- what an evaluation comes to, from any streams and without a draw
+abbrev pub ComesTo : {A : Type 0} → Listing → ℕ → Eval A → A → Type 0
+ComesTo t seed p a = (streams : List Stream) → result_of t seed (p streams) ≡ Ok (a, streams)
+
+-- an evaluation reads nothing in a state but what lasts
+abbrev pub ReadsWhatLasts : {A : Type 0} → Listing → ℕ → Machine → Asker → Evaluation A → Type 0
+ReadsWhatLasts t seed s q (Yields a) = Unit {0}
+ReadsWhatLasts t seed s q (Stops stop) = Unit {0}
+ReadsWhatLasts t seed s q (Wants question k) =
+    IsLasting question
+    × ((reply : Reply question) → ComesTo t seed (reply_prog s q question) reply → ReadsWhatLasts t seed s q (k reply))
+
+-- a value that reads nothing but what lasts, and what it comes to
+abbrev pub Lasts : Listing → ℕ → Machine → Asker → Term → ℤ → Type 0
+Lasts t seed s q term x =
+    ReadsWhatLasts t seed s q (value_of term) × ComesTo t seed (evaluated s q (value_of term)) x
+
+-- nobody waits at a TEST whose relation holds of two values that read nothing but what lasts. (Within the step limit,
+-- since numbers tell transactions apart there.)
+abbrev pub NobodyWaitsAtATestThatHolds : Type 0
+NobodyWaitsAtATestThatHolds =
+    (t : Listing) (seed n : ℕ) (s : Machine) → Well t → n ≤ t.limit → run t seed n ≡ Ok s →
+    (w : Waiter) (id : ℕ) (b : Block) (first second : Term) (x y : ℤ) → Waits s w →
+    goes_to t w.transaction ≡ Some id → block_at t id ≡ Some b → b.verb ≡ blocks.Test →
+    operand b A ≡ Some first → operand b B ≡ Some second →
+    Lasts t seed s (for_one s w.transaction) first x → Lasts t seed s (for_one s w.transaction) second y →
+    holds b.auxiliary x y ≡ false
