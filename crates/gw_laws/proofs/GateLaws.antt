@@ -369,14 +369,15 @@ module _ (t : Listing) (seed : ℕ) (s : Machine) where
 -- ---- over a run
 
 -- what each step's decision keeps, each run from zero has
-pub over_decided : (t : Listing) (seed : ℕ) (P : Machine → Type 0) → P zero_state →
-    ((s : Machine) (d : Move × List Stream) → result_of t seed (decide s) ≡ Ok d → P s → P (decided s d.0 d.1)) →
-    (n : ℕ) (s : Machine) → run t seed n ≡ Ok s → P s
-over_decided t seed P start keeps zero s is = let same : zero_state ≡ s = cc in subst P same start
+pub over_decided : (t : Listing) (seed : ℕ) (P : ℕ → Machine → Type 0) → P 0 zero_state →
+    ((n : ℕ) (s : Machine) (d : Move × List Stream) → run t seed n ≡ Ok s → result_of t seed (decide s) ≡ Ok d → P n s → P (suc n) (decided s d.0 d.1)) →
+    (n : ℕ) (s : Machine) → run t seed n ≡ Ok s → P n s
+over_decided t seed P start keeps zero s is = let same : zero_state ≡ s = cc in subst (P 0) same start
 over_decided t seed P start keeps (suc n) v is =
     let last = last_step t seed n v is in
     let went = went_on t seed last.before v last.goes in
-    subst P (sym went.2) (keeps last.before went.0 went.1 (over_decided t seed P start keeps n last.before last.there))
+    subst (P (suc n)) (sym went.2)
+    (keeps n last.before went.0 last.there went.1 (over_decided t seed P start keeps n last.before last.there))
 
 -- what holds of each who waits, and of whoever comes, holds of each who waits behind a step
 pub all_wait_on : (P Q : Waiter → Type 0) (s : Machine) (m : Move) (streams : List Stream) → AllByRecursion P s.retry →
@@ -441,8 +442,8 @@ who_comes_has P t seed s m each r = tt
 
 gates_are_shut : (t : Listing) (seed n : ℕ) (s : Machine) → run t seed n ≡ Ok s → AllByRecursion (AtGate t s) s.retry
 gates_are_shut t seed =
-    over_decided t seed (λ s. AllByRecursion (AtGate t s) s.retry) tt
-    (λ s d goes all. all_wait_on (AtGate t s) (AtGate t (decided s d.0 d.1)) s d.0 d.1 all
+    over_decided t seed (λ n s. AllByRecursion (AtGate t s) s.retry) tt
+    (λ n s d there goes all. all_wait_on (AtGate t s) (AtGate t (decided s d.0 d.1)) s d.0 d.1 all
     (who_comes_has (AtGate t s) t seed s d.0 (gate_refused t seed s) (refused_at t seed s d goes))
     (gate_stays t s d.0 d.1))
 

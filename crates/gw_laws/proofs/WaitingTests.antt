@@ -55,14 +55,16 @@ use Rattle.gw_meaning.proofs.Programs.{bind_gives, bind_ends}
 use Rattle.gw_frame.proofs.Moves.{settled, settled_is, with_active_has, picked_has}
 use Rattle.gw_laws.specs.Waiters.{Waits, is_lasting, IsLasting, ComesTo, ReadsWhatLasts, Lasts, NobodyWaitsAtATestThatHolds}
 use Rattle.gw_laws.proofs.Counts.{content, content_elsewhere, content_made}
+use Rattle.gw_frame.proofs.Decided.{is_decided}
 use Rattle.gw_frame.proofs.Known.{IsDecided}
+use Rattle.gw_model.specs.Well.{Well}
 use Rattle.gw_laws.specs.Destinations.{goes_to}
 use Rattle.gw_laws.specs.Living.{IsActive}
 use Rattle.gw_laws.proofs.Crowd.{one, many_has, active_crowd}
 use Rattle.gw_laws.proofs.NumberLaws.{has_number, IsNumbered, all_numbered}
 use Rattle.gw_laws.proofs.OwnParameterLaws.{moved_elsewhere}
 use Rattle.gw_laws.proofs.WaiterLaws.{Stands, stands_of, contains_of, stands_transactions, all_stands, who_comes, waits_on, retry_decided}
-use Rattle.gw_laws.proofs.GateLaws.{SameEntity, moved_entity, with_has, unread_unwritten, IsRefusedAt, refused_at, passes_or, one_of, who_comes_has}
+use Rattle.gw_laws.proofs.GateLaws.{SameEntity, moved_entity, with_has, unread_unwritten, IsRefusedAt, refused_at, IfWatches, passes_or, one_of, over_decided, all_wait_on}
 
 module _ (t : Listing) (seed : ℕ) where
   -- ---- what an evaluation of two parts comes to
@@ -290,8 +292,11 @@ module _ (t : Listing) (seed : ℕ) where
         λ all sub lasting. (
           rest.0.0,
           steady_reply s q question lasting parts.0.1 rest.0 rest.1,
-          (more, steady_by question before parts.0 parts.1,
-          all_within_in (with_all_watched read more) all more (λ w h. sub w (behind'.0 w h)) (all_in read more)),
+          (
+            more,
+            steady_by question before parts.0 parts.1,
+            all_within_in (with_all_watched read more) all more (λ w h. sub w (behind'.0 w h)) (all_in read more),
+          ),
           behind'.1 all sub,
         ),
       )
@@ -554,20 +559,43 @@ not_active s w h waits active =
     let once = h.apart k in
     omega arith
 
-test_stays : (t : Listing) (seed : ℕ) (s : Machine) (m : Move) (streams : List Stream) (w : Waiter) → IsDecided t s m → IsNumbered s → Contains s.retry w →
-    is_woken (written s m) w ≡ false → AtTest t seed s w → AtTest t seed (decided s m streams) w
-test_stays t seed s m streams w decided' numbered waits unread test = λ id b first second goes there verb one' two.
-    (let h = test id b first second goes there verb one' two in
+-- what a transaction has of its own stays in a move
+abbrev OwnStays : Machine → Move → Waiter → Type 0
+OwnStays s m w = (key : Key) →
+    parameter_at (moved s m).parameters w.transaction.number key ≡ parameter_at s.parameters w.transaction.number key
+
+waiting_own : (t : Listing) (s : Machine) (m : Move) (w : Waiter) → IsDecided t s m → IsNumbered s → Contains s.retry w → OwnStays s m w
+waiting_own t s m w decided' numbered waits key = elim (moved_elsewhere w.transaction.number t s m decided') [
+  | inl same ↦ ap (λ values. value_of values key) same
+  | inr active ↦ absurd (not_active s w numbered waits active)
+]
+
+abbrev Tested : Listing → ℕ → Machine → Move → Waiter → Type 0
+Tested t seed s m w = AtTest t seed s w × OwnStays s m w
+
+coming_tested : (t : Listing) (seed : ℕ) (s : Machine) (m : Move) → IfWatches (IsRefusedAt t seed s) m → AllByRecursion (Tested t seed s m) (who_comes m s.active)
+coming_tested t seed s (moves.Watch read) r =
+    let w : Waiter = record { transaction = r.x; read = read } in
+    let own : OwnStays s (moves.Watch read) w = λ key.
+    with_active_has (λ v. parameter_at v.parameters w.transaction.number key ≡ parameter_at s.parameters w.transaction.number key) s.active
+    (λ x. watching s x read) s refl (λ x is. refl) in
+    subst (λ o. AllByRecursion (Tested t seed s (moves.Watch read)) (who_comes (moves.Watch read) o)) (sym r.active)
+    ((test_refused t seed s read r, own), tt)
+coming_tested t seed s m r = tt
+
+each_tested : (P Q : Waiter → Type 0) (ws : List Waiter) → ((w : Waiter) → Stands ws w → Q w) → AllByRecursion P ws → AllByRecursion (λ w. P w × Q w) ws
+each_tested P Q [] each all = tt
+each_tested P Q (w ∷ ws) each all = ((all.0, each w (inl refl)), each_tested P Q ws (λ v there. each v (inr there)) all.1)
+
+test_stays : (t : Listing) (seed : ℕ) (s : Machine) (m : Move) (streams : List Stream) (w : Waiter) → is_woken (written s m) w ≡ false →
+    Tested t seed s m w → AtTest t seed (decided s m streams) w
+test_stays t seed s m streams w unread tested = λ id b first second goes there verb one' two.
+    (let h = tested.0 id b first second goes there verb one' two in
     let u = decided s m streams in
-    let own : (key : Key) → parameter_at u.parameters w.transaction.number key ≡ parameter_at s.parameters w.transaction.number key =
-    λ key. elim (moved_elsewhere w.transaction.number t s m decided') [
-      | inl same ↦ ap (λ values. value_of values key) same
-      | inr active ↦ absurd (not_active s w numbered waits active)
-    ] in
     let stays : Stays t seed s u w.read w.transaction = record {
       entity = λ kind key read. moved_entity s m kind key (unread_unwritten (written s m) w.read (watched.Entity kind key) unread read);
       counts = λ i read. moved_content i s m (unread_unwritten (written s m) w.read (watched.Counts i) unread read);
-      own = own;
+      own = tested.1;
     } in (
       h.0,
       h.1,
@@ -575,3 +603,24 @@ test_stays t seed s m streams w decided' numbered waits unread test = λ id b fi
       still_came t seed s u w.read w.transaction stays (operands.value_of first) h.0 h.3,
       still_came t seed s u w.read w.transaction stays (operands.value_of second) h.1 h.4,
     ))
+
+tests_fail : (t : Listing) (seed : ℕ) → Well t → (n : ℕ) (s : Machine) → run t seed n ≡ Ok s → n ≤ t.limit → AllByRecursion (AtTest t seed s) s.retry
+tests_fail t seed well =
+    over_decided t seed (λ n s. n ≤ t.limit → AllByRecursion (AtTest t seed s) s.retry) (λ within. tt)
+    (λ n s d there goes all within.
+    let early : n ≤ t.limit = omega (arith, within) in
+    let numbered = all_numbered t seed well n s there early in
+    let own : (w : Waiter) → Stands s.retry w → OwnStays s d.0 w =
+    λ w stands. waiting_own t s d.0 w (is_decided t seed s d goes) numbered (contains_of s.retry w stands) in
+    all_wait_on (Tested t seed s d.0) (AtTest t seed (decided s d.0 d.1)) s d.0 d.1
+    (each_tested (AtTest t seed s) (OwnStays s d.0) s.retry own (all early))
+    (coming_tested t seed s d.0 (refused_at t seed s d goes)) (test_stays t seed s d.0 d.1))
+
+pub nobody_waits_at_a_test_that_holds : NobodyWaitsAtATestThatHolds
+nobody_waits_at_a_test_that_holds t seed n s well within is w id b first second x y waits goes there verb one' two left' right' =
+    let q = for_one s w.transaction in
+    let all = tests_fail t seed well n s is within in
+    let h = all_stands (AtTest t seed s) s.retry w all (stands_of s.retry w waits) id b first second goes there verb one' two in
+    let a : h.0 ≡ x = came_is t seed s q w.read (operands.value_of first) h.0 x h.3 left'.0 left'.1 in
+    let c : h.1 ≡ y = came_is t seed s q w.read (operands.value_of second) h.1 y h.4 right'.0 right'.1 in
+    sym (ap₂ (holds b.auxiliary) a c) ∙ h.2

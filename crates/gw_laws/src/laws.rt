@@ -23,7 +23,7 @@ ghost use Rattle.gw_laws.specs.Storages.{StoragesAreWithin, NobodyWaitsAtRoom};
 ghost use Rattle.gw_laws.specs.Tests.{EachIsAnOperator, HoldsAsItSays};
 ghost use Rattle.gw_laws.specs.Verbs.{EachVerbIsEvaluated};
 ghost use Rattle.gw_laws.specs.Waiters.{WaitersKeepTheirOrder, WokenInOrder, WokenByWhatIsWritten};
-ghost use Rattle.gw_laws.specs.Waiters.{NobodyWaitsAtAnOpenGate};
+ghost use Rattle.gw_laws.specs.Waiters.{NobodyWaitsAtAnOpenGate, NobodyWaitsAtATestThatHolds};
 
 /// The current chain is in order of priority. Of one priority, the first transactions leave it in a step, those that
 /// stay keep their order, and those that come stand behind them. Whoever becomes active was the first of all, and where
@@ -63,9 +63,12 @@ pub fn waiters_wake_in_order()
     ensures woken { WokenByWhatIsWritten }
 {}
 
-/// Nobody waits at a GATE whose condition holds of the entity that its operand names.
+/// Nobody waits at a GATE whose condition holds of the entity that its operand names. Nobody waits at a TEST whose
+/// relation holds, where its values read nothing but what stays until a block writes it: F, Q, S, R, W, X and LS, and the
+/// parameters, the priority and the number of who waits.
 pub fn nobody_waits_for_what_holds()
     ensures gate { NobodyWaitsAtAnOpenGate }
+    ensures test { NobodyWaitsAtATestThatHolds }
 {}
 
 /// No two transactions have one number, and each number was given: it is below the next one. No number is given twice.
