@@ -1,8 +1,7 @@
 -- Nobody waits at a GATE whose condition holds: what a refused attempt read it waits for, and what is not written stays.
-use Rattle.std.proofs.Common.{◌≡◌, ℤ, pos, ℕ, zero, suc, Bool, true, false, cond, not, ◌||◌, List, [], ◌∷◌, ◌++◌, filter, Option, Some, None, is_some, nat_eq, nat_le, unwrap_or, Result, Ok, Err, refl, sym, ap, ap₂, subst, ◌∙◌, inl, inr}
-use Rattle.std.specs.Prelude.{Contains}
+use Rattle.std.proofs.Common.{◌≡◌, ℤ, pos, ℕ, zero, suc, Bool, true, false, cond, not, ◌||◌, List, [], ◌∷◌, ◌++◌, filter, Option, Some, None, is_some, nat_eq, nat_le, unwrap_or, Ok, refl, sym, ap, subst, ◌∙◌, inl, inr}
 use Rattle.std.specs.List.{AllByRecursion, list_any}
-use Rattle.std.proofs.lemmas.Bool.{cases_Bool, or_parts, or_left, or_right, eqb-true, false≢true}
+use Rattle.std.proofs.lemmas.Bool.{cases_Bool, or_parts, or_left, or_right, eqb-true}
 use Rattle.std.proofs.lemmas.List.Folds.{list_any-append}
 use Rattle.gw_nums.specs.Range.{is_below, magnitude}
 use Rattle.gw_names.specs.declared.key.Key.{Key}
@@ -17,11 +16,9 @@ use Rattle.gw_expr.specs.Term.{Term, Value, Computed, Named, Label, Fraction, De
 use Rattle.gw_expr.specs.Evaluation as operands
 use Rattle.gw_expr.specs.declared.stop.Stop.TheVariants.{Range}
 use Rattle.gw_streams.specs.declared.stream.Stream.{Stream}
-use Rattle.gw_meaning.specs.declared.item.End.{End}
 use Rattle.gw_meaning.specs.declared.item.Asked.TheVariants as asking
 use Rattle.gw_meaning.specs.declared.item.Item.TheVariants as items
 use Rattle.gw_meaning.specs.declared.asker.Asker.{Asker}
-use Rattle.gw_meaning.specs.declared.auxiliary.Auxiliary.{Auxiliary}
 use Rattle.gw_meaning.specs.declared.auxiliary.Auxiliary.TheVariants as auxiliaries
 use Rattle.gw_meaning.specs.declared.auxiliary.Condition.{Condition}
 use Rattle.gw_meaning.specs.declared.auxiliary.Condition.TheVariants as conditions
@@ -43,23 +40,23 @@ use Rattle.gw_meaning.specs.declared.watched.Watched.TheVariants as watched
 use Rattle.gw_meaning.specs.contracts.watched.WatchedEq.TheImpl.Laws as laws
 use Rattle.gw_meaning.specs.Statements.{A, B, operand}
 use Rattle.gw_meaning.specs.Listing.{Listing, block_at, after_at, command_at, number_at, capacity_at, or_next}
-use Rattle.gw_meaning.specs.Entities.{Entities, facility_at, line_at, store_at, savevalue_at, switch_at, done_to_facility, done_to_queue, done_to_storage, done, touched, later}
+use Rattle.gw_meaning.specs.Entities.{Entities, facility_at, line_at, store_at, savevalue_at, switch_at, done, touched, later}
 use Rattle.gw_meaning.specs.Watching.{Waiter, same_watched, is_watched, with_watched, kind_of}
 use Rattle.gw_meaning.specs.Machine.{Machine, raised, zero_state}
 use Rattle.gw_meaning.specs.Questions.{result_of}
-use Rattle.gw_meaning.specs.Evaluation.{Eval, gives, stops_if, ◌~>◌, numbered, named, traced, entity_prog, entity_traced}
-use Rattle.gw_entities.specs.Records.{Ownership, never_owned, Line, no_line, Store, never_used}
+use Rattle.gw_meaning.specs.Evaluation.{Eval, gives, stops_if, numbered, named, entity_prog, entity_traced}
+use Rattle.gw_entities.specs.Records.{Ownership, never_owned, no_line, Store, never_used}
 use Rattle.gw_meaning.specs.Changes.{entering, refused, watching, with_active, moved, written_where, written, is_woken, decided}
 use Rattle.gw_meaning.specs.Step.{for_one, is_open, kind_of_condition, reads_capacity, pass_or_wait, lead_to, go_to, gate_at, gate_storage, gate_other, gate_of, gate_prog, block_prog, meet_prog, try_prog, attempt_prog, scan_prog, move_prog, decide, run}
 use Rattle.gw_frame.proofs.Moves.{settled, settled_is, with_active_has, picked_has}
 use Rattle.gw_frame.proofs.Running.{last_step}
 use Rattle.gw_laws.specs.Destinations.{goes_to}
-use Rattle.gw_laws.specs.Waiters.{Waits, named_key, key_written, capacity_of, NobodyWaitsAtAnOpenGate}
+use Rattle.gw_laws.specs.Waiters.{named_key, key_written, capacity_of, NobodyWaitsAtAnOpenGate}
 use Rattle.gw_laws.proofs.Waiting.{let_in_is}
 use Rattle.gw_laws.proofs.EndLaws.{went_on}
 use Rattle.gw_laws.proofs.Tried.{Comes, comes_gives, comes_ends, comes_asks, comes_bind, comes_then, comes_more, comes_any, IsOfNobody, IsCommand, command_next, pick_next, changed_keeps}
 use Rattle.gw_laws.proofs.Entries.{at_with}
-use Rattle.gw_laws.proofs.WaiterLaws.{Stands, stands_of, all_stands, who_comes, waits_on, retry_decided}
+use Rattle.gw_laws.proofs.WaiterLaws.{stands_of, all_stands, who_comes, waits_on, retry_decided}
 
 -- ---- what is watched is told apart
 

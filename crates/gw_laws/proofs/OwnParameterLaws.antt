@@ -1,13 +1,8 @@
 -- In a step no parameters change but those of the active transaction.
-use Rattle.std.proofs.Common.{◌≡◌, ◌≢◌, ℕ, zero, suc, ◌-◌, ◌^◌, ◌≤◌, ◌<◌, List, nat_eq, nat_lt, true, false, cond, [], ◌∷◌, length, get_or, take, set, ◌++◌, ◌⊎◌, Option, Some, None, unwrap_or, refl, ap, sym, subst, ◌∙◌, inl, inr, arith}
-use Rattle.std.specs.Prelude.{Contains, position, swap_remove}
-use Rattle.std.specs.Option.{option_map_or}
+use Rattle.std.proofs.Common.{◌≡◌, ◌≢◌, ℕ, ◌-◌, ◌^◌, ◌<◌, List, nat_eq, nat_lt, false, cond, [], ◌∷◌, ◌++◌, ◌⊎◌, Some, unwrap_or, refl, ap, sym, subst, ◌∙◌, inl, inr, arith}
 use Rattle.std.specs.Map.{lookup}
 use Rattle.std.proofs.lemmas.Bool.Decides.{nat_tests}
 use Rattle.std.proofs.lemmas.Bool.{cases_Bool, cases_eq, cases_lt, eq-eqb, ne_eqb, eqb-true, false≢true}
-use Rattle.std.proofs.lemmas.List.{get_or_default}
-use Rattle.std.proofs.lemmas.List.Sorted.{Contains-permutation, IsPermutation-swap_remove}
-use Rattle.std.proofs.lemmas.Map.Views.{Contains-from_lookup}
 use Rattle.gw_names.specs.declared.key.Key.{Key}
 use Rattle.gw_entities.specs.Tables.{with_value}
 use Rattle.gw_entities.specs.Parameters.{Held, values_at, with_values, without}
@@ -35,7 +30,6 @@ use Rattle.gw_laws.proofs.Crowd.{one, active_crowd, settled_crowd, many_living}
 use Rattle.gw_laws.proofs.NumberLaws.{has_number, IsNumbered, of_number, IsGone, made_gone, lets_gone, alive, all_numbered, woken_gone}
 use Rattle.gw_laws.proofs.Room.{all_within}
 use Rattle.gw_laws.proofs.Waiting.{leaving}
-use Rattle.gw_laws.proofs.StayLaws.{first_or_rest}
 use Rattle.gw_laws.proofs.ParameterLaws.{Values, let_in_parameters}
 
 -- ---- where the parameters of one transaction are set or forgotten, those of the others stay

@@ -24,7 +24,7 @@ use Rattle.gw_meaning.specs.declared.moves.Move.TheVariants as moves
 use Rattle.gw_meaning.specs.Listing.{Listing}
 use Rattle.gw_meaning.specs.Entities.{Entities, facility_at, given_back, done, touched}
 use Rattle.gw_meaning.specs.Machine.{Machine, delay_at}
-use Rattle.gw_meaning.specs.Changes.{lined_up, let_in, one_let_in, some_let_in, admitted, entering, placed, bound, refused, picked, moved, watching, all_lined_up, is_woken, woken, written}
+use Rattle.gw_meaning.specs.Changes.{lined_up, let_in, one_let_in, some_let_in, admitted, entering, placed, bound, refused, picked, moved, watching, is_woken, woken, written}
 use Rattle.gw_meaning.specs.Step.{first_number}
 use Rattle.gw_meaning.proofs.Programs.{run_on}
 use Rattle.gw_meaning.proofs.Chains.{length_lined}

@@ -1,7 +1,7 @@
 -- Nobody waits at a TEST that holds: what its attempt read and nobody wrote since replies as it did.
-use Rattle.std.proofs.Common.{◌≡◌, ℤ, pos, ℕ, zero, suc, ◌-◌, ◌≤◌, Bool, true, false, cond, not, nat_eq, ◌||◌, List, [], ◌∷◌, ◌++◌, Option, Some, None, unwrap_or, Result, Ok, Err, refl, sym, ap, ap₂, subst, ◌∙◌, inl, inr, arith}
+use Rattle.std.proofs.Common.{◌≡◌, ℤ, pos, ℕ, ◌-◌, ◌≤◌, Bool, true, false, cond, not, nat_eq, ◌||◌, List, [], ◌∷◌, ◌++◌, Option, Some, None, unwrap_or, Result, Ok, Err, refl, sym, ap, ap₂, subst, ◌∙◌, inl, inr, arith}
 use Rattle.std.specs.Prelude.{Contains}
-use Rattle.std.specs.List.{AllByRecursion, list_any}
+use Rattle.std.specs.List.{AllByRecursion}
 use Rattle.std.proofs.lemmas.Bool.{or_parts, or_left, eq-eqb}
 use Rattle.std.proofs.lemmas.List.Folds.{list_any-append}
 use Rattle.gw_nums.specs.Range.{is_value, is_below}
@@ -12,7 +12,7 @@ use Rattle.gw_names.specs.declared.key.Key.TheVariants as keys
 use Rattle.gw_names.specs.declared.verb.BlockVerb.TheVariants as blocks
 use Rattle.gw_entities.specs.Records.{Ownership, Line, Store}
 use Rattle.gw_entities.specs.Tables.{value_of, with_value}
-use Rattle.gw_entities.specs.Parameters.{values_at, parameter_at}
+use Rattle.gw_entities.specs.Parameters.{parameter_at}
 use Rattle.gw_expr.specs.declared.stop.Stop.{Stop}
 use Rattle.gw_expr.specs.declared.stop.Stop.TheVariants.{Range, NoParameter}
 use Rattle.gw_expr.specs.declared.attribute.Subject.{Subject}
@@ -30,7 +30,6 @@ use Rattle.gw_meaning.specs.declared.asker.Asker.{Asker}
 use Rattle.gw_meaning.specs.declared.auxiliary.Auxiliary.{Auxiliary}
 use Rattle.gw_meaning.specs.declared.statement.Block.{Block}
 use Rattle.gw_meaning.specs.declared.transaction.Transaction.{Transaction}
-use Rattle.gw_meaning.specs.declared.transaction.Count.{Count}
 use Rattle.gw_meaning.specs.declared.moves.Arrival.{Arrival}
 use Rattle.gw_meaning.specs.declared.moves.Change.{Change}
 use Rattle.gw_meaning.specs.declared.moves.Change.TheVariants as changes
@@ -45,15 +44,15 @@ use Rattle.gw_meaning.specs.declared.watched.Watched.TheVariants as watched
 use Rattle.gw_meaning.specs.Statements.{A, B, C, operand}
 use Rattle.gw_meaning.specs.Listing.{Listing, block_at, label_at, number_at, capacity_at}
 use Rattle.gw_meaning.specs.Entities.{facility_at, line_at, store_at, savevalue_at, switch_at}
-use Rattle.gw_meaning.specs.Watching.{Waiter, same_watched, is_watched, with_watched, with_all_watched, kind_of, transactions_of}
+use Rattle.gw_meaning.specs.Watching.{Waiter, same_watched, is_watched, with_watched, with_all_watched, transactions_of}
 use Rattle.gw_meaning.specs.Machine.{Machine, count_at, delay_at}
 use Rattle.gw_meaning.specs.Questions.{Answer, ask, result_of}
-use Rattle.gw_meaning.specs.Evaluation.{Eval, gives, ends_with, asks, ◌~>◌, stops_if, in_range, amount, numbered, named, subject_prog, storage_prog, units_left, left_prog, counted, block_count, own_value, owned, one_if, value_held, parameter_value, value_there, entity_value, storage_value, block_value, attribute_prog, reply_prog, evaluated, entity_watched, storage_watched, counts_of, counts_watched, watched_prog, watched_by, traced, value_traced}
-use Rattle.gw_meaning.specs.Changes.{crossed, Making, made, maybe_made, all_made, making_of, deed_shares, let_in, one_let_in, some_let_in, changed, entering, refused, watching, with_active, moved, crossing, crossings, written_by, written_where, written, is_woken, decided}
-use Rattle.gw_meaning.specs.Step.{for_one, holds, test_prog, block_prog, meet_prog, decide, run}
+use Rattle.gw_meaning.specs.Evaluation.{Eval, gives, ends_with, asks, ◌~>◌, stops_if, in_range, amount, numbered, named, subject_prog, storage_prog, units_left, left_prog, counted, block_count, owned, one_if, value_held, parameter_value, value_there, entity_value, storage_value, block_value, attribute_prog, reply_prog, evaluated, entity_watched, storage_watched, counts_of, counts_watched, watched_prog, watched_by, traced, value_traced}
+use Rattle.gw_meaning.specs.Changes.{Making, made, maybe_made, all_made, making_of, deed_shares, let_in, one_let_in, some_let_in, changed, entering, refused, watching, with_active, moved, crossing, crossings, written_by, written_where, written, is_woken, decided}
+use Rattle.gw_meaning.specs.Step.{for_one, holds, test_prog, block_prog, meet_prog, run}
 use Rattle.gw_meaning.proofs.Programs.{bind_gives, bind_ends}
 use Rattle.gw_frame.proofs.Moves.{settled, settled_is, with_active_has, picked_has}
-use Rattle.gw_laws.specs.Waiters.{Waits, is_lasting, IsLasting, ComesTo, ReadsWhatLasts, Lasts, NobodyWaitsAtATestThatHolds}
+use Rattle.gw_laws.specs.Waiters.{is_lasting, IsLasting, ComesTo, ReadsWhatLasts, NobodyWaitsAtATestThatHolds}
 use Rattle.gw_laws.proofs.Counts.{content, content_elsewhere, content_made}
 use Rattle.gw_frame.proofs.Decided.{is_decided}
 use Rattle.gw_frame.proofs.Known.{IsDecided}
@@ -63,7 +62,7 @@ use Rattle.gw_laws.specs.Living.{IsActive}
 use Rattle.gw_laws.proofs.Crowd.{one, many_has, active_crowd}
 use Rattle.gw_laws.proofs.NumberLaws.{has_number, IsNumbered, all_numbered}
 use Rattle.gw_laws.proofs.OwnParameterLaws.{moved_elsewhere}
-use Rattle.gw_laws.proofs.WaiterLaws.{Stands, stands_of, contains_of, stands_transactions, all_stands, who_comes, waits_on, retry_decided}
+use Rattle.gw_laws.proofs.WaiterLaws.{Stands, stands_of, contains_of, stands_transactions, all_stands, who_comes}
 use Rattle.gw_laws.proofs.GateLaws.{SameEntity, moved_entity, with_has, unread_unwritten, IsRefusedAt, refused_at, IfWatches, passes_or, one_of, over_decided, all_wait_on}
 
 module _ (t : Listing) (seed : ℕ) where

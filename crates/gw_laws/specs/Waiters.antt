@@ -1,6 +1,6 @@
 -- Those who wait at a TEST or a GATE for a change of something that they read, over every run from zero. (Manual: retry
 -- chains.)
-use Rattle.std.specs.Prelude.{◌≡◌, ◌<◌, ◌≤◌, ◌⊎◌, ℕ, ℤ, suc, Bool, true, false, List, ◌++◌, Option, Some, None, Ok, Contains, filter, length, slice_get}
+use Rattle.std.specs.Prelude.{◌≡◌, ◌<◌, ◌≤◌, ℕ, ℤ, suc, Bool, true, false, List, ◌++◌, Option, Some, None, Ok, Contains, filter, length, slice_get}
 use Rattle.gw_nums.specs.Range.{magnitude}
 use Rattle.gw_names.specs.declared.key.Key.{Key}
 use Rattle.gw_names.specs.declared.key.Key.TheVariants as keys
