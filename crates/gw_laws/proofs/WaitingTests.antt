@@ -50,9 +50,10 @@ use Rattle.gw_meaning.specs.Questions.{Answer, ask, result_of}
 use Rattle.gw_meaning.specs.Evaluation.{Eval, gives, ends_with, asks, ◌~>◌, stops_if, in_range, amount, numbered, named, subject_prog, storage_prog, units_left, left_prog, counted, block_count, owned, one_if, value_held, parameter_value, value_there, entity_value, storage_value, block_value, attribute_prog, reply_prog, evaluated, entity_watched, storage_watched, counts_of, counts_watched, watched_prog, watched_by, traced, value_traced}
 use Rattle.gw_meaning.specs.Changes.{Making, made, maybe_made, all_made, making_of, deed_shares, let_in, one_let_in, some_let_in, changed, entering, refused, watching, with_active, moved, crossing, crossings, written_by, written_where, written, is_woken, decided}
 use Rattle.gw_meaning.specs.Step.{for_one, holds, test_prog, block_prog, meet_prog, run}
+use Rattle.gw_meaning.proofs.Traces as alone
 use Rattle.gw_meaning.proofs.Programs.{bind_gives, bind_ends}
 use Rattle.gw_frame.proofs.Moves.{settled, settled_is, with_active_has, picked_has}
-use Rattle.gw_laws.specs.Waiters.{is_lasting, IsLasting, ComesTo, ReadsWhatLasts, NobodyWaitsAtATestThatHolds}
+use Rattle.gw_laws.specs.Waiters.{is_lasting, IsLasting, ComesTo, ReadsWhatLasts, NobodyWaitsAtATestThatHolds, value_alone, TellingChangesNothing}
 use Rattle.gw_laws.proofs.Counts.{content, content_elsewhere, content_made}
 use Rattle.gw_frame.proofs.Decided.{is_decided}
 use Rattle.gw_frame.proofs.Known.{IsDecided}
@@ -623,3 +624,14 @@ nobody_waits_at_a_test_that_holds t seed n s well within is w id b first second 
     let a : h.0 ≡ x = came_is t seed s q w.read (operands.value_of first) h.0 x h.3 left'.0 left'.1 in
     let c : h.1 ≡ y = came_is t seed s q w.read (operands.value_of second) h.1 y h.4 right'.0 right'.1 in
     sym (ap₂ (holds b.auxiliary) a c) ∙ h.2
+
+-- ---- what tells what it read comes to the same
+
+alone_is : {A : Type 0} (r : Result ((A × List Watched) × List Stream) End) → value_alone r ≡ alone.value_alone r
+alone_is (Ok r) = refl
+alone_is (Err end) = refl
+
+pub telling_changes_nothing : TellingChangesNothing
+telling_changes_nothing t seed s q read operand streams =
+    let alike = alone.value_alike t seed s q read operand streams in
+    (alone_is (result_of t seed (value_traced s q read operand streams)) ∙ alike.value, alike.same)

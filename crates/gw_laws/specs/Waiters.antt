@@ -1,6 +1,7 @@
 -- Those who wait at a TEST or a GATE for a change of something that they read, over every run from zero. (Manual: retry
 -- chains.)
-use Rattle.std.specs.Prelude.{◌≡◌, ◌<◌, ◌≤◌, ℕ, ℤ, suc, Bool, true, false, List, ◌++◌, Option, Some, None, Ok, Contains, filter, length, slice_get}
+use Rattle.std.specs.Prelude.{◌≡◌, ◌<◌, ◌≤◌, ℕ, ℤ, suc, Bool, true, false, List, ◌++◌, Option, Some, None, Ok, Contains, filter, length, slice_get, Result, Err}
+use Rattle.std.specs.List.{list_any}
 use Rattle.gw_nums.specs.Range.{magnitude}
 use Rattle.gw_names.specs.declared.key.Key.{Key}
 use Rattle.gw_names.specs.declared.key.Key.TheVariants as keys
@@ -16,13 +17,16 @@ use Rattle.gw_meaning.specs.declared.auxiliary.Condition.{Condition}
 use Rattle.gw_meaning.specs.declared.statement.Block.{Block}
 use Rattle.gw_meaning.specs.declared.moves.Move.{Move}
 use Rattle.gw_meaning.specs.declared.asker.Asker.{Asker}
+use Rattle.gw_meaning.specs.declared.item.End.{End}
+use Rattle.gw_meaning.specs.declared.item.Item.{Item}
+use Rattle.gw_meaning.specs.declared.watched.Watched.{Watched}
 use Rattle.gw_meaning.specs.Statements.{A, B, operand}
 use Rattle.gw_meaning.specs.Listing.{Listing, block_at, number_at, capacity_at}
 use Rattle.gw_meaning.specs.Watching.{Waiter}
 use Rattle.gw_meaning.specs.Machine.{Machine}
-use Rattle.gw_meaning.specs.Questions.{result_of}
+use Rattle.gw_meaning.specs.Questions.{result_of, items_of}
 use Rattle.gw_meaning.specs.Changes.{written, is_woken}
-use Rattle.gw_meaning.specs.Evaluation.{Eval, reply_prog, evaluated}
+use Rattle.gw_meaning.specs.Evaluation.{Eval, reply_prog, evaluated, value_there, value_traced}
 use Rattle.gw_meaning.specs.Step.{for_one, holds, is_open, decide, step, run}
 use Rattle.gw_model.specs.Well.{Well}
 use Rattle.gw_laws.specs.Destinations.{goes_to}
@@ -129,3 +133,20 @@ NobodyWaitsAtATestThatHolds =
     operand b A ≡ Some first → operand b B ≡ Some second →
     Lasts t seed s (for_one s w.transaction) first x → Lasts t seed s (for_one s w.transaction) second y →
     holds b.auxiliary x y ≡ false
+
+-- the result of an evaluation without what it read
+abbrev pub value_alone : {A : Type 0} → Result ((A × List Watched) × List Stream) End → Result (A × List Stream) End
+value_alone (Ok r) = Ok (r.0.0, r.1)
+value_alone (Err end) = Err end
+
+-- an attempt that tells what it read evaluates an operand as every other does: it comes to the same, ends the same,
+-- leaves the same streams, and asks no other items
+abbrev pub TellingChangesNothing : Type 0
+TellingChangesNothing =
+    (t : Listing) (seed : ℕ) (s : Machine) (q : Asker) (read : List Watched) (operand : Option Term)
+    (streams : List Stream) →
+    (value_alone (result_of t seed (value_traced s q read operand streams))
+    ≡ result_of t seed (value_there s q operand streams))
+    × ((test : Item → Bool) →
+    list_any test (items_of t seed (value_traced s q read operand streams))
+    ≡ list_any test (items_of t seed (value_there s q operand streams)))

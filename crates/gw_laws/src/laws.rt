@@ -23,7 +23,7 @@ ghost use Rattle.gw_laws.specs.Storages.{StoragesAreWithin, NobodyWaitsAtRoom};
 ghost use Rattle.gw_laws.specs.Tests.{EachIsAnOperator, HoldsAsItSays};
 ghost use Rattle.gw_laws.specs.Verbs.{EachVerbIsEvaluated};
 ghost use Rattle.gw_laws.specs.Waiters.{WaitersKeepTheirOrder, WokenInOrder, WokenByWhatIsWritten};
-ghost use Rattle.gw_laws.specs.Waiters.{NobodyWaitsAtAnOpenGate, NobodyWaitsAtATestThatHolds};
+ghost use Rattle.gw_laws.specs.Waiters.{NobodyWaitsAtAnOpenGate, NobodyWaitsAtATestThatHolds, TellingChangesNothing};
 
 /// The current chain is in order of priority. Of one priority, the first transactions leave it in a step, those that
 /// stay keep their order, and those that come stand behind them. Whoever becomes active was the first of all, and where
@@ -69,6 +69,12 @@ pub fn waiters_wake_in_order()
 pub fn nobody_waits_for_what_holds()
     ensures gate { NobodyWaitsAtAnOpenGate }
     ensures test { NobodyWaitsAtATestThatHolds }
+{}
+
+/// An attempt that tells what it read, to wait for it, evaluates its operands as every other does: it comes to the same,
+/// ends the same, leaves the same streams, and asks no other items.
+pub fn telling_changes_nothing()
+    ensures { TellingChangesNothing }
 {}
 
 /// No two transactions have one number, and each number was given: it is below the next one. No number is given twice.

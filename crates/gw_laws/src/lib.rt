@@ -20,5 +20,5 @@ pub use laws::{
     each_keeps_his_own, each_verb_is_evaluated, facilities_are_used, facilities_have_owners,
     goes_where_it_is_sent, items_are_told_apart, nobody_waits_for_what_holds, numbers_apart,
     parameters_are_of_the_living, queues_are_within, runs_end, starts_are_counted,
-    storages_are_within, tests_hold_as_they_say, waiters_wake_in_order,
+    storages_are_within, telling_changes_nothing, tests_hold_as_they_say, waiters_wake_in_order,
 };
