@@ -10,7 +10,6 @@ use Rattle.gw_names.specs.declared.key.Key.{Key}
 use Rattle.gw_names.specs.declared.key.Key.TheVariants as keys
 use Rattle.gw_expr.specs.declared.attribute.Subject.{Subject}
 use Rattle.gw_expr.specs.declared.attribute.Subject.TheVariants as subjects
-use Rattle.gw_expr.specs.declared.stop.Stop.{Stop}
 use Rattle.gw_expr.specs.declared.stop.Stop.TheVariants.{Range}
 use Rattle.gw_expr.specs.Term.{Term, Named}
 use Rattle.gw_expr.specs.Evaluation.{value_of, Question, NumberOf, AttributeOf, PartOf, VariableOf, FunctionOf, Reply, Evaluation, Yields, Stops, Wants}
@@ -28,8 +27,8 @@ use Rattle.gw_meaning.specs.declared.watched.Watched.TheVariants as watched
 use Rattle.gw_meaning.specs.Listing.{Listing, label_at, number_at}
 use Rattle.gw_meaning.specs.Watching.{with_all_watched}
 use Rattle.gw_meaning.specs.Machine.{Machine}
-use Rattle.gw_meaning.specs.Questions.{ask, result_of, items_of}
-use Rattle.gw_meaning.specs.Evaluation.{Eval, gives, ends_with, asks, ◌~>◌, value_prog, value_there, entity_prog, value_traced, entity_traced, stops_if, numbered, named, subject_prog, storage_prog, left_prog, counted, block_count, block_value, entity_value, storage_value, attribute_prog, reply_prog, evaluated, entity_watched, storage_watched, counts_of, counts_watched, watched_prog, watched_by, traced}
+use Rattle.gw_meaning.specs.Questions.{result_of, items_of}
+use Rattle.gw_meaning.specs.Evaluation.{Eval, gives, asks, ◌~>◌, value_prog, value_there, entity_prog, value_traced, entity_traced, stops_if, numbered, named, subject_prog, storage_prog, left_prog, counted, block_count, block_value, entity_value, storage_value, attribute_prog, reply_prog, evaluated, entity_watched, storage_watched, counts_of, counts_watched, watched_prog, watched_by, traced}
 use Rattle.gw_meaning.proofs.Programs.{bind_gives, bind_ends}
 
 -- the result without what was read
