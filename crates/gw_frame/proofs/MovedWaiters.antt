@@ -2,14 +2,13 @@
 use Rattle.std.proofs.Common.{◌≡◌, Bool, not, ◌||◌, ℕ, List, [], ◌∷◌, ◌++◌, map, filter, length, Option, Some, None, option_map, refl, ap, ap₂, sym, ◌∙◌}
 use Rattle.std.proofs.lemmas.List.{map-append, length-map}
 use Rattle.std.specs.List.{list_any}
-use Rattle.gw_names.specs.declared.key.Key.{Key}
 use Rattle.gw_meaning.specs.declared.transaction.Transaction.{Transaction}
 use Rattle.gw_meaning.specs.declared.watched.Watched.{Watched}
 use Rattle.gw_meaning.specs.declared.watched.Watched.TheVariants as watched
 use Rattle.gw_meaning.specs.Watching.{Waiter, same_watched, is_watched, with_watched, with_all_watched, transactions_of}
 use Rattle.gw_meaning.specs.Evaluation.{counts_of}
 use Rattle.gw_meaning.specs.Machine.{Machine}
-use Rattle.gw_meaning.specs.Changes.{all_lined_up, crossing, crossings, is_woken, retries, woken}
+use Rattle.gw_meaning.specs.Changes.{crossing, crossings, is_woken, retries, woken}
 use Rattle.gw_frame.specs.Moved.{IsMove, moved_transaction, moved_watched, moved_waiter, moved_machine}
 use Rattle.gw_frame.proofs.MovedLists.{cond_under, eq_moved, all_lined_up_moved}
 

@@ -55,14 +55,15 @@ pub record IsSettled (s : Machine) (x : Transaction) (id : ℕ) (change : Change
   pub next : v.next ≡ s.next
   pub current : v.current ≡ current_behind fate (marked change s.clock (placed x id)) s.current
   pub delays : v.delays ≡ s.delays
+  pub retry : v.retry ≡ s.retry
   pub counts : v.counts ≡ crossed fate s.counts x.current id
   pub entities : v.entities ≡ touched change s.clock x.number s.entities
 
 pub settled_is : (s : Machine) (x : Transaction) (id : ℕ) (change : Change) (fate : Fate) → IsSettled s x id change fate (settled s x id change fate)
-settled_is s x id change fates.Active = record { clock = refl; next = refl; current = refl; delays = refl; counts = refl; entities = refl }
-settled_is s x id change fates.Current = record { clock = refl; next = refl; current = refl; delays = refl; counts = refl; entities = refl }
-settled_is s x id change (fates.Delayed until) = record { clock = refl; next = refl; current = refl; delays = refl; counts = refl; entities = refl }
-settled_is s x id change (fates.Destroyed count) = record { clock = refl; next = refl; current = refl; delays = refl; counts = refl; entities = refl }
+settled_is s x id change fates.Active = record { clock = refl; next = refl; current = refl; delays = refl; retry = refl; counts = refl; entities = refl }
+settled_is s x id change fates.Current = record { clock = refl; next = refl; current = refl; delays = refl; retry = refl; counts = refl; entities = refl }
+settled_is s x id change (fates.Delayed until) = record { clock = refl; next = refl; current = refl; delays = refl; retry = refl; counts = refl; entities = refl }
+settled_is s x id change (fates.Destroyed count) = record { clock = refl; next = refl; current = refl; delays = refl; retry = refl; counts = refl; entities = refl }
 
 -- what else stays where one is let in: all but the delay chain that it leaves, the current chain and the counts of blocks
 pub let_in_delays : (x : Transaction) (to : Option ℕ) (s : Machine) → (let_in x to s).delays ≡ s.delays

@@ -27,8 +27,9 @@ use Rattle.gw_meaning.specs.Statements.{A, B, C, D, E, operand, is_generate_verb
 use Rattle.gw_meaning.specs.Machine.{Machine, live, delay_at}
 use Rattle.gw_meaning.specs.Entities.{facility_at, line_at, store_at, savevalue_at}
 use Rattle.gw_meaning.specs.Evaluation.{Eval, millionths}
-use Rattle.gw_meaning.specs.Step.{for_none, for_one, arrival_at, arrival_in_time, arrival_prog, first_of_generate, first_of, first_arrival, with_arrival, arrivals_prog, first_arrivals_prog, start_prog, generate_prog, advance_prog, terminate_prog, is_too_many, queue_prog, depart_units, depart_prog, seize_or_wait, seize_prog, is_owner, release_prog, beside, in_use, share_of, all_shares, enter_or_wait, enter_storage, enter_prog, shares_prog, leave_for, leave_units, leave_prog, go_to, lead_to, transfer_prog, holds, test_prog, priority_prog, by_sign, assign_with, assign_prog, is_open, reads_capacity, gate_storage, gate_of, gate_prog, logic_prog, savevalue_with, savevalue_prog, left_of, loop_back, loop_to, loop_prog, block_prog, meet_prog, try_prog, attempt_prog}
-use Rattle.gw_laws.proofs.Trying.{Tries, TriesAny, tries_gives, tries_ends, tries_asks, tries_stops, tries_cond, tries_bind, tries_more, draw_tries, arithmetic_tries, value_tries, value_there_tries, value_or_zero_tries, entity_tries, units_tries, time_tries}
+use Rattle.gw_meaning.specs.Step.{for_none, for_one, arrival_at, arrival_in_time, arrival_prog, first_of_generate, first_of, first_arrival, with_arrival, arrivals_prog, first_arrivals_prog, start_prog, generate_prog, advance_prog, terminate_prog, is_too_many, queue_prog, depart_units, depart_prog, seize_or_wait, seize_prog, is_owner, release_prog, beside, in_use, share_of, all_shares, enter_or_wait, enter_storage, enter_prog, shares_prog, leave_for, leave_units, leave_prog, go_to, lead_to, transfer_prog, holds, test_prog, priority_prog, by_sign, assign_with, assign_prog, is_open, reads_capacity, gate_storage, gate_of, gate_prog, logic_prog, savevalue_with, savevalue_prog, left_of, loop_back, loop_to, loop_prog, block_prog, meet_prog, try_prog, attempt_prog, pass_or_wait, gate_at, gate_other}
+use Rattle.gw_meaning.specs.declared.watched.Watched.{Watched}
+use Rattle.gw_laws.proofs.Trying.{Tries, TriesAny, tries_gives, tries_ends, tries_asks, tries_stops, tries_cond, tries_bind, tries_more, draw_tries, arithmetic_tries, value_tries, value_there_tries, value_or_zero_tries, entity_tries, units_tries, time_tries, value_traced_tries, entity_traced_tries}
 
 -- a command sets streams or starts; an attempt enters a block or is refused
 abbrev pub IsOfCommand : Move → Type 0
@@ -36,10 +37,11 @@ IsOfCommand (moves.Start count arrivals) = Unit {0}
 IsOfCommand moves.Command = Unit {0}
 IsOfCommand move = ⊥
 
--- a block is entered, or refuses
+-- a block is entered, or refuses; whoever waits for a change waits as it came
 abbrev pub IsAt : ℕ → Move → Type 0
 IsAt id (moves.Enter to change fate) = to ≡ id
 IsAt id (moves.Refuse to key units) = to ≡ id
+IsAt id (moves.Watch read) = Unit {0}
 IsAt id move = ⊥
 
 abbrev pub IsAttempt : Move → Type 0
@@ -174,9 +176,16 @@ module _ (s : Machine) where
   transfer_tries id (Some term) near far = lead_to_tries id near
   transfer_tries id None near far = lead_to_tries id near
 
+  pass_or_wait_tries : (id : ℕ) (label : Option Term) (read : List Watched) (passes : Bool) → TriesMove id (pass_or_wait id label read passes)
+  pass_or_wait_tries id None read true = tries_gives refl
+  pass_or_wait_tries id None read false = tries_gives tt
+  pass_or_wait_tries id (Some label) read passes = lead_to_tries id (cond passes None (Some label))
+
   test_tries : (q : Asker) (id : ℕ) (relation : Auxiliary) (first second label : Option Term) → TriesMove id (test_prog s q id relation first second label)
-  test_tries q id relation first second label = tries_bind (value_there_tries s q first) (λ a. tries_bind (value_there_tries s q second)
-      (λ b. lead_to_tries id (cond (holds relation a b) None label)))
+  test_tries q id relation first second None = tries_bind (value_traced_tries s q [] first) (λ a. tries_bind (value_traced_tries s q a.1 second)
+      (λ b. pass_or_wait_tries id None b.1 (holds relation a.0 b.0)))
+  test_tries q id relation first second (Some label) = tries_bind (value_there_tries s q first) (λ a. tries_bind (value_there_tries s q second)
+      (λ b. pass_or_wait_tries id (Some label) [] (holds relation a b)))
 
   priority_tries : (q : Asker) (id : ℕ) (priority : Option Term) → TriesMove id (priority_prog s q id priority)
   priority_tries q id priority = tries_bind (value_there_tries s q priority) (λ p. tries_gives refl)
@@ -206,18 +215,26 @@ module _ (s : Machine) where
       (λ key. tries_bind (less_one_tries (parameter_at s.parameters q.number key))
       (λ left. tries_cond (nat_eq (magnitude left) 0) (tries_gives refl) (loop_to_tries id key left label)))
 
+  gate_at_tries : (id : ℕ) (condition : Condition) (label : Option Term) (key : Key) (read : List Watched) (capacity : ℕ) →
+      TriesMove id (gate_at s id condition label key read capacity)
+  gate_at_tries id condition label key read capacity = pass_or_wait_tries id label _ (is_open s condition key capacity)
+
   gate_storage_tries : (id : ℕ) (condition : Condition) (label : Option Term) (name : List ℕ) (reads : Bool) →
       TriesMove id (gate_storage s id condition label name reads)
-  gate_storage_tries id condition label name true = tries_asks (items.Named asking.Storage name)
-      (λ capacity. lead_to_tries id (cond (is_open s condition (keys.Defined name) capacity) None label))
-  gate_storage_tries id condition label name false = lead_to_tries id (cond (is_open s condition (keys.Defined name) 0) None label)
+  gate_storage_tries id condition label name true =
+      tries_asks (items.Named asking.Storage name) (gate_at_tries id condition label (keys.Defined name) [])
+  gate_storage_tries id condition label name false = gate_at_tries id condition label (keys.Defined name) [] 0
+
+  gate_other_tries : (q : Asker) (id : ℕ) (condition : Condition) (entity label : Option Term) → TriesMove id (gate_other s q id condition entity label)
+  gate_other_tries q id condition entity None =
+      tries_bind (entity_traced_tries s q entity) (λ r. gate_at_tries id condition None r.0 r.1 0)
+  gate_other_tries q id condition entity (Some label) =
+      tries_bind (entity_tries s q entity) (λ key. gate_at_tries id condition (Some label) key [] 0)
 
   gate_of_tries : (q : Asker) (id : ℕ) (condition : Condition) (entity label : Option Term) → TriesMove id (gate_of s q id condition entity label)
   gate_of_tries q id condition (Some (Defined name)) label = gate_storage_tries id condition label name (reads_capacity condition)
-  gate_of_tries q id condition (Some term) label =
-      tries_bind (entity_tries s q (Some term)) (λ key. lead_to_tries id (cond (is_open s condition key 0) None label))
-  gate_of_tries q id condition None label =
-      tries_bind (entity_tries s q None) (λ key. lead_to_tries id (cond (is_open s condition key 0) None label))
+  gate_of_tries q id condition (Some term) label = gate_other_tries q id condition (Some term) label
+  gate_of_tries q id condition None label = gate_other_tries q id condition None label
 
   gate_tries : (q : Asker) (id : ℕ) (auxiliary : Auxiliary) (entity label : Option Term) → TriesMove id (gate_prog s q id auxiliary entity label)
   gate_tries q id (auxiliaries.Gate condition) entity label = gate_of_tries q id condition entity label

@@ -1,6 +1,6 @@
 -- The current chain, move by move and over a run: in order of priority, and first in first out within. The delay chains, too,
 -- are in order.
-use Rattle.std.proofs.Common.{◌≡◌, ℕ, ◌+◌, ◌≤◌, ℤ, nat_eq, Bool, true, false, List, [], ◌∷◌, ◌++◌, Some, Ok, refl, sym, ap, ap₂, subst, ◌∙◌, append-nil, append_assoc, arith, inl, inr}
+use Rattle.std.proofs.Common.{◌≡◌, ℕ, ◌+◌, ◌≤◌, ℤ, nat_eq, Bool, true, false, List, [], ◌∷◌, ◌++◌, Some, Ok, refl, sym, ap, ap₂, subst, ◌∙◌, append-nil, append_assoc, arith, inl, inr, filter, not}
 use Rattle.std.specs.List.{AllByRecursion}
 use Rattle.std.specs.Ordering.{int_eq}
 use Rattle.std.proofs.lemmas.Bool.{cases_Bool, eq-eqb, false≢true, or_parts}
@@ -18,10 +18,12 @@ use Rattle.gw_meaning.specs.declared.moves.Move.{Move}
 use Rattle.gw_meaning.specs.declared.moves.Move.TheVariants as moves
 use Rattle.gw_meaning.specs.Listing.{Listing}
 use Rattle.gw_meaning.specs.Machine.{Machine, delay_at, waiting}
-use Rattle.gw_meaning.specs.Changes.{lined_up, all_lined_up, placed, marked, one_let_in, bound, refused, due, moved}
+use Rattle.gw_meaning.specs.Changes.{lined_up, all_lined_up, placed, marked, one_let_in, bound, refused, due, moved, watching, written, is_woken, woken}
 use Rattle.gw_meaning.specs.Step.{run}
 use Rattle.gw_meaning.proofs.Programs.{run_on}
 use Rattle.gw_meaning.proofs.Chains.{IsOrdered, AreNotAbove, in_order, ordered_lined, ordered_all_lined, below_one_way}
+use Rattle.gw_meaning.specs.declared.watched.Watched.{Watched}
+use Rattle.gw_meaning.specs.Watching.{transactions_of}
 use Rattle.gw_laws.specs.Chain.{ChainIsInOrder, ChainIsFirstInFirstOut, IsFirstInFirstOut, numbers_of, is_in}
 use Rattle.gw_frame.proofs.Decided.{step_decides}
 use Rattle.gw_frame.proofs.Known.{IsDecided}
@@ -30,8 +32,9 @@ use Rattle.gw_frame.proofs.Moves.{marked_same, settled, settled_is, current_behi
 use Rattle.gw_frame.proofs.Running.{over_run}
 use Rattle.gw_laws.proofs.Entries.{Each, at_has, with_has}
 use Rattle.gw_laws.proofs.Waiting.{let_in_as, let_in_number, let_in_is, all_without}
-use Rattle.gw_laws.proofs.Crowd.{one, active_crowd, many, many_lined, many_without, waiting_with, future_parts}
+use Rattle.gw_laws.proofs.Crowd.{one, active_crowd, many, many_lined, many_without, waiting_with, future_parts, many_all_lined, waiters_parts}
 use Rattle.gw_laws.proofs.NumberLaws.{has_number, IsNumbered, all_numbered}
+use Rattle.gw_laws.proofs.Waking.{unwoken}
 
 -- the current chain and each delay chain are in order of priority
 pub record AreChained (s : Machine) : Type 0 where
@@ -74,7 +77,7 @@ refused_ordered s x id key units h = record {
   delays = with_has IsOrdered s.delays key _ (ordered_lined (bound x id units) (delay_at s.delays key) (delay_ordered s key h)) h.delays;
 }
 
-moved_ordered : (t : Listing) (s : Machine) (m : Move) → IsDecided t s m → AreChained s → AreChained (moved s m)
+pub moved_ordered : (t : Listing) (s : Machine) (m : Move) → IsDecided t s m → AreChained s → AreChained (moved s m)
 moved_ordered t s (moves.Start count arrivals) decided h = record { current = h.current; delays = h.delays }
 moved_ordered t s moves.Command decided h = record { current = h.current; delays = h.delays }
 moved_ordered t s (moves.Enter id change fate) decided h =
@@ -82,6 +85,8 @@ moved_ordered t s (moves.Enter id change fate) decided h =
     (λ v. record { nothing = λ k. k; one = λ a coming k. record { current = k.current; delays = k.delays }; lets = lets_ordered })
 moved_ordered t s (moves.Refuse id key units) decided h =
     with_active_has AreChained s.active (λ x. refused s x id key units) s h (λ x is. refused_ordered s x id key units h)
+moved_ordered t s (moves.Watch read) decided h =
+    with_active_has AreChained s.active (λ x. watching s x read) s h (λ x is. record { current = h.current; delays = h.delays })
 moved_ordered t s moves.Pick decided h =
     picked_has AreChained s s.current h (λ x xs is. record { current = (subst IsOrdered is h.current).1; delays = h.delays })
 moved_ordered t s (moves.Clock time) decided h =
@@ -89,7 +94,13 @@ moved_ordered t s (moves.Clock time) decided h =
 
 pub all_chained : (t : Listing) (seed n : ℕ) (s : Machine) → run t seed n ≡ Ok s → AreChained s
 all_chained t seed = over_run t seed (λ n s. AreChained s) (record { current = tt; delays = tt })
-    (λ n s m streams there decided h. (let k = moved_ordered t s m decided h in record { current = k.current; delays = k.delays }))
+    (λ n s m streams there decided h.
+    (let v = moved s m in
+    let k = moved_ordered t s m decided h in
+    record {
+      current = ordered_all_lined (transactions_of (filter (is_woken (written s m)) v.retry)) v.current k.current;
+      delays = k.delays;
+    }))
 
 pub all_ordered : (t : Listing) (seed n : ℕ) (s : Machine) → run t seed n ≡ Ok s → IsOrdered s.current
 all_ordered t seed n s is = (all_chained t seed n s is).current
@@ -107,7 +118,7 @@ unchanged ks = let h = joined ks [] tt in rw append-nil at h
 first_gone : (k : ℕ) (ks : List ℕ) → IsFirstInFirstOut (k ∷ ks) ks
 first_gone k ks = (1, [], sym (append-nil ks), All-from_recursion (λ j. is_in (k ∷ ks) j ≡ false) [] tt)
 
-never_below_itself : (a : ℤ) → is_below a a ≡ false
+pub never_below_itself : (a : ℤ) → is_below a a ≡ false
 never_below_itself a = elim (cases_Bool (is_below a a)) [ inl below ↦ below_one_way a a below | inr not' ↦ not' ]
 
 -- One more on a chain in order stands behind those of its priority that are there.
@@ -214,7 +225,7 @@ module _ (priority : ℤ) where
     come : List ℕ
     numbers : numbers_of priority w.current ≡ numbers_of priority s.current ++ come
     new : AllByRecursion (λ k. is_in (numbers_of priority s.current) k ≡ false) come
-    apart : (k : ℕ) → many (has_number k) w.current + many (has_number k) (waiting w.delays) ≤ 1
+    apart : (k : ℕ) → many (has_number k) w.current + many (has_number k) (waiting w.delays) + many (has_number k) (transactions_of w.retry) ≤ 1
 
   behind_turn : (s w : Machine) → StandBehind s w → TakesTurns s w
   behind_turn s w h =
@@ -227,19 +238,19 @@ module _ (priority : ℤ) where
       let parts = or_parts (is_in ks k) (is_in js k) (sym (list_any-append (λ other. nat_eq other k) ks js) ∙ all.0) in
       (parts.0, not_in_front ks js more all.1)
 
-  stood : (s v : Machine) → IsNumbered s → IsOrdered s.current → v.current ≡ s.current → v.delays ≡ s.delays → StandBehind s v
-  stood s v h order same chains = record {
+  stood : (s v : Machine) → IsNumbered s → IsOrdered s.current → v.current ≡ s.current → v.delays ≡ s.delays → v.retry ≡ s.retry → StandBehind s v
+  stood s v h order same chains waits = record {
     order = subst IsOrdered (sym same) order;
     come = [];
     numbers = ap (numbers_of priority) same ∙ sym (append-nil (numbers_of priority s.current));
     new = tt;
-    apart = λ k. let once = h.apart k in rw (same, chains) (omega arith);
+    apart = λ k. let once = h.apart k in rw (same, chains, waits) (omega arith);
   }
 
   -- the active one behind its equals, who is not there yet
   lined_behind : (s v : Machine) (x y : Transaction) → s.active ≡ Some x → y.number ≡ x.number → IsNumbered s → IsOrdered s.current →
-      v.current ≡ lined_up y s.current → v.delays ≡ s.delays → StandBehind s v
-  lined_behind s v x y is named h order same chains =
+      v.current ≡ lined_up y s.current → v.delays ≡ s.delays → v.retry ≡ s.retry → StandBehind s v
+  lined_behind s v x y is named h order same chains waits =
       let number : (k : ℕ) → one (has_number k y) ≡ one (has_number k x) = λ k. ap (λ n. one (nat_eq n k)) named in
       record {
         order = subst IsOrdered (sym same) (ordered_lined y s.current order);
@@ -252,7 +263,7 @@ module _ (priority : ℤ) where
             let n = number k in
             let once = h.apart k in
             let lined = many_lined (has_number k) y s.current in
-            rw (same, chains) (omega arith);
+            rw (same, chains, waits) (omega arith);
       }
 
   settled_behind : (s : Machine) (x : Transaction) (id : ℕ) (change : Change) (fate : Fate) → s.active ≡ Some x → IsNumbered s → IsOrdered s.current →
@@ -260,9 +271,9 @@ module _ (priority : ℤ) where
   settled_behind s x id change fates.Current is h order =
       let y = marked change s.clock (placed x id) in
       let same = settled_is s x id change fates.Current in
-      lined_behind s (settled s x id change fates.Current) x y is (marked_same change s.clock (placed x id)).0 h order same.current same.delays
+      lined_behind s (settled s x id change fates.Current) x y is (marked_same change s.clock (placed x id)).0 h order same.current same.delays same.retry
   settled_behind s x id change fate is h order =
-      let same = settled_is s x id change fate in stood s (settled s x id change fate) h order same.current same.delays
+      let same = settled_is s x id change fate in stood s (settled s x id change fate) h order same.current same.delays same.retry
 
   lets_behind : (s w : Machine) (key : Key) (x : Transaction) (passed xs : List Transaction) → delay_at w.delays key ≡ passed ++ x ∷ xs →
       StandBehind s w → StandBehind s (one_let_in key x (passed ++ xs) w)
@@ -296,33 +307,74 @@ module _ (priority : ℤ) where
             let c = chain k in
             let p = parts k in
             let lined = many_lined (has_number k) y w.current in
-            rw (same.current, same.delays) (omega arith);
+            rw (same.current, same.delays, same.retry) (omega arith);
       }
 
-  moved_turn : (t : Listing) (s : Machine) (m : Move) → IsDecided t s m → IsNumbered s → IsOrdered s.current → TakesTurns s (moved s m)
-  moved_turn t s (moves.Start count arrivals) decided h order = same_turn s
-  moved_turn t s moves.Command decided h order = same_turn s
-  moved_turn t s (moves.Enter id change fate) decided h order =
-      behind_turn s (moved s (moves.Enter id change fate))
-      (entered_has (StandBehind s) (StandBehind s) t s id change fate decided.1 (stood s s h order refl refl)
+  -- those who wake stand behind, too
+  woken_behind : (list : List Watched) (s w : Machine) → StandBehind s w → StandBehind s (woken list w)
+  woken_behind list s w h =
+      let xs = transactions_of (filter (is_woken list) w.retry) in
+      let parts : (k : ℕ) → many (has_number k) xs + many (has_number k) (transactions_of (filter (λ v. not (is_woken list v)) w.retry))
+      ≡ many (has_number k) (transactions_of w.retry) = λ k. waiters_parts (has_number k) (is_woken list) w.retry in
+      let new : AllByRecursion (λ k. is_in (numbers_of priority w.current) k ≡ false) (numbers_of priority xs) =
+      come_new w.current xs (λ k. let once = h.apart k in let p = parts k in omega arith) in
+      let Q : List ℕ → Type 0 = λ ks. AllByRecursion (λ k. is_in ks k ≡ false) (numbers_of priority xs) in
+      record {
+        order = ordered_all_lined xs w.current h.order;
+        come = h.come ++ numbers_of priority xs;
+        numbers =
+            all_lined_numbers xs w.current h.order
+            ∙ (ap (λ ks. ks ++ numbers_of priority xs) h.numbers
+            ∙ append_assoc (numbers_of priority s.current) h.come (numbers_of priority xs));
+        new =
+            all_with (λ k. is_in (numbers_of priority s.current) k ≡ false) h.come (numbers_of priority xs) h.new
+            (not_in_front (numbers_of priority s.current) h.come (numbers_of priority xs) (subst Q h.numbers new));
+        apart = λ k.
+            let once = h.apart k in
+            let p = parts k in
+            let lined = many_all_lined (has_number k) xs w.current in
+            omega arith;
+      }
+
+  -- behind a move those stand who wake
+  abbrev DecidedTurn : Machine → Move → Type 0
+  DecidedTurn s m = TakesTurns s (woken (written s m) (moved s m))
+
+  none_turn : (s v : Machine) → TakesTurns s v → TakesTurns s (woken [] v)
+  none_turn s v h = unwoken (TakesTurns s) v h
+
+  decided_turn : (t : Listing) (s : Machine) (m : Move) → IsDecided t s m → IsNumbered s → IsOrdered s.current → DecidedTurn s m
+  decided_turn t s (moves.Start count arrivals) decided h order = none_turn s (moved s (moves.Start count arrivals)) (same_turn s)
+  decided_turn t s moves.Command decided h order = none_turn s (moved s moves.Command) (same_turn s)
+  decided_turn t s (moves.Enter id change fate) decided h order =
+      let m = moves.Enter id change fate in
+      behind_turn s (woken (written s m) (moved s m))
+      (woken_behind (written s m) s (moved s m)
+      (entered_has (StandBehind s) (StandBehind s) t s id change fate decided.1 (stood s s h order refl refl refl)
       (λ x is. settled_behind s x id change fate is h order)
       (λ v. record {
         nothing = λ k. k;
         one = λ a coming k. record { order = k.order; come = k.come; numbers = k.numbers; new = k.new; apart = k.apart };
         lets = lets_behind s;
-      }))
-  moved_turn t s (moves.Refuse id key units) decided h order =
-      with_active_has (TakesTurns s) s.active (λ x. refused s x id key units) s (same_turn s) (λ x is. same_turn s)
-  moved_turn t s moves.Pick decided h order =
-      picked_has (TakesTurns s) s s.current (same_turn s)
-      (λ x xs is. rw is (picked_turn x xs))
-  moved_turn t s (moves.Clock time) decided h order =
-      rw (all_lined_numbers (due time s.future) s.current order)
+      })))
+  decided_turn t s (moves.Refuse id key units) decided h order =
+      none_turn s (moved s (moves.Refuse id key units))
+      (with_active_has (TakesTurns s) s.active (λ x. refused s x id key units) s (same_turn s) (λ x is. same_turn s))
+  decided_turn t s (moves.Watch read) decided h order =
+      none_turn s (moved s (moves.Watch read))
+      (with_active_has (TakesTurns s) s.active (λ x. watching s x read) s (same_turn s) (λ x is. same_turn s))
+  decided_turn t s moves.Pick decided h order =
+      none_turn s (moved s moves.Pick)
+      (picked_has (TakesTurns s) s s.current (same_turn s)
+      (λ x xs is. rw is (picked_turn x xs)))
+  decided_turn t s (moves.Clock time) decided h order =
+      none_turn s (moved s (moves.Clock time))
+      (rw (all_lined_numbers (due time s.future) s.current order)
       (joined (numbers_of priority s.current) (numbers_of priority (due time s.future))
-      (come_new s.current (due time s.future) (λ k. let parts = future_parts (has_number k) time s.future in let once = h.apart k in omega arith)))
+      (come_new s.current (due time s.future) (λ k. let parts = future_parts (has_number k) time s.future in let once = h.apart k in omega arith))))
 
 pub chain_is_first_in_first_out : ChainIsFirstInFirstOut
 chain_is_first_in_first_out t seed n s v well within there is priority =
     let after = ((step_decides t seed s).runs v (sym (run_on t seed n s there) ∙ is)).0 in
     let P : Machine → Type 0 = λ w. IsFirstInFirstOut (numbers_of priority s.current) (numbers_of priority w.current) in
-    subst P (sym after.is) (moved_turn priority t s after.move after.is_decided (all_numbered t seed well n s there within) (all_ordered t seed n s there))
+    subst P (sym after.is) (decided_turn priority t s after.move after.is_decided (all_numbered t seed well n s there within) (all_ordered t seed n s there))

@@ -12,7 +12,7 @@ use Rattle.gw_meaning.specs.declared.moves.Move.{Move}
 use Rattle.gw_meaning.specs.declared.moves.Move.TheVariants as moves
 use Rattle.gw_meaning.specs.Listing.{Listing}
 use Rattle.gw_meaning.specs.Machine.{Machine}
-use Rattle.gw_meaning.specs.Changes.{Making, made, all_made, making_of, fated, refused, is_due, moved}
+use Rattle.gw_meaning.specs.Changes.{Making, made, all_made, making_of, fated, refused, is_due, moved, watching}
 use Rattle.gw_meaning.specs.Step.{run, sooner, least_time}
 use Rattle.gw_frame.proofs.Keeps.{all_with}
 use Rattle.gw_frame.proofs.Known.{IsComing, IsDecidedFate, IsDecided}
@@ -99,6 +99,8 @@ moved_goes_on t s (moves.Enter id change fate) decided h =
     rw whole.0 (omega arith, (h.0, whole.1))
 moved_goes_on t s (moves.Refuse id key units) decided h =
     with_active_has (GoesOn t s.clock) s.active (λ x. refused s x id key units) s (omega arith, h) (λ x is. (omega arith, h))
+moved_goes_on t s (moves.Watch read) decided h =
+    with_active_has (GoesOn t s.clock) s.active (λ x. watching s x read) s (omega arith, h) (λ x is. (omega arith, h))
 moved_goes_on t s moves.Pick decided h = picked_has (GoesOn t s.clock) s s.current (omega arith, h) (λ x xs is. (omega arith, h))
 moved_goes_on t s (moves.Clock time) decided h = (
   least_is_ahead s.clock s.future time decided.0 h.1,

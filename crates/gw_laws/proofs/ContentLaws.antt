@@ -11,7 +11,7 @@ use Rattle.gw_meaning.specs.declared.moves.Move.{Move}
 use Rattle.gw_meaning.specs.declared.moves.Move.TheVariants as moves
 use Rattle.gw_meaning.specs.Listing.{Listing}
 use Rattle.gw_meaning.specs.Machine.{Machine, delay_at}
-use Rattle.gw_meaning.specs.Changes.{Making, made, all_made, making_of, with_making, newcomer, placed, started, let_in, refused, moved}
+use Rattle.gw_meaning.specs.Changes.{Making, made, all_made, making_of, with_making, newcomer, placed, started, let_in, refused, moved, watching, written}
 use Rattle.gw_meaning.specs.Step.{run}
 use Rattle.gw_model.specs.Well.{Well}
 use Rattle.gw_laws.specs.Living.{living}
@@ -21,7 +21,7 @@ use Rattle.gw_frame.proofs.Moves.{settled, settled_is, marked_same, with_active_
 use Rattle.gw_frame.proofs.Running.{over_run}
 use Rattle.gw_laws.proofs.Waiting.{leaving}
 use Rattle.gw_laws.proofs.Counts.{content, content_crossed, content_made}
-use Rattle.gw_laws.proofs.Crowd.{one, remains, many, others, crowd, many_living, many_is, active_crowd, future_push, settled_crowd, settled_fewer, refused_crowd, leaving_crowd, let_in_crowd, lets_crowd, picked_crowd, advanced_crowd}
+use Rattle.gw_laws.proofs.Crowd.{one, remains, many, others, crowd, many_living, many_is, active_crowd, future_push, settled_crowd, settled_fewer, refused_crowd, leaving_crowd, let_in_crowd, lets_crowd, picked_crowd, advanced_crowd, watching_crowd, woken_crowd}
 use Rattle.gw_laws.proofs.Room.{anyone, all_within}
 
 abbrev pub stands_in : ℕ → Transaction → Bool
@@ -111,6 +111,9 @@ moved_counted t s (moves.Enter id change fate) room decided h =
 moved_counted t s (moves.Refuse id key units) room decided h =
     with_active_has IsCounted s.active (λ x. refused s x id key units) s h
     (λ x is p some. h p some ∙ sym (refused_crowd (stands_in p) s x id key units is refl))
+moved_counted t s (moves.Watch read) room decided h =
+    with_active_has IsCounted s.active (λ x. watching s x read) s h
+    (λ x is p some. h p some ∙ sym (watching_crowd (stands_in p) s x read is))
 moved_counted t s moves.Pick room decided h =
     picked_has IsCounted s s.current h (λ x xs is p some. h p some ∙ sym (picked_crowd (stands_in p) s x xs decided is))
 moved_counted t s (moves.Clock time) room decided h = λ p some. h p some ∙ sym (advanced_crowd (stands_in p) s time)
@@ -121,7 +124,8 @@ all_counted t seed well =
     over_run t seed (λ n s. n ≤ t.limit → IsCounted s) (λ within p some. refl)
     (λ n s m streams there decided h within.
     let room = all_within t seed n s well there in
-    moved_counted t s m (omega (arith, room.crowd, well.greatest_limit)) decided (h (omega arith)))
+    let k = moved_counted t s m (omega (arith, room.crowd, well.greatest_limit)) decided (h (omega arith)) in
+    λ p some. k p some ∙ sym (woken_crowd (stands_in p) (written s m) (moved s m)))
 
 pub contents_are_counts : ContentsAreCounts
 contents_are_counts t seed n s well within is id some =

@@ -1,6 +1,6 @@
 -- What leaving and entering does to the content of each block.
-use Rattle.std.proofs.Common.{◌≡◌, ℕ, ◌+◌, ◌-◌, ◌<◌, ◌^◌, nat_eq, cond, List, [], ◌∷◌, Option, Some, None, refl, ap, sym, ◌∙◌, arith, inl, inr}
-use Rattle.std.proofs.lemmas.Bool.{cases_eq, eq-eqb, ne_eqb}
+use Rattle.std.proofs.Common.{◌≡◌, ℕ, ◌+◌, ◌-◌, ◌<◌, ◌^◌, nat_eq, false, cond, List, [], ◌∷◌, Option, Some, None, refl, ap, sym, ◌∙◌, arith, inl, inr}
+use Rattle.std.proofs.lemmas.Bool.{cases_eq, eq-eqb, ne_eqb, false≢true}
 use Rattle.gw_meaning.specs.declared.transaction.Count.{Count}
 use Rattle.gw_meaning.specs.declared.moves.Fate.{Fate}
 use Rattle.gw_meaning.specs.declared.moves.Fate.TheVariants as fates
@@ -85,6 +85,15 @@ content_crossed fate cs from to p rest is room =
     let was : content (left cs from) p ≡ rest = omega arith in
     let more = content_entered fate (left cs from) to p (omega arith) in
     omega arith
+
+-- and so do those who stand in no block that is left or entered
+pub content_elsewhere : (fate : Fate) (cs : List (ℕ × Count)) (from to p : ℕ) → nat_eq p from ≡ false → nat_eq p to ≡ false →
+    content (crossed fate cs from to) p ≡ content cs p
+content_elsewhere fate cs from to p left_apart apart =
+    content_there (left cs from) to p _ (λ same. differs p to (sym same) apart)
+    ∙ left_there (count_in cs from) cs from p (λ same. differs p from (sym same) left_apart) where
+      differs : (a b : ℕ) → a ≡ b → nat_eq a b ≡ false → ⊥
+      differs a b same apart = false≢true (sym apart ∙ eq-eqb a b same)
 
 pub content_made : (cs : List (ℕ × Count)) (q p : ℕ) → content (made_one cs q) p ≡ content cs p
 content_made cs q p = content_same cs q p _ refl

@@ -13,7 +13,9 @@ use Rattle.gw_meaning.specs.declared.moves.Change.{Change}
 use Rattle.gw_meaning.specs.declared.moves.Fate.{Fate}
 use Rattle.gw_meaning.specs.declared.moves.Fate.TheVariants as fates
 use Rattle.gw_meaning.specs.Machine.{Machine, delay_at, waiting}
-use Rattle.gw_meaning.specs.Changes.{lined_up, all_lined_up, is_due, due, placed, marked, fated, let_in, one_let_in, bound, refused, picked, advanced}
+use Rattle.gw_meaning.specs.Changes.{lined_up, all_lined_up, is_due, due, placed, marked, fated, let_in, one_let_in, bound, refused, picked, advanced, watching, is_woken, woken}
+use Rattle.gw_meaning.specs.declared.watched.Watched.{Watched}
+use Rattle.gw_meaning.specs.Watching.{Waiter, transactions_of}
 use Rattle.gw_frame.proofs.Moves.{settled}
 use Rattle.gw_laws.specs.Living.{living}
 use Rattle.gw_laws.proofs.Waiting.{leaving, let_in_as}
@@ -51,7 +53,7 @@ module _ (test : Transaction → Bool) where
 
   -- of all the living but the active one, and of all
   abbrev pub others : Machine → ℕ
-  others s = many s.current + future_many s.future + many (waiting s.delays)
+  others s = many s.current + future_many s.future + many (waiting s.delays) + many (transactions_of s.retry)
 
   abbrev pub crowd : Machine → ℕ
   crowd s = active_many s.active + others s
@@ -84,9 +86,11 @@ module _ (test : Transaction → Bool) where
   pub many_living : (s : Machine) → many (living s) ≡ crowd s
   many_living s =
       let events = map (λ (e : Event). e.transaction) s.future in
-      let whole = many_append (option_to_list s.active) (s.current ++ (events ++ waiting s.delays)) in
-      let chains = many_append s.current (events ++ waiting s.delays) in
-      let behind = many_append events (waiting s.delays) in
+      let wait = waiting s.delays ++ transactions_of s.retry in
+      let whole = many_append (option_to_list s.active) (s.current ++ (events ++ wait)) in
+      let chains = many_append s.current (events ++ wait) in
+      let behind = many_append events wait in
+      let last = many_append (waiting s.delays) (transactions_of s.retry) in
       let one' = many_active s.active in
       let future = many_future s.future in
       omega arith
@@ -157,6 +161,30 @@ module _ (test : Transaction → Bool) where
       let one' = ap one same in
       let more = many_lined (bound x id units) (delay_at s.delays key) in
       let chains = waiting_with s.delays key (lined_up (bound x id units) (delay_at s.delays key)) in
+      omega arith
+
+  -- so do waiting for a change, and waking
+  many_push : (ws : List Waiter) (w : Waiter) → many (transactions_of (ws ++ w ∷ [])) ≡ many (transactions_of ws) + one (test w.transaction)
+  many_push [] w = omega arith
+  many_push (v ∷ vs) w = let rest = many_push vs w in omega arith
+
+  pub watching_crowd : (s : Machine) (x : Transaction) (read : List Watched) → s.active ≡ Some x → crowd (watching s x read) ≡ crowd s
+  watching_crowd s x read is =
+      let was = active_crowd s x is in
+      let push = many_push s.retry (record { transaction = x; read = read }) in
+      omega arith
+
+  pub waiters_parts : (p : Waiter → Bool) (ws : List Waiter) →
+      many (transactions_of (filter p ws)) + many (transactions_of (filter (λ w. not (p w)) ws)) ≡ many (transactions_of ws)
+  waiters_parts p [] = refl
+  waiters_parts p (w ∷ ws) =
+      let rest = waiters_parts p ws in
+      elim (cases_Bool (p w)) [ inl is ↦ rw is (omega arith) | inr other ↦ rw other (omega arith) ]
+
+  pub woken_crowd : (list : List Watched) (s : Machine) → crowd (woken list s) ≡ crowd s
+  woken_crowd list s =
+      let chains = many_all_lined (transactions_of (filter (is_woken list) s.retry)) s.current in
+      let parts = waiters_parts (is_woken list) s.retry in
       omega arith
 
   -- so does letting in one of a delay chain, who leaves it and comes onto the current chain

@@ -14,7 +14,7 @@ use Rattle.gw_meaning.specs.declared.moves.Move.{Move}
 use Rattle.gw_meaning.specs.declared.moves.Move.TheVariants as moves
 use Rattle.gw_meaning.specs.Listing.{Listing}
 use Rattle.gw_meaning.specs.Machine.{Machine, delay_at}
-use Rattle.gw_meaning.specs.Changes.{lined_up, one_let_in, some_let_in, admitted, entering, bound, refused, picked, moved}
+use Rattle.gw_meaning.specs.Changes.{lined_up, one_let_in, some_let_in, admitted, entering, bound, refused, picked, moved, watching}
 use Rattle.gw_meaning.specs.Step.{run}
 use Rattle.gw_meaning.proofs.Programs.{run_on}
 use Rattle.gw_meaning.proofs.Chains.{IsOrdered, in_order}
@@ -87,6 +87,8 @@ module _ (priority : ℤ) (q : Key) where
       (λ v key deed same entities does. deed_turn t s v key deed facility same does))
   moved_turn t s (moves.Refuse id key units) facility decided h order =
       with_active_has (TakesTurns s) s.active (λ x. refused s x id key units) s (same_turn s s refl) (λ x is. refused_turn s x id key units is h (order key))
+  moved_turn t s (moves.Watch read) facility decided h order =
+      with_active_has (TakesTurns s) s.active (λ x. watching s x read) s (same_turn s s refl) (λ x is. same_turn s (watching s x read) refl)
   moved_turn t s moves.Pick facility decided h order =
       picked_has (TakesTurns s) s s.current (same_turn s s refl) (λ x xs is. same_turn s (picked s (x ∷ xs)) refl)
   moved_turn t s (moves.Clock time) facility decided h order = same_turn s (moved s (moves.Clock time)) refl
@@ -127,6 +129,7 @@ moved_bound t s (moves.Enter id change fate) decided h =
     (λ v. record { nothing = λ k. k; one = λ a coming k. k; lets = lets_bound })
 moved_bound t s (moves.Refuse id key units) decided h =
     with_active_has AllAreBound s.active (λ x. refused s x id key units) s h (λ x is. refused_bound s x id key units h)
+moved_bound t s (moves.Watch read) decided h = with_active_has AllAreBound s.active (λ x. watching s x read) s h (λ x is. h)
 moved_bound t s moves.Pick decided h = picked_has AllAreBound s s.current h (λ x xs is. h)
 moved_bound t s (moves.Clock time) decided h = h
 

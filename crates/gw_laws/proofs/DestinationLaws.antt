@@ -1,6 +1,6 @@
--- The active transaction enters the block to which it goes, or waits to enter it; those on the current and the future chain
--- stay in their blocks.
-use Rattle.std.proofs.Common.{◌≡◌, ℕ, zero, suc, ◌-◌, ◌<◌, ◌^◌, nat_eq, Bool, true, false, not, ◌&&◌, ◌||◌, List, [], ◌∷◌, ◌++◌, map, Option, Some, None, refl, ap, sym, subst, ◌∙◌, arith, inl, inr}
+-- The active transaction enters the block to which it goes, waits to enter it, or waits as it came; those on the current, the
+-- future and the retry chain stay in their blocks.
+use Rattle.std.proofs.Common.{◌≡◌, ℕ, zero, suc, ◌-◌, ◌<◌, ◌^◌, nat_eq, Bool, true, false, not, ◌&&◌, ◌||◌, List, [], ◌∷◌, ◌++◌, map, Option, Some, None, refl, ap, sym, subst, ◌∙◌, arith, inl, inr, ◌⊎◌}
 use Rattle.std.specs.Prelude.{Contains, option_to_list}
 use Rattle.std.proofs.lemmas.Bool.{cases_Bool, cases_lt, eq-eqb, eqb-true, ne_eqb, and_parts, and_from, and_left, or_left, or_right}
 use Rattle.gw_names.specs.declared.key.Key.{Key}
@@ -17,20 +17,24 @@ use Rattle.gw_meaning.specs.declared.moves.Move.{Move}
 use Rattle.gw_meaning.specs.declared.moves.Move.TheVariants as moves
 use Rattle.gw_meaning.specs.Listing.{Listing, command_at}
 use Rattle.gw_meaning.specs.Machine.{Machine, raised, delay_at, waiting}
-use Rattle.gw_meaning.specs.Changes.{Making, lined_up, made, all_made, started, making_of, with_making, newcomer, placed, marked, fated, let_in, one_let_in, entering, bound, refused, with_active, moved}
+use Rattle.gw_meaning.specs.Changes.{Making, lined_up, made, all_made, started, making_of, with_making, newcomer, placed, marked, fated, let_in, one_let_in, entering, bound, refused, with_active, moved, watching, written, woken, decided}
 use Rattle.gw_meaning.proofs.Programs.{run_on}
+use Rattle.gw_meaning.specs.declared.watched.Watched.{Watched}
+use Rattle.gw_meaning.specs.Watching.{Waiter, transactions_of}
 use Rattle.gw_frame.proofs.Moves.{LetsIn, settled, settled_is, marked_same, with_active_has, entered_has, picked_has}
 use Rattle.gw_frame.proofs.Decided.{step_decides}
 use Rattle.gw_frame.proofs.Known.{IsDecided}
 use Rattle.gw_laws.specs.Living.{living}
-use Rattle.gw_laws.specs.Destinations.{goes_to, WentWhereItGoes, GoesToItsDestination, on_chains, OthersStayInTheirBlocks}
+use Rattle.gw_laws.specs.Destinations.{goes_to, WentWhereItGoes, GoesToItsDestination, on_chains, OthersStayInTheirBlocks, WaitsAsItCame}
 use Rattle.gw_laws.proofs.Waiting.{leaving, let_in_as, let_in_number, let_in_is}
-use Rattle.gw_laws.proofs.Crowd.{one, many, others, crowd, active_many, active_crowd, many_active, many_has, many_append, many_future, many_living, many_lined, many_without, future_push, waiting_with, lets_crowd, remains_less, settled_crowd, settled_fewer, refused_crowd, picked_crowd, advanced_crowd}
+use Rattle.gw_laws.proofs.Crowd.{one, many, others, crowd, active_many, active_crowd, many_active, many_has, many_append, many_future, many_living, many_lined, many_without, future_push, waiting_with, lets_crowd, remains_less, settled_crowd, settled_fewer, refused_crowd, picked_crowd, advanced_crowd, watching_crowd, woken_crowd}
 use Rattle.gw_laws.proofs.NumberLaws.{has_number, IsNumbered, all_numbered}
 use Rattle.gw_laws.proofs.Room.{all_within}
 use Rattle.gw_laws.proofs.OwnValueLaws.{many_parts}
 use Rattle.gw_laws.proofs.Tried.{IsScan, IsCommand, IsNext, no_start, no_command, Makes, changed_keeps, over_moves, IsBehind, step_is_next}
 use Rattle.gw_laws.proofs.Attempts.{IsAt}
+use Rattle.gw_laws.proofs.Waking.{nobody_wakes}
+use Rattle.gw_streams.specs.declared.stream.Stream.{Stream}
 
 -- ---- where no START is under way, none is active
 
@@ -65,6 +69,7 @@ module _ (t : Listing) where
       (λ x is. changed_keeps Idle change (settled s x id change fate) (λ a w k. k) lets_idle
       (fated_idle fate (marked change s.clock (placed x id)) _ n busy))
   scan_idle s (moves.Refuse id key units) n busy next h = with_active_has Idle s.active (λ x. refused s x id key units) s h (λ x is none. refl)
+  scan_idle s (moves.Watch read) n busy next h = with_active_has Idle s.active (λ x. watching s x read) s h (λ x is none. refl)
   scan_idle s moves.Pick n busy next h = picked_has Idle s s.current h (λ x xs is none. absurd (omega (arith, busy, none)))
   scan_idle s (moves.Clock time) n busy next h = λ none. absurd (omega (arith, busy, none))
 
@@ -139,6 +144,12 @@ module _ (k : ℕ) (low : k < 2 ^ 64 - 1) (test : Transaction → Bool) (none_ot
         none_passes = let passes = h.none_passes in omega (arith, same, passes);
       }
 
+  woken_clear : (list : List Watched) (w : Machine) → IsClear w → IsClear (woken list w)
+  woken_clear list w h =
+      let same = woken_crowd test list w in
+      let none = h.none_passes in
+      record { given = h.given; none_waits = h.none_waits; none_passes = omega (arith, same, none) }
+
 -- ---- the one that was active
 
 -- where it is to be: in the block, or waiting in its own block to enter that one
@@ -149,6 +160,12 @@ is_for id (Some to) = nat_eq to id
 kept : (a b : Bool) → b ≡ true → (a && not b) ≡ false
 kept true b is = ap not is
 kept false b is = refl
+
+-- the block is entered, or refuses, and the one that is active is bound for it
+abbrev IsToward : ℕ → Move → Type 0
+IsToward id (moves.Enter to change fate) = to ≡ id
+IsToward id (moves.Refuse to key units) = to ≡ id
+IsToward id move = ⊥
 
 module _ (s : Machine) (x : Transaction) (id : ℕ) (active : s.active ≡ Some x) (h : IsNumbered s) (low : x.number < 2 ^ 64 - 1) where
   abbrev has : Transaction → Bool
@@ -190,6 +207,7 @@ module _ (s : Machine) (x : Transaction) (id : ℕ) (active : s.active ≡ Some 
       let current = none_in x.number low stray stray_other s.current (omega arith) in
       let future = none_in x.number low stray stray_other events (omega arith) in
       let wait = none_in x.number low stray stray_other (waiting s.delays) (omega arith) in
+      let retry = none_in x.number low stray stray_other (transactions_of s.retry) (omega arith) in
       omega arith
 
   abbrev IsRight : Machine → Type 0
@@ -224,7 +242,7 @@ module _ (s : Machine) (x : Transaction) (id : ℕ) (active : s.active ≡ Some 
       let none = none_stray in
       omega arith
 
-  moved_right : (m : Move) → IsAt id m → crowd stray (moved s m) ≡ 0
+  moved_right : (m : Move) → IsToward id m → crowd stray (moved s m) ≡ 0
   moved_right (moves.Enter to change fate) at' =
       let f : Transaction → Machine = λ y. entering s y id change fate in
       subst (λ k. crowd stray (moved s (moves.Enter k change fate)) ≡ 0) (sym at')
@@ -258,27 +276,7 @@ module _ (s : Machine) (x : Transaction) (id : ℕ) (active : s.active ≡ Some 
       bound_is None is = absurd cc
       bound_is (Some to) is = ap (λ k. Some k) (eqb-true to id is)
 
-pub goes_to_its_destination : GoesToItsDestination
-goes_to_its_destination t seed n s v well within there is x y active lives' same =
-    let behind = step_is_next t seed s v (sym (run_on t seed n s there) ∙ is) in
-    let idle : Idle s = over_moves t seed Idle (λ none. refl) (λ u m streams next h. moved_idle t u m next h) n s there in
-    let h = all_numbered t seed well n s there within in
-    let room = all_within t seed n s well there in
-    go behind idle h (omega (arith, room.next, well.greatest_limit, within)) s.remaining refl behind.is_next
-  where
-    go : (behind : IsBehind t seed s v) → Idle s → IsNumbered s → s.next < 2 ^ 64 - 1 → (k : ℕ) → s.remaining ≡ k → IsNext t s k behind.move →
-        WentWhereItGoes t x y
-    go behind idle h low zero none next = absurd (let no : None ≡ Some x = sym (idle none) ∙ active in cc)
-    go behind idle h low (suc k) busy next =
-        let scan : IsScan t (Some x) behind.move = subst (λ o. IsScan t o behind.move) active next in
-        let id = scan.0 in
-        let given = is_given s x active h in
-        let below : x.number < 2 ^ 64 - 1 = omega (arith, given, low) in
-        let none = moved_right s x id active h below behind.move scan.2 in
-        let now : crowd (stray s x id active h below) v ≡ 0 = ap (crowd (stray s x id active h below)) behind.is ∙ none in
-        went s x id active h below t v y scan.1 now lives' same
-
--- ---- those on the current and the future chain
+-- ---- those on the current, the future and the retry chain
 
 abbrev same_to : Option ℕ → Option ℕ → Bool
 same_to None None = true
@@ -303,7 +301,9 @@ on_chains_low s x h there =
       | inr above ↦ absurd (
           let has : Transaction → Bool = has_number x.number in
           let own = many_has has (on_chains s) x there (eq-eqb x.number x.number refl) in
-          let all = many_append has s.current (map (λ (e : Event). e.transaction) s.future) in
+          let events = map (λ (e : Event). e.transaction) s.future in
+          let all = many_append has s.current (events ++ transactions_of s.retry) in
+          let behind = many_append has events (transactions_of s.retry) in
           let future_all = many_future has s.future in
           let none = h.given x.number above in
           omega arith)
@@ -340,8 +340,10 @@ module _ (x : Transaction) (low : x.number < 2 ^ 64 - 1) where
       let events = map (λ (e : Event). e.transaction) s.future in
       let own = many_has same_one (on_chains s) x there is_itself in
       let parts = many_parts has is_same (on_chains s) in
-      let all = many_append has s.current events in
-      let some = many_append changed_one s.current events in
+      let all = many_append has s.current (events ++ transactions_of s.retry) in
+      let all_behind = many_append has events (transactions_of s.retry) in
+      let some = many_append changed_one s.current (events ++ transactions_of s.retry) in
+      let some_behind = many_append changed_one events (transactions_of s.retry) in
       let future_all = many_future has s.future in
       let future_some = many_future changed_one s.future in
       let once = h.apart x.number in
@@ -415,6 +417,12 @@ module _ (x : Transaction) (low : x.number < 2 ^ 64 - 1) where
       })
   moved_same t s (moves.Refuse id key units) decided others h =
       with_active_has NoneChanged s.active (λ y. refused s y id key units) s h (λ y is. refused_same s y id key units others is h)
+  moved_same t s (moves.Watch read) decided others h =
+      with_active_has NoneChanged s.active (λ y. watching s y read) s h
+      (λ y is.
+      let same = watching_crowd changed_one s y read is in
+      let none = h.none_passes in
+      record { given = h.given; none_waits = h.none_waits; none_passes = omega (arith, same, none) })
   moved_same t s moves.Pick decided others h =
       picked_has NoneChanged s s.current h
       (λ y ys is.
@@ -441,6 +449,22 @@ module _ (x : Transaction) (low : x.number < 2 ^ 64 - 1) where
             omega arith)
       ]
 
+-- where the one that is active has a number, nobody else has it
+none_changed : (s : Machine) (x : Transaction) → s.active ≡ Some x → IsNumbered s → (low : x.number < 2 ^ 64 - 1) → others (changed_one x low) s ≡ 0
+none_changed s x active h low =
+    let has : Transaction → Bool = has_number x.number in
+    let test = changed_one x low in
+    let other = changed_other x low in
+    let nobody = no_other s x 0 active h low in
+    let events = map (λ (e : Event). e.transaction) s.future in
+    let whole = many_future has s.future in
+    let part = many_future test s.future in
+    let current = none_in x.number low test other s.current (omega arith) in
+    let future = none_in x.number low test other events (omega arith) in
+    let wait = none_in x.number low test other (waiting s.delays) (omega arith) in
+    let retry = none_in x.number low test other (transactions_of s.retry) (omega arith) in
+    omega arith
+
 pub others_stay_in_their_blocks : OthersStayInTheirBlocks
 others_stay_in_their_blocks t seed n s v well within there is x y stands lives' same =
     let after = ((step_decides t seed s).runs v (sym (run_on t seed n s there) ∙ is)).0 in
@@ -449,6 +473,70 @@ others_stay_in_their_blocks t seed n s v well within there is x y stands lives' 
     let given = on_chains_low s x h stands in
     let low : x.number < 2 ^ 64 - 1 = omega (arith, given, room.next, well.greatest_limit, within) in
     let before = before_step x low s h stands given in
-    let none = (moved_same x low t s after.move after.is_decided before.0 before.1).none_passes in
-    let now : crowd (changed_one x low) v ≡ 0 = ap (crowd (changed_one x low)) after.is ∙ none in
+    let moved' = moved_same x low t s after.move after.is_decided before.0 before.1 in
+    let test = changed_one x low in
+    let none = (woken_clear x.number low test (changed_other x low) (written s after.move) (moved s after.move) moved').none_passes in
+    let now : crowd test v ≡ 0 = ap (crowd test) after.is ∙ none in
     stayed x low v y now lives' same
+
+-- ---- the one that was active, wherever it is now
+
+-- where it waits for a change, it is as it came
+watching_same : (s : Machine) (x : Transaction) (read : List Watched) (active : s.active ≡ Some x) → IsNumbered s → (low : x.number < 2 ^ 64 - 1) →
+    crowd (changed_one x low) (watching s x read) ≡ 0
+watching_same s x read active h low =
+    let none = none_changed s x active h low in
+    let same = watching_crowd (changed_one x low) s x read active in
+    let all = active_crowd (changed_one x low) s x active in
+    let no : one (changed_one x low x) ≡ 0 = ap one (kept (has_number x.number x) (is_same x low x) (and_from (nat_eq x.current x.current)
+    (same_to x.destination x.destination) (eq-eqb x.current x.current refl) (same_to_itself x.destination))) in
+    omega arith
+
+stands_on_retry : (s : Machine) (x : Transaction) (read : List Watched) → s.active ≡ Some x →
+    Contains (transactions_of (moved s (moves.Watch read)).retry) x
+stands_on_retry s x read active =
+    subst (λ o. Contains (transactions_of (with_active o (λ y. watching s y read) s).retry) x) (sym active) (last_there s.retry) where
+      last_there : (ws : List Waiter) → Contains (transactions_of (ws ++ record { transaction = x; read = read } ∷ [])) x
+      last_there [] = (0, omega arith, refl)
+      last_there (w ∷ ws) = let rest = last_there ws in (suc rest.0, omega (arith, rest.1), rest.2)
+
+pub goes_to_its_destination : GoesToItsDestination
+goes_to_its_destination t seed n s v well within there is x y active lives' same =
+    let behind = step_is_next t seed s v (sym (run_on t seed n s there) ∙ is) in
+    let idle : Idle s = over_moves t seed Idle (λ none. refl) (λ u m streams next h. moved_idle t u m next h) n s there in
+    let h = all_numbered t seed well n s there within in
+    let room = all_within t seed n s well there in
+    go behind idle h (omega (arith, room.next, well.greatest_limit, within)) s.remaining refl behind.is_next
+  where
+    -- where it enters its block, or is bound for it
+    toward : (id : ℕ) (m : Move) (streams : List Stream) → v ≡ decided s m streams → IsNumbered s → x.number < 2 ^ 64 - 1 → goes_to t x ≡ Some id →
+        IsToward id m → WentWhereItGoes t x y
+    toward id m streams is h below goes at' =
+        let test = stray s x id active h below in
+        let none : crowd test (moved s m) ≡ 0 = moved_right s x id active h below m at' in
+        let now : crowd test v ≡ 0 = ap (crowd test) is ∙ (woken_crowd test (written s m) (moved s m) ∙ none) in
+        went s x id active h below t v y goes now lives' same
+
+    by_move : (id : ℕ) (m : Move) (streams : List Stream) → v ≡ decided s m streams → IsNumbered s → x.number < 2 ^ 64 - 1 → goes_to t x ≡ Some id →
+        IsAt id m → WentWhereItGoes t x y ⊎ WaitsAsItCame v x y
+    by_move id (moves.Enter to change fate) streams is h below goes at' = inl (toward id (moves.Enter to change fate) streams is h below goes at')
+    by_move id (moves.Refuse to key units) streams is h below goes at' = inl (toward id (moves.Refuse to key units) streams is h below goes at')
+    by_move id (moves.Watch read) streams is h below goes at' =
+        let test = changed_one x below in
+        let u : Machine = moved s (moves.Watch read) in
+        let none : crowd test u ≡ 0 =
+        subst (λ o. crowd test (with_active o (λ z. watching s z read) s) ≡ 0) (sym active) (watching_same s x read active h below) in
+        let here : v ≡ record u { streams = streams } =
+        is ∙ ap (λ (w : Machine). let z : Machine = record w { streams = streams } in z) (nobody_wakes u) in
+        let now : crowd test v ≡ 0 = ap (crowd test) here ∙ none in
+        let still = stayed x below v y now lives' same in
+        inr (subst (λ (w : Machine). Contains (transactions_of w.retry) x) (sym here) (stands_on_retry s x read active), still.0, still.1)
+    by_move id m streams is h below goes at' = absurd at'
+
+    go : (behind : IsBehind t seed s v) → Idle s → IsNumbered s → s.next < 2 ^ 64 - 1 → (k : ℕ) → s.remaining ≡ k → IsNext t s k behind.move →
+        WentWhereItGoes t x y ⊎ WaitsAsItCame v x y
+    go behind idle h low zero none next = absurd (let no : None ≡ Some x = sym (idle none) ∙ active in cc)
+    go behind idle h low (suc k) busy next =
+        let scan : IsScan t (Some x) behind.move = subst (λ o. IsScan t o behind.move) active next in
+        let given = is_given s x active h in
+        by_move scan.0 behind.move behind.streams behind.is h (omega (arith, given, low)) scan.1 scan.2

@@ -14,7 +14,7 @@ use Rattle.gw_meaning.specs.declared.moves.Move.TheVariants as moves
 use Rattle.gw_meaning.specs.Listing.{Listing}
 use Rattle.gw_meaning.specs.Entities.{Entities, facility_at, given_back, done, touched}
 use Rattle.gw_meaning.specs.Machine.{Machine}
-use Rattle.gw_meaning.specs.Changes.{refused, moved}
+use Rattle.gw_meaning.specs.Changes.{refused, moved, watching}
 use Rattle.gw_frame.proofs.Known.{IsDecided}
 use Rattle.gw_frame.proofs.Moves.{settled_is, with_active_has, entered_has, picked_has}
 use Rattle.gw_frame.proofs.Running.{over_run}
@@ -115,6 +115,9 @@ module _ (steps : ℕ) where
       })
   moved_used t s (moves.Refuse id key units) decided on all =
       with_active_has UsedAgain s.active (λ x. refused s x id key units) s (again s.clock s.entities.facilities all)
+      (λ x is. again s.clock s.entities.facilities all)
+  moved_used t s (moves.Watch read) decided on all =
+      with_active_has UsedAgain s.active (λ x. watching s x read) s (again s.clock s.entities.facilities all)
       (λ x is. again s.clock s.entities.facilities all)
   moved_used t s moves.Pick decided on all =
       picked_has UsedAgain s s.current (again s.clock s.entities.facilities all) (λ x xs is. again s.clock s.entities.facilities all)

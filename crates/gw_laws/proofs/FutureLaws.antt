@@ -16,7 +16,7 @@ use Rattle.gw_meaning.specs.declared.moves.Move.{Move}
 use Rattle.gw_meaning.specs.declared.moves.Move.TheVariants as moves
 use Rattle.gw_meaning.specs.Listing.{Listing}
 use Rattle.gw_meaning.specs.Machine.{Machine}
-use Rattle.gw_meaning.specs.Changes.{Making, made, all_made, making_of, newcomer, placed, marked, is_due, refused, moved}
+use Rattle.gw_meaning.specs.Changes.{Making, made, all_made, making_of, newcomer, placed, marked, is_due, refused, moved, watching}
 use Rattle.gw_meaning.proofs.Programs.{run_on}
 use Rattle.gw_frame.proofs.Decided.{step_decides}
 use Rattle.gw_frame.proofs.Keeps.{all_with}
@@ -150,6 +150,9 @@ module _ (s : Machine) (h : IsNumbered s) where
   moved_came t (moves.Refuse id key units) room decided =
       with_active_has (λ v. Keeps v.future) s.active (λ x. refused s x id key units) s (all_stay (numbers_coming s.future))
       (λ x is. all_stay (numbers_coming s.future))
+  moved_came t (moves.Watch read) room decided =
+      with_active_has (λ v. Keeps v.future) s.active (λ x. watching s x read) s (all_stay (numbers_coming s.future))
+      (λ x is. all_stay (numbers_coming s.future))
   moved_came t moves.Pick room decided =
       picked_has (λ v. Keeps v.future) s s.current (all_stay (numbers_coming s.future)) (λ x xs is. all_stay (numbers_coming s.future))
   moved_came t (moves.Clock time) room decided =
@@ -208,6 +211,8 @@ module _ (e : Event) where
       }))
   moved_there t s (moves.Refuse id key units) decided h =
       inl (with_active_has IsThere s.active (λ x. refused s x id key units) s h (λ x is. h))
+  moved_there t s (moves.Watch read) decided h =
+      inl (with_active_has IsThere s.active (λ x. watching s x read) s h (λ x is. h))
   moved_there t s moves.Pick decided h = inl (picked_has IsThere s s.current h (λ x xs is. h))
   moved_there t s (moves.Clock time) decided h =
       elim (cases_Bool (is_due time e)) [

@@ -17,7 +17,7 @@ use Rattle.gw_meaning.specs.declared.moves.Move.TheVariants as moves
 use Rattle.gw_meaning.specs.Listing.{Listing}
 use Rattle.gw_meaning.specs.Entities.{Entities, facility_at, given_back, done, touched}
 use Rattle.gw_meaning.specs.Machine.{Machine, delay_at}
-use Rattle.gw_meaning.specs.Changes.{refused, moved}
+use Rattle.gw_meaning.specs.Changes.{refused, moved, watching}
 use Rattle.gw_meaning.specs.Step.{is_owner, first_number, run}
 use Rattle.gw_meaning.proofs.Programs.{run_on}
 use Rattle.gw_laws.specs.Owners.{OnlyTheOwnerGivesBack, TheFirstIsGivenIt, OnlyTheActiveTakes}
@@ -95,6 +95,8 @@ module _ (q : Key) where
       })
   moved_passes t s (moves.Refuse id key units) decided =
       with_active_has (λ v. Passes s v.entities) s.active (λ x. refused s x id key units) s (inl refl) (λ x is. inl refl)
+  moved_passes t s (moves.Watch read) decided =
+      with_active_has (λ v. Passes s v.entities) s.active (λ x. watching s x read) s (inl refl) (λ x is. inl refl)
   moved_passes t s moves.Pick decided = picked_has (λ v. Passes s v.entities) s s.current (inl refl) (λ x xs is. inl refl)
   moved_passes t s m decided = inl refl
 

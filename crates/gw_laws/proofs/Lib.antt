@@ -1,6 +1,7 @@
 pub mod ClockLaws
 pub mod Entries
 pub mod Waiting
+pub mod Waking
 pub mod LettingIn
 pub mod Crowd
 pub mod Counts
@@ -33,3 +34,6 @@ pub mod DestinationLaws
 pub mod TestLaws
 pub mod VerbLaws
 pub mod ItemLaws
+pub mod WaiterLaws
+pub mod GateLaws
+pub mod WaitingTests

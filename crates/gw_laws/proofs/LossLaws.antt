@@ -7,14 +7,15 @@ use Rattle.gw_meaning.specs.declared.moves.Move.{Move}
 use Rattle.gw_meaning.specs.declared.moves.Move.TheVariants as moves
 use Rattle.gw_meaning.specs.Listing.{Listing}
 use Rattle.gw_meaning.specs.Machine.{Machine}
-use Rattle.gw_meaning.specs.Changes.{Making, made, all_made, making_of, with_making, newcomer, started, refused, moved}
+use Rattle.gw_meaning.specs.Changes.{Making, made, all_made, making_of, with_making, newcomer, started, refused, moved, watching, written, woken}
 use Rattle.gw_meaning.proofs.Programs.{run_on}
+use Rattle.gw_meaning.specs.declared.watched.Watched.{Watched}
 use Rattle.gw_laws.specs.Living.{living}
 use Rattle.gw_laws.specs.Numbering.{OnlyTheActiveGoes, lives}
 use Rattle.gw_frame.proofs.Decided.{step_decides}
 use Rattle.gw_frame.proofs.Known.{IsDecided}
 use Rattle.gw_frame.proofs.Moves.{with_active_has, entered_has, picked_has}
-use Rattle.gw_laws.proofs.Crowd.{one, crowd, active_crowd, many_living, future_push, settled_crowd, refused_crowd, picked_crowd, advanced_crowd}
+use Rattle.gw_laws.proofs.Crowd.{one, crowd, active_crowd, many_living, future_push, settled_crowd, refused_crowd, picked_crowd, advanced_crowd, watching_crowd, woken_crowd}
 use Rattle.gw_laws.proofs.NumberLaws.{has_number, lets_same, not_alive, alive}
 
 module _ (k : ℕ) where
@@ -58,9 +59,16 @@ module _ (k : ℕ) where
   moved_lives t s (moves.Refuse id key units) decided h =
       with_active_has (LivesOn s) s.active (λ x. refused s x id key units) s (inl h)
       (λ x is. let same = refused_crowd (has_number k) s x id key units is refl in inl (omega (arith, h, same)))
+  moved_lives t s (moves.Watch read) decided h =
+      with_active_has (LivesOn s) s.active (λ x. watching s x read) s (inl h)
+      (λ x is. let same = watching_crowd (has_number k) s x read is in inl (omega (arith, h, same)))
   moved_lives t s moves.Pick decided h =
       picked_has (LivesOn s) s s.current (inl h) (λ x xs is. let same = picked_crowd (has_number k) s x xs decided is in inl (omega (arith, h, same)))
   moved_lives t s (moves.Clock time) decided h = let same = advanced_crowd (has_number k) s time in inl (omega (arith, h, same))
+
+  woken_lives : (list : List Watched) (s v : Machine) → LivesOn s v → LivesOn s (woken list v)
+  woken_lives list s v (inl here) = let same = woken_crowd (has_number k) list v in inl (omega (arith, same, here))
+  woken_lives list s v (inr was) = inr was
 
   -- what that says of the list of the living
   here_lives : (s : Machine) → lives s k ≡ true → Lives s
@@ -81,5 +89,6 @@ module _ (k : ℕ) where
 pub only_the_active_goes : OnlyTheActiveGoes
 only_the_active_goes t seed n s v there is k here =
     let after = ((step_decides t seed s).runs v (sym (run_on t seed n s there) ∙ is)).0 in
-    let on : LivesOn k s v = subst (LivesOn k s) (sym after.is) (moved_lives k t s after.move after.is_decided (here_lives k s here)) in
+    let on : LivesOn k s v = subst (LivesOn k s) (sym after.is)
+    (woken_lives k (written s after.move) s (moved s after.move) (moved_lives k t s after.move after.is_decided (here_lives k s here))) in
     elim on [ inl lives' ↦ inl (lives_here k v lives') | inr was ↦ inr was ]

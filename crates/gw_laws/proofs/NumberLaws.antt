@@ -13,8 +13,9 @@ use Rattle.gw_meaning.specs.declared.moves.Move.{Move}
 use Rattle.gw_meaning.specs.declared.moves.Move.TheVariants as moves
 use Rattle.gw_meaning.specs.Listing.{Listing}
 use Rattle.gw_meaning.specs.Machine.{Machine, delay_at}
-use Rattle.gw_meaning.specs.Changes.{Making, made, all_made, making_of, with_making, newcomer, placed, marked, started, one_let_in, bound, refused, moved}
+use Rattle.gw_meaning.specs.Changes.{Making, made, all_made, making_of, with_making, newcomer, placed, marked, started, one_let_in, bound, refused, moved, watching, written, woken}
 use Rattle.gw_meaning.specs.Step.{run}
+use Rattle.gw_meaning.specs.declared.watched.Watched.{Watched}
 use Rattle.gw_model.specs.Well.{Well}
 use Rattle.gw_laws.specs.Living.{living}
 use Rattle.gw_laws.specs.Numbering.{NumbersAreApart, NumbersAreGiven, NumbersAreGivenOnce}
@@ -22,7 +23,7 @@ use Rattle.gw_frame.proofs.Known.{IsDecided}
 use Rattle.gw_frame.proofs.Moves.{settled, settled_is, marked_same, with_active_has, entered_has, picked_has}
 use Rattle.gw_frame.proofs.Running.{over_run, over_rest}
 use Rattle.gw_laws.proofs.Waiting.{let_in_as, let_in_number, let_in_is}
-use Rattle.gw_laws.proofs.Crowd.{one, many, crowd, many_living, future_push, settled_fewer, refused_crowd, lets_crowd, picked_crowd, advanced_crowd}
+use Rattle.gw_laws.proofs.Crowd.{one, many, crowd, many_living, future_push, settled_fewer, refused_crowd, lets_crowd, picked_crowd, advanced_crowd, watching_crowd, woken_crowd}
 use Rattle.gw_laws.proofs.Room.{all_within}
 
 abbrev pub has_number : ℕ → Transaction → Bool
@@ -93,6 +94,9 @@ moved_numbered t s (moves.Enter id change fate) room decided h =
 moved_numbered t s (moves.Refuse id key units) room decided h =
     with_active_has IsNumbered s.active (λ x. refused s x id key units) s h
     (λ x is. same_numbered s (refused s x id key units) refl (λ k. let same = refused_crowd (has_number k) s x id key units is refl in omega arith) h)
+moved_numbered t s (moves.Watch read) room decided h =
+    with_active_has IsNumbered s.active (λ x. watching s x read) s h
+    (λ x is. same_numbered s (watching s x read) refl (λ k. let same = watching_crowd (has_number k) s x read is in omega arith) h)
 moved_numbered t s moves.Pick room decided h =
     picked_has IsNumbered s s.current h
     (λ x xs is. record {
@@ -111,7 +115,9 @@ all_numbered t seed well =
     (λ n s m streams there decided h within.
     let room = all_within t seed n s well there in
     let k = moved_numbered t s m (omega (arith, room.next, well.greatest_limit, well.statements)) decided (h (omega arith)) in
-    record { apart = k.apart; given = k.given })
+    let v = moved s m in
+    let all = same_numbered v (woken (written s m) v) refl (λ i. let same = woken_crowd (has_number i) (written s m) v in omega arith) k in
+    record { apart = all.apart; given = all.given })
 
 -- what that says of the list of the living
 none_has : (k : ℕ) (xs : List Transaction) → many (has_number k) xs ≡ 0 → AllByRecursion (λ (y : Transaction). k ≢ y.number) xs
@@ -209,9 +215,15 @@ module _ (k : ℕ) (test : Transaction → Bool) (of : IsOf k test) where
   moved_gone t s (moves.Refuse id key units) room decided stays h =
       with_active_has IsGone s.active (λ x. refused s x id key units) s h
       (λ x is. let same = refused_crowd test s x id key units is (of.waits x id units) in (h.0, omega (arith, same, h.1)))
+  moved_gone t s (moves.Watch read) room decided stays h =
+      with_active_has IsGone s.active (λ x. watching s x read) s h
+      (λ x is. let same = watching_crowd test s x read is in (h.0, omega (arith, same, h.1)))
   moved_gone t s moves.Pick room decided stays h =
       picked_has IsGone s s.current h (λ x xs is. let same = picked_crowd test s x xs decided is in (h.0, omega (arith, same, h.1)))
   moved_gone t s (moves.Clock time) room decided stays h = let same = advanced_crowd test s time in (h.0, omega (arith, same, h.1))
+
+  pub woken_gone : (list : List Watched) (s : Machine) → IsGone s → IsGone (woken list s)
+  woken_gone list s h = let same = woken_crowd test list s in (h.0, omega (arith, same, h.1))
 
 module _ (k : ℕ) where
   -- what that says of the list of the living
@@ -239,6 +251,7 @@ numbers_are_given_once t seed m n s v well before within there is k given gone =
     over_rest t seed (λ i u. i ≤ t.limit → Gone u) m s there (λ early. start)
     (λ i u move streams at decided h early.
     let room = all_within t seed i u well at in
-    moved_gone k (has_number k) (of_number k) t u move (omega (arith, room.next, well.greatest_limit, well.statements)) decided
-    (λ x change id is. ap (λ n. nat_eq n k) (marked_same change u.clock (placed x id)).0) (h (omega arith))) n v before is within in
+    woken_gone k (has_number k) (of_number k) (written u move) (moved u move)
+    (moved_gone k (has_number k) (of_number k) t u move (omega (arith, room.next, well.greatest_limit, well.statements)) decided
+    (λ x change id is. ap (λ n. nat_eq n k) (marked_same change u.clock (placed x id)).0) (h (omega arith)))) n v before is within in
     alive k (living v) (many_living (has_number k) v ∙ rest.1)

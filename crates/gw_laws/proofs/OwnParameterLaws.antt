@@ -1,13 +1,8 @@
 -- In a step no parameters change but those of the active transaction.
-use Rattle.std.proofs.Common.{◌≡◌, ◌≢◌, ℕ, zero, suc, ◌-◌, ◌^◌, ◌≤◌, ◌<◌, List, nat_eq, nat_lt, true, false, cond, [], ◌∷◌, length, get_or, take, set, ◌++◌, ◌⊎◌, Option, Some, None, unwrap_or, refl, ap, sym, subst, ◌∙◌, inl, inr, arith}
-use Rattle.std.specs.Prelude.{Contains, position, swap_remove}
-use Rattle.std.specs.Option.{option_map_or}
+use Rattle.std.proofs.Common.{◌≡◌, ◌≢◌, ℕ, ◌-◌, ◌^◌, ◌<◌, List, nat_eq, nat_lt, false, cond, [], ◌∷◌, ◌++◌, ◌⊎◌, Some, unwrap_or, refl, ap, sym, subst, ◌∙◌, inl, inr, arith}
 use Rattle.std.specs.Map.{lookup}
 use Rattle.std.proofs.lemmas.Bool.Decides.{nat_tests}
 use Rattle.std.proofs.lemmas.Bool.{cases_Bool, cases_eq, cases_lt, eq-eqb, ne_eqb, eqb-true, false≢true}
-use Rattle.std.proofs.lemmas.List.{get_or_default}
-use Rattle.std.proofs.lemmas.List.Sorted.{Contains-permutation, IsPermutation-swap_remove}
-use Rattle.std.proofs.lemmas.Map.Views.{Contains-from_lookup}
 use Rattle.gw_names.specs.declared.key.Key.{Key}
 use Rattle.gw_entities.specs.Tables.{with_value}
 use Rattle.gw_entities.specs.Parameters.{Held, values_at, with_values, without}
@@ -22,8 +17,9 @@ use Rattle.gw_meaning.specs.declared.moves.Move.{Move}
 use Rattle.gw_meaning.specs.declared.moves.Move.TheVariants as moves
 use Rattle.gw_meaning.specs.Listing.{Listing}
 use Rattle.gw_meaning.specs.Machine.{Machine, delay_at}
-use Rattle.gw_meaning.specs.Changes.{own_held, held_by, making_of, placed, marked, one_let_in, refused, moved}
+use Rattle.gw_meaning.specs.Changes.{own_held, held_by, making_of, placed, marked, one_let_in, refused, moved, watching, written, woken}
 use Rattle.gw_meaning.proofs.Programs.{run_on}
+use Rattle.gw_meaning.specs.declared.watched.Watched.{Watched}
 use Rattle.gw_laws.specs.Living.{IsActive}
 use Rattle.gw_laws.specs.Parameters.{ParametersAreOnesOwn, SetsAtMostOne, OneParameterIsSet}
 use Rattle.gw_frame.proofs.Decided.{step_decides}
@@ -31,10 +27,9 @@ use Rattle.gw_frame.proofs.Known.{IsDecided}
 use Rattle.gw_frame.proofs.Moves.{settled, settled_is, marked_same, with_active_has, entered_has, picked_has}
 use Rattle.gw_laws.specs.Living.{living}
 use Rattle.gw_laws.proofs.Crowd.{one, active_crowd, settled_crowd, many_living}
-use Rattle.gw_laws.proofs.NumberLaws.{has_number, IsNumbered, of_number, IsGone, made_gone, lets_gone, alive, all_numbered}
+use Rattle.gw_laws.proofs.NumberLaws.{has_number, IsNumbered, of_number, IsGone, made_gone, lets_gone, alive, all_numbered, woken_gone}
 use Rattle.gw_laws.proofs.Room.{all_within}
 use Rattle.gw_laws.proofs.Waiting.{leaving}
-use Rattle.gw_laws.proofs.StayLaws.{first_or_rest}
 use Rattle.gw_laws.proofs.ParameterLaws.{Values, let_in_parameters}
 
 -- ---- where the parameters of one transaction are set or forgotten, those of the others stay
@@ -79,7 +74,7 @@ change_elsewhere k n change held apart = refl
 
 module _ (k : ℕ) where
   -- its parameters stay, or it was active
-  abbrev KeepsParameters : Machine → Machine → Type 0
+  abbrev pub KeepsParameters : Machine → Machine → Type 0
   KeepsParameters s v = (values_at v.parameters k ≡ values_at s.parameters k) ⊎ IsActive s k
 
   settled_elsewhere : (s : Machine) (x : Transaction) (id : ℕ) (change : Change) (fate : Fate) → x.number ≢ k →
@@ -93,7 +88,7 @@ module _ (k : ℕ) where
       ∙ change_elsewhere k x.number change s.parameters not_his
   settled_elsewhere s x id change fate other = change_elsewhere k x.number change s.parameters (ne_eqb k x.number (λ is. other (sym is)))
 
-  moved_elsewhere : (t : Listing) (s : Machine) (m : Move) → IsDecided t s m → KeepsParameters s (moved s m)
+  pub moved_elsewhere : (t : Listing) (s : Machine) (m : Move) → IsDecided t s m → KeepsParameters s (moved s m)
   moved_elsewhere t s (moves.Enter id change fate) decided =
       entered_has (KeepsParameters s) (KeepsParameters s) t s id change fate decided.1 (inl refl)
       (λ x is.
@@ -111,6 +106,8 @@ module _ (k : ℕ) where
       })
   moved_elsewhere t s (moves.Refuse id key units) decided =
       with_active_has (KeepsParameters s) s.active (λ x. refused s x id key units) s (inl refl) (λ x is. inl refl)
+  moved_elsewhere t s (moves.Watch read) decided =
+      with_active_has (KeepsParameters s) s.active (λ x. watching s x read) s (inl refl) (λ x is. inl refl)
   moved_elsewhere t s moves.Pick decided = picked_has (KeepsParameters s) s s.current (inl refl) (λ x xs is. inl refl)
   moved_elsewhere t s m decided = inl refl
 
@@ -198,15 +195,22 @@ module _ (k : ℕ) where
       })
   moved_sets t s (moves.Refuse id key units) room decided h =
       with_active_has (SetsOne s) s.active (λ x. refused s x id key units) s (inl (inl refl)) (λ x is. inl (inl refl))
+  moved_sets t s (moves.Watch read) room decided h =
+      with_active_has (SetsOne s) s.active (λ x. watching s x read) s (inl (inl refl)) (λ x is. inl (inl refl))
   moved_sets t s moves.Pick room decided h = picked_has (SetsOne s) s s.current (inl (inl refl)) (λ x xs is. inl (inl refl))
   moved_sets t s m room decided h = inl (inl refl)
+
+  woken_sets : (list : List Watched) (s v : Machine) → SetsOne s v → SetsOne s (woken list v)
+  woken_sets list s v (inl sets) = inl sets
+  woken_sets list s v (inr gone) = inr (woken_gone k (has_number k) (of_number k) list v gone)
 
 pub one_parameter_is_set : OneParameterIsSet
 one_parameter_is_set t seed n s v well within there is k lives' =
     let after = ((step_decides t seed s).runs v (sym (run_on t seed n s there) ∙ is)).0 in
     let room = all_within t seed n s well there in
     let sets =
-    moved_sets k t s after.move (omega (arith, room.next, well.greatest_limit)) after.is_decided (all_numbered t seed well n s there within) in
+    woken_sets k (written s after.move) s (moved s after.move)
+    (moved_sets k t s after.move (omega (arith, room.next, well.greatest_limit)) after.is_decided (all_numbered t seed well n s there within)) in
     elim (subst (SetsOne k s) (sym after.is) sets) [
       | inl one' ↦ one'
       | inr gone ↦ absurd (let no = alive k (living v) (many_living (has_number k) v ∙ gone.1) in false≢true (sym no ∙ lives'))

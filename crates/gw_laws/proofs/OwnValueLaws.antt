@@ -6,13 +6,13 @@ use Rattle.std.proofs.lemmas.Bool.{cases_Bool, cases_eq, cases_lt, eq-eqb, ne_eq
 use Rattle.std.proofs.lemmas.Bool.Decides.{Decides-int_eq}
 use Rattle.gw_meaning.specs.declared.transaction.Transaction.{Transaction}
 use Rattle.gw_meaning.specs.Machine.{Machine}
-use Rattle.gw_meaning.specs.Changes.{placed, marked}
+use Rattle.gw_meaning.specs.Changes.{placed, marked, moved, written}
 use Rattle.gw_meaning.proofs.Programs.{run_on}
 use Rattle.gw_laws.specs.Living.{living, IsActive}
 use Rattle.gw_laws.specs.Priorities.{PrioritiesAreOnesOwn}
 use Rattle.gw_frame.proofs.Decided.{step_decides}
 use Rattle.gw_frame.proofs.Moves.{marked_same}
-use Rattle.gw_laws.proofs.Crowd.{one, many, many_has, crowd, many_living}
+use Rattle.gw_laws.proofs.Crowd.{one, many, many_has, crowd, many_living, woken_crowd}
 use Rattle.gw_laws.proofs.NumberLaws.{has_number, IsNumbered, IsOf, StaysSo, moved_gone, all_numbered}
 use Rattle.gw_laws.proofs.Room.{all_within}
 
@@ -122,7 +122,8 @@ priorities_are_ones_own t seed n s v well within there is x y lived lives' same 
           let gone =
           moved_gone x.number (other_one x) (of_other x) t s after.move (omega (arith, room.next, well.greatest_limit, well.statements)) after.is_decided
           (stays_other x s beside) (is_given x s h lived, none_other x s h lived) in
-          let none : crowd (other_one x) v ≡ 0 = ap (crowd (other_one x)) after.is ∙ gone.1 in
+          let none : crowd (other_one x) v ≡ 0 = ap (crowd (other_one x)) after.is
+          ∙ (woken_crowd (other_one x) (written s after.move) (moved s after.move) ∙ gone.1) in
           inl (has_both x v y none lives' same)
       | inr was ↦ inr was
     ]

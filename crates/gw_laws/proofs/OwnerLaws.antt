@@ -1,6 +1,6 @@
 -- The owners of facilities and those who wait for them, move by move and over a run: the first of a delay chain takes the
 -- facility over, and nobody waits at a free one.
-use Rattle.std.proofs.Common.{◌≡◌, ℕ, ◌<◌, ◌≤◌, true, false, cond, List, [], ◌∷◌, ◌++◌, length, Option, Some, None, is_some, refl, sym, ap, subst, ◌∙◌, inl, inr, arith}
+use Rattle.std.proofs.Common.{◌≡◌, ℕ, ◌<◌, ◌≤◌, true, false, cond, List, [], ◌∷◌, ◌++◌, length, Option, Some, None, is_some, refl, sym, ap, subst, ◌∙◌, inl, inr, arith, filter}
 use Rattle.std.specs.Prelude.{Contains}
 use Rattle.std.proofs.lemmas.Bool.{cases_Bool}
 use Rattle.gw_names.specs.declared.key.Key.{Key}
@@ -24,10 +24,12 @@ use Rattle.gw_meaning.specs.declared.moves.Move.TheVariants as moves
 use Rattle.gw_meaning.specs.Listing.{Listing}
 use Rattle.gw_meaning.specs.Entities.{Entities, facility_at, given_back, done, touched}
 use Rattle.gw_meaning.specs.Machine.{Machine, delay_at}
-use Rattle.gw_meaning.specs.Changes.{lined_up, let_in, one_let_in, some_let_in, admitted, entering, placed, bound, refused, picked, moved}
+use Rattle.gw_meaning.specs.Changes.{lined_up, let_in, one_let_in, some_let_in, admitted, entering, placed, bound, refused, picked, moved, watching, is_woken, woken, written}
 use Rattle.gw_meaning.specs.Step.{first_number}
 use Rattle.gw_meaning.proofs.Programs.{run_on}
 use Rattle.gw_meaning.proofs.Chains.{length_lined}
+use Rattle.gw_meaning.specs.declared.watched.Watched.{Watched}
+use Rattle.gw_meaning.specs.Watching.{transactions_of}
 use Rattle.gw_frame.proofs.Decided.{step_decides}
 use Rattle.gw_frame.proofs.Known.{IsDecidedDeed, IsDecidedChange, IsRefused, IsDecided}
 use Rattle.gw_frame.proofs.Moves.{settled, settled_is, with_active_has, entered_has, picked_has}
@@ -37,6 +39,7 @@ use Rattle.gw_laws.proofs.Entries.{at_with}
 use Rattle.gw_laws.proofs.Waiting.{leaving, let_in_is, lined_has}
 use Rattle.gw_laws.proofs.LettingIn.{set_here, set_there, set_has, no_storage, others_stay, entering_has}
 use Rattle.gw_laws.proofs.DelayLaws.{AreBound, AllAreBound, delay_bound, all_bound}
+use Rattle.gw_laws.proofs.Waking.{all_lined_keeps}
 
 -- the owner of a facility that is set, and of the others
 pub owner_here : (e : Entities) (key q : Key) (f : Ownership) → key_eq q key ≡ true →
@@ -126,19 +129,29 @@ module _ (q : Key) where
       (λ v key deed chains entities does. deed_lets t s v key deed x.number facility chains entities does all))
   moved_lets t s (moves.Refuse id key units) facility decided all =
       with_active_has (LetsIn s) s.active (λ x. refused s x id key units) s (same_chains s s refl) (λ x is. refused_lets s x id key units)
+  moved_lets t s (moves.Watch read) facility decided all =
+      with_active_has (LetsIn s) s.active (λ x. watching s x read) s (same_chains s s refl) (λ x is. same_chains s (watching s x read) refl)
   moved_lets t s moves.Pick facility decided all =
       picked_has (LetsIn s) s s.current (same_chains s s refl) (λ x xs is. same_chains s (picked s (x ∷ xs)) refl)
   moved_lets t s (moves.Clock time) facility decided all = same_chains s (moved s (moves.Clock time)) refl
 
-  whatever_streams : (s v : Machine) (streams : List Stream) → LetsIn s v → LetsIn s (record v { streams = streams })
-  whatever_streams s v streams h less =
-      let k = h less in record { first = k.first; block = k.block; left = k.left; bound = k.bound; stands = k.stands; owns = k.owns }
+  woken_lets : (list : List Watched) (s v : Machine) (streams : List Stream) → LetsIn s v → LetsIn s (record (woken list v) { streams = streams })
+  woken_lets list s v streams h less =
+      let k = h less in
+      record {
+        first = k.first;
+        block = k.block;
+        left = k.left;
+        bound = k.bound;
+        stands = all_lined_keeps (transactions_of (filter (is_woken list) v.retry)) v.current (placed k.first k.block) k.stands;
+        owns = k.owns;
+      }
 
 pub first_takes_over : FirstTakesOver
 first_takes_over t seed n s v there is key facility =
     let after = ((step_decides t seed s).runs v (sym (run_on t seed n s there) ∙ is)).0 in
     subst (LetsIn key s) (sym after.is)
-    (whatever_streams key s (moved s after.move) after.streams (moved_lets key t s after.move facility after.is_decided (all_bound t seed n s there)))
+    (woken_lets key (written s after.move) s (moved s after.move) after.streams (moved_lets key t s after.move facility after.is_decided (all_bound t seed n s there)))
 
 -- ---- nobody waits at a free facility
 
@@ -227,6 +240,7 @@ moved_free t s (moves.Enter id change fate) decided h =
     (λ v. record { nothing = λ k. k; one = λ a coming k. k; lets = lets_free })
 moved_free t s (moves.Refuse id key units) decided h =
     with_active_has NobodyWaits s.active (λ x. refused s x id key units) s h (λ x is. refused_free t s x id key units decided.1 h)
+moved_free t s (moves.Watch read) decided h = with_active_has NobodyWaits s.active (λ x. watching s x read) s h (λ x is. h)
 moved_free t s moves.Pick decided h = picked_has NobodyWaits s s.current h (λ x xs is. h)
 moved_free t s (moves.Clock time) decided h = h
 

@@ -1,11 +1,8 @@
 -- The parameters that are kept, move by move and over a run: of the living alone.
-use Rattle.std.proofs.Common.{◌≡◌, ℕ, ℤ, suc, ◌+◌, ◌≤◌, ◌<◌, nat_eq, nat_lt, Bool, true, false, List, [], ◌∷◌, length, get_or, ◌++◌, ◌⊎◌, Option, Some, None, Ok, refl, ap, sym, subst, ◌∙◌, inl, inr, arith}
-use Rattle.std.specs.Prelude.{position, swap_remove}
-use Rattle.std.specs.List.{list_any, position_or_len, sum_by}
-use Rattle.std.specs.Option.{option_map_or}
+use Rattle.std.proofs.Common.{◌≡◌, ℕ, ℤ, ◌+◌, ◌≤◌, nat_eq, nat_lt, Bool, true, false, List, [], ◌∷◌, ◌++◌, ◌⊎◌, Option, Some, None, Ok, refl, ap, sym, ◌∙◌, inl, inr, arith}
+use Rattle.std.specs.List.{list_any}
 use Rattle.std.proofs.lemmas.Bool.{cases_Bool, eq-eqb, eqb-true}
 use Rattle.std.proofs.lemmas.Bool.Decides.{nat_tests}
-use Rattle.std.proofs.lemmas.List.Sums.{sum_by-cons, sum_by-swap_remove}
 use Rattle.gw_names.specs.declared.key.Key.{Key}
 use Rattle.gw_entities.specs.Tables.{with_value}
 use Rattle.gw_entities.specs.Parameters.{Held, values_at, with_values, without}
@@ -20,13 +17,13 @@ use Rattle.gw_meaning.specs.declared.moves.Move.{Move}
 use Rattle.gw_meaning.specs.declared.moves.Move.TheVariants as moves
 use Rattle.gw_meaning.specs.Listing.{Listing}
 use Rattle.gw_meaning.specs.Machine.{Machine}
-use Rattle.gw_meaning.specs.Changes.{Making, made, all_made, picked, making_of, with_making, placed, marked, held_by, started, let_in, one_let_in, refused, moved}
+use Rattle.gw_meaning.specs.Changes.{Making, made, all_made, picked, making_of, with_making, placed, marked, held_by, started, let_in, one_let_in, refused, moved, watching, written, woken}
 use Rattle.gw_meaning.specs.Step.{run}
 use Rattle.gw_laws.specs.Parameters.{ParametersAreOfTheLiving}
 use Rattle.gw_frame.proofs.Known.{IsDecided}
 use Rattle.gw_frame.proofs.Moves.{settled, marked_same, with_active_has, entered_has, picked_has}
 use Rattle.gw_frame.proofs.Running.{over_run}
-use Rattle.gw_laws.proofs.Crowd.{one, remains, active_crowd, settled_crowd, refused_crowd, picked_crowd, advanced_crowd}
+use Rattle.gw_laws.proofs.Crowd.{one, remains, active_crowd, settled_crowd, refused_crowd, picked_crowd, advanced_crowd, watching_crowd, woken_crowd}
 use Rattle.gw_laws.proofs.NumberLaws.{has_number, lets_same}
 use Rattle.gw_laws.proofs.Waiting.{leaving}
 use Rattle.gw_laws.proofs.LossLaws.{Lives, made_lives, all_made_lives, lives_here}
@@ -182,6 +179,9 @@ moved_kept t s (moves.Refuse id key units) decided h =
     with_active_has AreKept s.active (λ x. refused s x id key units) s h
     (λ x is. same_kept s (refused s x id key units) refl
     (λ k lived. let same = refused_crowd (has_number k) s x id key units is refl in omega arith) h)
+moved_kept t s (moves.Watch read) decided h =
+    with_active_has AreKept s.active (λ x. watching s x read) s h
+    (λ x is. same_kept s (watching s x read) refl (λ k lived. let same = watching_crowd (has_number k) s x read is in omega arith) h)
 moved_kept t s moves.Pick decided h =
     picked_has AreKept s s.current h
     (λ x xs is. same_kept s (picked s (x ∷ xs)) refl (λ k lived. let same = picked_crowd (has_number k) s x xs decided is in omega arith) h)
@@ -192,7 +192,11 @@ moved_kept t s (moves.Clock time) decided h =
 pub all_kept : (t : Listing) (seed n : ℕ) (s : Machine) → run t seed n ≡ Ok s → AreKept s
 all_kept t seed n s there =
     over_run t seed (λ n s. AreKept s) (record { alive = λ k some. absurd (omega arith) })
-    (λ n s m streams there decided h. (let k = moved_kept t s m decided h in record { alive = k.alive }))
+    (λ n s m streams there decided h.
+    (let v = moved s m in
+    let k = same_kept v (woken (written s m) v) refl
+    (λ i lived. let same = woken_crowd (has_number i) (written s m) v in omega arith) (moved_kept t s m decided h) in
+    record { alive = k.alive }))
     n s there
 
 -- what that says of the list of parameters

@@ -17,7 +17,7 @@ use Rattle.gw_meaning.specs.declared.transaction.Transaction.{Transaction}
 use Rattle.gw_meaning.specs.declared.transaction.Event.{Event}
 use Rattle.gw_meaning.specs.Listing.{Listing, command_at}
 use Rattle.gw_meaning.specs.Machine.{Machine, raised, delay_at}
-use Rattle.gw_meaning.specs.Changes.{deed_shares, some_let_in, one_let_in, admitted, changed, entering, refused, with_active, picked, moved, decided}
+use Rattle.gw_meaning.specs.Changes.{deed_shares, some_let_in, one_let_in, admitted, changed, entering, refused, with_active, picked, moved, decided, watching}
 use Rattle.gw_meaning.specs.Questions.{result_of}
 use Rattle.gw_meaning.specs.Step.{start_prog, command_prog, least_time, within_prog, clock_prog, pick_prog, scan_prog, move_prog, step}
 use Rattle.gw_meaning.proofs.Programs.{run_on}
@@ -29,6 +29,7 @@ use Rattle.gw_laws.proofs.ClockLaws.{least_is_least}
 use Rattle.gw_laws.proofs.Trying.{gives_so}
 use Rattle.gw_laws.proofs.Attempts.{IsOfCommand, IsAttempt, start_tries, attempt_tries}
 use Rattle.gw_laws.proofs.EndLaws.{none_there, least_is_there, both_of, goes_on, went_on, at_pick, at_clock}
+use Rattle.gw_laws.proofs.Waking.{nobody_wakes}
 
 -- ---- the clock stands, but in its own move
 
@@ -62,6 +63,10 @@ attempt_stands s (moves.Enter id change fate) h = go s.active where
   go (Some x) = entering_clock s x id change fate
 attempt_stands s (moves.Refuse id key units) h = go s.active where
   go : (active : Option Transaction) → Stands s (with_active active (λ x. refused s x id key units) s)
+  go None = refl
+  go (Some x) = refl
+attempt_stands s (moves.Watch read) h = go s.active where
+  go : (active : Option Transaction) → Stands s (with_active active (λ x. watching s x read) s)
   go None = refl
   go (Some x) = refl
 attempt_stands s other h = absurd h.1
@@ -171,7 +176,9 @@ module _ (t : Listing) (seed : ℕ) (s : Machine) where
       let found : pick_prog s s.current s.streams ≡ pick_prog s (x ∷ xs) s.streams = ap (λ ys. pick_prog s ys s.streams) chain in
       let picks : step t seed s ≡ Ok (decided s moves.Pick s.streams) =
       goes_on t seed s (moves.Pick, s.streams) (ap (λ p. result_of t seed p) (at_pick t seed s started none ∙ found)) in
-      picks ∙ ap (λ ys. Ok (record (picked s ys) { streams = s.streams })) chain
+      picks
+      ∙ (ap (λ (v : Machine). let w : Machine = record v { streams = s.streams } in Ok w) (nobody_wakes (picked s s.current))
+      ∙ ap (λ ys. Ok (record (picked s ys) { streams = s.streams })) chain)
 
 pub clock_moves_only_when_it_must : ClockMovesOnlyWhenItMust
 clock_moves_only_when_it_must t seed n s v there is = had_to t seed s v (sym (run_on t seed n s there) ∙ is)

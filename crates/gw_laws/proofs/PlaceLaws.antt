@@ -15,14 +15,16 @@ use Rattle.gw_meaning.specs.declared.moves.Move.{Move}
 use Rattle.gw_meaning.specs.declared.moves.Move.TheVariants as moves
 use Rattle.gw_meaning.specs.Listing.{Listing}
 use Rattle.gw_meaning.specs.Machine.{Machine, delay_at, waiting}
-use Rattle.gw_meaning.specs.Changes.{refused, moved}
+use Rattle.gw_meaning.specs.Changes.{refused, moved, watching}
+use Rattle.gw_meaning.specs.Watching.{transactions_of}
 use Rattle.gw_frame.proofs.Known.{IsDecided}
 use Rattle.gw_frame.proofs.Moves.{settled_is, with_active_has, entered_has, picked_has}
 use Rattle.gw_frame.proofs.Running.{over_run}
-use Rattle.gw_laws.specs.Places.{Place, Active, OnCurrent, OnFuture, OnDelay, who_stands, EachHasAPlace, EachHasOnePlace}
+use Rattle.gw_laws.specs.Places.{Place, Active, OnCurrent, OnFuture, OnDelay, OnRetry, who_stands, EachHasAPlace, EachHasOnePlace}
 use Rattle.gw_laws.proofs.Waiting.{let_in_is}
 use Rattle.gw_laws.proofs.Crowd.{many, many_has, many_append, active_many, many_active, future_many, many_future, crowd}
 use Rattle.gw_laws.proofs.NumberLaws.{has_number, all_numbered}
+use Rattle.gw_laws.specs.Living.{living}
 
 -- ---- in no other place
 
@@ -36,12 +38,14 @@ module _ (test : Transaction → Bool) where
   share s OnCurrent = many test s.current
   share s OnFuture = future_many test s.future
   share s (OnDelay key) = many test (delay_at s.delays key)
+  share s OnRetry = many test (transactions_of s.retry)
 
   share_is : (s : Machine) (p : Place) → many test (who_stands s p) ≡ share s p
   share_is s Active = many_active test s.active
   share_is s OnCurrent = refl
   share_is s OnFuture = many_future test s.future
   share_is s (OnDelay key) = refl
+  share_is s OnRetry = refl
 
   -- those on one delay chain, and on two of them, are among those who wait
   delay_share : (ds : List (Key × List Transaction)) (key : Key) → many test (delay_at ds key) ≤ many test (waiting ds)
@@ -76,17 +80,26 @@ module _ (test : Transaction → Bool) where
   one_place s Active OnCurrent once here there = absurd (omega (arith, once, here, there))
   one_place s Active OnFuture once here there = absurd (omega (arith, once, here, there))
   one_place s Active (OnDelay key) once here there = absurd (let some = delay_share s.delays key in omega (arith, once, here, there, some))
+  one_place s Active OnRetry once here there = absurd (omega (arith, once, here, there))
   one_place s OnCurrent Active once here there = absurd (omega (arith, once, here, there))
   one_place s OnCurrent OnCurrent once here there = refl
   one_place s OnCurrent OnFuture once here there = absurd (omega (arith, once, here, there))
   one_place s OnCurrent (OnDelay key) once here there = absurd (let some = delay_share s.delays key in omega (arith, once, here, there, some))
+  one_place s OnCurrent OnRetry once here there = absurd (omega (arith, once, here, there))
   one_place s OnFuture Active once here there = absurd (omega (arith, once, here, there))
   one_place s OnFuture OnCurrent once here there = absurd (omega (arith, once, here, there))
   one_place s OnFuture OnFuture once here there = refl
   one_place s OnFuture (OnDelay key) once here there = absurd (let some = delay_share s.delays key in omega (arith, once, here, there, some))
+  one_place s OnFuture OnRetry once here there = absurd (omega (arith, once, here, there))
+  one_place s OnRetry Active once here there = absurd (omega (arith, once, here, there))
+  one_place s OnRetry OnCurrent once here there = absurd (omega (arith, once, here, there))
+  one_place s OnRetry OnFuture once here there = absurd (omega (arith, once, here, there))
+  one_place s OnRetry (OnDelay key) once here there = absurd (let some = delay_share s.delays key in omega (arith, once, here, there, some))
+  one_place s OnRetry OnRetry once here there = refl
   one_place s (OnDelay key) Active once here there = absurd (let some = delay_share s.delays key in omega (arith, once, here, there, some))
   one_place s (OnDelay key) OnCurrent once here there = absurd (let some = delay_share s.delays key in omega (arith, once, here, there, some))
   one_place s (OnDelay key) OnFuture once here there = absurd (let some = delay_share s.delays key in omega (arith, once, here, there, some))
+  one_place s (OnDelay key) OnRetry once here there = absurd (let some = delay_share s.delays key in omega (arith, once, here, there, some))
   one_place s (OnDelay key) (OnDelay other) once here there =
       elim (cases_Bool (key_eq key other)) [
         | inl is ↦ ap (λ k. OnDelay k) (key_same key other is)
@@ -134,6 +147,7 @@ moved_once t s (moves.Enter id change fate) decided h =
     })
 moved_once t s (moves.Refuse id key units) decided h =
     with_active_has DelaysAreOnce s.active (λ x. refused s x id key units) s h (λ x is. with_once s.delays key _ h)
+moved_once t s (moves.Watch read) decided h = with_active_has DelaysAreOnce s.active (λ x. watching s x read) s h (λ x is. h)
 moved_once t s moves.Pick decided h = picked_has DelaysAreOnce s s.current h (λ x xs is. h)
 moved_once t s (moves.Clock time) decided h = h
 
@@ -156,18 +170,20 @@ who_waits (d ∷ ds) x all there =
           | inr other ↦ (key, rw other stands)
         ]
 
-some_place : (s : Machine) (x : Transaction) → DelaysAreOnce s →
-    Contains (option_to_list s.active ++ (s.current ++ (map (λ (e : Event). e.transaction) s.future ++ waiting s.delays))) x →
-    (p : Place) × Contains (who_stands s p) x
+some_place : (s : Machine) (x : Transaction) → DelaysAreOnce s → Contains (living s) x → (p : Place) × Contains (who_stands s p) x
 some_place s x once there =
     let events = map (λ (e : Event). e.transaction) s.future in
-    elim (Contains-append_cases (option_to_list s.active) (s.current ++ (events ++ waiting s.delays)) x there) [
+    let wait = waiting s.delays ++ transactions_of s.retry in
+    elim (Contains-append_cases (option_to_list s.active) (s.current ++ (events ++ wait)) x there) [
       | inl here ↦ (Active, here)
-      | inr behind ↦ elim (Contains-append_cases s.current (events ++ waiting s.delays) x behind) [
+      | inr behind ↦ elim (Contains-append_cases s.current (events ++ wait) x behind) [
         | inl here ↦ (OnCurrent, here)
-        | inr further ↦ elim (Contains-append_cases events (waiting s.delays) x further) [
+        | inr further ↦ elim (Contains-append_cases events wait x further) [
           | inl here ↦ (OnFuture, here)
-          | inr last ↦ let chain = who_waits s.delays x once last in (OnDelay chain.0, chain.1)
+          | inr waits ↦ elim (Contains-append_cases (waiting s.delays) (transactions_of s.retry) x waits) [
+            | inl delayed ↦ let chain = who_waits s.delays x once delayed in (OnDelay chain.0, chain.1)
+            | inr last ↦ (OnRetry, last)
+          ]
         ]
       ]
     ]

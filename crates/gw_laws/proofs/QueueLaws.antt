@@ -13,7 +13,7 @@ use Rattle.gw_meaning.specs.declared.moves.Move.TheVariants as moves
 use Rattle.gw_meaning.specs.Listing.{Listing}
 use Rattle.gw_meaning.specs.Entities.{Entities, line_at, done, touched}
 use Rattle.gw_meaning.specs.Machine.{Machine}
-use Rattle.gw_meaning.specs.Changes.{refused, moved}
+use Rattle.gw_meaning.specs.Changes.{refused, moved, watching}
 use Rattle.gw_frame.proofs.Known.{IsDecidedDeed, IsDecidedChange, IsDecided, Fits, Leaves}
 use Rattle.gw_frame.proofs.Moves.{settled_is, with_active_has, entered_has, picked_has}
 use Rattle.gw_frame.proofs.Running.{over_run}
@@ -104,6 +104,8 @@ moved_within t s (moves.Enter id change fate) decided on all =
     })
 moved_within t s (moves.Refuse id key units) decided on all =
     with_active_has (λ v. AreWithin v.clock v.entities.queues) s.active (λ x. refused s x id key units) s all (λ x is. all)
+moved_within t s (moves.Watch read) decided on all =
+    with_active_has (λ v. AreWithin v.clock v.entities.queues) s.active (λ x. watching s x read) s all (λ x is. all)
 moved_within t s moves.Pick decided on all =
     picked_has (λ v. AreWithin v.clock v.entities.queues) s s.current all (λ x xs is. all)
 moved_within t s (moves.Clock time) decided on all = later_within s.clock time s.entities.queues on all

@@ -6,14 +6,14 @@ use Rattle.gw_meaning.specs.declared.moves.Move.{Move}
 use Rattle.gw_meaning.specs.declared.moves.Move.TheVariants as moves
 use Rattle.gw_meaning.specs.Listing.{Listing}
 use Rattle.gw_meaning.specs.Machine.{Machine}
-use Rattle.gw_meaning.specs.Changes.{Making, made, all_made, making_of, with_making, newcomer, started, one_let_in, refused, moved}
+use Rattle.gw_meaning.specs.Changes.{Making, made, all_made, making_of, with_making, newcomer, started, one_let_in, refused, moved, watching, written}
 use Rattle.gw_meaning.specs.Step.{run}
 use Rattle.gw_model.specs.Well.{Well}
 use Rattle.gw_frame.proofs.Known.{IsDecided}
 use Rattle.gw_frame.proofs.Moves.{settled, settled_is, with_active_has, entered_has, picked_has}
 use Rattle.gw_frame.proofs.Running.{over_run}
 use Rattle.gw_laws.proofs.Waiting.{let_in_is}
-use Rattle.gw_laws.proofs.Crowd.{crowd, future_push, settled_fewer, refused_crowd, lets_crowd, picked_crowd, advanced_crowd}
+use Rattle.gw_laws.proofs.Crowd.{crowd, future_push, settled_fewer, refused_crowd, lets_crowd, picked_crowd, advanced_crowd, watching_crowd, woken_crowd}
 
 abbrev pub anyone : Transaction → Bool
 anyone x = true
@@ -66,6 +66,11 @@ moved_within t s (moves.Refuse id key units) most few decided h =
     (λ x is.
     let same = refused_crowd anyone s x id key units is refl in
     record { next = omega (arith, h.next); crowd = omega (arith, h.crowd) })
+moved_within t s (moves.Watch read) most few decided h =
+    with_active_has (IsWithin (most + 2000)) s.active (λ x. watching s x read) s (within_more most (most + 2000) s (omega arith) h)
+    (λ x is.
+    let same = watching_crowd anyone s x read is in
+    record { next = omega (arith, h.next); crowd = omega (arith, h.crowd) })
 moved_within t s moves.Pick most few decided h =
     picked_has (IsWithin (most + 2000)) s s.current (within_more most (most + 2000) s (omega arith) h)
     (λ x xs is.
@@ -81,5 +86,6 @@ all_within t seed n s well is =
     over_run t seed (λ n s. IsWithin (2000 * n) s) (record { next = omega arith; crowd = omega arith })
     (λ n s m streams there decided h.
     let k = moved_within t s m (2000 * n) well.statements decided h in
-    record { next = omega (arith, k.next); crowd = omega (arith, k.crowd) })
+    let same = woken_crowd anyone (written s m) (moved s m) in
+    record { next = omega (arith, k.next); crowd = omega (arith, same, k.crowd) })
     n s is

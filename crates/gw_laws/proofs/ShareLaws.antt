@@ -21,7 +21,7 @@ use Rattle.gw_meaning.specs.declared.moves.Move.TheVariants as moves
 use Rattle.gw_meaning.specs.Listing.{Listing, capacity_at}
 use Rattle.gw_meaning.specs.Entities.{Entities, store_at, all_entered, done}
 use Rattle.gw_meaning.specs.Machine.{Machine, delay_at}
-use Rattle.gw_meaning.specs.Changes.{lined_up, one_let_in, some_let_in, admitted, entering, bound, refused, moved}
+use Rattle.gw_meaning.specs.Changes.{lined_up, one_let_in, some_let_in, admitted, entering, bound, refused, moved, watching}
 use Rattle.gw_meaning.specs.Step.{beside, in_use, share_of}
 use Rattle.gw_frame.proofs.Known.{does_fit, shares_of, is_storage, IsDecidedDeed, IsRefused, IsDecided}
 use Rattle.gw_frame.proofs.Moves.{chain_behind, with_active_has, picked_has}
@@ -238,6 +238,8 @@ moved_room t s (moves.Enter id change fate) decided counted h =
     (λ v key deed chains entities does. deed_room t s v key deed x.number chains entities does counted h))
 moved_room t s (moves.Refuse id key units) decided counted h =
     with_active_has (NobodyHasRoom t) s.active (λ x. refused s x id key units) s h (λ x is. refused_room t s x id key units decided.1 h)
+moved_room t s (moves.Watch read) decided counted h =
+    with_active_has (NobodyHasRoom t) s.active (λ x. watching s x read) s h (λ x is. h)
 moved_room t s moves.Pick decided counted h = picked_has (NobodyHasRoom t) s s.current h (λ x xs is. h)
 moved_room t s (moves.Clock time) decided counted h = h
 

@@ -16,7 +16,7 @@ use Rattle.gw_meaning.specs.declared.moves.Move.{Move}
 use Rattle.gw_meaning.specs.declared.moves.Move.TheVariants as moves
 use Rattle.gw_meaning.specs.Listing.{Listing, command_of, command_at, is_start}
 use Rattle.gw_meaning.specs.Machine.{Machine, raised}
-use Rattle.gw_meaning.specs.Changes.{placed, marked, fated, let_in, entering, refused, moved}
+use Rattle.gw_meaning.specs.Changes.{placed, marked, fated, let_in, entering, refused, moved, watching}
 use Rattle.gw_meaning.specs.Step.{run}
 use Rattle.gw_model.specs.Well.{Well}
 use Rattle.gw_frame.proofs.Moves.{settled, LetsIn, with_active_has, picked_has}
@@ -179,6 +179,8 @@ module _ (t : Listing) (well : Well t) where
   scan_done s (moves.Enter id change fate) some next h = entered_done s id change fate some h
   scan_done s (moves.Refuse id key units) some next h =
       with_active_has Done s.active (λ x. refused s x id key units) s h (λ x is. h)
+  scan_done s (moves.Watch read) some next h =
+      with_active_has Done s.active (λ x. watching s x read) s h (λ x is. h)
   scan_done s moves.Pick some next h = picked_has Done s s.current h (λ x xs is. h)
   scan_done s (moves.Clock time) some next h = h
 

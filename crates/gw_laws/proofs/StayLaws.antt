@@ -13,9 +13,11 @@ use Rattle.gw_meaning.specs.declared.moves.Move.{Move}
 use Rattle.gw_meaning.specs.declared.moves.Move.TheVariants as moves
 use Rattle.gw_meaning.specs.Listing.{Listing}
 use Rattle.gw_meaning.specs.Machine.{Machine, delay_at}
-use Rattle.gw_meaning.specs.Changes.{lined_up, one_let_in, placed, bound, refused, picked, moved}
+use Rattle.gw_meaning.specs.Changes.{lined_up, one_let_in, placed, bound, refused, picked, moved, watching, written, woken, is_woken}
 use Rattle.gw_meaning.proofs.Programs.{run_on}
 use Rattle.gw_meaning.proofs.Chains.{IsOrdered}
+use Rattle.gw_meaning.specs.declared.watched.Watched.{Watched}
+use Rattle.gw_meaning.specs.Watching.{transactions_of}
 use Rattle.gw_frame.proofs.Decided.{step_decides}
 use Rattle.gw_frame.proofs.Known.{IsDecided}
 use Rattle.gw_frame.proofs.Moves.{settled, settled_is, with_active_has, entered_has, picked_has}
@@ -27,6 +29,7 @@ use Rattle.gw_laws.proofs.Crowd.{one, many, many_without, active_crowd, waiting_
 use Rattle.gw_laws.proofs.NumberLaws.{has_number, IsNumbered, all_numbered}
 use Rattle.gw_laws.proofs.ChainLaws.{delay_ordered, all_chained, come_new, lined_numbers}
 use Rattle.gw_laws.proofs.DelayLaws.{delay_bound, all_bound}
+use Rattle.gw_laws.proofs.Waking.{all_lined_keeps}
 
 -- ---- whoever goes on waiting keeps his place
 
@@ -184,6 +187,8 @@ module _ (priority : ℤ) where
     moved_places t s (moves.Refuse id key units) decided h order =
         with_active_has (KeepsPlaces s) s.active (λ x. refused s x id key units) s (same_places s s refl)
         (λ x is. refused_places s x id key units is h (order key))
+    moved_places t s (moves.Watch read) decided h order =
+        with_active_has (KeepsPlaces s) s.active (λ x. watching s x read) s (same_places s s refl) (λ x is. same_places s (watching s x read) refl)
     moved_places t s moves.Pick decided h order =
         picked_has (KeepsPlaces s) s s.current (same_places s s refl) (λ x xs is. same_places s (picked s (x ∷ xs)) refl)
     moved_places t s (moves.Clock time) decided h order = same_places s (moved s (moves.Clock time)) refl
@@ -259,8 +264,15 @@ module _ (q : Key) (x : Transaction) (way : IsBound x) where
       (λ v. record { nothing = λ k. k; one = λ a coming k. k; lets = lets_stay })
   moved_stay t s (moves.Refuse id key units) decided there =
       with_active_has WaitsOrIsIn s.active (λ y. refused s y id key units) s (inl there) (λ y is. refused_stay s y id key units there)
+  moved_stay t s (moves.Watch read) decided there =
+      with_active_has WaitsOrIsIn s.active (λ y. watching s y read) s (inl there) (λ y is. inl there)
   moved_stay t s moves.Pick decided there = picked_has WaitsOrIsIn s s.current (inl there) (λ y ys is. inl there)
   moved_stay t s (moves.Clock time) decided there = inl there
+
+  woken_stay : (list : List Watched) (w : Machine) → WaitsOrIsIn w → WaitsOrIsIn (woken list w)
+  woken_stay list w (inl there) = inl there
+  woken_stay list w (inr in') =
+      inr (in'.0, in'.1, all_lined_keeps (transactions_of (filter (is_woken list) w.retry)) w.current (placed x in'.0) in'.2)
 
 pub who_leaves_is_let_in : WhoLeavesIsLetIn
 who_leaves_is_let_in t seed n s v there is key x waits =
@@ -268,4 +280,5 @@ who_leaves_is_let_in t seed n s v there is key x waits =
     let way : IsBound x =
     All-contains IsBound (delay_at s.delays key) x
     (All-from_recursion IsBound (delay_at s.delays key) (delay_bound s key (all_bound t seed n s there))) waits in
-    subst (WaitsOrIsIn key x way) (sym after.is) (moved_stay key x way t s after.move after.is_decided waits)
+    subst (WaitsOrIsIn key x way) (sym after.is)
+    (woken_stay key x way (written s after.move) (moved s after.move) (moved_stay key x way t s after.move after.is_decided waits))

@@ -21,7 +21,7 @@ use Rattle.gw_meaning.specs.declared.moves.Move.TheVariants as moves
 use Rattle.gw_meaning.specs.Listing.{Listing, capacity_at}
 use Rattle.gw_meaning.specs.Entities.{store_at, all_entered, done, touched}
 use Rattle.gw_meaning.specs.Machine.{Machine, delay_at}
-use Rattle.gw_meaning.specs.Changes.{refused, moved}
+use Rattle.gw_meaning.specs.Changes.{refused, moved, watching}
 use Rattle.gw_meaning.specs.Step.{beside, in_use, share_of, all_shares, run}
 use Rattle.gw_frame.proofs.Known.{does_fit, shares_of, ComesIn, GoesOut, IsDecidedDeed, IsDecidedChange, IsDecided}
 use Rattle.gw_frame.proofs.Moves.{settled_is, with_active_has, entered_has, picked_has}
@@ -215,6 +215,8 @@ moved_kept t s (moves.Enter id change fate) decided on all =
     })
 moved_kept t s (moves.Refuse id key units) decided on all =
     with_active_has (Kept t) s.active (λ x. refused s x id key units) s all (λ x is. all)
+moved_kept t s (moves.Watch read) decided on all =
+    with_active_has (Kept t) s.active (λ x. watching s x read) s all (λ x is. all)
 moved_kept t s moves.Pick decided on all = picked_has (Kept t) s s.current all (λ x xs is. all)
 moved_kept t s (moves.Clock time) decided on all = later_kept t s.clock time s.entities.storages on all
 

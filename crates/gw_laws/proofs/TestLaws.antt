@@ -1,6 +1,5 @@
 -- A TEST that is read holds of two values where its operator says so.
-use Rattle.std.proofs.Common.{◌≡◌, ◌≢◌, ◌↔◌, ℕ, ℤ, pos, negsuc, ◌≤ℤ◌, Bool, true, false, not, List, Option, Some, None, refl, ap, sym, subst, ◌∙◌, arith}
-use Rattle.std.specs.Prelude.{codes, IsSome}
+use Rattle.std.proofs.Common.{◌≡◌, ◌≢◌, ◌↔◌, ℕ, ℤ, pos, negsuc, ◌≤ℤ◌, true, List, Some, refl, ap, sym, subst, ◌∙◌, arith}
 use Rattle.std.specs.Str.{bytes_eq}
 use Rattle.std.proofs.lemmas.Bool.Decides.{nat_tests}
 use Rattle.gw_names.specs.declared.verb.BlockVerb.TheVariants as blocks
@@ -15,7 +14,6 @@ use Rattle.gw_meaning.specs.Statements.{verb_of_body}
 use Rattle.gw_meaning.specs.Step.{holds}
 use Rattle.gw_lines.specs.Auxiliaries.{operators, operator_word, operator_of, auxiliary_of, HasAuxiliary}
 use Rattle.gw_lines.specs.Classes.{word_of}
-use Rattle.gw_lines.specs.Spelling.{Spells}
 use Rattle.gw_lines.proofs.Results.{found_so, some_is}
 use Rattle.std.proofs.lemmas.Slice.Eq.{bytes_eq-Decides}
 use Rattle.gw_laws.specs.Tests.{Relates, HoldsAsItSays, EachIsAnOperator, equal, not_equal, greater, greater_or_equal, less, less_or_equal}

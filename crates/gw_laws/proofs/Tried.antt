@@ -34,25 +34,42 @@ use Rattle.gw_laws.proofs.Attempts.{IsAt, meet_tries}
 pub record Comes {A : Type 0} (t : Listing) (seed : ℕ) (Q : A → Type 0) (p : Eval A) : Type 0 where
   pub from : (streams : List Stream) (r : A × List Stream) → result_of t seed (p streams) ≡ Ok r → Q r.0
 
-comes_gives : {A : Type 0} {t : Listing} {seed : ℕ} {Q : A → Type 0} {a : A} → Q a → Comes t seed Q (gives a)
+pub comes_gives : {A : Type 0} {t : Listing} {seed : ℕ} {Q : A → Type 0} {a : A} → Q a → Comes t seed Q (gives a)
 comes_gives {A} {t} {seed} {Q} {a} h =
     record { from = λ streams r is. (let same : (a, streams) ≡ r = cc in subst (λ (c : A × List Stream). Q c.0) same h) }
 
-comes_ends : {A : Type 0} {t : Listing} {seed : ℕ} {Q : A → Type 0} {end : End} → Comes t seed Q (ends_with end)
+pub comes_ends : {A : Type 0} {t : Listing} {seed : ℕ} {Q : A → Type 0} {end : End} → Comes t seed Q (ends_with end)
 comes_ends = record { from = λ streams r is. absurd cc }
 
-comes_asks : {A : Type 0} {t : Listing} {seed : ℕ} {Q : A → Type 0} (i : Item) {k : Answer i → Eval A} → Comes t seed Q (k (ask t seed i)) →
+pub comes_asks : {A : Type 0} {t : Listing} {seed : ℕ} {Q : A → Type 0} (i : Item) {k : Answer i → Eval A} → Comes t seed Q (k (ask t seed i)) →
     Comes t seed Q (asks i k)
 comes_asks i rest = record { from = λ streams r is. rest.from streams r is }
 
 -- whatever the first comes to
-comes_bind : {A B : Type 0} {t : Listing} {seed : ℕ} {R : B → Type 0} (p : Eval A) {k : A → Eval B} → ((a : A) → Comes t seed R (k a)) →
+pub comes_bind : {A B : Type 0} {t : Listing} {seed : ℕ} {R : B → Type 0} (p : Eval A) {k : A → Eval B} → ((a : A) → Comes t seed R (k a)) →
     Comes t seed R (p ~> k)
 comes_bind {A} {B} {t} {seed} {R} p {k} second = record { from = λ streams r is. go streams r is (result_of t seed (p streams)) refl } where
   go : (streams : List Stream) (r : B × List Stream) → result_of t seed ((p ~> k) streams) ≡ Ok r → (first : Result (A × List Stream) End) →
       result_of t seed (p streams) ≡ first → R r.0
   go streams r is (Ok a) there = (second a.0).from a.1 r (sym (bind_gives t seed (p streams) (λ b. k b.0 b.1) a there).0 ∙ is)
   go streams r is (Err end) there = absurd (let whole : Err end ≡ Ok r = sym (bind_ends t seed (p streams) (λ b. k b.0 b.1) end there).0 ∙ is in cc)
+
+-- where something is known of what the first comes to
+pub comes_then : {A B : Type 0} {t : Listing} {seed : ℕ} {Q : A → Type 0} {R : B → Type 0} {p : Eval A} {k : A → Eval B} → Comes t seed Q p →
+    ((a : A) → Q a → Comes t seed R (k a)) → Comes t seed R (p ~> k)
+comes_then {A} {B} {t} {seed} {Q} {R} {p} {k} first second = record { from = λ streams r is. go streams r is (result_of t seed (p streams)) refl } where
+  go : (streams : List Stream) (r : B × List Stream) → result_of t seed ((p ~> k) streams) ≡ Ok r → (one : Result (A × List Stream) End) →
+      result_of t seed (p streams) ≡ one → R r.0
+  go streams r is (Ok a) there =
+      (second a.0 (first.from streams a there)).from a.1 r (sym (bind_gives t seed (p streams) (λ b. k b.0 b.1) a there).0 ∙ is)
+  go streams r is (Err end) there = absurd (let whole : Err end ≡ Ok r = sym (bind_ends t seed (p streams) (λ b. k b.0 b.1) end there).0 ∙ is in cc)
+
+-- what has a property has what follows from it, and what each has
+pub comes_more : {A : Type 0} {t : Listing} {seed : ℕ} {Q R : A → Type 0} {p : Eval A} → ((a : A) → Q a → R a) → Comes t seed Q p → Comes t seed R p
+comes_more more h = record { from = λ streams r is. more r.0 (h.from streams r is) }
+
+pub comes_any : {A : Type 0} {t : Listing} {seed : ℕ} {Q : A → Type 0} {p : Eval A} → ((a : A) → Q a) → Comes t seed Q p
+comes_any each = record { from = λ streams r is. each r.0 }
 
 -- one is picked, or the clock moves on
 abbrev pub IsOfNobody : Move → Type 0
@@ -109,7 +126,7 @@ module _ (t : Listing) (seed : ℕ) (s : Machine) where
   clock_next None = comes_ends
   clock_next (Some time) = comes_asks (items.Within time) (within_next time _)
 
-  pick_next : (chain : List Transaction) → Comes t seed IsOfNobody (pick_prog s chain)
+  pub pick_next : (chain : List Transaction) → Comes t seed IsOfNobody (pick_prog s chain)
   pick_next [] = clock_next (least_time s.future)
   pick_next (x ∷ xs) = comes_gives tt
 
@@ -122,7 +139,7 @@ module _ (t : Listing) (seed : ℕ) (s : Machine) where
   start_next true count = comes_gives refl
   start_next false count = comes_bind (first_arrivals_prog s count) (λ first. comes_gives refl)
 
-  command_next : (command : Option Command) → Comes t seed (IsCommand command) (command_prog s command)
+  pub command_next : (command : Option Command) → Comes t seed (IsCommand command) (command_prog s command)
   command_next None = comes_ends
   command_next (Some (commands.Start count)) = start_next s.primed count
   command_next (Some (commands.Rmult values)) =

@@ -1,5 +1,5 @@
 -- However its questions are answered, an evaluation gives a result or ends with an error.
-use Rattle.std.proofs.Common.{◌≡◌, ℕ, zero, suc, ◌-◌, nat_le, not, ◌&&◌, Bool, true, false, cond, List, Option, Some, None, Result, Ok, Err, ℤ, pos, subst}
+use Rattle.std.proofs.Common.{◌≡◌, ℕ, zero, suc, ◌-◌, nat_le, not, ◌&&◌, Bool, true, false, cond, List, Option, Some, None, Result, Ok, Err, ℤ, pos, subst, []}
 use Rattle.gw_nums.specs.Range.{is_value, is_negative, is_below, magnitude}
 use Rattle.gw_nums.specs.declared.val.ArithmeticFault.{ArithmeticFault}
 use Rattle.gw_nums.specs.declared.val.ArithmeticFault.TheVariants as arithmetic_faults
@@ -26,7 +26,9 @@ use Rattle.gw_meaning.specs.declared.item.Item.TheVariants as items
 use Rattle.gw_meaning.specs.Listing.{Listing}
 use Rattle.gw_meaning.specs.Machine.{Machine}
 use Rattle.gw_meaning.specs.Questions.{Answer, ask, Prog, Gives, Ends, Asks, result_of, ◌>>=◌}
-use Rattle.gw_meaning.specs.Evaluation.{Eval, gives, ends_with, asks, ◌~>◌, stops_if, number_of_draw, draw, in_range, amount, own_value, numbered, named, subject_prog, storage_prog, left_prog, counted, block_count, drawn_prog, random_prog, random_part, entity_value, storage_value, block_value, value_held, parameter_value, attribute_prog, arithmetic, reply_prog, evaluated, value_prog, value_there, value_or_zero, entity_prog, units_prog, spread, sample_within, modifier_of, time_by, time_prog}
+use Rattle.gw_meaning.specs.Evaluation.{Eval, gives, ends_with, asks, ◌~>◌, stops_if, number_of_draw, draw, in_range, amount, own_value, numbered, named, subject_prog, storage_prog, left_prog, counted, block_count, drawn_prog, random_prog, random_part, entity_value, storage_value, block_value, value_held, parameter_value, attribute_prog, arithmetic, reply_prog, evaluated, value_prog, value_there, value_or_zero, entity_prog, units_prog, spread, sample_within, modifier_of, time_by, time_prog, storage_watched, counts_watched, watched_prog, watched_by, traced, value_traced, entity_traced}
+use Rattle.gw_meaning.specs.declared.watched.Watched.{Watched}
+use Rattle.gw_meaning.specs.Watching.{with_all_watched}
 use Rattle.gw_frame.proofs.DecidedValues.{Whatever}
 
 abbrev pub IsError : End → Type 0
@@ -143,6 +145,16 @@ pub arithmetic_tries : (r : Result ℤ ArithmeticFault) → TriesAny (arithmetic
 arithmetic_tries (Ok z) = tries_gives tt
 arithmetic_tries (Err arithmetic_faults.Range) = tries_ends
 arithmetic_tries (Err arithmetic_faults.ZeroDivisor) = tries_ends
+
+storage_watched_tries : (of : Subject) → TriesAny (storage_watched of)
+storage_watched_tries subjects.Own = tries_gives tt
+storage_watched_tries (subjects.Number n) = tries_gives tt
+storage_watched_tries (subjects.Name name) = tries_gives tt
+
+counts_watched_tries : (of : Subject) → TriesAny (counts_watched of)
+counts_watched_tries subjects.Own = tries_gives tt
+counts_watched_tries (subjects.Number n) = tries_gives tt
+counts_watched_tries (subjects.Name name) = tries_asks (items.Named asking.Label name) (λ id. tries_gives tt)
 
 module _ (s : Machine) where
   own_tries : (q : Asker) (of : Class) → TriesAny (own_value s q of)
@@ -273,3 +285,46 @@ module _ (s : Machine) where
 
   pub time_tries : (q : Asker) (mean range : Option Term) → TriesAny (time_prog s q mean range)
   time_tries q mean range = time_by_tries q mean range (modifier_of range)
+
+  -- ---- what is read
+  watched_tries : (class : Class) (of : Subject) → TriesAny (watched_prog class of)
+  unfolding watched_prog
+  watched_tries class.F of = tries_bind (subject_tries of) (λ key. tries_gives tt)
+  watched_tries class.Fc of = tries_bind (subject_tries of) (λ key. tries_gives tt)
+  watched_tries class.Q of = tries_bind (subject_tries of) (λ key. tries_gives tt)
+  watched_tries class.Qc of = tries_bind (subject_tries of) (λ key. tries_gives tt)
+  watched_tries class.Qm of = tries_bind (subject_tries of) (λ key. tries_gives tt)
+  watched_tries class.Qz of = tries_bind (subject_tries of) (λ key. tries_gives tt)
+  watched_tries class.X of = tries_bind (subject_tries of) (λ key. tries_gives tt)
+  watched_tries class.Ls of = tries_bind (subject_tries of) (λ key. tries_gives tt)
+  watched_tries class.S of = storage_watched_tries of
+  watched_tries class.R of = storage_watched_tries of
+  watched_tries class.Sc of = storage_watched_tries of
+  watched_tries class.Sm of = storage_watched_tries of
+  watched_tries class.N of = counts_watched_tries of
+  watched_tries class.W of = counts_watched_tries of
+  watched_tries class of = tries_gives tt
+
+  watched_by_tries : (question : Question) → TriesAny (watched_by question)
+  watched_by_tries (NumberOf name) = tries_gives tt
+  watched_by_tries (AttributeOf class of) = watched_tries class of
+  watched_by_tries (PartOf of) = tries_gives tt
+  watched_by_tries (VariableOf name) = tries_gives tt
+  watched_by_tries (FunctionOf name) = tries_gives tt
+
+  traced_tries : {A : Type 0} (q : Asker) (read : List Watched) (p : Evaluation A) → TriesAny (traced s q read p)
+  traced_tries q read (Yields a) = tries_gives tt
+  traced_tries q read (Stops stop) = tries_ends
+  traced_tries q read (Wants question k) = tries_bind (watched_by_tries question) (λ more. tries_bind (reply_tries q question)
+      (λ reply. traced_tries q (with_all_watched read more) (k reply)))
+
+  pub value_traced_tries : (q : Asker) (read : List Watched) (term : Option Term) → TriesAny (value_traced s q read term)
+  value_traced_tries q read None = tries_ends
+  value_traced_tries q read (Some term) = traced_tries q read (value_of term)
+
+  pub entity_traced_tries : (q : Asker) (term : Option Term) → TriesAny (entity_traced s q term)
+  entity_traced_tries q None = tries_ends
+  entity_traced_tries q (Some (Named name)) =
+      tries_bind (tries_asks (items.Named asking.Number name) (named_tries name)) (λ key. tries_gives tt)
+  entity_traced_tries q (Some term) =
+      tries_bind (traced_tries q [] (value_of term)) (λ r. tries_bind (numbered_tries r.0) (λ key. tries_gives tt))

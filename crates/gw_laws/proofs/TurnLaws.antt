@@ -10,7 +10,7 @@ use Rattle.gw_meaning.specs.declared.moves.Move.{Move}
 use Rattle.gw_meaning.specs.declared.moves.Move.TheVariants as moves
 use Rattle.gw_meaning.specs.Listing.{Listing}
 use Rattle.gw_meaning.specs.Machine.{Machine}
-use Rattle.gw_meaning.specs.Changes.{is_due, due, refused, picked, moved}
+use Rattle.gw_meaning.specs.Changes.{is_due, due, refused, picked, moved, watching, written, woken}
 use Rattle.gw_meaning.proofs.Programs.{run_on}
 use Rattle.gw_meaning.proofs.Chains.{IsOrdered}
 use Rattle.gw_laws.specs.Chain.{FirstBecomesActive, AllOfATimeCome, numbers_of, coming_at}
@@ -20,6 +20,7 @@ use Rattle.gw_frame.proofs.Moves.{settled_is, with_active_has, entered_has, pick
 use Rattle.gw_laws.proofs.Waiting.{let_in_is}
 use Rattle.gw_laws.proofs.ChainLaws.{all_ordered, all_lined_numbers}
 use Rattle.gw_laws.proofs.ClockLaws.{AreAhead, least_is_least}
+use Rattle.gw_laws.proofs.Waking.{unwoken}
 
 -- ---- who becomes active
 
@@ -30,10 +31,11 @@ WasFirst x s v = v.active ≡ Some x → s.current ≡ x ∷ v.current
 none_is : (x : Transaction) (s v : Machine) → v.active ≡ None → WasFirst x s v
 none_is x s v none is = absurd (let no : None ≡ Some x = sym none ∙ is in cc)
 
-moved_first : (t : Listing) (s : Machine) (m : Move) (x : Transaction) → IsDecided t s m → s.active ≡ None → WasFirst x s (moved s m)
-moved_first t s (moves.Start count arrivals) x decided none = none_is x s (moved s (moves.Start count arrivals)) none
-moved_first t s moves.Command x decided none = none_is x s (moved s moves.Command) none
-moved_first t s (moves.Enter id change fate) x decided none =
+decided_first : (t : Listing) (s : Machine) (m : Move) (x : Transaction) → IsDecided t s m → s.active ≡ None →
+    WasFirst x s (woken (written s m) (moved s m))
+decided_first t s (moves.Start count arrivals) x decided none = none_is x s (woken [] (moved s (moves.Start count arrivals))) none
+decided_first t s moves.Command x decided none = none_is x s (woken [] (moved s moves.Command)) none
+decided_first t s (moves.Enter id change fate) x decided none =
     let nobody =
     entered_has (λ v. ⊥) (λ v. v.active ≡ None) t s id change fate decided.1 none (λ y there. absurd (let no : None ≡ Some y = sym none ∙ there in cc))
     (λ v. record {
@@ -41,16 +43,21 @@ moved_first t s (moves.Enter id change fate) x decided none =
       one = λ a coming no. absurd no;
       lets = λ w key y passed ys is still. (let_in_is key y (passed ++ ys) w).active ∙ still;
     }) in
-    none_is x s (moved s (moves.Enter id change fate)) nobody
-moved_first t s (moves.Refuse id key units) x decided none =
-    with_active_has (WasFirst x s) s.active (λ y. refused s y id key units) s (none_is x s s none) (λ y is. none_is x s (refused s y id key units) refl)
-moved_first t s moves.Pick x decided none = picked_has (WasFirst x s) s s.current (none_is x s s none) (λ y ys is now. cc)
-moved_first t s (moves.Clock time) x decided none = none_is x s (moved s (moves.Clock time)) none
+    (let m = moves.Enter id change fate in none_is x s (woken (written s m) (moved s m)) nobody)
+decided_first t s (moves.Refuse id key units) x decided none =
+    unwoken (WasFirst x s) (moved s (moves.Refuse id key units))
+    (with_active_has (WasFirst x s) s.active (λ y. refused s y id key units) s (none_is x s s none) (λ y is. none_is x s (refused s y id key units) refl))
+decided_first t s (moves.Watch read) x decided none =
+    unwoken (WasFirst x s) (moved s (moves.Watch read))
+    (with_active_has (WasFirst x s) s.active (λ y. watching s y read) s (none_is x s s none) (λ y is. none_is x s (watching s y read) refl))
+decided_first t s moves.Pick x decided none =
+    unwoken (WasFirst x s) (moved s moves.Pick) (picked_has (WasFirst x s) s s.current (none_is x s s none) (λ y ys is now. cc))
+decided_first t s (moves.Clock time) x decided none = none_is x s (woken [] (moved s (moves.Clock time))) none
 
 pub first_becomes_active : FirstBecomesActive
 first_becomes_active t seed n s v x there is none =
     let after = ((step_decides t seed s).runs v (sym (run_on t seed n s there) ∙ is)).0 in
-    subst (WasFirst x s) (sym after.is) (moved_first t s after.move x after.is_decided none)
+    subst (WasFirst x s) (sym after.is) (decided_first t s after.move x after.is_decided none)
 
 -- ---- who comes
 
@@ -83,10 +90,10 @@ Come s v = s.clock < v.clock → TheyCome s v
 stands : (s v : Machine) → v.clock ≡ s.clock → Come s v
 stands s v same less = absurd (omega (arith, same, less))
 
-moved_come : (t : Listing) (s : Machine) (m : Move) → IsDecided t s m → IsOrdered s.current → Come s (moved s m)
-moved_come t s (moves.Start count arrivals) decided order = stands s (moved s (moves.Start count arrivals)) refl
-moved_come t s moves.Command decided order = stands s (moved s moves.Command) refl
-moved_come t s (moves.Enter id change fate) decided order =
+decided_come : (t : Listing) (s : Machine) (m : Move) → IsDecided t s m → IsOrdered s.current → Come s (woken (written s m) (moved s m))
+decided_come t s (moves.Start count arrivals) decided order = stands s (woken [] (moved s (moves.Start count arrivals))) refl
+decided_come t s moves.Command decided order = stands s (woken [] (moved s moves.Command)) refl
+decided_come t s (moves.Enter id change fate) decided order =
     let P : Machine → Type 0 = λ v. v.clock ≡ s.clock in
     let still =
     entered_has P P t s id change fate decided.1 refl (λ x is. (settled_is s x id change fate).clock)
@@ -95,17 +102,23 @@ moved_come t s (moves.Enter id change fate) decided order =
       one = λ a coming same. same;
       lets = λ w key x passed xs is same. (let_in_is key x (passed ++ xs) w).clock ∙ same;
     }) in
-    stands s (moved s (moves.Enter id change fate)) still
-moved_come t s (moves.Refuse id key units) decided order =
-    with_active_has (Come s) s.active (λ x. refused s x id key units) s (stands s s refl) (λ x is. stands s (refused s x id key units) refl)
-moved_come t s moves.Pick decided order = picked_has (Come s) s s.current (stands s s refl) (λ x xs is. stands s (picked s (x ∷ xs)) refl)
-moved_come t s (moves.Clock time) decided order = λ less. (
+    (let m = moves.Enter id change fate in stands s (woken (written s m) (moved s m)) still)
+decided_come t s (moves.Refuse id key units) decided order =
+    unwoken (Come s) (moved s (moves.Refuse id key units))
+    (with_active_has (Come s) s.active (λ x. refused s x id key units) s (stands s s refl) (λ x is. stands s (refused s x id key units) refl))
+decided_come t s (moves.Watch read) decided order =
+    unwoken (Come s) (moved s (moves.Watch read))
+    (with_active_has (Come s) s.active (λ x. watching s x read) s (stands s s refl) (λ x is. stands s (watching s x read) refl))
+decided_come t s moves.Pick decided order =
+    unwoken (Come s) (moved s moves.Pick)
+    (picked_has (Come s) s s.current (stands s s refl) (λ x xs is. stands s (picked s (x ∷ xs)) refl))
+decided_come t s (moves.Clock time) decided order = unwoken (Come s) (moved s (moves.Clock time)) (λ less. (
   All-from_recursion (λ (e : Event). time < e.time) _ (rest_beyond time s.future (least_is_least s.future time decided.0)),
   λ priority. all_lined_numbers priority (due time s.future) s.current order
       ∙ ap (λ xs. numbers_of priority s.current ++ numbers_of priority xs) (due_is time s.future),
-)
+))
 
 pub all_of_a_time_come : AllOfATimeCome
 all_of_a_time_come t seed n s v there is =
     let after = ((step_decides t seed s).runs v (sym (run_on t seed n s there) ∙ is)).0 in
-    subst (Come s) (sym after.is) (moved_come t s after.move after.is_decided (all_ordered t seed n s there))
+    subst (Come s) (sym after.is) (decided_come t s after.move after.is_decided (all_ordered t seed n s there))

@@ -6,6 +6,7 @@ use Rattle.gw_meaning.specs.declared.transaction.Event.{Event}
 use Rattle.gw_meaning.specs.Listing.{Listing, after_at, or_next}
 use Rattle.gw_meaning.specs.Machine.{Machine}
 use Rattle.gw_meaning.specs.Step.{run}
+use Rattle.gw_meaning.specs.Watching.{transactions_of}
 use Rattle.gw_model.specs.Well.{Well}
 use Rattle.gw_laws.specs.Living.{living}
 
@@ -17,16 +18,22 @@ goes_to t x = or_next x.destination (after_at t x.current)
 abbrev pub WentWhereItGoes : Listing → Transaction → Transaction → Type 0
 WentWhereItGoes t x y = (goes_to t x ≡ Some y.current) ⊎ ((y.current ≡ x.current) × (goes_to t x ≡ y.destination))
 
+-- or it waits as it came for a change of something that it read
+abbrev pub WaitsAsItCame : Machine → Transaction → Transaction → Type 0
+WaitsAsItCame v x y =
+    Contains (transactions_of v.retry) x × (y.current ≡ x.current) × (y.destination ≡ x.destination)
+
 -- so it is, where it lives on, of the one that was active before a step
 abbrev pub GoesToItsDestination : Type 0
 GoesToItsDestination =
     (t : Listing) (seed n : ℕ) (s v : Machine) → Well t → n ≤ t.limit →
     run t seed n ≡ Ok s → run t seed (suc n) ≡ Ok v →
-    (x y : Transaction) → s.active ≡ Some x → Contains (living v) y → y.number ≡ x.number → WentWhereItGoes t x y
+    (x y : Transaction) → s.active ≡ Some x → Contains (living v) y → y.number ≡ x.number →
+    WentWhereItGoes t x y ⊎ WaitsAsItCame v x y
 
--- those on the current chain and on the future chain
+-- those on the current chain, on the future chain and on the retry chain
 abbrev pub on_chains : Machine → List Transaction
-on_chains s = s.current ++ map (λ (e : Event). e.transaction) s.future
+on_chains s = s.current ++ (map (λ (e : Event). e.transaction) s.future ++ transactions_of s.retry)
 
 -- in a step each of these stays in its block, with its destination (whoever waits on a delay chain goes on waiting, or
 -- is let in where he was to go: Delays)

@@ -22,6 +22,8 @@ ghost use Rattle.gw_laws.specs.Starts.{StartsAreDoneInOrder, NoMoreStartsThanThe
 ghost use Rattle.gw_laws.specs.Storages.{StoragesAreWithin, NobodyWaitsAtRoom};
 ghost use Rattle.gw_laws.specs.Tests.{EachIsAnOperator, HoldsAsItSays};
 ghost use Rattle.gw_laws.specs.Verbs.{EachVerbIsEvaluated};
+ghost use Rattle.gw_laws.specs.Waiters.{WaitersKeepTheirOrder, WokenInOrder, WokenByWhatIsWritten};
+ghost use Rattle.gw_laws.specs.Waiters.{NobodyWaitsAtAnOpenGate, NobodyWaitsAtATestThatHolds, TellingChangesNothing};
 
 /// The current chain is in order of priority. Of one priority, the first transactions leave it in a step, those that
 /// stay keep their order, and those that come stand behind them. Whoever becomes active was the first of all, and where
@@ -52,6 +54,29 @@ pub fn delays_in_order()
     ensures free { NobodyWaitsAtAFreeFacility }
 {}
 
+/// Whoever waits at a TEST or a GATE for a change keeps his place in a step, and at most one comes, behind the others.
+/// Whoever read something that the step writes wakes, and is on the current chain then, and whoever did not, waits on.
+/// Of two of one priority whom a step wakes, the one who came first stands in front.
+pub fn waiters_wake_in_order()
+    ensures places { WaitersKeepTheirOrder }
+    ensures turn { WokenInOrder }
+    ensures woken { WokenByWhatIsWritten }
+{}
+
+/// Nobody waits at a GATE whose condition holds of the entity that its operand names. Nobody waits at a TEST whose
+/// relation holds, where its values read nothing but what stays until a block writes it: F, Q, S, R, W, X and LS, and the
+/// parameters, the priority and the number of who waits.
+pub fn nobody_waits_for_what_holds()
+    ensures gate { NobodyWaitsAtAnOpenGate }
+    ensures test { NobodyWaitsAtATestThatHolds }
+{}
+
+/// An attempt that tells what it read, to wait for it, evaluates its operands as every other does: it comes to the same,
+/// ends the same, leaves the same streams, and asks no other items.
+pub fn telling_changes_nothing()
+    ensures { TellingChangesNothing }
+{}
+
 /// No two transactions have one number, and each number was given: it is below the next one. No number is given twice.
 /// In a step no transaction but the active one ceases to live.
 pub fn numbers_apart()
@@ -74,16 +99,16 @@ pub fn each_keeps_his_own()
     ensures values { PrioritiesAreOnesOwn }
 {}
 
-/// Each transaction stands in exactly one place: it is active, on the current chain, on the future chain, or on the
-/// delay chain of one facility or storage.
+/// Each transaction stands in exactly one place: it is active, on the current chain, on the future chain, on the delay
+/// chain of one facility or storage, or on the retry chain.
 pub fn each_has_one_place()
     ensures some { EachHasAPlace }
     ensures one { EachHasOnePlace }
 {}
 
 /// The active transaction goes to its destination where it has one, and else to the block behind its own: in a step it
-/// enters that block, or waits to enter it. Whoever is on the current or the future chain stays in his block, with his
-/// destination.
+/// enters that block, waits to enter it, or waits as it came for a change of something that it read. Whoever is on the
+/// current, the future or the retry chain stays in his block, with his destination.
 pub fn goes_where_it_is_sent()
     ensures goes { GoesToItsDestination }
     ensures stays { OthersStayInTheirBlocks }

@@ -1,0 +1,449 @@
+-- Nobody waits at a GATE whose condition holds: what a refused attempt read it waits for, and what is not written stays.
+use Rattle.std.proofs.Common.{◌≡◌, ℤ, pos, ℕ, zero, suc, Bool, true, false, cond, not, ◌||◌, List, [], ◌∷◌, ◌++◌, filter, Option, Some, None, is_some, nat_eq, nat_le, unwrap_or, Ok, refl, sym, ap, subst, ◌∙◌, inl, inr}
+use Rattle.std.specs.List.{AllByRecursion, list_any}
+use Rattle.std.proofs.lemmas.Bool.{cases_Bool, or_parts, or_left, or_right, eqb-true}
+use Rattle.std.proofs.lemmas.List.Folds.{list_any-append}
+use Rattle.gw_nums.specs.Range.{is_below, magnitude}
+use Rattle.gw_names.specs.declared.key.Key.{Key}
+use Rattle.gw_names.specs.declared.key.Key.TheVariants as keys
+use Rattle.gw_names.specs.Keys.{key_eq}
+use Rattle.gw_names.specs.declared.verb.BlockVerb.TheVariants as blocks
+use Rattle.gw_entities.specs.Tables.{value_of, with_value}
+use Rattle.gw_entities.proofs.Finding.{value_of-with_value}
+use Rattle.gw_entities.proofs.ComingLaws.{key_same}
+use Rattle.gw_expr.specs.declared.atom.Atom.TheVariants as atoms
+use Rattle.gw_expr.specs.Term.{Term, Value, Computed, Named, Label, Fraction, Defined}
+use Rattle.gw_expr.specs.Evaluation as operands
+use Rattle.gw_expr.specs.declared.stop.Stop.TheVariants.{Range}
+use Rattle.gw_streams.specs.declared.stream.Stream.{Stream}
+use Rattle.gw_meaning.specs.declared.item.Asked.TheVariants as asking
+use Rattle.gw_meaning.specs.declared.item.Item.TheVariants as items
+use Rattle.gw_meaning.specs.declared.asker.Asker.{Asker}
+use Rattle.gw_meaning.specs.declared.auxiliary.Auxiliary.TheVariants as auxiliaries
+use Rattle.gw_meaning.specs.declared.auxiliary.Condition.{Condition}
+use Rattle.gw_meaning.specs.declared.auxiliary.Condition.TheVariants as conditions
+use Rattle.gw_meaning.specs.declared.statement.Block.{Block}
+use Rattle.gw_meaning.specs.declared.statement.Command.{Command}
+use Rattle.gw_meaning.specs.declared.statement.Command.TheVariants as commands
+use Rattle.gw_meaning.specs.declared.transaction.Transaction.{Transaction}
+use Rattle.gw_meaning.specs.declared.entity_change.Deed.{Deed}
+use Rattle.gw_meaning.specs.declared.entity_change.Deed.TheVariants as deeds
+use Rattle.gw_meaning.specs.declared.moves.Change.{Change}
+use Rattle.gw_meaning.specs.declared.moves.Change.TheVariants as changes
+use Rattle.gw_meaning.specs.declared.moves.Fate.{Fate}
+use Rattle.gw_meaning.specs.declared.moves.Move.{Move}
+use Rattle.gw_meaning.specs.declared.moves.Move.TheVariants as moves
+use Rattle.gw_meaning.specs.declared.watched.EntityKind.{EntityKind}
+use Rattle.gw_meaning.specs.declared.watched.EntityKind.TheVariants as kinds
+use Rattle.gw_meaning.specs.declared.watched.Watched.{Watched}
+use Rattle.gw_meaning.specs.declared.watched.Watched.TheVariants as watched
+use Rattle.gw_meaning.specs.contracts.watched.WatchedEq.TheImpl.Laws as laws
+use Rattle.gw_meaning.specs.Statements.{A, B, operand}
+use Rattle.gw_meaning.specs.Listing.{Listing, block_at, after_at, command_at, number_at, capacity_at, or_next}
+use Rattle.gw_meaning.specs.Entities.{Entities, facility_at, line_at, store_at, savevalue_at, switch_at, done, touched, later}
+use Rattle.gw_meaning.specs.Watching.{Waiter, same_watched, is_watched, with_watched, kind_of}
+use Rattle.gw_meaning.specs.Machine.{Machine, raised, zero_state}
+use Rattle.gw_meaning.specs.Questions.{result_of}
+use Rattle.gw_meaning.specs.Evaluation.{Eval, gives, stops_if, numbered, named, entity_prog, entity_traced}
+use Rattle.gw_entities.specs.Records.{Ownership, never_owned, no_line, Store, never_used}
+use Rattle.gw_meaning.specs.Changes.{entering, refused, watching, with_active, moved, written_where, written, is_woken, decided}
+use Rattle.gw_meaning.specs.Step.{for_one, is_open, kind_of_condition, reads_capacity, pass_or_wait, lead_to, go_to, gate_at, gate_storage, gate_other, gate_of, gate_prog, block_prog, meet_prog, try_prog, attempt_prog, scan_prog, move_prog, decide, run}
+use Rattle.gw_frame.proofs.Moves.{settled, settled_is, with_active_has, picked_has}
+use Rattle.gw_frame.proofs.Running.{last_step}
+use Rattle.gw_laws.specs.Destinations.{goes_to}
+use Rattle.gw_laws.specs.Waiters.{named_key, key_written, capacity_of, NobodyWaitsAtAnOpenGate}
+use Rattle.gw_laws.proofs.Waiting.{let_in_is}
+use Rattle.gw_laws.proofs.EndLaws.{went_on}
+use Rattle.gw_laws.proofs.Tried.{Comes, comes_gives, comes_ends, comes_asks, comes_bind, comes_then, comes_more, comes_any, IsOfNobody, IsCommand, command_next, pick_next, changed_keeps}
+use Rattle.gw_laws.proofs.Entries.{at_with}
+use Rattle.gw_laws.proofs.WaiterLaws.{stands_of, all_stands, who_comes, waits_on, retry_decided}
+
+-- ---- what is watched is told apart
+
+kind_same : (k l : EntityKind) (p q : Key) → same_watched (watched.Entity k p) (watched.Entity l q) ≡ true → watched.Entity k p ≡ watched.Entity l q
+kind_same kinds.Facility kinds.Facility p q h = ap (λ n. watched.Entity kinds.Facility n) (key_same p q h)
+kind_same kinds.Queue kinds.Queue p q h = ap (λ n. watched.Entity kinds.Queue n) (key_same p q h)
+kind_same kinds.Storage kinds.Storage p q h = ap (λ n. watched.Entity kinds.Storage n) (key_same p q h)
+kind_same kinds.Savevalue kinds.Savevalue p q h = ap (λ n. watched.Entity kinds.Savevalue n) (key_same p q h)
+kind_same kinds.Switch kinds.Switch p q h = ap (λ n. watched.Entity kinds.Switch n) (key_same p q h)
+kind_same k l p q h = absurd cc
+
+pub watched_same : (v w : Watched) → same_watched v w ≡ true → v ≡ w
+watched_same (watched.Entity k p) (watched.Entity l q) h = kind_same k l p q h
+watched_same (watched.Counts i) (watched.Counts j) h = ap (λ n. watched.Counts n) (eqb-true i j h)
+watched_same v w h = absurd cc
+
+-- what is added to a list stands on it
+pub with_has : (read : List Watched) (w : Watched) → is_watched (with_watched read w) w ≡ true
+with_has read w = go (is_watched read w) refl where
+  go : (b : Bool) → is_watched read w ≡ b → is_watched (cond b read (read ++ w ∷ [])) w ≡ true
+  go true is = is
+  go false other =
+      list_any-append (same_watched w) read (w ∷ [])
+      ∙ or_right (is_watched read w) (same_watched w w || false) (or_left (same_watched w w) false (laws.laws-law.refl w))
+
+-- whoever does not wake read nothing that is written
+pub unread_unwritten : (list read : List Watched) (w : Watched) → list_any (is_watched list) read ≡ false → is_watched read w ≡ true → is_watched list w ≡ false
+unread_unwritten list [] w unread has = absurd cc
+unread_unwritten list (r ∷ rs) w unread has =
+    let parts = or_parts (is_watched list r) (list_any (is_watched list) rs) unread in
+    elim (cases_Bool (same_watched w r)) [
+      | inl is ↦ ap (is_watched list) (watched_same w r is) ∙ parts.0
+      | inr other ↦ unread_unwritten list rs w parts.1 (rw other at has)
+    ]
+
+-- ---- what is not written stays
+
+abbrev pub SameEntity : EntityKind → Key → Entities → Entities → Type 0
+SameEntity kinds.Facility key e f = facility_at f key ≡ facility_at e key
+SameEntity kinds.Queue key e f = line_at f key ≡ line_at e key
+SameEntity kinds.Storage key e f = store_at f key ≡ store_at e key
+SameEntity kinds.Savevalue key e f = savevalue_at f key ≡ savevalue_at e key
+SameEntity kinds.Switch key e f = switch_at f key ≡ switch_at e key
+
+entity_itself : (kind : EntityKind) (key : Key) (e : Entities) → SameEntity kind key e e
+entity_itself kinds.Facility key e = refl
+entity_itself kinds.Queue key e = refl
+entity_itself kinds.Storage key e = refl
+entity_itself kinds.Savevalue key e = refl
+entity_itself kinds.Switch key e = refl
+
+later_same : (kind : EntityKind) (key : Key) (before now : ℕ) (e : Entities) → SameEntity kind key e (later before now e)
+later_same kinds.Facility key before now e = refl
+later_same kinds.Queue key before now e = refl
+later_same kinds.Storage key before now e = refl
+later_same kinds.Savevalue key before now e = refl
+later_same kinds.Switch key before now e = refl
+
+-- the value of another key
+other_stays : {V : Type 0} (none : V) (es : List (Key × V)) (other : Key) (v : V) (key : Key) → key_eq key other ≡ false →
+    unwrap_or (value_of (with_value es other v) key) none ≡ unwrap_or (value_of es key) none
+other_stays none es other v key apart = at_with none es other v key ∙ ap (λ b. cond b v (unwrap_or (value_of es key) none)) apart
+
+-- a deed changes the entity of its kind with the key
+done_same : (kind : EntityKind) (key other : Key) (deed : Deed) (clock number : ℕ) (e : Entities) →
+    same_watched (watched.Entity kind key) (watched.Entity (kind_of deed) other) ≡ false → SameEntity kind key e (done other deed clock number e)
+done_same kinds.Facility key other (deeds.Facility deed) clock number e apart = other_stays never_owned e.facilities other _ key apart
+done_same kinds.Facility key other deed clock number e apart = refl
+done_same kinds.Queue key other (deeds.Queue deed) clock number e apart = other_stays no_line e.queues other _ key apart
+done_same kinds.Queue key other deed clock number e apart = refl
+done_same kinds.Storage key other (deeds.Storage deed) clock number e apart = other_stays never_used e.storages other _ key apart
+done_same kinds.Storage key other deed clock number e apart = refl
+done_same kinds.Savevalue key other (deeds.Savevalue to) clock number e apart =
+    value_of-with_value e.savevalues other to key ∙ ap (λ b. cond b (Some to) (value_of e.savevalues key)) apart
+done_same kinds.Savevalue key other deed clock number e apart = refl
+done_same kinds.Switch key other (deeds.Switch set) clock number e apart = other_stays false e.switches other set key apart
+done_same kinds.Switch key other deed clock number e apart = refl
+
+entering_entities : (s : Machine) (x : Transaction) (id : ℕ) (change : Change) (fate : Fate) →
+    (entering s x id change fate).entities ≡ touched change s.clock x.number s.entities
+entering_entities s x id change fate =
+    let e = touched change s.clock x.number s.entities in
+    changed_keeps (λ v. v.entities ≡ e) change (settled s x id change fate) (λ a w k. k)
+    (λ w key y passed ys is k. (let_in_is key y (passed ++ ys) w).entities ∙ k) (settled_is s x id change fate).entities
+
+touched_same : (s : Machine) (x : Transaction) (id : ℕ) (change : Change) (kind : EntityKind) (key : Key) →
+    is_watched (written_where (Some x) id change s) (watched.Entity kind key) ≡ false →
+    SameEntity kind key s.entities (touched change s.clock x.number s.entities)
+touched_same s x id (changes.Entity change) kind key unwritten =
+    let parts = or_parts (same_watched (watched.Entity kind key) (watched.Entity (kind_of change.1) change.0)) _ unwritten in
+    done_same kind key change.0 change.1 s.clock x.number s.entities parts.0
+touched_same s x id (changes.Generate next) kind key unwritten = entity_itself kind key s.entities
+touched_same s x id (changes.Transaction change) kind key unwritten = entity_itself kind key s.entities
+touched_same s x id changes.Nothing kind key unwritten = entity_itself kind key s.entities
+
+pub moved_entity : (s : Machine) (m : Move) (kind : EntityKind) (key : Key) → is_watched (written s m) (watched.Entity kind key) ≡ false →
+    SameEntity kind key s.entities (moved s m).entities
+moved_entity s (moves.Start count arrivals) kind key unwritten = entity_itself kind key s.entities
+moved_entity s moves.Command kind key unwritten = entity_itself kind key s.entities
+moved_entity s (moves.Enter id change fate) kind key unwritten = go s.active unwritten where
+  go : (o : Option Transaction) → is_watched (written_where o id change s) (watched.Entity kind key) ≡ false →
+      SameEntity kind key s.entities (with_active o (λ x. entering s x id change fate) s).entities
+  go None is = entity_itself kind key s.entities
+  go (Some x) is = subst (SameEntity kind key s.entities) (sym (entering_entities s x id change fate)) (touched_same s x id change kind key is)
+moved_entity s (moves.Refuse id key' units) kind key unwritten =
+    let itself = entity_itself kind key s.entities in
+    with_active_has (λ v. SameEntity kind key s.entities v.entities) s.active (λ x. refused s x id key' units) s itself (λ x is. itself)
+moved_entity s (moves.Watch read) kind key unwritten =
+    let itself = entity_itself kind key s.entities in
+    with_active_has (λ v. SameEntity kind key s.entities v.entities) s.active (λ x. watching s x read) s itself (λ x is. itself)
+moved_entity s moves.Pick kind key unwritten =
+    let itself = entity_itself kind key s.entities in
+    picked_has (λ v. SameEntity kind key s.entities v.entities) s s.current itself (λ x xs is. itself)
+moved_entity s (moves.Clock time) kind key unwritten = later_same kind key s.clock time s.entities
+
+-- ---- a condition
+
+open_same : (s u : Machine) (condition : Condition) (key : Key) (capacity : ℕ) → SameEntity (kind_of_condition condition) key s.entities u.entities →
+    is_open u condition key capacity ≡ is_open s condition key capacity
+open_same s u conditions.InUse key capacity h = ap (λ (f : Ownership). is_some f.owner) h
+open_same s u conditions.NotInUse key capacity h = ap (λ (f : Ownership). not (is_some f.owner)) h
+open_same s u conditions.IsSet key capacity h = h
+open_same s u conditions.IsReset key capacity h = ap not h
+open_same s u conditions.Empty key capacity h = ap (λ (q : Store). nat_eq q.level.content 0) h
+open_same s u conditions.NotEmpty key capacity h = ap (λ (q : Store). not (nat_eq q.level.content 0)) h
+open_same s u conditions.Full key capacity h = ap (λ (q : Store). nat_le capacity q.level.content) h
+open_same s u conditions.NotFull key capacity h = ap (λ (q : Store). not (nat_le capacity q.level.content)) h
+
+unheeded : (s : Machine) (condition : Condition) (key : Key) (m n : ℕ) → reads_capacity condition ≡ false →
+    is_open s condition key m ≡ is_open s condition key n
+unheeded s conditions.InUse key m n none = refl
+unheeded s conditions.NotInUse key m n none = refl
+unheeded s conditions.IsSet key m n none = refl
+unheeded s conditions.IsReset key m n none = refl
+unheeded s conditions.Empty key m n none = refl
+unheeded s conditions.NotEmpty key m n none = refl
+unheeded s conditions.Full key m n none = absurd cc
+unheeded s conditions.NotFull key m n none = absurd cc
+
+-- it does not hold of the entity with a key, and that was read
+abbrev IsShut : Machine → Condition → Key → ℕ → List Watched → Type 0
+IsShut s condition key capacity read =
+    (is_open s condition key capacity ≡ false) × (is_watched read (watched.Entity (kind_of_condition condition) key) ≡ true)
+
+-- ---- whoever comes to wait was refused at the block to which it goes
+
+abbrev pub IfWatches : (List Watched → Type 0) → Move → Type 0
+IfWatches P (moves.Watch read) = P read
+IfWatches P m = Unit {0}
+
+of_nobody : (P : List Watched → Type 0) (m : Move) → IsOfNobody m → IfWatches P m
+of_nobody P (moves.Watch read) h = absurd h
+of_nobody P m h = tt
+
+of_command : (P : List Watched → Type 0) (c : Option Command) (m : Move) → IsCommand c m → IfWatches P m
+of_command P None (moves.Watch read) h = absurd h
+of_command P (Some (commands.Start count)) (moves.Watch read) h = absurd h
+of_command P (Some (commands.Rmult values)) (moves.Watch read) h = absurd h
+of_command P c m h = tt
+
+module _ (t : Listing) (seed : ℕ) (s : Machine) where
+  pub record IsRefusedAt (read : List Watched) : Type 0 where
+    pub x : Transaction
+    pub active : s.active ≡ Some x
+    pub id : ℕ
+    pub goes : goes_to t x ≡ Some id
+    pub before : List Stream
+    pub after : List Stream
+    pub tries : result_of t seed (meet_prog s x id (block_at t id) before) ≡ Ok (moves.Watch read, after)
+
+  try_refused : (x : Transaction) (to : Option ℕ) → s.active ≡ Some x → goes_to t x ≡ to → Comes t seed (IfWatches IsRefusedAt) (try_prog s x to)
+  try_refused x None active goes = comes_ends
+  try_refused x (Some id) active goes = comes_asks (items.Block id) (record { from = λ streams r is. by_move r.0 streams r.1 is }) where
+    by_move : (m : Move) (before after : List Stream) → result_of t seed (meet_prog s x id (block_at t id) before) ≡ Ok (m, after) → IfWatches IsRefusedAt m
+    by_move (moves.Watch read) before after is =
+        record { x = x; active = active; id = id; goes = goes; before = before; after = after; tries = is }
+    by_move m before after is = tt
+
+  attempt_refused : (x : Transaction) (destination : Option ℕ) → s.active ≡ Some x → x.destination ≡ destination →
+      Comes t seed (IfWatches IsRefusedAt) (attempt_prog s x destination)
+  attempt_refused x None active is =
+      comes_asks (items.After x.current) (try_refused x (after_at t x.current) active (ap (λ o. or_next o (after_at t x.current)) is))
+  attempt_refused x (Some id) active is = try_refused x (Some id) active (ap (λ o. or_next o (after_at t x.current)) is)
+
+  scan_refused : (o : Option Transaction) → s.active ≡ o → Comes t seed (IfWatches IsRefusedAt) (scan_prog s o)
+  scan_refused None is = comes_more (of_nobody IsRefusedAt) (pick_next t seed s s.current)
+  scan_refused (Some x) is = attempt_refused x x.destination is refl
+
+  move_refused : (remaining : ℕ) → Comes t seed (IfWatches IsRefusedAt) (move_prog s remaining)
+  move_refused zero = comes_asks (items.Cmd (raised s.commands))
+      (comes_more (of_command IsRefusedAt (command_at t (raised s.commands))) (command_next t seed s (command_at t (raised s.commands))))
+  move_refused (suc n) = scan_refused s.active refl
+
+  pub refused_at : (d : Move × List Stream) → result_of t seed (decide s) ≡ Ok d → IfWatches IsRefusedAt d.0
+  refused_at d is = (move_refused s.remaining).from s.streams d is
+
+  -- ---- at a GATE
+
+  go_never : (P : List Watched → Type 0) (id : ℕ) (to : Option ℕ) → Comes t seed (IfWatches P) (go_to id to)
+  go_never P id None = comes_ends
+  go_never P id (Some to) = comes_gives tt
+
+  lead_never : (P : List Watched → Type 0) (id : ℕ) (label : Option Term) → Comes t seed (IfWatches P) (lead_to id label)
+  lead_never P id (Some (Label name)) = comes_asks (items.Named asking.Label name) (go_never P id _)
+  lead_never P id (Some term) = comes_gives tt
+  lead_never P id None = comes_gives tt
+
+  -- with a label nobody waits; without one it is what was read for which it waits, where it may not pass
+  pub passes_or : (id : ℕ) (label : Option Term) (read : List Watched) (passes : Bool) →
+      Comes t seed (IfWatches (λ r. (label ≡ None) × (passes ≡ false) × (r ≡ read))) (pass_or_wait id label read passes)
+  passes_or id None read true = comes_gives tt
+  passes_or id None read false = comes_gives (refl, refl, refl)
+  passes_or id (Some label) read passes = lead_never _ id (cond passes None (Some label))
+
+  gate_at_shut : (id : ℕ) (condition : Condition) (label : Option Term) (key : Key) (read : List Watched) (capacity : ℕ) →
+      Comes t seed (IfWatches (IsShut s condition key capacity)) (gate_at s id condition label key read capacity)
+  gate_at_shut id condition label key read capacity =
+      let entity = watched.Entity (kind_of_condition condition) key in
+      comes_more shut (passes_or id label (with_watched read entity) (is_open s condition key capacity)) where
+        shut : (m : Move) → IfWatches (λ r. (label ≡ None) × (is_open s condition key capacity ≡ false)
+            × (r ≡ with_watched read (watched.Entity (kind_of_condition condition) key))) m → IfWatches (IsShut s condition key capacity) m
+        shut (moves.Watch r) h =
+            let entity = watched.Entity (kind_of_condition condition) key in
+            (h.1, ap (λ list. is_watched list entity) h.2 ∙ with_has read entity)
+        shut m h = tt
+
+  -- of the entity that the operand names
+  abbrev IsShutFor : Condition → Option Term → List Watched → Type 0
+  IsShutFor condition entity read = (key : Key) → key_written t entity ≡ Some key → IsShut s condition key (capacity_of t key) read
+
+  abbrev IsFor : Condition → Option Term → Key → ℕ → Type 0
+  IsFor condition entity key capacity = (other : Key) → key_written t entity ≡ Some other →
+      (key ≡ other) × (is_open s condition key capacity ≡ is_open s condition key (capacity_of t key))
+
+  shut_for : (condition : Condition) (entity : Option Term) (key : Key) (capacity : ℕ) → IsFor condition entity key capacity →
+      (m : Move) → IfWatches (IsShut s condition key capacity) m → IfWatches (IsShutFor condition entity) m
+  shut_for condition entity key capacity is (moves.Watch read) h = λ other named.
+      (let for = is other named in
+      subst (λ k. IsShut s condition k (capacity_of t k) read) for.0 (sym for.1 ∙ h.0, h.1))
+  shut_for condition entity key capacity is m h = tt
+
+  gate_storage_shut : (id : ℕ) (condition : Condition) (label : Option Term) (name : List ℕ) (reads : Bool) → reads_capacity condition ≡ reads →
+      Comes t seed (IfWatches (IsShutFor condition (Some (Defined name)))) (gate_storage s id condition label name reads)
+  gate_storage_shut id condition label name true heeds =
+      comes_asks (items.Named asking.Storage name)
+      (comes_more (shut_for condition (Some (Defined name)) (keys.Defined name) (capacity_at t name) (λ other is. (cc, refl)))
+      (gate_at_shut id condition label (keys.Defined name) [] (capacity_at t name)))
+  gate_storage_shut id condition label name false heeds =
+      comes_more (shut_for condition (Some (Defined name)) (keys.Defined name) 0
+      (λ other is. (cc, unheeded s condition (keys.Defined name) 0 (capacity_at t name) heeds)))
+      (gate_at_shut id condition label (keys.Defined name) [] 0)
+
+  -- the entity that an operand names
+  abbrev IsNamed : Option Term → Key × List Watched → Type 0
+  IsNamed entity r = (key : Key) → key_written t entity ≡ Some key → (r.0 ≡ key) × (capacity_of t r.0 ≡ 0)
+
+  numbered_is : (n : ℤ) → Comes t seed (λ key. key ≡ keys.Num (magnitude n)) (numbered n)
+  numbered_is n = go (is_below n (pos 1)) where
+    go : (b : Bool) → Comes t seed (λ key. key ≡ keys.Num (magnitude n)) (stops_if b Range (gives (keys.Num (magnitude n))))
+    go true = comes_ends
+    go false = comes_gives refl
+
+  named_is : (name : List ℕ) (number : Option ℤ) → Comes t seed (λ key. (key ≡ named_key name number) × (capacity_of t key ≡ 0)) (named name number)
+  named_is name None = comes_gives (refl, refl)
+  named_is name (Some n) = comes_more (λ key is. (is, ap (capacity_of t) is)) (numbered_is n)
+
+  constant_named : (q : Asker) (n : ℤ) → Comes t seed (IsNamed (Some (Value (atoms.Constant n)))) (entity_traced s q (Some (Value (atoms.Constant n))))
+  unfolding operands.value_of operands.value_by operands.value_of_atom
+  constant_named q n = comes_then {k = λ key. gives (key, [])} (numbered_is n)
+      (λ key num. comes_gives {a = (key, [])} (λ other named. (num ∙ cc, ap (capacity_of t) num)))
+
+  unnamed : (entity : Option Term) {p : Eval (Key × List Watched)} → key_written t entity ≡ None → Comes t seed (IsNamed entity) p
+  unnamed entity none = comes_any (λ r key is. absurd (let no : None ≡ Some key = sym none ∙ is in cc))
+
+  entity_named : (q : Asker) (entity : Option Term) → ((name : List ℕ) → entity ≡ Some (Defined name) → ⊥) →
+      Comes t seed (IsNamed entity) (entity_traced s q entity)
+  entity_named q None apart = comes_ends
+  entity_named q (Some (Named name)) apart = comes_then (comes_asks (items.Named asking.Number name) (named_is name (number_at t name)))
+      (λ key h. comes_gives (λ other named. (h.0 ∙ cc, h.1)))
+  entity_named q (Some (Value (atoms.Constant n))) apart = constant_named q n
+  entity_named q (Some (Value (atoms.Number name))) apart = unnamed (Some (Value (atoms.Number name))) refl
+  entity_named q (Some (Value (atoms.Attribute class of))) apart = unnamed (Some (Value (atoms.Attribute class of))) refl
+  entity_named q (Some (Computed ts)) apart = unnamed (Some (Computed ts)) refl
+  entity_named q (Some (Label name)) apart = unnamed (Some (Label name)) refl
+  entity_named q (Some (Fraction part)) apart = unnamed (Some (Fraction part)) refl
+  entity_named q (Some (Defined name)) apart = absurd (apart name refl)
+
+  gate_other_shut : (q : Asker) (id : ℕ) (condition : Condition) (entity label : Option Term) → ((name : List ℕ) → entity ≡ Some (Defined name) → ⊥) →
+      Comes t seed (IfWatches (IsShutFor condition entity)) (gate_other s q id condition entity label)
+  gate_other_shut q id condition entity None apart = comes_then (entity_named q entity apart)
+      (λ r h. comes_more (shut_for condition entity r.0 0
+      (λ other is. (let both = h other is in (both.0, ap (is_open s condition r.0) (sym both.1))))) (gate_at_shut id condition None r.0 r.1 0))
+  gate_other_shut q id condition entity (Some label) apart =
+      comes_bind (entity_prog s q entity)
+      (λ key. lead_never (IsShutFor condition entity) id (cond (is_open s condition key 0) None (Some label)))
+
+  gate_of_shut : (q : Asker) (id : ℕ) (condition : Condition) (entity label : Option Term) →
+      Comes t seed (IfWatches (IsShutFor condition entity)) (gate_of s q id condition entity label)
+  gate_of_shut q id condition None label = gate_other_shut q id condition None label (λ name is. cc)
+  gate_of_shut q id condition (Some (Value atom)) label = gate_other_shut q id condition (Some (Value atom)) label (λ name is. cc)
+  gate_of_shut q id condition (Some (Computed ts)) label = gate_other_shut q id condition (Some (Computed ts)) label (λ name is. cc)
+  gate_of_shut q id condition (Some (Named name)) label = gate_other_shut q id condition (Some (Named name)) label (λ name is. cc)
+  gate_of_shut q id condition (Some (Label name)) label = gate_other_shut q id condition (Some (Label name)) label (λ name is. cc)
+  gate_of_shut q id condition (Some (Fraction part)) label = gate_other_shut q id condition (Some (Fraction part)) label (λ name is. cc)
+  gate_of_shut q id condition (Some (Defined name)) label = gate_storage_shut id condition label name (reads_capacity condition) refl
+
+-- ---- over a run
+
+-- what each step's decision keeps, each run from zero has
+pub over_decided : (t : Listing) (seed : ℕ) (P : ℕ → Machine → Type 0) → P 0 zero_state →
+    ((n : ℕ) (s : Machine) (d : Move × List Stream) → run t seed n ≡ Ok s → result_of t seed (decide s) ≡ Ok d → P n s → P (suc n) (decided s d.0 d.1)) →
+    (n : ℕ) (s : Machine) → run t seed n ≡ Ok s → P n s
+over_decided t seed P start keeps zero s is = let same : zero_state ≡ s = cc in subst (P 0) same start
+over_decided t seed P start keeps (suc n) v is =
+    let last = last_step t seed n v is in
+    let went = went_on t seed last.before v last.goes in
+    subst (P (suc n)) (sym went.2)
+    (keeps n last.before went.0 last.there went.1 (over_decided t seed P start keeps n last.before last.there))
+
+-- what holds of each who waits, and of whoever comes, holds of each who waits behind a step
+pub all_wait_on : (P Q : Waiter → Type 0) (s : Machine) (m : Move) (streams : List Stream) → AllByRecursion P s.retry →
+    AllByRecursion P (who_comes m s.active) → ((w : Waiter) → is_woken (written s m) w ≡ false → P w → Q w) →
+    AllByRecursion Q (decided s m streams).retry
+all_wait_on P Q s m streams all comes keeps =
+    subst (AllByRecursion Q) (sym (retry_decided s m streams)) (both s.retry all) where
+      kept : (ws : List Waiter) → AllByRecursion P ws → AllByRecursion Q (filter (waits_on s m) ws)
+      kept [] h = tt
+      kept (w ∷ ws) h =
+          let rest = kept ws h.1 in
+          elim (cases_Bool (is_woken (written s m) w)) [ inl is ↦ rw is rest | inr other ↦ rw other (keeps w other h.0, rest) ]
+
+      both : (ws : List Waiter) → AllByRecursion P ws → AllByRecursion Q (filter (waits_on s m) ws ++ filter (waits_on s m) (who_comes m s.active))
+      both [] h = kept (who_comes m s.active) comes
+      both (w ∷ ws) h =
+          let rest = both ws h.1 in
+          elim (cases_Bool (is_woken (written s m) w)) [ inl is ↦ rw is rest | inr other ↦ rw other (keeps w other h.0, rest) ]
+
+-- where its block is a GATE, its condition does not hold, and it waits for a change of the entity
+abbrev AtGate : Listing → Machine → Waiter → Type 0
+AtGate t s w =
+    (id : ℕ) (b : Block) (condition : Condition) (key : Key) → goes_to t w.transaction ≡ Some id → block_at t id ≡ Some b →
+    b.verb ≡ blocks.Gate → b.auxiliary ≡ auxiliaries.Gate condition → key_written t (operand b A) ≡ Some key →
+    IsShut s condition key (capacity_of t key) w.read
+
+pub one_of : {X : Type 0} (x y : X) → Some x ≡ Some y → x ≡ y
+one_of x y is = cc
+
+gate_tried : (t : Listing) (seed : ℕ) (s : Machine) (x : Transaction) (id : ℕ) (b : Block) (condition : Condition) →
+    b.verb ≡ blocks.Gate → b.auxiliary ≡ auxiliaries.Gate condition →
+    Comes t seed (IfWatches (IsShutFor t seed s condition (operand b A))) (meet_prog s x id (Some b))
+gate_tried t seed s x id b condition verb sort =
+    subst (λ v. Comes t seed (IfWatches (IsShutFor t seed s condition (operand b A))) (block_prog s x id b v)) (sym verb)
+    (subst (λ a. Comes t seed (IfWatches (IsShutFor t seed s condition (operand b A))) (gate_prog s (for_one s x) id a (operand b A) (operand b B)))
+    (sym sort) (gate_of_shut t seed s (for_one s x) id condition (operand b A) (operand b B)))
+
+gate_refused : (t : Listing) (seed : ℕ) (s : Machine) (read : List Watched) (r : IsRefusedAt t seed s read) →
+    AtGate t s (record { transaction = r.x; read = read })
+gate_refused t seed s read r id b condition key goes there verb sort named =
+    let same : r.id ≡ id = one_of r.id id (sym r.goes ∙ goes) in
+    let at : block_at t r.id ≡ Some b = ap (block_at t) same ∙ there in
+    let tries : result_of t seed (meet_prog s r.x r.id (Some b) r.before) ≡ Ok (moves.Watch read, r.after) =
+    subst (λ o. result_of t seed (meet_prog s r.x r.id o r.before) ≡ Ok (moves.Watch read, r.after)) at r.tries in
+    (gate_tried t seed s r.x r.id b condition verb sort).from r.before (moves.Watch read, r.after) tries key named
+
+gate_stays : (t : Listing) (s : Machine) (m : Move) (streams : List Stream) (w : Waiter) → is_woken (written s m) w ≡ false → AtGate t s w →
+    AtGate t (decided s m streams) w
+gate_stays t s m streams w unread gate = λ id b condition key goes there verb sort named.
+    (let h = gate id b condition key goes there verb sort named in
+    let kind = kind_of_condition condition in
+    let unwritten = unread_unwritten (written s m) w.read (watched.Entity kind key) unread h.1 in
+    (open_same s (decided s m streams) condition key (capacity_of t key) (moved_entity s m kind key unwritten) ∙ h.0, h.1))
+
+-- what is known of whoever comes, by what is known of the refusal
+pub who_comes_has : (P : Waiter → Type 0) (t : Listing) (seed : ℕ) (s : Machine) (m : Move) →
+    ((read : List Watched) (r : IsRefusedAt t seed s read) → P (record { transaction = r.x; read = read })) →
+    IfWatches (IsRefusedAt t seed s) m → AllByRecursion P (who_comes m s.active)
+who_comes_has P t seed s (moves.Watch read) each r =
+    subst (λ o. AllByRecursion P (who_comes (moves.Watch read) o)) (sym r.active) (each read r, tt)
+who_comes_has P t seed s m each r = tt
+
+gates_are_shut : (t : Listing) (seed n : ℕ) (s : Machine) → run t seed n ≡ Ok s → AllByRecursion (AtGate t s) s.retry
+gates_are_shut t seed =
+    over_decided t seed (λ n s. AllByRecursion (AtGate t s) s.retry) tt
+    (λ n s d there goes all. all_wait_on (AtGate t s) (AtGate t (decided s d.0 d.1)) s d.0 d.1 all
+    (who_comes_has (AtGate t s) t seed s d.0 (gate_refused t seed s) (refused_at t seed s d goes))
+    (gate_stays t s d.0 d.1))
+
+pub nobody_waits_at_an_open_gate : NobodyWaitsAtAnOpenGate
+nobody_waits_at_an_open_gate t seed n s is w id b condition key waits goes there verb sort named =
+    (all_stands (AtGate t s) s.retry w (gates_are_shut t seed n s is) (stands_of s.retry w waits) id b condition key goes there verb sort named).0

@@ -1,0 +1,637 @@
+-- Nobody waits at a TEST that holds: what its attempt read and nobody wrote since replies as it did.
+use Rattle.std.proofs.Common.{◌≡◌, ℤ, pos, ℕ, ◌-◌, ◌≤◌, Bool, true, false, cond, not, nat_eq, ◌||◌, List, [], ◌∷◌, ◌++◌, Option, Some, None, unwrap_or, Result, Ok, Err, refl, sym, ap, ap₂, subst, ◌∙◌, inl, inr, arith}
+use Rattle.std.specs.Prelude.{Contains}
+use Rattle.std.specs.List.{AllByRecursion}
+use Rattle.std.proofs.lemmas.Bool.{or_parts, or_left, eq-eqb}
+use Rattle.std.proofs.lemmas.List.Folds.{list_any-append}
+use Rattle.gw_nums.specs.Range.{is_value, is_below}
+use Rattle.gw_names.specs.declared.class.Class.{Class}
+use Rattle.gw_names.specs.declared.class.Class.TheVariants as class
+use Rattle.gw_names.specs.declared.key.Key.{Key}
+use Rattle.gw_names.specs.declared.key.Key.TheVariants as keys
+use Rattle.gw_names.specs.declared.verb.BlockVerb.TheVariants as blocks
+use Rattle.gw_entities.specs.Records.{Ownership, Line, Store}
+use Rattle.gw_entities.specs.Tables.{value_of, with_value}
+use Rattle.gw_entities.specs.Parameters.{parameter_at}
+use Rattle.gw_expr.specs.declared.stop.Stop.{Stop}
+use Rattle.gw_expr.specs.declared.stop.Stop.TheVariants.{Range, NoParameter}
+use Rattle.gw_expr.specs.declared.attribute.Subject.{Subject}
+use Rattle.gw_expr.specs.declared.attribute.Subject.TheVariants as subjects
+use Rattle.gw_expr.specs.Term.{Term}
+use Rattle.gw_expr.specs.Evaluation.{Question, NumberOf, AttributeOf, PartOf, VariableOf, FunctionOf, Reply, Evaluation, Yields, Stops, Wants}
+use Rattle.gw_expr.specs.Evaluation as operands
+use Rattle.gw_streams.specs.declared.stream.Stream.{Stream}
+use Rattle.gw_meaning.specs.declared.item.End.{End}
+use Rattle.gw_meaning.specs.declared.item.End.TheVariants as ends
+use Rattle.gw_meaning.specs.declared.item.Item.{Item}
+use Rattle.gw_meaning.specs.declared.item.Asked.TheVariants as asking
+use Rattle.gw_meaning.specs.declared.item.Item.TheVariants as items
+use Rattle.gw_meaning.specs.declared.asker.Asker.{Asker}
+use Rattle.gw_meaning.specs.declared.auxiliary.Auxiliary.{Auxiliary}
+use Rattle.gw_meaning.specs.declared.statement.Block.{Block}
+use Rattle.gw_meaning.specs.declared.transaction.Transaction.{Transaction}
+use Rattle.gw_meaning.specs.declared.moves.Arrival.{Arrival}
+use Rattle.gw_meaning.specs.declared.moves.Change.{Change}
+use Rattle.gw_meaning.specs.declared.moves.Change.TheVariants as changes
+use Rattle.gw_meaning.specs.declared.moves.Fate.{Fate}
+use Rattle.gw_meaning.specs.declared.moves.Fate.TheVariants as fates
+use Rattle.gw_meaning.specs.declared.moves.Move.{Move}
+use Rattle.gw_meaning.specs.declared.moves.Move.TheVariants as moves
+use Rattle.gw_meaning.specs.declared.watched.EntityKind.{EntityKind}
+use Rattle.gw_meaning.specs.declared.watched.EntityKind.TheVariants as kinds
+use Rattle.gw_meaning.specs.declared.watched.Watched.{Watched}
+use Rattle.gw_meaning.specs.declared.watched.Watched.TheVariants as watched
+use Rattle.gw_meaning.specs.Statements.{A, B, C, operand}
+use Rattle.gw_meaning.specs.Listing.{Listing, block_at, label_at, number_at, capacity_at}
+use Rattle.gw_meaning.specs.Entities.{facility_at, line_at, store_at, savevalue_at, switch_at}
+use Rattle.gw_meaning.specs.Watching.{Waiter, same_watched, is_watched, with_watched, with_all_watched, transactions_of}
+use Rattle.gw_meaning.specs.Machine.{Machine, count_at, delay_at}
+use Rattle.gw_meaning.specs.Questions.{Answer, ask, result_of}
+use Rattle.gw_meaning.specs.Evaluation.{Eval, gives, ends_with, asks, ◌~>◌, stops_if, in_range, amount, numbered, named, subject_prog, storage_prog, units_left, left_prog, counted, block_count, owned, one_if, value_held, parameter_value, value_there, entity_value, storage_value, block_value, attribute_prog, reply_prog, evaluated, entity_watched, storage_watched, counts_of, counts_watched, watched_prog, watched_by, traced, value_traced}
+use Rattle.gw_meaning.specs.Changes.{Making, made, maybe_made, all_made, making_of, deed_shares, let_in, one_let_in, some_let_in, changed, entering, refused, watching, with_active, moved, crossing, crossings, written_by, written_where, written, is_woken, decided}
+use Rattle.gw_meaning.specs.Step.{for_one, holds, test_prog, block_prog, meet_prog, run}
+use Rattle.gw_meaning.proofs.Traces as alone
+use Rattle.gw_meaning.proofs.Programs.{bind_gives, bind_ends}
+use Rattle.gw_frame.proofs.Moves.{settled, settled_is, with_active_has, picked_has}
+use Rattle.gw_laws.specs.Waiters.{is_lasting, IsLasting, ComesTo, ReadsWhatLasts, NobodyWaitsAtATestThatHolds, value_alone, TellingChangesNothing}
+use Rattle.gw_laws.proofs.Counts.{content, content_elsewhere, content_made}
+use Rattle.gw_frame.proofs.Decided.{is_decided}
+use Rattle.gw_frame.proofs.Known.{IsDecided}
+use Rattle.gw_model.specs.Well.{Well}
+use Rattle.gw_laws.specs.Destinations.{goes_to}
+use Rattle.gw_laws.specs.Living.{IsActive}
+use Rattle.gw_laws.proofs.Crowd.{one, many_has, active_crowd}
+use Rattle.gw_laws.proofs.NumberLaws.{has_number, IsNumbered, all_numbered}
+use Rattle.gw_laws.proofs.OwnParameterLaws.{moved_elsewhere}
+use Rattle.gw_laws.proofs.WaiterLaws.{Stands, stands_of, contains_of, stands_transactions, all_stands, who_comes}
+use Rattle.gw_laws.proofs.GateLaws.{SameEntity, moved_entity, with_has, unread_unwritten, IsRefusedAt, refused_at, IfWatches, passes_or, one_of, over_decided, all_wait_on}
+
+module _ (t : Listing) (seed : ℕ) where
+  -- ---- what an evaluation of two parts comes to
+
+  pub bind_parts : {A B : Type 0} (p : Eval A) (k : A → Eval B) (before : List Stream) (r : B × List Stream) → result_of t seed ((p ~> k) before) ≡ Ok r →
+      (a : A × List Stream) × (result_of t seed (p before) ≡ Ok a) × (result_of t seed (k a.0 a.1) ≡ Ok r)
+  bind_parts {A} {B} p k before r is = go (result_of t seed (p before)) refl where
+    go : (first : Result (A × List Stream) End) → result_of t seed (p before) ≡ first →
+        (a : A × List Stream) × (result_of t seed (p before) ≡ Ok a) × (result_of t seed (k a.0 a.1) ≡ Ok r)
+    go (Ok a) there = (a, there, sym (bind_gives t seed (p before) (λ b. k b.0 b.1) a there).0 ∙ is)
+    go (Err end) there = absurd (let whole : Err end ≡ Ok r = sym (bind_ends t seed (p before) (λ b. k b.0 b.1) end there).0 ∙ is in cc)
+
+  -- it draws nothing, and what it comes to does not hang on the streams
+  abbrev IsSteady : {A : Type 0} → Eval A → Type 0
+  IsSteady {A} p = (before : List Stream) (r : A × List Stream) → result_of t seed (p before) ≡ Ok r → ComesTo t seed p r.0
+
+  abbrev Comes : {A : Type 0} → Eval A → A → Type 0
+  Comes p a = ComesTo t seed p a
+
+  pub steady_gives : {A : Type 0} (a : A) → IsSteady (gives a)
+  steady_gives {A} a before r is = let same : (a, before) ≡ r = cc in λ streams. ap (λ (v : A × List Stream). Ok (v.0, streams)) same
+
+  steady_ends : {A : Type 0} (end : End) → IsSteady (ends_with {A = A} end)
+  steady_ends end before r is = absurd cc
+
+  steady_stops : {A : Type 0} (b : Bool) (stop : Stop) (p : Eval A) → IsSteady p → IsSteady (stops_if b stop p)
+  steady_stops true stop p h = λ before r is. absurd cc
+  steady_stops false stop p h = h
+
+  steady_bind : {A B : Type 0} (p : Eval A) (k : A → Eval B) → IsSteady p → ((a : A) → IsSteady (k a)) → IsSteady (p ~> k)
+  steady_bind p k first second before r is =
+      let parts = bind_parts p k before r is in
+      let one = first before parts.0 parts.1 in
+      let two = second parts.0.0 parts.0.1 r parts.2 in
+      λ streams. (bind_gives t seed (p streams) (λ b. k b.0 b.1) (parts.0.0, streams) (one streams)).0 ∙ two streams
+
+  -- of two parts, behind the first
+  behind : {A B : Type 0} (p : Eval A) (k : A → Eval B) (a : A) (b : B) → Comes p a → Comes (p ~> k) b → Comes (k a) b
+  behind p k a b first both streams =
+      sym (bind_gives t seed (p streams) (λ c. k c.0 c.1) (a, streams) (first streams)).0 ∙ both streams
+
+  together : {A B : Type 0} (p : Eval A) (k : A → Eval B) (a : A) (b : B) → Comes p a → Comes (k a) b → Comes (p ~> k) b
+  together p k a b first second streams =
+      (bind_gives t seed (p streams) (λ c. k c.0 c.1) (a, streams) (first streams)).0 ∙ second streams
+
+  -- ---- what lasts is steady
+
+  steady_range : (z : ℤ) → IsSteady (in_range z)
+  steady_range z = go (is_value z) where
+    go : (b : Bool) → IsSteady (cond b (gives z) (ends_with (ends.Error Range)))
+    go true = steady_gives z
+    go false = steady_ends (ends.Error Range)
+
+  steady_numbered : (n : ℤ) → IsSteady (numbered n)
+  steady_numbered n = steady_stops (is_below n (pos 1)) _ _ (steady_gives _)
+
+  steady_named : (name : List ℕ) (number : Option ℤ) → IsSteady (named name number)
+  steady_named name None = steady_gives (keys.Named name)
+  steady_named name (Some n) = steady_numbered n
+
+  -- an answer leads to the rest
+  steady_asks : {A : Type 0} (i : Item) (k : Answer i → Eval A) → IsSteady (k (ask t seed i)) → IsSteady (asks i k)
+  steady_asks i k h = λ before r is. h before r is
+
+  steady_subject : (of : Subject) → IsSteady (subject_prog of)
+  steady_subject subjects.Own = steady_ends (ends.Error Range)
+  steady_subject (subjects.Number n) = steady_numbered (pos n)
+  steady_subject (subjects.Name name) = steady_asks (items.Named asking.Number name) (named name) (steady_named name (number_at t name))
+
+  steady_watched_entity : (kind : EntityKind) (of : Subject) → IsSteady (entity_watched kind of)
+  steady_watched_entity kind of = steady_bind (subject_prog of) _ (steady_subject of) (λ key. steady_gives _)
+
+  steady_storage : (of : Subject) → IsSteady (storage_watched of)
+  steady_storage subjects.Own = steady_gives []
+  steady_storage (subjects.Number n) = steady_gives []
+  steady_storage (subjects.Name name) = steady_gives _
+
+  steady_counts : (of : Subject) → IsSteady (counts_watched of)
+  steady_counts subjects.Own = steady_gives []
+  steady_counts (subjects.Number n) = steady_gives []
+  steady_counts (subjects.Name name) =
+      steady_asks (items.Named asking.Label name) (λ id. gives (counts_of id)) (steady_gives (counts_of (label_at t name)))
+
+  steady_watched : (class : Class) (of : Subject) → IsSteady (watched_prog class of)
+  unfolding watched_prog
+  steady_watched class.F of = steady_watched_entity kinds.Facility of
+  steady_watched class.Fc of = steady_watched_entity kinds.Facility of
+  steady_watched class.Q of = steady_watched_entity kinds.Queue of
+  steady_watched class.Qc of = steady_watched_entity kinds.Queue of
+  steady_watched class.Qm of = steady_watched_entity kinds.Queue of
+  steady_watched class.Qz of = steady_watched_entity kinds.Queue of
+  steady_watched class.X of = steady_watched_entity kinds.Savevalue of
+  steady_watched class.Ls of = steady_watched_entity kinds.Switch of
+  steady_watched class.S of = steady_storage of
+  steady_watched class.R of = steady_storage of
+  steady_watched class.Sc of = steady_storage of
+  steady_watched class.Sm of = steady_storage of
+  steady_watched class.N of = steady_counts of
+  steady_watched class.W of = steady_counts of
+  steady_watched class of = steady_gives []
+
+  steady_by : (question : Question) → IsSteady (watched_by question)
+  steady_by (NumberOf name) = steady_gives []
+  steady_by (AttributeOf class of) = steady_watched class of
+  steady_by (PartOf of) = steady_gives []
+  steady_by (VariableOf name) = steady_gives []
+  steady_by (FunctionOf name) = steady_gives []
+
+  module _ (s : Machine) (q : Asker) where
+    steady_held : (v : Option ℤ) → IsSteady (value_held v)
+    steady_held None = steady_ends (ends.Error NoParameter)
+    steady_held (Some v) = steady_gives v
+
+    steady_of_entity : (class : Class) (key : Key) → IsSteady (entity_value s class key)
+    steady_of_entity class.F key = steady_range (pos (owned (facility_at s.entities key).owner))
+    steady_of_entity class.Fc key = steady_range (pos (facility_at s.entities key).captures)
+    steady_of_entity class.Q key = steady_range (pos (line_at s.entities key).level.content)
+    steady_of_entity class.Qc key = steady_range (pos (line_at s.entities key).entries)
+    steady_of_entity class.Qm key = steady_range (pos (line_at s.entities key).greatest)
+    steady_of_entity class.Qz key = steady_range (pos (line_at s.entities key).zero_entries)
+    steady_of_entity class.X key = steady_gives (unwrap_or (savevalue_at s.entities key) (pos 0))
+    steady_of_entity class.Ls key = steady_range (pos (one_if (switch_at s.entities key)))
+    steady_of_entity class key = steady_ends (ends.Error Range)
+
+    steady_entity : (class : Class) (of : Subject) → IsSteady (subject_prog of ~> (λ key. entity_value s class key))
+    steady_entity class of = steady_bind (subject_prog of) (λ key. entity_value s class key) (steady_subject of) (steady_of_entity class)
+
+    steady_stored : (of : Subject) → IsSteady (storage_prog of (λ key. storage_value s class.S key))
+    steady_stored subjects.Own = steady_ends (ends.Error Range)
+    steady_stored (subjects.Number n) = steady_ends (ends.Error Range)
+    steady_stored (subjects.Name name) = steady_range (pos (store_at s.entities (keys.Defined name)).level.content)
+
+    steady_left : (of : Subject) → IsSteady (left_prog s of)
+    steady_left subjects.Own = steady_ends (ends.Error Range)
+    steady_left (subjects.Number n) = steady_ends (ends.Error Range)
+    steady_left (subjects.Name name) =
+        steady_asks (items.Named asking.Storage name) (units_left s (keys.Defined name))
+        (steady_range (pos (capacity_at t name - (store_at s.entities (keys.Defined name)).level.content)))
+
+    steady_counted : (id : Option ℕ) → IsSteady (counted id (λ id. block_value s class.W id))
+    steady_counted None = steady_ends (ends.Error Range)
+    steady_counted (Some id) = steady_range (pos (count_at s.counts id).content)
+
+    steady_block : (of : Subject) → IsSteady (block_count of (λ id. block_value s class.W id))
+    steady_block subjects.Own = steady_ends (ends.Error Range)
+    steady_block (subjects.Number n) = steady_ends (ends.Error Range)
+    steady_block (subjects.Name name) =
+        steady_asks (items.Named asking.Label name) (λ id. counted id (λ id. block_value s class.W id)) (steady_counted (label_at t name))
+
+    steady_attribute : (class : Class) (of : Subject) → is_lasting class ≡ true → IsSteady (attribute_prog s q class of)
+    unfolding attribute_prog
+    steady_attribute class.F of is = steady_entity class.F of
+    steady_attribute class.S of is = steady_stored of
+    steady_attribute class.R of is = steady_left of
+    steady_attribute class.Q of is = steady_entity class.Q of
+    steady_attribute class.W of is = steady_block of
+    steady_attribute class.X of is = steady_entity class.X of
+    steady_attribute class.Ls of is = steady_entity class.Ls of
+    steady_attribute class.P of is =
+        steady_bind (subject_prog of) (λ key. parameter_value s q key) (steady_subject of)
+        (λ key. steady_stops (not q.is_transaction) NoParameter _ (steady_held (parameter_at s.parameters q.number key)))
+    steady_attribute class.Pr of is = steady_stops (not q.is_transaction) NoParameter (gives q.priority) (steady_gives q.priority)
+    steady_attribute class.Xn1 of is = steady_stops (not q.is_transaction) NoParameter (amount q.number) (steady_range (pos q.number))
+    steady_attribute class of is = absurd cc
+
+    pub steady_reply : (question : Question) → IsLasting question → IsSteady (reply_prog s q question)
+    steady_reply (NumberOf name) is =
+        steady_asks (items.Named asking.Number name) (λ number. gives number) (steady_gives (ask t seed (items.Named asking.Number name)))
+    steady_reply (AttributeOf class of) is = steady_attribute class of is
+    steady_reply (PartOf of) is = absurd is
+    steady_reply (VariableOf name) is =
+        steady_asks (items.Named asking.Variable name) (λ e. gives e) (steady_gives (ask t seed (items.Named asking.Variable name)))
+    steady_reply (FunctionOf name) is =
+        steady_asks (items.Named asking.Function name) (λ f. gives f) (steady_gives (ask t seed (items.Named asking.Function name)))
+
+  -- ---- what was read
+
+  abbrev AllIn : List Watched → List Watched → Type 0
+  AllIn read more = AllByRecursion (λ w. is_watched read w ≡ true) more
+
+  abbrev Within : List Watched → List Watched → Type 0
+  Within few all = (w : Watched) → is_watched few w ≡ true → is_watched all w ≡ true
+
+  within_with : (read : List Watched) (v : Watched) → Within read (with_watched read v)
+  within_with read v w is = go (is_watched read v) where
+    go : (b : Bool) → is_watched (cond b read (read ++ v ∷ [])) w ≡ true
+    go true = is
+    go false = list_any-append (same_watched w) read (v ∷ []) ∙ or_left (is_watched read w) _ is
+
+  within_all : (read more : List Watched) → Within read (with_all_watched read more)
+  within_all read [] w is = is
+  within_all read (v ∷ vs) w is = within_all (with_watched read v) vs w (within_with read v w is)
+
+  all_in : (read more : List Watched) → AllIn (with_all_watched read more) more
+  all_in read [] = tt
+  all_in read (v ∷ vs) = (within_all (with_watched read v) vs v (with_has read v), all_in (with_watched read v) vs)
+
+  all_within_in : (few all more : List Watched) → Within few all → AllIn few more → AllIn all more
+  all_within_in few all [] sub h = tt
+  all_within_in few all (v ∷ vs) sub h = (sub v h.0, all_within_in few all vs sub h.1)
+
+  -- an evaluation that reads what lasts came to a, and what it read is on a list
+  abbrev Came : {A : Type 0} → Machine → Asker → List Watched → Evaluation A → A → Type 0
+  Came s q read (Yields b) a = b ≡ a
+  Came s q read (Stops stop) a = ⊥
+  Came s q read (Wants question k) a = IsLasting question →
+      (reply : Reply question) × Comes (reply_prog s q question) reply
+      × ((more : List Watched) × Comes (watched_by question) more × AllIn read more)
+      × Came s q read (k reply) a
+
+  traced_came : {A : Type 0} (s : Machine) (q : Asker) (read : List Watched) (e : Evaluation A) (before : List Stream)
+      (r : (A × List Watched) × List Stream) → result_of t seed (traced s q read e before) ≡ Ok r →
+      Within read r.0.1 × ((all : List Watched) → Within r.0.1 all → Came s q all e r.0.0)
+  traced_came s q read (Yields a) before r is =
+      let same : ((a, read), before) ≡ r = cc in
+      let read_is : read ≡ r.0.1 = ap (λ (v : (_ × List Watched) × List Stream). v.0.1) same in
+      (λ w h. subst (λ list. is_watched list w ≡ true) read_is h, λ all sub. ap (λ (v : (_ × List Watched) × List Stream). v.0.0) same)
+  traced_came s q read (Stops stop) before r is = absurd cc
+  traced_came s q read (Wants question k) before r is =
+      let parts = bind_parts (watched_by question) _ before r is in
+      let more = parts.0.0 in
+      let rest = bind_parts (reply_prog s q question) _ parts.0.1 r parts.2 in
+      let behind' = traced_came s q (with_all_watched read more) (k rest.0.0) rest.0.1 r rest.2 in (
+        λ w h. behind'.0 w (within_all read more w h),
+        λ all sub lasting. (
+          rest.0.0,
+          steady_reply s q question lasting parts.0.1 rest.0 rest.1,
+          (
+            more,
+            steady_by question before parts.0 parts.1,
+            all_within_in (with_all_watched read more) all more (λ w h. sub w (behind'.0 w h)) (all_in read more),
+          ),
+          behind'.1 all sub,
+        ),
+      )
+
+  given_is : {A : Type 0} (a b : A) → result_of t seed (gives a []) ≡ Ok (b, []) → a ≡ b
+  given_is {A} a b is =
+      let p : A × List Stream = (a, []) in
+      let r : A × List Stream = (b, []) in
+      let same : p ≡ r = cc in
+      ap (λ (v : A × List Stream). v.0) same
+
+  -- where it is known to read what lasts, it comes to nothing else
+  came_is : {A : Type 0} (s : Machine) (q : Asker) (read : List Watched) (e : Evaluation A) (a b : A) → Came s q read e a →
+      ReadsWhatLasts t seed s q e → Comes (evaluated s q e) b → a ≡ b
+  came_is s q read (Yields c) a b came lasts is = sym came ∙ given_is c b (is [])
+  came_is s q read (Stops stop) a b came lasts is = absurd came
+  came_is s q read (Wants question k) a b came lasts is =
+      let h = came lasts.0 in
+      came_is s q read (k h.0) a b h.3 (lasts.1 h.0 h.1) (behind (reply_prog s q question) (λ reply. evaluated s q (k reply)) h.0 b h.1 is)
+
+  -- ---- what nobody wrote replies as it did
+
+  -- what is on a list of what was read stays, and what a transaction has of its own
+  record Stays (s u : Machine) (read : List Watched) (x : Transaction) : Type 0 where
+    entity : (kind : EntityKind) (key : Key) → is_watched read (watched.Entity kind key) ≡ true → SameEntity kind key s.entities u.entities
+    counts : (id : ℕ) → is_watched read (watched.Counts id) ≡ true → content u.counts id ≡ content s.counts id
+    own : (key : Key) → parameter_at u.parameters x.number key ≡ parameter_at s.parameters x.number key
+
+  -- which entity was read
+  entity_read : (kind : EntityKind) (of : Subject) (more : List Watched) → Comes (entity_watched kind of) more →
+      (key : Key) × Comes (subject_prog of) key × (more ≡ watched.Entity kind key ∷ [])
+  entity_read kind of more is =
+      let parts = bind_parts (subject_prog of) (λ key. gives (watched.Entity kind key ∷ [])) [] (more, []) (is []) in
+      (parts.0.0, steady_subject of [] parts.0 parts.1, sym (read_is parts.0.0 parts.0.1 parts.2)) where
+        read_is : (key : Key) (streams : List Stream) → result_of t seed (gives (watched.Entity kind key ∷ []) streams) ≡ Ok (more, []) →
+            watched.Entity kind key ∷ [] ≡ more
+        read_is key streams h =
+            let p : List Watched × List Stream = (watched.Entity kind key ∷ [], streams) in
+            let r : List Watched × List Stream = (more, []) in
+            let same : p ≡ r = cc in
+            ap (λ (v : List Watched × List Stream). v.0) same
+
+  module _ (s u : Machine) (read : List Watched) (x : Transaction) (stays : Stays s u read x) where
+    entity_replies : (kind : EntityKind) (f g : Key → Eval ℤ) (of : Subject) (more : List Watched) (reply : ℤ) → Comes (entity_watched kind of) more →
+        AllIn read more → ((key : Key) → SameEntity kind key s.entities u.entities → f key ≡ g key) → Comes (subject_prog of ~> f) reply →
+        Comes (subject_prog of ~> g) reply
+    entity_replies kind f g of more reply reads all same is =
+        let found = entity_read kind of more reads in
+        let key = found.0 in
+        let there : AllIn read (watched.Entity kind key ∷ []) = subst (AllIn read) found.2 all in
+        let alike = same key (stays.entity kind key there.0) in
+        together (subject_prog of) g key reply found.1
+        (subst (λ p. Comes p reply) alike (behind (subject_prog of) f key reply found.1 is))
+
+    storage_there : (name : List ℕ) (more : List Watched) → Comes (storage_watched (subjects.Name name)) more → AllIn read more →
+        store_at u.entities (keys.Defined name) ≡ store_at s.entities (keys.Defined name)
+    storage_there name more reads all =
+        let one' : watched.Entity kinds.Storage (keys.Defined name) ∷ [] ≡ more = given_is _ more (reads []) in
+        let there : AllIn read (watched.Entity kinds.Storage (keys.Defined name) ∷ []) = subst (AllIn read) (sym one') all in
+        stays.entity kinds.Storage (keys.Defined name) there.0
+
+    stored_replies : (of : Subject) (more : List Watched) (reply : ℤ) → Comes (storage_watched of) more → AllIn read more →
+        Comes (storage_prog of (λ key. storage_value s class.S key)) reply → Comes (storage_prog of (λ key. storage_value u class.S key)) reply
+    stored_replies subjects.Own more reply reads all is = λ streams. absurd (let no = is [] in cc)
+    stored_replies (subjects.Number n) more reply reads all is = λ streams. absurd (let no = is [] in cc)
+    stored_replies (subjects.Name name) more reply reads all is =
+        let there = storage_there name more reads all in
+        subst (λ p. Comes p reply) (sym (ap (λ (q : Store). amount q.level.content) there)) is
+
+    left_replies : (of : Subject) (more : List Watched) (reply : ℤ) → Comes (storage_watched of) more → AllIn read more →
+        Comes (left_prog s of) reply → Comes (left_prog u of) reply
+    left_replies subjects.Own more reply reads all is = λ streams. absurd (let no = is [] in cc)
+    left_replies (subjects.Number n) more reply reads all is = λ streams. absurd (let no = is [] in cc)
+    left_replies (subjects.Name name) more reply reads all is =
+        let there = storage_there name more reads all in
+        subst (λ p. Comes p reply)
+        (sym (ap (λ (q : Store). asks (items.Named asking.Storage name) (λ capacity. amount (capacity - q.level.content))) there)) is
+
+    counted_replies : (id : Option ℕ) (reply : ℤ) → AllIn read (counts_of id) → Comes (counted id (λ id. block_value s class.W id)) reply →
+        Comes (counted id (λ id. block_value u class.W id)) reply
+    counted_replies None reply all is = is
+    counted_replies (Some id) reply all is = subst (λ p. Comes p reply) (sym (ap amount (stays.counts id all.0))) is
+
+    block_replies : (of : Subject) (more : List Watched) (reply : ℤ) → Comes (counts_watched of) more → AllIn read more →
+        Comes (block_count of (λ id. block_value s class.W id)) reply → Comes (block_count of (λ id. block_value u class.W id)) reply
+    block_replies subjects.Own more reply reads all is = λ streams. absurd (let no = is [] in cc)
+    block_replies (subjects.Number n) more reply reads all is = λ streams. absurd (let no = is [] in cc)
+    block_replies (subjects.Name name) more reply reads all is =
+        counted_replies (label_at t name) reply (subst (AllIn read) (sym (given_is (counts_of (label_at t name)) more (reads []))) all) is
+
+    attribute_replies : (class : Class) (of : Subject) (more : List Watched) (reply : ℤ) → is_lasting class ≡ true → Comes (watched_prog class of) more →
+        AllIn read more → Comes (attribute_prog s (for_one s x) class of) reply → Comes (attribute_prog u (for_one u x) class of) reply
+    unfolding attribute_prog watched_prog
+    attribute_replies class.F of more reply lasting reads all is =
+        entity_replies kinds.Facility (entity_value s class.F) (entity_value u class.F) of more reply reads all
+        (λ key same. ap (λ (f : Ownership). amount (owned f.owner)) (sym same)) is
+    attribute_replies class.S of more reply lasting reads all is = stored_replies of more reply reads all is
+    attribute_replies class.R of more reply lasting reads all is = left_replies of more reply reads all is
+    attribute_replies class.Q of more reply lasting reads all is =
+        entity_replies kinds.Queue (entity_value s class.Q) (entity_value u class.Q) of more reply reads all
+        (λ key same. ap (λ (q : Line). amount q.level.content) (sym same)) is
+    attribute_replies class.W of more reply lasting reads all is = block_replies of more reply reads all is
+    attribute_replies class.X of more reply lasting reads all is =
+        entity_replies kinds.Savevalue (entity_value s class.X) (entity_value u class.X) of more reply reads all
+        (λ key same. ap (λ o. gives (unwrap_or o (pos 0))) (sym same)) is
+    attribute_replies class.Ls of more reply lasting reads all is =
+        entity_replies kinds.Switch (entity_value s class.Ls) (entity_value u class.Ls) of more reply reads all
+        (λ key same. ap (λ b. amount (one_if b)) (sym same)) is
+    attribute_replies class.P of more reply lasting reads all is =
+        let parts = bind_parts (subject_prog of) (λ key. parameter_value s (for_one s x) key) [] (reply, []) (is []) in
+        let key = parts.0.0 in
+        let there = steady_subject of [] parts.0 parts.1 in
+        together (subject_prog of) (λ key. parameter_value u (for_one u x) key) key reply there
+        (subst (λ p. Comes p reply) (ap value_held (sym (stays.own key)))
+        (behind (subject_prog of) (λ key. parameter_value s (for_one s x) key) key reply there is))
+    attribute_replies class.Pr of more reply lasting reads all is = is
+    attribute_replies class.Xn1 of more reply lasting reads all is = is
+    attribute_replies class of more reply lasting reads all is = absurd cc
+
+    replies : (question : Question) (more : List Watched) (reply : Reply question) → IsLasting question → Comes (watched_by question) more →
+        AllIn read more → Comes (reply_prog s (for_one s x) question) reply → Comes (reply_prog u (for_one u x) question) reply
+    replies (NumberOf name) more reply lasting reads all is = is
+    replies (AttributeOf class of) more reply lasting reads all is = attribute_replies class of more reply lasting reads all is
+    replies (PartOf of) more reply lasting reads all is = absurd lasting
+    replies (VariableOf name) more reply lasting reads all is = is
+    replies (FunctionOf name) more reply lasting reads all is = is
+
+    still_came : {A : Type 0} (e : Evaluation A) (a : A) → Came s (for_one s x) read e a → Came u (for_one u x) read e a
+    still_came (Yields b) a came = came
+    still_came (Stops stop) a came = came
+    still_came (Wants question k) a came = λ lasting.
+        (let h = came lasting in
+        (h.0, replies question h.2.0 h.0 lasting h.2.1 h.2.2 h.1, h.2, still_came (k h.0) a h.3))
+
+-- ---- the content of a block that is not written
+
+module _ (p : ℕ) where
+  abbrev IsUnwritten : List Watched → Type 0
+  IsUnwritten list = is_watched list (watched.Counts p) ≡ false
+
+  let_in_content : (x : Transaction) (to : Option ℕ) (v : Machine) → IsUnwritten (crossing x to) → content (let_in x to v).counts p ≡ content v.counts p
+  let_in_content x None v is = refl
+  let_in_content x (Some id) v is =
+      let first = or_parts (nat_eq p x.current) (nat_eq p id || false) is in
+      let second = or_parts (nat_eq p id) false first.1 in
+      content_elsewhere fates.Active v.counts x.current id p first.0 second.0
+
+  some_content : (key : Key) (shares : List (Option ℕ)) (passed chain : List Transaction) (v : Machine) → IsUnwritten (crossings shares chain) →
+      content (some_let_in key shares passed chain v).counts p ≡ content v.counts p
+  some_content key [] passed chain v is = refl
+  some_content key (share ∷ shares) passed [] v is = refl
+  some_content key (None ∷ shares) passed (x ∷ xs) v is = some_content key shares (passed ++ x ∷ []) xs v is
+  some_content key (Some units ∷ shares) passed (x ∷ xs) v is =
+      let parts = or_parts (is_watched (crossing x x.destination) (watched.Counts p)) (is_watched (crossings shares xs) (watched.Counts p))
+      (sym (list_any-append (same_watched (watched.Counts p)) (crossing x x.destination) (crossings shares xs)) ∙ is) in
+      some_content key shares passed xs (one_let_in key x (passed ++ xs) v) parts.1
+      ∙ let_in_content x x.destination (record v { delays = with_value v.delays key (passed ++ xs) }) parts.0
+
+  maybe_made_content : (next : Option Arrival) (w : Making) → content (maybe_made next w).counts p ≡ content w.counts p
+  maybe_made_content None w = refl
+  maybe_made_content (Some a) w = content_made w.counts a.id p
+
+  all_made_content : (arrivals : List Arrival) (w : Making) → content (all_made arrivals w).counts p ≡ content w.counts p
+  all_made_content [] w = refl
+  all_made_content (a ∷ rest) w = all_made_content rest (made a w) ∙ content_made w.counts a.id p
+
+  changed_content : (s v : Machine) (change : Change) → v.delays ≡ s.delays → IsUnwritten (written_by change s) →
+      content (changed change v).counts p ≡ content v.counts p
+  changed_content s v (changes.Generate next) same is = maybe_made_content next (making_of v)
+  changed_content s v (changes.Entity change) same is =
+      let chain = ap (λ ds. delay_at ds change.0) same in
+      some_content change.0 (deed_shares change.1) [] (delay_at v.delays change.0) v
+      (subst (λ xs. IsUnwritten (crossings (deed_shares change.1) xs)) (sym chain) is)
+  changed_content s v (changes.Transaction change) same is = refl
+  changed_content s v changes.Nothing same is = refl
+
+  entering_content : (s : Machine) (x : Transaction) (id : ℕ) (change : Change) (fate : Fate) → IsUnwritten (written_where (Some x) id change s) →
+      content (entering s x id change fate).counts p ≡ content s.counts p
+  entering_content s x id change fate is =
+      let same = settled_is s x id change fate in
+      let first = or_parts (nat_eq p x.current) _ is in
+      let second = or_parts (nat_eq p id) _ first.1 in
+      changed_content s (settled s x id change fate) change same.delays second.1
+      ∙ (ap (λ cs. content cs p) same.counts ∙ content_elsewhere fate s.counts x.current id p first.0 second.0)
+
+  moved_content : (s : Machine) (m : Move) → IsUnwritten (written s m) → content (moved s m).counts p ≡ content s.counts p
+  moved_content s (moves.Start count arrivals) is = all_made_content arrivals (making_of s)
+  moved_content s moves.Command is = refl
+  moved_content s (moves.Enter id change fate) is = go s.active is where
+    go : (o : Option Transaction) → IsUnwritten (written_where o id change s) →
+        content (with_active o (λ x. entering s x id change fate) s).counts p ≡ content s.counts p
+    go None h = refl
+    go (Some x) h = entering_content s x id change fate h
+  moved_content s (moves.Refuse id key units) is =
+      with_active_has (λ v. content v.counts p ≡ content s.counts p) s.active (λ x. refused s x id key units) s refl (λ x is. refl)
+  moved_content s (moves.Watch read) is =
+      with_active_has (λ v. content v.counts p ≡ content s.counts p) s.active (λ x. watching s x read) s refl (λ x is. refl)
+  moved_content s moves.Pick is = picked_has (λ v. content v.counts p ≡ content s.counts p) s s.current refl (λ x xs is. refl)
+  moved_content s (moves.Clock time) is = refl
+
+-- ---- over a run
+
+test_came : (t : Listing) (seed : ℕ) (s : Machine) (q : Asker) (id : ℕ) (relation : Auxiliary) (first second : Term) (label : Option Term)
+    (read : List Watched) (before after : List Stream) →
+    result_of t seed (test_prog s q id relation (Some first) (Some second) label before) ≡ Ok (moves.Watch read, after) →
+    (x y : ℤ) × (holds relation x y ≡ false) × Came t seed s q read (operands.value_of first) x × Came t seed s q read (operands.value_of second) y
+test_came t seed s q id relation first second None read before after is =
+    let one' = bind_parts t seed (value_traced s q [] (Some first)) _ before (moves.Watch read, after) is in
+    let two = bind_parts t seed (value_traced s q one'.0.0.1 (Some second)) _ one'.0.1 (moves.Watch read, after) one'.2 in
+    let last = (passes_or t seed s id None two.0.0.1 (holds relation one'.0.0.0 two.0.0.0)).from two.0.1 (moves.Watch read, after) two.2 in
+    let left' = traced_came t seed s q [] (operands.value_of first) before one'.0 one'.1 in
+    let right' = traced_came t seed s q one'.0.0.1 (operands.value_of second) one'.0.1 two.0 two.1 in
+    let all : (w : Watched) → is_watched two.0.0.1 w ≡ true → is_watched read w ≡ true =
+    λ w h. subst (λ list. is_watched list w ≡ true) (sym last.2) h in (
+      one'.0.0.0,
+      two.0.0.0,
+      last.1,
+      left'.1 read (λ w h. all w (right'.0 w h)),
+      right'.1 read all,
+    )
+test_came t seed s q id relation first second (Some label) read before after is =
+    let one' = bind_parts t seed (value_there s q (Some first)) _ before (moves.Watch read, after) is in
+    let two = bind_parts t seed (value_there s q (Some second)) _ one'.0.1 (moves.Watch read, after) one'.2 in
+    let last = (passes_or t seed s id (Some label) [] (holds relation one'.0.0 two.0.0)).from two.0.1 (moves.Watch read, after) two.2 in
+    absurd (let no : Some label ≡ None = last.0 in cc)
+
+-- where its block is a TEST, its relation did not hold of two values, and it waits for a change of what they read
+abbrev AtTest : Listing → ℕ → Machine → Waiter → Type 0
+AtTest t seed s w =
+    (id : ℕ) (b : Block) (first second : Term) → goes_to t w.transaction ≡ Some id → block_at t id ≡ Some b → b.verb ≡ blocks.Test →
+    operand b A ≡ Some first → operand b B ≡ Some second →
+    (x y : ℤ) × (holds b.auxiliary x y ≡ false)
+    × Came t seed s (for_one s w.transaction) w.read (operands.value_of first) x
+    × Came t seed s (for_one s w.transaction) w.read (operands.value_of second) y
+
+test_refused : (t : Listing) (seed : ℕ) (s : Machine) (read : List Watched) (r : IsRefusedAt t seed s read) →
+    AtTest t seed s (record { transaction = r.x; read = read })
+test_refused t seed s read r id b first second goes there verb one' two =
+    let same : r.id ≡ id = one_of r.id id (sym r.goes ∙ goes) in
+    let at : block_at t r.id ≡ Some b = ap (block_at t) same ∙ there in
+    let tries : result_of t seed (meet_prog s r.x r.id (Some b) r.before) ≡ Ok (moves.Watch read, r.after) =
+    subst (λ o. result_of t seed (meet_prog s r.x r.id o r.before) ≡ Ok (moves.Watch read, r.after)) at r.tries in
+    let tests : result_of t seed (block_prog s r.x r.id b blocks.Test r.before) ≡ Ok (moves.Watch read, r.after) =
+    subst (λ v. result_of t seed (block_prog s r.x r.id b v r.before) ≡ Ok (moves.Watch read, r.after)) verb tries in
+    let q = for_one s r.x in
+    let left' : result_of t seed (test_prog s q r.id b.auxiliary (Some first) (operand b B) (operand b C) r.before) ≡ Ok (moves.Watch read, r.after) =
+    subst (λ o. result_of t seed (test_prog s q r.id b.auxiliary o (operand b B) (operand b C) r.before) ≡ Ok (moves.Watch read, r.after)) one' tests in
+    let both : result_of t seed (test_prog s q r.id b.auxiliary (Some first) (Some second) (operand b C) r.before) ≡ Ok (moves.Watch read, r.after) =
+    subst (λ o. result_of t seed (test_prog s q r.id b.auxiliary (Some first) o (operand b C) r.before) ≡ Ok (moves.Watch read, r.after)) two left' in
+    test_came t seed s q r.id b.auxiliary first second (operand b C) read r.before r.after both
+
+-- whoever waits is not active
+not_active : (s : Machine) (w : Waiter) → IsNumbered s → Contains s.retry w → IsActive s w.transaction.number → ⊥
+not_active s w h waits active =
+    let k = w.transaction.number in
+    let here = active_crowd (has_number k) s active.0 active.1 in
+    let his : one (has_number k active.0) ≡ 1 = ap one (eq-eqb active.0.number k active.2) in
+    let there = many_has (has_number k) (transactions_of s.retry) w.transaction
+    (contains_of (transactions_of s.retry) w.transaction (stands_transactions s.retry w (stands_of s.retry w waits))) (eq-eqb k k refl) in
+    let once = h.apart k in
+    omega arith
+
+-- what a transaction has of its own stays in a move
+abbrev OwnStays : Machine → Move → Waiter → Type 0
+OwnStays s m w = (key : Key) →
+    parameter_at (moved s m).parameters w.transaction.number key ≡ parameter_at s.parameters w.transaction.number key
+
+waiting_own : (t : Listing) (s : Machine) (m : Move) (w : Waiter) → IsDecided t s m → IsNumbered s → Contains s.retry w → OwnStays s m w
+waiting_own t s m w decided' numbered waits key = elim (moved_elsewhere w.transaction.number t s m decided') [
+  | inl same ↦ ap (λ values. value_of values key) same
+  | inr active ↦ absurd (not_active s w numbered waits active)
+]
+
+abbrev Tested : Listing → ℕ → Machine → Move → Waiter → Type 0
+Tested t seed s m w = AtTest t seed s w × OwnStays s m w
+
+coming_tested : (t : Listing) (seed : ℕ) (s : Machine) (m : Move) → IfWatches (IsRefusedAt t seed s) m → AllByRecursion (Tested t seed s m) (who_comes m s.active)
+coming_tested t seed s (moves.Watch read) r =
+    let w : Waiter = record { transaction = r.x; read = read } in
+    let own : OwnStays s (moves.Watch read) w = λ key.
+    with_active_has (λ v. parameter_at v.parameters w.transaction.number key ≡ parameter_at s.parameters w.transaction.number key) s.active
+    (λ x. watching s x read) s refl (λ x is. refl) in
+    subst (λ o. AllByRecursion (Tested t seed s (moves.Watch read)) (who_comes (moves.Watch read) o)) (sym r.active)
+    ((test_refused t seed s read r, own), tt)
+coming_tested t seed s m r = tt
+
+each_tested : (P Q : Waiter → Type 0) (ws : List Waiter) → ((w : Waiter) → Stands ws w → Q w) → AllByRecursion P ws → AllByRecursion (λ w. P w × Q w) ws
+each_tested P Q [] each all = tt
+each_tested P Q (w ∷ ws) each all = ((all.0, each w (inl refl)), each_tested P Q ws (λ v there. each v (inr there)) all.1)
+
+test_stays : (t : Listing) (seed : ℕ) (s : Machine) (m : Move) (streams : List Stream) (w : Waiter) → is_woken (written s m) w ≡ false →
+    Tested t seed s m w → AtTest t seed (decided s m streams) w
+test_stays t seed s m streams w unread tested = λ id b first second goes there verb one' two.
+    (let h = tested.0 id b first second goes there verb one' two in
+    let u = decided s m streams in
+    let stays : Stays t seed s u w.read w.transaction = record {
+      entity = λ kind key read. moved_entity s m kind key (unread_unwritten (written s m) w.read (watched.Entity kind key) unread read);
+      counts = λ i read. moved_content i s m (unread_unwritten (written s m) w.read (watched.Counts i) unread read);
+      own = tested.1;
+    } in (
+      h.0,
+      h.1,
+      h.2,
+      still_came t seed s u w.read w.transaction stays (operands.value_of first) h.0 h.3,
+      still_came t seed s u w.read w.transaction stays (operands.value_of second) h.1 h.4,
+    ))
+
+tests_fail : (t : Listing) (seed : ℕ) → Well t → (n : ℕ) (s : Machine) → run t seed n ≡ Ok s → n ≤ t.limit → AllByRecursion (AtTest t seed s) s.retry
+tests_fail t seed well =
+    over_decided t seed (λ n s. n ≤ t.limit → AllByRecursion (AtTest t seed s) s.retry) (λ within. tt)
+    (λ n s d there goes all within.
+    let early : n ≤ t.limit = omega (arith, within) in
+    let numbered = all_numbered t seed well n s there early in
+    let own : (w : Waiter) → Stands s.retry w → OwnStays s d.0 w =
+    λ w stands. waiting_own t s d.0 w (is_decided t seed s d goes) numbered (contains_of s.retry w stands) in
+    all_wait_on (Tested t seed s d.0) (AtTest t seed (decided s d.0 d.1)) s d.0 d.1
+    (each_tested (AtTest t seed s) (OwnStays s d.0) s.retry own (all early))
+    (coming_tested t seed s d.0 (refused_at t seed s d goes)) (test_stays t seed s d.0 d.1))
+
+pub nobody_waits_at_a_test_that_holds : NobodyWaitsAtATestThatHolds
+nobody_waits_at_a_test_that_holds t seed n s well within is w id b first second x y waits goes there verb one' two left' right' =
+    let q = for_one s w.transaction in
+    let all = tests_fail t seed well n s is within in
+    let h = all_stands (AtTest t seed s) s.retry w all (stands_of s.retry w waits) id b first second goes there verb one' two in
+    let a : h.0 ≡ x = came_is t seed s q w.read (operands.value_of first) h.0 x h.3 left'.0 left'.1 in
+    let c : h.1 ≡ y = came_is t seed s q w.read (operands.value_of second) h.1 y h.4 right'.0 right'.1 in
+    sym (ap₂ (holds b.auxiliary) a c) ∙ h.2
+
+-- ---- what tells what it read comes to the same
+
+alone_is : {A : Type 0} (r : Result ((A × List Watched) × List Stream) End) → value_alone r ≡ alone.value_alone r
+alone_is (Ok r) = refl
+alone_is (Err end) = refl
+
+pub telling_changes_nothing : TellingChangesNothing
+telling_changes_nothing t seed s q read operand streams =
+    let alike = alone.value_alike t seed s q read operand streams in
+    (alone_is (result_of t seed (value_traced s q read operand streams)) ∙ alike.value, alike.same)

@@ -1,0 +1,152 @@
+-- Those who wait at a TEST or a GATE for a change of something that they read, over every run from zero. (Manual: retry
+-- chains.)
+use Rattle.std.specs.Prelude.{◌≡◌, ◌<◌, ◌≤◌, ℕ, ℤ, suc, Bool, true, false, List, ◌++◌, Option, Some, None, Ok, Contains, filter, length, slice_get, Result, Err}
+use Rattle.std.specs.List.{list_any}
+use Rattle.gw_nums.specs.Range.{magnitude}
+use Rattle.gw_names.specs.declared.key.Key.{Key}
+use Rattle.gw_names.specs.declared.key.Key.TheVariants as keys
+use Rattle.gw_names.specs.declared.verb.BlockVerb.TheVariants as blocks
+use Rattle.gw_expr.specs.declared.atom.Atom.TheVariants as atoms
+use Rattle.gw_expr.specs.Term.{Term, Value, Named, Defined}
+use Rattle.gw_expr.specs.Evaluation.{Question, AttributeOf, PartOf, Reply, Evaluation, Yields, Stops, Wants, value_of}
+use Rattle.gw_names.specs.declared.class.Class.{Class}
+use Rattle.gw_names.specs.declared.class.Class.TheVariants as class
+use Rattle.gw_streams.specs.declared.stream.Stream.{Stream}
+use Rattle.gw_meaning.specs.declared.auxiliary.Auxiliary.TheVariants as auxiliaries
+use Rattle.gw_meaning.specs.declared.auxiliary.Condition.{Condition}
+use Rattle.gw_meaning.specs.declared.statement.Block.{Block}
+use Rattle.gw_meaning.specs.declared.moves.Move.{Move}
+use Rattle.gw_meaning.specs.declared.asker.Asker.{Asker}
+use Rattle.gw_meaning.specs.declared.item.End.{End}
+use Rattle.gw_meaning.specs.declared.item.Item.{Item}
+use Rattle.gw_meaning.specs.declared.watched.Watched.{Watched}
+use Rattle.gw_meaning.specs.Statements.{A, B, operand}
+use Rattle.gw_meaning.specs.Listing.{Listing, block_at, number_at, capacity_at}
+use Rattle.gw_meaning.specs.Watching.{Waiter}
+use Rattle.gw_meaning.specs.Machine.{Machine}
+use Rattle.gw_meaning.specs.Questions.{result_of, items_of}
+use Rattle.gw_meaning.specs.Changes.{written, is_woken}
+use Rattle.gw_meaning.specs.Evaluation.{Eval, reply_prog, evaluated, value_there, value_traced}
+use Rattle.gw_meaning.specs.Step.{for_one, holds, is_open, decide, step, run}
+use Rattle.gw_model.specs.Well.{Well}
+use Rattle.gw_laws.specs.Destinations.{goes_to}
+
+-- w waits for a change
+abbrev pub Waits : Machine → Waiter → Type 0
+Waits s w = Contains s.retry w
+
+-- of a list, one stands in front of another
+abbrev pub StandsInFront : {X : Type 0} → List X → X → X → Type 0
+StandsInFront xs x y = (i j : ℕ) × (i < j) × (slice_get xs i ≡ Some x) × (slice_get xs j ≡ Some y)
+
+-- in a step some wait on, in the order in which they were there, and at most one comes, behind these
+abbrev pub WaitersKeepTheirOrder : Type 0
+WaitersKeepTheirOrder =
+    (t : Listing) (seed : ℕ) (s v : Machine) → step t seed s ≡ Ok v →
+    (stays : Waiter → Bool) × (come : List Waiter) × (v.retry ≡ filter stays s.retry ++ come) × (length come ≤ 1)
+
+-- of two of one priority whom a step wakes, the one who came first stands in front
+abbrev pub WokenInOrder : Type 0
+WokenInOrder =
+    (t : Listing) (seed n : ℕ) (s v : Machine) → run t seed n ≡ Ok s → run t seed (suc n) ≡ Ok v →
+    (w u : Waiter) → StandsInFront s.retry w u → w.transaction.priority ≡ u.transaction.priority →
+    (Waits v w → ⊥) → (Waits v u → ⊥) → StandsInFront v.current w.transaction u.transaction
+
+-- whoever read something that the step writes wakes, and is on the current chain then; whoever did not, waits on
+abbrev pub WokenByWhatIsWritten : Type 0
+WokenByWhatIsWritten =
+    (t : Listing) (seed : ℕ) (s v : Machine) (w : Waiter) (m : Move) (streams : List Stream) →
+    result_of t seed (decide s) ≡ Ok (m, streams) → step t seed s ≡ Ok v → Waits s w →
+    (is_woken (written s m) w ≡ true → Contains v.current w.transaction)
+    × (is_woken (written s m) w ≡ false → Waits v w)
+
+-- the entity that an operand names as it is written: by a name, which may stand for a number, by a number, or by the
+-- name of its definition
+abbrev pub named_key : List ℕ → Option ℤ → Key
+named_key name None = keys.Named name
+named_key name (Some n) = keys.Num (magnitude n)
+
+abbrev pub key_written : Listing → Option Term → Option Key
+key_written t (Some (Defined name)) = Some (keys.Defined name)
+key_written t (Some (Named name)) = Some (named_key name (number_at t name))
+key_written t (Some (Value (atoms.Constant n))) = Some (keys.Num (magnitude n))
+key_written t operand = None
+
+-- the capacity that a version gives an entity; what is no storage has none
+abbrev pub capacity_of : Listing → Key → ℕ
+capacity_of t (keys.Defined name) = capacity_at t name
+capacity_of t key = 0
+
+-- nobody waits at a GATE whose condition holds of the entity that its operand names
+abbrev pub NobodyWaitsAtAnOpenGate : Type 0
+NobodyWaitsAtAnOpenGate =
+    (t : Listing) (seed n : ℕ) (s : Machine) → run t seed n ≡ Ok s →
+    (w : Waiter) (id : ℕ) (b : Block) (condition : Condition) (key : Key) → Waits s w →
+    goes_to t w.transaction ≡ Some id → block_at t id ≡ Some b → b.verb ≡ blocks.Gate →
+    b.auxiliary ≡ auxiliaries.Gate condition → key_written t (operand b A) ≡ Some key →
+    is_open s condition key (capacity_of t key) ≡ false
+
+-- what stays as it is until a block writes it: owners, contents, savevalues and switches, and what a transaction that
+-- waits has of its own. (Counts of entries are left out: they are to be set to 0 by a command, which wakes nobody.)
+abbrev pub is_lasting : Class → Bool
+is_lasting class.F = true
+is_lasting class.S = true
+is_lasting class.R = true
+is_lasting class.Q = true
+is_lasting class.W = true
+is_lasting class.X = true
+is_lasting class.Ls = true
+is_lasting class.P = true
+is_lasting class.Pr = true
+is_lasting class.Xn1 = true
+is_lasting class = false
+
+abbrev pub IsLasting : Question → Type 0
+IsLasting (AttributeOf class of) = is_lasting class ≡ true
+IsLasting (PartOf of) = ⊥
+IsLasting question = Unit {0}
+
+-- what an evaluation comes to, from any streams and without a draw
+abbrev pub ComesTo : {A : Type 0} → Listing → ℕ → Eval A → A → Type 0
+ComesTo t seed p a = (streams : List Stream) → result_of t seed (p streams) ≡ Ok (a, streams)
+
+-- an evaluation reads nothing in a state but what lasts
+abbrev pub ReadsWhatLasts : {A : Type 0} → Listing → ℕ → Machine → Asker → Evaluation A → Type 0
+ReadsWhatLasts t seed s q (Yields a) = Unit {0}
+ReadsWhatLasts t seed s q (Stops stop) = Unit {0}
+ReadsWhatLasts t seed s q (Wants question k) =
+    IsLasting question
+    × ((reply : Reply question) → ComesTo t seed (reply_prog s q question) reply → ReadsWhatLasts t seed s q (k reply))
+
+-- a value that reads nothing but what lasts, and what it comes to
+abbrev pub Lasts : Listing → ℕ → Machine → Asker → Term → ℤ → Type 0
+Lasts t seed s q term x =
+    ReadsWhatLasts t seed s q (value_of term) × ComesTo t seed (evaluated s q (value_of term)) x
+
+-- nobody waits at a TEST whose relation holds of two values that read nothing but what lasts. (Within the step limit,
+-- since numbers tell transactions apart there.)
+abbrev pub NobodyWaitsAtATestThatHolds : Type 0
+NobodyWaitsAtATestThatHolds =
+    (t : Listing) (seed n : ℕ) (s : Machine) → Well t → n ≤ t.limit → run t seed n ≡ Ok s →
+    (w : Waiter) (id : ℕ) (b : Block) (first second : Term) (x y : ℤ) → Waits s w →
+    goes_to t w.transaction ≡ Some id → block_at t id ≡ Some b → b.verb ≡ blocks.Test →
+    operand b A ≡ Some first → operand b B ≡ Some second →
+    Lasts t seed s (for_one s w.transaction) first x → Lasts t seed s (for_one s w.transaction) second y →
+    holds b.auxiliary x y ≡ false
+
+-- the result of an evaluation without what it read
+abbrev pub value_alone : {A : Type 0} → Result ((A × List Watched) × List Stream) End → Result (A × List Stream) End
+value_alone (Ok r) = Ok (r.0.0, r.1)
+value_alone (Err end) = Err end
+
+-- an attempt that tells what it read evaluates an operand as every other does: it comes to the same, ends the same,
+-- leaves the same streams, and asks no other items
+abbrev pub TellingChangesNothing : Type 0
+TellingChangesNothing =
+    (t : Listing) (seed : ℕ) (s : Machine) (q : Asker) (read : List Watched) (operand : Option Term)
+    (streams : List Stream) →
+    (value_alone (result_of t seed (value_traced s q read operand streams))
+    ≡ result_of t seed (value_there s q operand streams))
+    × ((test : Item → Bool) →
+    list_any test (items_of t seed (value_traced s q read operand streams))
+    ≡ list_any test (items_of t seed (value_there s q operand streams)))
