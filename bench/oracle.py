@@ -700,7 +700,8 @@ class Run:
 
 
 # Of which kind the entity is that an attribute reads.
-KINDS = {"F": "facility", "FC": "facility", "X": "savevalue", "LS": "switch"} | dict.fromkeys(["Q", "QC", "QM", "QZ"], "queue")
+KINDS = {"F": "facility", "FC": "facility", "X": "savevalue", "LS": "switch"}
+KINDS |= dict.fromkeys(["Q", "QC", "QM", "QZ"], "queue")
 # What each operator of a TEST asks of the two values.
 HOLDS = {"E": eq, "NE": ne, "G": gt, "GE": ge, "L": lt, "LE": le}
 
