@@ -22,6 +22,8 @@ use Rattle.gw_meaning.specs.declared.statement.Numbered.{Numbered}
 use Rattle.gw_meaning.specs.declared.transaction.Transaction.{Transaction}
 use Rattle.gw_meaning.specs.declared.moves.Arrival.{Arrival}
 use Rattle.gw_meaning.specs.declared.moves.Move.{Move}
+use Rattle.gw_meaning.specs.declared.watched.Watched.{Watched}
+use Rattle.gw_meaning.specs.declared.watched.Watched.TheVariants as watched
 use Rattle.gw_meaning.specs.Listing.{Listing, capacity_at, block_at, label_at, generates_in, is_generate}
 use Rattle.gw_meaning.specs.Numbers.{AreNumbered}
 use Rattle.gw_names.specs.declared.key.Key.{Key}
@@ -37,7 +39,7 @@ use Rattle.gw_meaning.specs.declared.auxiliary.Auxiliary.{Auxiliary}
 use Rattle.gw_meaning.specs.declared.auxiliary.Auxiliary.TheVariants as auxiliaries
 use Rattle.gw_meaning.specs.declared.auxiliary.Condition.{Condition}
 use Rattle.gw_entities.specs.Parameters.{parameter_at}
-use Rattle.gw_meaning.specs.Step.{by_sign, assign_with, assign_prog, left_of, loop_back, loop_to, loop_prog, holds, test_prog, is_open, reads_capacity, gate_storage, gate_of, gate_prog, logic_prog, savevalue_with, savevalue_prog}
+use Rattle.gw_meaning.specs.Step.{by_sign, assign_with, assign_prog, left_of, loop_back, loop_to, loop_prog, pass_or_wait, holds, test_prog, kind_of_condition, is_open, reads_capacity, gate_at, gate_storage, gate_other, gate_of, gate_prog, logic_prog, savevalue_with, savevalue_prog}
 use Rattle.gw_frame.specs.BlockIds.{IsBlockId, ActiveNames, TransactionNames}
 use Rattle.gw_frame.proofs.Generates.{IsBlockIn, generates_there}
 use Rattle.gw_frame.proofs.Labels.{label_there}
@@ -46,8 +48,8 @@ use Rattle.gw_frame.proofs.Keeps.{ProgKeeps, all_with, prog_gives, prog_ends, pr
 use Rattle.gw_names.specs.declared.key.Key.TheVariants as keys
 use Rattle.gw_meaning.specs.Entities.{store_at}
 use Rattle.gw_meaning.specs.Step.{beside, in_use, share_of, all_shares, enter_or_wait, enter_storage, enter_prog, shares_prog, leave_for, leave_units, leave_prog}
-use Rattle.gw_frame.proofs.DecidedValues.{Decides, Whatever, IsNoStorage, draw_decides, arithmetic_decides, value_decides, value_there_decides, value_or_zero_decides, entity_decides, units_decides, time_decides}
-use Rattle.gw_frame.proofs.Known.{IsComing, IsComingIfAny, AreFirst, within_limit, leaves, does_fit, shares_of, ActiveOwns, IsDecidedFate, IsRefused, IsDecided, IsRead, IsAfter}
+use Rattle.gw_frame.proofs.DecidedValues.{Decides, Whatever, IsNoStorage, draw_decides, arithmetic_decides, value_decides, value_there_decides, value_or_zero_decides, entity_decides, units_decides, time_decides, with_one, value_traced_decides, entity_traced_decides}
+use Rattle.gw_frame.proofs.Known.{IsComing, IsComingIfAny, AreFirst, within_limit, leaves, does_fit, shares_of, ActiveOwns, IsDecidedFate, IsRefused, AreWatched, IsDecided, IsRead, IsAfter}
 
 -- there are no more GENERATEs than statements
 few_generates : (lines : List Numbered) → length (generates_in lines) ≤ length lines
@@ -286,10 +288,20 @@ module _ (t : Listing) (seed : ℕ) (s : Machine) where
   transfer_decides id None near far named = lead_to_decides id near named
 
   -- TEST
+  pass_or_wait_decides : (id : ℕ) (label : Option Term) (read : List Watched) (passes : Bool) → AreWatched t read → IsBlockId t id →
+      Decides t seed s (IsDecided t s) (pass_or_wait id label read passes)
+  pass_or_wait_decides id None read true all named = keeps_gives (named, tt, tt)
+  pass_or_wait_decides id None read false all named = keeps_gives all
+  pass_or_wait_decides id (Some label) read passes all named = lead_to_decides id (cond passes None (Some label)) named
+
   test_decides : (q : Asker) (id : ℕ) (relation : Auxiliary) (first second label : Option Term) → IsBlockId t id →
       Decides t seed s (IsDecided t s) (test_prog s q id relation first second label)
-  test_decides q id relation first second label named = keeps_bind (value_there_decides t seed s q first)
-      (λ a h. keeps_bind (value_there_decides t seed s q second) (λ b k. lead_to_decides id (cond (holds relation a b) None label) named))
+  test_decides q id relation first second None named = keeps_bind (value_traced_decides t seed s q [] first (λ numbered. tt))
+      (λ a h. keeps_bind (value_traced_decides t seed s q a.1 second h)
+      (λ b k. pass_or_wait_decides id None b.1 (holds relation a.0 b.0) k named))
+  test_decides q id relation first second (Some label) named = keeps_bind (value_there_decides t seed s q first)
+      (λ a h. keeps_bind (value_there_decides t seed s q second)
+      (λ b k. pass_or_wait_decides id (Some label) [] (holds relation a b) (λ numbered. tt) named))
 
   -- PRIORITY
   priority_decides : (q : Asker) (id : ℕ) (priority : Option Term) → IsBlockId t id → Decides t seed s (IsDecided t s) (priority_prog s q id priority)
@@ -328,20 +340,31 @@ module _ (t : Listing) (seed : ℕ) (s : Machine) where
       (λ left k. keeps_cond (nat_eq (magnitude left) 0) (keeps_gives (named, tt, tt)) (loop_to_decides id key left label named)))
 
   -- GATE
+  gate_at_decides : (id : ℕ) (condition : Condition) (label : Option Term) (key : Key) (read : List Watched) (capacity : ℕ) →
+      AreWatched t read → IsBlockId t id → Decides t seed s (IsDecided t s) (gate_at s id condition label key read capacity)
+  gate_at_decides id condition label key read capacity all named =
+      let entity = watched.Entity (kind_of_condition condition) key in
+      pass_or_wait_decides id label _ (is_open s condition key capacity) (with_one t seed s read entity all tt) named
+
   gate_storage_decides : (id : ℕ) (condition : Condition) (label : Option Term) (name : List ℕ) (reads : Bool) → IsBlockId t id →
       Decides t seed s (IsDecided t s) (gate_storage s id condition label name reads)
   gate_storage_decides id condition label name true named = keeps_asks (items.Named asking.Storage name) refl (λ numbered there. tt)
-      (lead_to_decides id (cond (is_open s condition (keys.Defined name) (capacity_at t name)) None label) named)
+      (gate_at_decides id condition label (keys.Defined name) [] (capacity_at t name) (λ numbered. tt) named)
   gate_storage_decides id condition label name false named =
-      lead_to_decides id (cond (is_open s condition (keys.Defined name) 0) None label) named
+      gate_at_decides id condition label (keys.Defined name) [] 0 (λ numbered. tt) named
+
+  gate_other_decides : (q : Asker) (id : ℕ) (condition : Condition) (entity label : Option Term) → IsBlockId t id →
+      Decides t seed s (IsDecided t s) (gate_other s q id condition entity label)
+  gate_other_decides q id condition entity None named = keeps_bind (entity_traced_decides t seed s q entity)
+      (λ r h. gate_at_decides id condition None r.0 r.1 0 h named)
+  gate_other_decides q id condition entity (Some label) named = keeps_bind (entity_decides t seed s q entity)
+      (λ key h. gate_at_decides id condition (Some label) key [] 0 (λ numbered. tt) named)
 
   gate_of_decides : (q : Asker) (id : ℕ) (condition : Condition) (entity label : Option Term) → IsBlockId t id →
       Decides t seed s (IsDecided t s) (gate_of s q id condition entity label)
   gate_of_decides q id condition (Some (Defined name)) label named = gate_storage_decides id condition label name (reads_capacity condition) named
-  gate_of_decides q id condition (Some term) label named = keeps_bind (entity_decides t seed s q (Some term))
-      (λ key h. lead_to_decides id (cond (is_open s condition key 0) None label) named)
-  gate_of_decides q id condition None label named = keeps_bind (entity_decides t seed s q None)
-      (λ key h. lead_to_decides id (cond (is_open s condition key 0) None label) named)
+  gate_of_decides q id condition (Some term) label named = gate_other_decides q id condition (Some term) label named
+  gate_of_decides q id condition None label named = gate_other_decides q id condition None label named
 
   gate_decides : (q : Asker) (id : ℕ) (auxiliary : Auxiliary) (entity label : Option Term) → IsBlockId t id →
       Decides t seed s (IsDecided t s) (gate_prog s q id auxiliary entity label)

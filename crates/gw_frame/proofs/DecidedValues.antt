@@ -1,5 +1,5 @@
 -- Each evaluation reads items that name no ids but those of blocks, and draws with the seed where a stream is set.
-use Rattle.std.proofs.Common.{◌≡◌, ℕ, zero, suc, ◌<◌, nat_le, false, not, ◌&&◌, List, Result, Ok, Err, Option, Some, None, ℤ, ◌-◌, pos, refl, append-nil, arith}
+use Rattle.std.proofs.Common.{◌≡◌, ℕ, zero, suc, ◌<◌, nat_le, false, cond, not, ◌&&◌, Bool, true, List, [], ◌∷◌, ◌++◌, Result, Ok, Err, Option, Some, None, ℤ, ◌-◌, pos, inr, refl, append-nil, arith}
 use Rattle.std.specs.List.{AllByRecursion}
 use Rattle.std.proofs.lemmas.Bool.Decides.{nat_tests}
 use Rattle.gw_nums.specs.Range.{is_value, is_negative, is_below, magnitude}
@@ -23,13 +23,19 @@ use Rattle.gw_names.specs.declared.key.Key.{Key}
 use Rattle.gw_meaning.specs.Entities.{facility_at, line_at, switch_at}
 use Rattle.gw_entities.specs.Parameters.{parameter_at}
 use Rattle.gw_meaning.specs.Machine.{Machine, count_at}
-use Rattle.gw_meaning.specs.Evaluation.{Eval, number_of_draw, draw, amount, numbered, named, subject_prog, storage_prog, counted, block_count, random_prog, random_part, own_value, value_held, parameter_value, entity_value, storage_value, block_value, owned, one_if, attribute_prog, arithmetic, value_prog, value_there, value_or_zero, entity_prog, units_prog, in_range, spread, sample_within, time_prog, left_prog, modifier_of, time_by, drawn_prog, reply_prog, evaluated}
+use Rattle.gw_meaning.specs.Evaluation.{Eval, number_of_draw, draw, amount, numbered, named, subject_prog, storage_prog, counted, block_count, random_prog, random_part, own_value, value_held, parameter_value, entity_value, storage_value, block_value, owned, one_if, attribute_prog, arithmetic, value_prog, value_there, value_or_zero, entity_prog, units_prog, in_range, spread, sample_within, time_prog, left_prog, modifier_of, time_by, drawn_prog, reply_prog, evaluated, entity_watched, storage_watched, counts_of, counts_watched, watched_prog, watched_by, traced, value_traced, entity_traced}
 use Rattle.gw_frame.proofs.Seeds.{uses_seed, one_drew}
-use Rattle.gw_frame.proofs.Keeps.{ProgKeeps, Keeps, prog_gives, prog_bind, keeps_gives, keeps_ends, keeps_asks, keeps_cond, keeps_stops, keeps_unless, keeps_bind}
+use Rattle.gw_frame.proofs.Keeps.{ProgKeeps, Keeps, prog_gives, prog_bind, keeps_gives, keeps_ends, keeps_asks, keeps_cond, keeps_stops, keeps_unless, keeps_bind, all_with}
 use Rattle.gw_names.specs.declared.key.Key.TheVariants as keys
 use Rattle.gw_meaning.specs.Listing.{number_at}
 use Rattle.gw_meaning.specs.Entities.{store_at}
-use Rattle.gw_frame.proofs.Known.{is_storage, IsRead}
+use Rattle.gw_meaning.specs.declared.watched.EntityKind.{EntityKind}
+use Rattle.gw_meaning.specs.declared.watched.EntityKind.TheVariants as kinds
+use Rattle.gw_meaning.specs.declared.watched.Watched.{Watched}
+use Rattle.gw_meaning.specs.Watching.{is_watched, with_watched, with_all_watched}
+use Rattle.gw_frame.specs.BlockIds.{WatchedNames}
+use Rattle.gw_frame.proofs.Labels.{label_there}
+use Rattle.gw_frame.proofs.Known.{is_storage, AreWatched, IsRead}
 
 a_stream : (i : ℕ) → not (nat_le 1 (suc i) && nat_le (suc i) 7) ≡ false → i < 7
 a_stream i h = grind (arith, nat_tests)
@@ -230,3 +236,78 @@ module _ (t : Listing) (seed : ℕ) (s : Machine) where
 
   pub time_decides : (q : Asker) (mean range : Option Term) → Decides Whatever (time_prog s q mean range)
   time_decides q mean range = time_by_decides q mean range (modifier_of range)
+
+  -- what is read: the counts are those of blocks
+  entity_watched_decides : (kind : EntityKind) (of : Subject) → Decides (AreWatched t) (entity_watched kind of)
+  entity_watched_decides kind of = keeps_bind (subject_decides of) (λ key h. keeps_gives (λ numbered. (tt, tt)))
+
+  storage_watched_decides : (of : Subject) → Decides (AreWatched t) (storage_watched of)
+  storage_watched_decides subjects.Own = keeps_gives (λ numbered. tt)
+  storage_watched_decides (subjects.Number n) = keeps_gives (λ numbered. tt)
+  storage_watched_decides (subjects.Name name) = keeps_gives (λ numbered. (tt, tt))
+
+  counts_there : (name : List ℕ) (id : Option ℕ) → label_at t name ≡ id → AreWatched t (counts_of id)
+  counts_there name None is = λ numbered. tt
+  counts_there name (Some id) is = λ numbered. (inr (label_there t.lines name id numbered is), tt)
+
+  counts_watched_decides : (of : Subject) → Decides (AreWatched t) (counts_watched of)
+  counts_watched_decides subjects.Own = keeps_gives (λ numbered. tt)
+  counts_watched_decides (subjects.Number n) = keeps_gives (λ numbered. tt)
+  counts_watched_decides (subjects.Name name) = keeps_asks (items.Named asking.Label name) refl (λ numbered named. tt)
+      (keeps_gives (counts_there name (label_at t name) refl))
+
+  watched_decides : (class : Class) (of : Subject) → Decides (AreWatched t) (watched_prog class of)
+  unfolding watched_prog
+  watched_decides class.F of = entity_watched_decides kinds.Facility of
+  watched_decides class.Fc of = entity_watched_decides kinds.Facility of
+  watched_decides class.Q of = entity_watched_decides kinds.Queue of
+  watched_decides class.Qc of = entity_watched_decides kinds.Queue of
+  watched_decides class.Qm of = entity_watched_decides kinds.Queue of
+  watched_decides class.Qz of = entity_watched_decides kinds.Queue of
+  watched_decides class.X of = entity_watched_decides kinds.Savevalue of
+  watched_decides class.Ls of = entity_watched_decides kinds.Switch of
+  watched_decides class.S of = storage_watched_decides of
+  watched_decides class.R of = storage_watched_decides of
+  watched_decides class.Sc of = storage_watched_decides of
+  watched_decides class.Sm of = storage_watched_decides of
+  watched_decides class.N of = counts_watched_decides of
+  watched_decides class.W of = counts_watched_decides of
+  watched_decides class of = keeps_gives (λ numbered. tt)
+
+  watched_by_decides : (question : Question) → Decides (AreWatched t) (watched_by question)
+  watched_by_decides (NumberOf name) = keeps_gives (λ numbered. tt)
+  watched_by_decides (AttributeOf class of) = watched_decides class of
+  watched_by_decides (PartOf of) = keeps_gives (λ numbered. tt)
+  watched_by_decides (VariableOf name) = keeps_gives (λ numbered. tt)
+  watched_by_decides (FunctionOf name) = keeps_gives (λ numbered. tt)
+
+  pub with_one : (read : List Watched) (w : Watched) → AreWatched t read → WatchedNames t w → AreWatched t (with_watched read w)
+  with_one read w all one = λ numbered. go (is_watched read w) (all numbered) where
+    go : (b : Bool) → AllByRecursion (WatchedNames t) read → AllByRecursion (WatchedNames t) (cond b read (read ++ w ∷ []))
+    go true h = h
+    go false h = all_with (WatchedNames t) read (w ∷ []) h (one, tt)
+
+  with_more : (read more : List Watched) → AreWatched t read → AreWatched t more → AreWatched t (with_all_watched read more)
+  with_more read [] all rest = all
+  with_more read (w ∷ ws) all rest = λ numbered.
+      with_more (with_watched read w) ws (with_one read w all (rest numbered).0) (λ numbered. (rest numbered).1) numbered
+
+  traced_decides : {A : Type 0} (q : Asker) (read : List Watched) (p : Evaluation A) → AreWatched t read →
+      Decides (λ (r : A × List Watched). AreWatched t r.1) (traced s q read p)
+  traced_decides q read (Yields a) all = keeps_gives all
+  traced_decides q read (Stops stop) all = keeps_ends
+  traced_decides q read (Wants question k) all = keeps_bind (watched_by_decides question) (λ more here. keeps_bind (reply_decides q question)
+      (λ reply h. traced_decides q (with_all_watched read more) (k reply) (with_more read more all here)))
+
+  pub value_traced_decides : (q : Asker) (read : List Watched) (term : Option Term) → AreWatched t read →
+      Decides (λ (r : ℤ × List Watched). AreWatched t r.1) (value_traced s q read term)
+  value_traced_decides q read None all = keeps_ends
+  value_traced_decides q read (Some term) all = traced_decides q read (value_of term) all
+
+  pub entity_traced_decides : (q : Asker) (term : Option Term) → Decides (λ (r : Key × List Watched). AreWatched t r.1) (entity_traced s q term)
+  entity_traced_decides q None = keeps_ends
+  entity_traced_decides q (Some (Named name)) =
+      keeps_bind (keeps_asks (items.Named asking.Number name) refl (λ numbered named. tt) (named_decides name (number_at t name)))
+      (λ key h. keeps_gives (λ numbered. tt))
+  entity_traced_decides q (Some term) = keeps_bind (traced_decides q [] (value_of term) (λ numbered. tt))
+      (λ r h. keeps_bind (numbered_decides r.0) (λ key k. keeps_gives h))

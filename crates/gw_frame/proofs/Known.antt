@@ -19,6 +19,7 @@ use Rattle.gw_meaning.specs.declared.moves.Fate.{Fate}
 use Rattle.gw_meaning.specs.declared.moves.Fate.TheVariants as fates
 use Rattle.gw_meaning.specs.declared.moves.Move.{Move}
 use Rattle.gw_meaning.specs.declared.moves.Move.TheVariants as moves
+use Rattle.gw_meaning.specs.declared.watched.Watched.{Watched}
 use Rattle.gw_meaning.specs.Listing.{Listing}
 use Rattle.gw_meaning.specs.Numbers.{AreNumbered}
 use Rattle.gw_names.specs.declared.key.Key.{Key}
@@ -27,7 +28,7 @@ use Rattle.gw_meaning.specs.Entities.{facility_at, line_at}
 use Rattle.gw_meaning.specs.Machine.{Machine, delay_at}
 use Rattle.gw_meaning.specs.Changes.{decided}
 use Rattle.gw_meaning.specs.Step.{is_too_many, first_number, is_owner, least_time}
-use Rattle.gw_frame.specs.BlockIds.{IsBlockId, ActiveNames, ItemNames}
+use Rattle.gw_frame.specs.BlockIds.{IsBlockId, WatchedNames, ActiveNames, ItemNames}
 use Rattle.gw_names.specs.declared.key.Key.TheVariants as keys
 use Rattle.gw_meaning.specs.Listing.{capacity_at}
 use Rattle.gw_meaning.specs.Entities.{store_at}
@@ -128,11 +129,16 @@ IsRefused t s (keys.Defined name) units =
     does_fit t name (beside units (store_at s.entities (keys.Defined name)).level.content) ≡ false
 IsRefused t s key units = is_some (facility_at s.entities key).owner ≡ true
 
+-- the counts that were read are those of blocks
+abbrev pub AreWatched : Listing → List Watched → Type 0
+AreWatched t read = AreNumbered t.lines → AllByRecursion (WatchedNames t) read
+
 abbrev pub IsDecided : Listing → Machine → Move → Type 0
 IsDecided t s (moves.Start count arrivals) = AreFirst t s arrivals
 IsDecided t s moves.Command = Unit {0}
 IsDecided t s (moves.Enter id change fate) = IsBlockId t id × IsDecidedChange t s change × IsDecidedFate s fate
 IsDecided t s (moves.Refuse id key units) = IsBlockId t id × IsRefused t s key units
+IsDecided t s (moves.Watch read) = AreWatched t read
 IsDecided t s moves.Pick = s.active ≡ None
 IsDecided t s (moves.Clock time) = (least_time s.future ≡ Some time) × (nat_le time t.horizon ≡ true)
 

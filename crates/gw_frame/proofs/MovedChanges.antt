@@ -16,12 +16,16 @@ use Rattle.gw_meaning.specs.declared.moves.Fate.{Fate}
 use Rattle.gw_meaning.specs.declared.moves.Fate.TheVariants as fates
 use Rattle.gw_meaning.specs.declared.moves.Move.{Move}
 use Rattle.gw_meaning.specs.declared.moves.Move.TheVariants as moves
+use Rattle.gw_meaning.specs.declared.watched.Watched.{Watched}
+use Rattle.gw_meaning.specs.declared.watched.Watched.TheVariants as watched
+use Rattle.gw_meaning.specs.Watching.{kind_of}
 use Rattle.gw_meaning.specs.Entities.{Entities, touched}
 use Rattle.gw_meaning.specs.Machine.{Machine, raised, delay_at}
-use Rattle.gw_meaning.specs.Changes.{crossed, due, Making, making, made, maybe_made, all_made, making_of, with_making, newcomer, placed, started, arrived, lined_up, own_marked, marked, own_held, held_by, fated, let_in, one_let_in, some_let_in, deed_shares, admitted, changed, entering, bound, refused, picked, advanced, with_active, moved, decided}
-use Rattle.gw_frame.specs.Moved.{IsMove, moved_transaction, moved_event, moved_count, moved_machine}
+use Rattle.gw_meaning.specs.Changes.{crossed, due, Making, making, made, maybe_made, all_made, making_of, with_making, newcomer, placed, started, arrived, lined_up, own_marked, marked, own_held, held_by, fated, let_in, one_let_in, some_let_in, deed_shares, admitted, changed, entering, bound, refused, watching, picked, advanced, with_active, moved, crossings, written_by, written_where, written, woken, decided}
+use Rattle.gw_frame.specs.Moved.{IsMove, moved_transaction, moved_event, moved_count, moved_watched, moved_waiter, moved_machine}
 use Rattle.gw_frame.proofs.MovedLists.{made_one_moved, crossed_moved, lined_up_moved, all_lined_up_moved, due_moved, later_moved}
 use Rattle.gw_frame.proofs.Delays.{delay_at_moved, with_delay_moved}
+use Rattle.gw_frame.proofs.MovedWaiters.{crossings_moved, woken_moved}
 
 module _ (move : ℕ → ℕ) where
   -- what is to be made, what a block changes, and a move, with their ids moved
@@ -43,6 +47,7 @@ module _ (move : ℕ → ℕ) where
   moved_move moves.Command = moves.Command
   moved_move (moves.Enter id change fate) = moves.Enter (move id) (moved_change change) fate
   moved_move (moves.Refuse id key units) = moves.Refuse (move id) key units
+  moved_move (moves.Watch read) = moves.Watch (map (moved_watched move) read)
   moved_move moves.Pick = moves.Pick
   moved_move (moves.Clock time) = moves.Clock time
 
@@ -181,6 +186,10 @@ module _ (move : ℕ → ℕ) (is : IsMove move) where
       )
       refl
 
+  watching_moved : (s : Machine) (x : Transaction) (read : List Watched) →
+      watching (moved_machine move s) (moved_transaction move x) (map (moved_watched move) read) ≡ moved_machine move (watching s x read)
+  watching_moved s x read = rw (map-append (moved_waiter move) s.retry) refl
+
   picked_moved : (s : Machine) (xs : List Transaction) → picked (moved_machine move s) (map (moved_transaction move) xs) ≡ moved_machine move (picked s xs)
   picked_moved s [] = refl
   picked_moved s (x ∷ xs) = refl
@@ -199,9 +208,39 @@ module _ (move : ℕ → ℕ) (is : IsMove move) where
   moved_moved s moves.Command = refl
   moved_moved s (moves.Enter id change fate) = with_active_moved s s.active _ _ (λ x. entering_moved s x id change fate)
   moved_moved s (moves.Refuse id key units) = with_active_moved s s.active _ _ (λ x. refused_moved s x id key units)
+  moved_moved s (moves.Watch read) = with_active_moved s s.active _ _ (λ x. watching_moved s x read)
   moved_moved s moves.Pick = picked_moved s s.current
   moved_moved s (moves.Clock time) = advanced_moved s time
 
+  -- what is written, and what a step does
+  written_by_moved : (change : Change) (s : Machine) →
+      written_by (moved_change move change) (moved_machine move s) ≡ map (moved_watched move) (written_by change s)
+  written_by_moved (changes.Entity change) s =
+      ap (λ ws. watched.Entity (kind_of change.1) change.0 ∷ ws)
+      (ap (crossings (deed_shares change.1)) (delay_at_moved move s.delays change.0) ∙
+      crossings_moved move (deed_shares change.1) (delay_at s.delays change.0))
+  written_by_moved (changes.Generate next) s = refl
+  written_by_moved (changes.Transaction change) s = refl
+  written_by_moved changes.Nothing s = refl
+
+  written_where_moved : (o : Option Transaction) (id : ℕ) (change : Change) (s : Machine) →
+      written_where (option_map (moved_transaction move) o) (move id) (moved_change move change) (moved_machine move s) ≡
+      map (moved_watched move) (written_where o id change s)
+  written_where_moved None id change s = refl
+  written_where_moved (Some x) id change s =
+      ap (λ ws. watched.Counts (move x.current) ∷ watched.Counts (move id) ∷ ws) (written_by_moved change s)
+
+  written_moved : (s : Machine) (m : Move) → written (moved_machine move s) (moved_move move m) ≡ map (moved_watched move) (written s m)
+  written_moved s (moves.Enter id change fate) = written_where_moved s.active id change s
+  written_moved s (moves.Start count arrivals) = refl
+  written_moved s moves.Command = refl
+  written_moved s (moves.Refuse id key units) = refl
+  written_moved s (moves.Watch read) = refl
+  written_moved s moves.Pick = refl
+  written_moved s (moves.Clock time) = refl
+
   pub decided_moved : (s : Machine) (m : Move) (streams : List Stream) →
       decided (moved_machine move s) (moved_move move m) streams ≡ moved_machine move (decided s m streams)
-  decided_moved s m streams = ap (λ (v : Machine). let w : Machine = record v { streams = streams } in w) (moved_moved s m)
+  decided_moved s m streams =
+      ap (λ (v : Machine). let w : Machine = record v { streams = streams } in w)
+      (ap₂ woken (written_moved s m) (moved_moved s m) ∙ woken_moved move is (written s m) (moved s m))

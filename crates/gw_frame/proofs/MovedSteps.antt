@@ -20,6 +20,8 @@ use Rattle.gw_names.specs.declared.key.Key.TheVariants as keys
 use Rattle.gw_entities.specs.Records.{Line, Store}
 use Rattle.gw_entities.specs.Comings.{came}
 use Rattle.gw_meaning.specs.Entities.{facility_at, line_at, store_at, savevalue_at}
+use Rattle.gw_meaning.specs.declared.watched.Watched.{Watched}
+use Rattle.gw_meaning.specs.declared.watched.Watched.TheVariants as watched
 use Rattle.gw_meaning.specs.Machine.{Machine, raised, live, number_of_active, count_at, delay_at, waiting}
 use Rattle.gw_meaning.specs.Evaluation.{millionths}
 use Rattle.gw_meaning.specs.Step.{for_none, for_one, arrival_at, arrival_in_time, arrival_within, arrival_prog, first_of_generate, first_of, first_arrival, with_arrival, arrivals_prog, first_arrivals_prog, start_prog, command_prog, generate_prog, advance_prog, terminate_prog, is_too_many, queue_units, queue_prog, depart_units, depart_prog, seize_or_wait, seize_prog, first_number, is_owner, release_to, release_prog, beside, in_use, share_of, all_shares, enter_or_wait, enter_storage, enter_prog, shares_prog, leave_for, leave_units, leave_prog, go_to, lead_to, transfer_prog, priority_prog, block_prog, meet_prog, try_prog, attempt_prog, sooner, least_time, within_prog, clock_prog, pick_prog, scan_prog, move_prog, step_prog, run_prog}
@@ -30,12 +32,13 @@ use Rattle.gw_meaning.specs.declared.auxiliary.Auxiliary.TheVariants as auxiliar
 use Rattle.gw_meaning.specs.declared.auxiliary.Condition.{Condition}
 use Rattle.gw_meaning.specs.declared.auxiliary.Condition.TheVariants as conditions
 use Rattle.gw_entities.specs.Parameters.{parameter_at}
-use Rattle.gw_meaning.specs.Step.{by_sign, assign_with, assign_prog, left_of, loop_back, loop_to, loop_prog, holds, test_prog, is_open, reads_capacity, gate_at, gate_storage, gate_of, gate_prog, logic_prog, savevalue_with, savevalue_prog}
-use Rattle.gw_frame.specs.Moved.{IsMove, moved_transaction, moved_event, moved_machine}
+use Rattle.gw_meaning.specs.Step.{by_sign, assign_with, assign_prog, left_of, loop_back, loop_to, loop_prog, pass_or_wait, holds, test_prog, kind_of_condition, is_open, reads_capacity, gate_at, gate_storage, gate_other, gate_of, gate_prog, logic_prog, savevalue_with, savevalue_prog}
+use Rattle.gw_frame.specs.Moved.{IsMove, moved_transaction, moved_event, moved_watched, moved_waiter, moved_machine}
 use Rattle.gw_frame.proofs.Follows.{ProgFollows, prog_gives, prog_bind, Follows, follows_gives, follows_ends, follows_asks, follows_cond, follows_stops, follows_bind}
-use Rattle.gw_frame.proofs.MovedValues.{same, draw_follows, arithmetic_follows, value_follows, value_there_follows, value_or_zero_follows, entity_follows, units_follows, time_follows}
+use Rattle.gw_frame.proofs.MovedValues.{same, draw_follows, arithmetic_follows, value_follows, value_there_follows, value_or_zero_follows, entity_follows, units_follows, time_follows, value_traced_follows, entity_traced_follows}
 use Rattle.gw_frame.proofs.MovedLists.{count_at_moved, none_moved}
 use Rattle.gw_frame.proofs.Delays.{delay_at_moved, waiting_moved}
+use Rattle.gw_frame.proofs.MovedWaiters.{with_watched_moved}
 use Rattle.gw_frame.proofs.MovedChanges.{moved_arrival, moved_move, decided_moved}
 
 module _ (move : ℕ → ℕ) (is : IsMove move) where
@@ -51,7 +54,8 @@ module _ (move : ℕ → ℕ) (is : IsMove move) where
   live_moved s =
       let current = length-map s.current (moved_transaction move) in
       let future = length-map s.future (moved_event move) in
-      rw (active_moved s.active, current, future, waiting_moved move s.delays, length-map (waiting s.delays) (moved_transaction move)) refl
+      let retry = length-map s.retry (moved_waiter move) in
+      rw (active_moved s.active, current, future, waiting_moved move s.delays, length-map (waiting s.delays) (moved_transaction move), retry) refl
 
   least_time_moved : (es : List Event) → least_time (map (moved_event move) es) ≡ least_time es
   least_time_moved [] = refl
@@ -255,11 +259,19 @@ module _ (move : ℕ → ℕ) (is : IsMove move) where
   transfer_follows id None near far = lead_to_follows id near
 
   -- TEST
+  pass_or_wait_follows : (id : ℕ) (label : Option Term) (read : List Watched) (passes : Bool) →
+      Follows move (moved_move move) (pass_or_wait id label read passes) (pass_or_wait (move id) label (map (moved_watched move) read) passes)
+  pass_or_wait_follows id None read true = follows_gives refl
+  pass_or_wait_follows id None read false = follows_gives refl
+  pass_or_wait_follows id (Some label) read passes = lead_to_follows id (cond passes None (Some label))
+
   test_follows : (s : Machine) (q : Asker) (id : ℕ) (relation : Auxiliary) (first second label : Option Term) →
       Follows move (moved_move move) (test_prog s q id relation first second label)
       (test_prog (moved_machine move s) q (move id) relation first second label)
-  test_follows s q id relation first second label = follows_bind _ (value_there_follows move is s q first)
-      (λ a. follows_bind _ (value_there_follows move is s q second) (λ b. lead_to_follows id (cond (holds relation a b) None label)))
+  test_follows s q id relation first second None = follows_bind _ (value_traced_follows move is s q [] first)
+      (λ a. follows_bind _ (value_traced_follows move is s q a.1 second) (λ b. pass_or_wait_follows id None b.1 (holds relation a.0 b.0)))
+  test_follows s q id relation first second (Some label) = follows_bind _ (value_there_follows move is s q first)
+      (λ a. follows_bind _ (value_there_follows move is s q second) (λ b. pass_or_wait_follows id (Some label) [] (holds relation a b)))
 
   -- PRIORITY
   priority_follows : (s : Machine) (q : Asker) (id : ℕ) (priority : Option Term) →
@@ -310,24 +322,32 @@ module _ (move : ℕ → ℕ) (is : IsMove move) where
   is_open_moved s conditions.Full key capacity = refl
   is_open_moved s conditions.NotFull key capacity = refl
 
-  gate_at_follows : (s : Machine) (id : ℕ) (condition : Condition) (label : Option Term) (key : Key) (capacity : ℕ) →
-      Follows move (moved_move move) (gate_at s id condition label key capacity) (gate_at (moved_machine move s) (move id) condition label key capacity)
-  gate_at_follows s id condition label key capacity =
-      rw (is_open_moved s condition key capacity) (lead_to_follows id (cond (is_open s condition key capacity) None label))
+  gate_at_follows : (s : Machine) (id : ℕ) (condition : Condition) (label : Option Term) (key : Key) (read : List Watched) (capacity : ℕ) →
+      Follows move (moved_move move) (gate_at s id condition label key read capacity)
+      (gate_at (moved_machine move s) (move id) condition label key (map (moved_watched move) read) capacity)
+  gate_at_follows s id condition label key read capacity =
+      let entity = watched.Entity (kind_of_condition condition) key in
+      rw (is_open_moved s condition key capacity, with_watched_moved move is read entity)
+      (pass_or_wait_follows id label _ (is_open s condition key capacity))
 
   gate_storage_follows : (s : Machine) (id : ℕ) (condition : Condition) (label : Option Term) (name : List ℕ) (reads : Bool) →
       Follows move (moved_move move) (gate_storage s id condition label name reads) (gate_storage (moved_machine move s) (move id) condition label name reads)
   gate_storage_follows s id condition label name true =
-      follows_asks (items.Named asking.Storage name) (gate_at_follows s id condition label (keys.Defined name))
-  gate_storage_follows s id condition label name false = gate_at_follows s id condition label (keys.Defined name) 0
+      follows_asks (items.Named asking.Storage name) (gate_at_follows s id condition label (keys.Defined name) [])
+  gate_storage_follows s id condition label name false = gate_at_follows s id condition label (keys.Defined name) [] 0
+
+  gate_other_follows : (s : Machine) (q : Asker) (id : ℕ) (condition : Condition) (entity label : Option Term) →
+      Follows move (moved_move move) (gate_other s q id condition entity label) (gate_other (moved_machine move s) q (move id) condition entity label)
+  gate_other_follows s q id condition entity None =
+      follows_bind _ (entity_traced_follows move is s q entity) (λ r. gate_at_follows s id condition None r.0 r.1 0)
+  gate_other_follows s q id condition entity (Some label) =
+      follows_bind _ (entity_follows move is s q entity) (λ key. gate_at_follows s id condition (Some label) key [] 0)
 
   gate_of_follows : (s : Machine) (q : Asker) (id : ℕ) (condition : Condition) (entity label : Option Term) →
       Follows move (moved_move move) (gate_of s q id condition entity label) (gate_of (moved_machine move s) q (move id) condition entity label)
   gate_of_follows s q id condition (Some (Defined name)) label = gate_storage_follows s id condition label name (reads_capacity condition)
-  gate_of_follows s q id condition (Some term) label =
-      follows_bind _ (entity_follows move is s q (Some term)) (λ key. gate_at_follows s id condition label key 0)
-  gate_of_follows s q id condition None label =
-      follows_bind _ (entity_follows move is s q None) (λ key. gate_at_follows s id condition label key 0)
+  gate_of_follows s q id condition (Some term) label = gate_other_follows s q id condition (Some term) label
+  gate_of_follows s q id condition None label = gate_other_follows s q id condition None label
 
   gate_follows : (s : Machine) (q : Asker) (id : ℕ) (auxiliary : Auxiliary) (entity label : Option Term) →
       Follows move (moved_move move) (gate_prog s q id auxiliary entity label) (gate_prog (moved_machine move s) q (move id) auxiliary entity label)

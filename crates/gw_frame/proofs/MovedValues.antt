@@ -1,5 +1,5 @@
 -- The evaluation in a moved state follows the evaluation in the state: none tells an id.
-use Rattle.std.proofs.Common.{ℕ, zero, suc, nat_le, not, ◌&&◌, List, ◌-◌, Result, Ok, Err, Option, Some, None, option_map, ℤ, pos, refl}
+use Rattle.std.proofs.Common.{ℕ, zero, suc, nat_le, not, ◌&&◌, List, ◌-◌, Result, Ok, Err, Option, Some, None, option_map, ℤ, pos, refl, map, []}
 use Rattle.gw_nums.specs.Range.{is_value, is_negative, is_below, magnitude}
 use Rattle.gw_expr.specs.Term.{Term, Named}
 use Rattle.gw_expr.specs.Evaluation.{Question, NumberOf, AttributeOf, PartOf, VariableOf, FunctionOf, Evaluation, Yields, Stops, Wants, value_of, function_of}
@@ -20,11 +20,16 @@ use Rattle.gw_names.specs.declared.key.Key.{Key}
 use Rattle.gw_names.specs.declared.key.Key.TheVariants as keys
 use Rattle.gw_meaning.specs.Entities.{facility_at, line_at, store_at, switch_at}
 use Rattle.gw_entities.specs.Parameters.{parameter_at}
+use Rattle.gw_meaning.specs.declared.watched.EntityKind.{EntityKind}
+use Rattle.gw_meaning.specs.declared.watched.EntityKind.TheVariants as kinds
+use Rattle.gw_meaning.specs.declared.watched.Watched.{Watched}
 use Rattle.gw_meaning.specs.Machine.{Machine, count_at}
-use Rattle.gw_meaning.specs.Evaluation.{Eval, number_of_draw, draw, amount, numbered, named, subject_prog, storage_prog, counted, block_count, random_prog, random_part, own_value, value_held, parameter_value, entity_value, storage_value, block_value, owned, one_if, attribute_prog, arithmetic, value_prog, value_there, value_or_zero, entity_prog, units_prog, in_range, spread, sample_within, time_prog, left_prog, modifier_of, time_by, drawn_prog, reply_prog, evaluated}
-use Rattle.gw_frame.specs.Moved.{IsMove, moved_machine}
+use Rattle.gw_meaning.specs.Evaluation.{Eval, number_of_draw, draw, amount, numbered, named, subject_prog, storage_prog, counted, block_count, random_prog, random_part, own_value, value_held, parameter_value, entity_value, storage_value, block_value, owned, one_if, attribute_prog, arithmetic, value_prog, value_there, value_or_zero, entity_prog, units_prog, in_range, spread, sample_within, time_prog, left_prog, modifier_of, time_by, drawn_prog, reply_prog, evaluated, entity_watched, storage_watched, counts_watched, watched_prog, watched_by, traced, value_traced, entity_traced}
+use Rattle.gw_frame.specs.Moved.{IsMove, moved_watched, moved_machine}
 use Rattle.gw_frame.proofs.Follows.{ProgFollows, prog_gives, prog_asks, prog_bind, Follows, follows_gives, follows_ends, follows_asks, follows_cond, follows_stops, follows_bind}
 use Rattle.gw_frame.proofs.MovedLists.{count_at_moved}
+use Rattle.gw_frame.proofs.MovedWaiters.{counts_of_moved, with_all_watched_moved}
+use Rattle.gw_meaning.specs.Watching.{with_all_watched}
 
 abbrev pub same : {A : Type 0} → A → A
 same a = a
@@ -219,3 +224,67 @@ module _ (move : ℕ → ℕ) (is : IsMove move) where
   pub time_follows : (s : Machine) (q : Asker) (mean range : Option Term) →
       Follows move same (time_prog s q mean range) (time_prog (moved_machine move s) q mean range)
   time_follows s q mean range = time_by_follows s q mean range (modifier_of range)
+
+  -- what is read
+  entity_watched_follows : (kind : EntityKind) (of : Subject) →
+      Follows move (map (moved_watched move)) (entity_watched kind of) (entity_watched kind of)
+  entity_watched_follows kind of = follows_bind _ (subject_follows of) (λ key. follows_gives refl)
+
+  storage_watched_follows : (of : Subject) → Follows move (map (moved_watched move)) (storage_watched of) (storage_watched of)
+  storage_watched_follows subjects.Own = follows_gives refl
+  storage_watched_follows (subjects.Number n) = follows_gives refl
+  storage_watched_follows (subjects.Name name) = follows_gives refl
+
+  counts_watched_follows : (of : Subject) → Follows move (map (moved_watched move)) (counts_watched of) (counts_watched of)
+  counts_watched_follows subjects.Own = follows_gives refl
+  counts_watched_follows (subjects.Number n) = follows_gives refl
+  counts_watched_follows (subjects.Name name) = follows_asks (items.Named asking.Label name) (λ id. follows_gives (counts_of_moved move id))
+
+  watched_follows : (class : Class) (of : Subject) → Follows move (map (moved_watched move)) (watched_prog class of) (watched_prog class of)
+  unfolding watched_prog
+  watched_follows class.F of = entity_watched_follows kinds.Facility of
+  watched_follows class.Fc of = entity_watched_follows kinds.Facility of
+  watched_follows class.Q of = entity_watched_follows kinds.Queue of
+  watched_follows class.Qc of = entity_watched_follows kinds.Queue of
+  watched_follows class.Qm of = entity_watched_follows kinds.Queue of
+  watched_follows class.Qz of = entity_watched_follows kinds.Queue of
+  watched_follows class.X of = entity_watched_follows kinds.Savevalue of
+  watched_follows class.Ls of = entity_watched_follows kinds.Switch of
+  watched_follows class.S of = storage_watched_follows of
+  watched_follows class.R of = storage_watched_follows of
+  watched_follows class.Sc of = storage_watched_follows of
+  watched_follows class.Sm of = storage_watched_follows of
+  watched_follows class.N of = counts_watched_follows of
+  watched_follows class.W of = counts_watched_follows of
+  watched_follows class of = follows_gives refl
+
+  watched_by_follows : (question : Question) → Follows move (map (moved_watched move)) (watched_by question) (watched_by question)
+  watched_by_follows (NumberOf name) = follows_gives refl
+  watched_by_follows (AttributeOf class of) = watched_follows class of
+  watched_by_follows (PartOf of) = follows_gives refl
+  watched_by_follows (VariableOf name) = follows_gives refl
+  watched_by_follows (FunctionOf name) = follows_gives refl
+
+  -- a result, with what was read for it, moved
+  abbrev pub with_read_moved : {A : Type 0} → A × List Watched → A × List Watched
+  with_read_moved r = (r.0, map (moved_watched move) r.1)
+
+  traced_follows : {A : Type 0} (s : Machine) (q : Asker) (read : List Watched) (p : Evaluation A) →
+      Follows move with_read_moved (traced s q read p) (traced (moved_machine move s) q (map (moved_watched move) read) p)
+  traced_follows s q read (Yields a) = follows_gives refl
+  traced_follows s q read (Stops stop) = follows_ends
+  traced_follows s q read (Wants question k) = follows_bind _ (watched_by_follows question) (λ more. follows_bind _ (reply_follows s q question)
+      (λ reply. rw (with_all_watched_moved move is read more) (traced_follows s q (with_all_watched read more) (k reply))))
+
+  pub value_traced_follows : (s : Machine) (q : Asker) (read : List Watched) (term : Option Term) →
+      Follows move with_read_moved (value_traced s q read term) (value_traced (moved_machine move s) q (map (moved_watched move) read) term)
+  value_traced_follows s q read None = follows_ends
+  value_traced_follows s q read (Some term) = traced_follows s q read (value_of term)
+
+  pub entity_traced_follows : (s : Machine) (q : Asker) (term : Option Term) →
+      Follows move with_read_moved (entity_traced s q term) (entity_traced (moved_machine move s) q term)
+  entity_traced_follows s q None = follows_ends
+  entity_traced_follows s q (Some (Named name)) =
+      follows_bind _ (follows_asks (items.Named asking.Number name) (named_follows name)) (λ key. follows_gives refl)
+  entity_traced_follows s q (Some term) =
+      follows_bind _ (traced_follows s q [] (value_of term)) (λ r. follows_bind _ (numbered_follows r.0) (λ key. follows_gives refl))

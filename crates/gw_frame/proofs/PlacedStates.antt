@@ -18,11 +18,13 @@ use Rattle.gw_meaning.specs.declared.moves.Fate.{Fate}
 use Rattle.gw_meaning.specs.declared.moves.Fate.TheVariants as fates
 use Rattle.gw_meaning.specs.declared.moves.Move.{Move}
 use Rattle.gw_meaning.specs.declared.moves.Move.TheVariants as moves
+use Rattle.gw_meaning.specs.declared.watched.Watched.{Watched}
+use Rattle.gw_meaning.specs.Watching.{Waiter, transactions_of}
 use Rattle.gw_meaning.specs.Listing.{Listing}
 use Rattle.gw_meaning.specs.Numbers.{AreNumbered}
 use Rattle.gw_meaning.specs.Machine.{Machine, count_in, with_count, delay_at}
-use Rattle.gw_meaning.specs.Changes.{lined_up, all_lined_up, left_at, left, crossed, is_due, due, Making, made, all_made, making_of, with_making, started, placed, own_marked, marked, fated, let_in, bound, refused, moved}
-use Rattle.gw_frame.specs.BlockIds.{IsBlockId, IsIdIfAny, TransactionNames, ActiveNames, EventNames, DelayNames, CountNames, StateNames, ItemNames, StatesNameBlocks, StepsReadBlocks}
+use Rattle.gw_meaning.specs.Changes.{lined_up, all_lined_up, left_at, left, crossed, is_due, due, Making, made, all_made, making_of, with_making, started, placed, own_marked, marked, fated, let_in, bound, refused, watching, moved, written, is_woken, woken}
+use Rattle.gw_frame.specs.BlockIds.{IsBlockId, IsIdIfAny, TransactionNames, ActiveNames, EventNames, DelayNames, WatchedNames, WaiterNames, CountNames, StateNames, ItemNames, StatesNameBlocks, StepsReadBlocks}
 use Rattle.gw_frame.proofs.Keeps.{all_with}
 use Rattle.gw_frame.proofs.Known.{IsComing, IsDecidedOwn, IsDecidedChange, IsDecided, IsRead}
 use Rattle.gw_frame.proofs.Decided.{step_decides}
@@ -78,6 +80,7 @@ module _ (t : Listing) where
     current = h.current;
     future = all_with (EventNames t) w.future _ h.future (record { current = inl refl; destination = coming.id }, tt);
     delays = h.delays;
+    retry = h.retry;
     counts = with_count_names w.counts a.id _ coming.id h.counts;
   }
 
@@ -88,12 +91,12 @@ module _ (t : Listing) where
 
   -- entering a block
   fated_names : (fate : Fate) (x : Transaction) (s : Machine) → TransactionNames t x → StateNames t s → StateNames t (fated fate x s)
-  fated_names fates.Active x s named h = record { active = named; current = h.current; future = h.future; delays = h.delays; counts = h.counts }
+  fated_names fates.Active x s named h = record { active = named; current = h.current; future = h.future; delays = h.delays; retry = h.retry; counts = h.counts }
   fated_names fates.Current x s named h =
-      record { active = tt; current = lined_up_names x s.current named h.current; future = h.future; delays = h.delays; counts = h.counts }
+      record { active = tt; current = lined_up_names x s.current named h.current; future = h.future; delays = h.delays; retry = h.retry; counts = h.counts }
   fated_names (fates.Delayed until) x s named h =
-      record { active = tt; current = h.current; future = all_with (EventNames t) s.future _ h.future (named, tt); delays = h.delays; counts = h.counts }
-  fated_names (fates.Destroyed count) x s named h = record { active = tt; current = h.current; future = h.future; delays = h.delays; counts = h.counts }
+      record { active = tt; current = h.current; future = all_with (EventNames t) s.future _ h.future (named, tt); delays = h.delays; retry = h.retry; counts = h.counts }
+  fated_names (fates.Destroyed count) x s named h = record { active = tt; current = h.current; future = h.future; delays = h.delays; retry = h.retry; counts = h.counts }
 
   own_names : (x : Transaction) (id clock : ℕ) (change : TransactionChange) → AreNumbered t.lines → IsDecidedOwn t change → IsBlockId t id →
       TransactionNames t (own_marked change clock (placed x id))
@@ -114,7 +117,7 @@ module _ (t : Listing) where
       TransactionNames t (marked change s.clock (placed x id)) → StateNames t (settled s x id change fate)
   settled_names s x id change fate h moving named there =
       let counts = with_count_names (left s.counts x.current) id _ named (left_names s.counts x.current moving.current h.counts) in
-      fated_names fate _ _ there (record { active = h.active; current = h.current; future = h.future; delays = h.delays; counts = counts })
+      fated_names fate _ _ there (record { active = h.active; current = h.current; future = h.future; delays = h.delays; retry = h.retry; counts = counts })
 
   crossed_names : (cs : List (ℕ × Count)) (from to : ℕ) → IsBlockId t from → IsBlockId t to → AllByRecursion (CountNames t) cs →
       AllByRecursion (CountNames t) (crossed fates.Active cs from to)
@@ -123,12 +126,13 @@ module _ (t : Listing) where
   let_in_names : (x : Transaction) (destination : Option ℕ) (s : Machine) → TransactionNames t x → IsIdIfAny t destination → StateNames t s →
       StateNames t (let_in x destination s)
   let_in_names x None s waits to h =
-      record { active = h.active; current = lined_up_names x s.current waits h.current; future = h.future; delays = h.delays; counts = h.counts }
+      record { active = h.active; current = lined_up_names x s.current waits h.current; future = h.future; delays = h.delays; retry = h.retry; counts = h.counts }
   let_in_names x (Some id) s waits to h = record {
     active = h.active;
     current = lined_up_names (placed x id) s.current (record { current = to; destination = tt }) h.current;
     future = h.future;
     delays = h.delays;
+    retry = h.retry;
     counts = crossed_names s.counts x.current id waits.current to h.counts;
   }
 
@@ -148,7 +152,7 @@ module _ (t : Listing) where
   lets_names w key x passed xs is h =
       let all = part_names passed x xs (subst (λ chain. AllByRecursion (TransactionNames t) chain) is (delay_names w key h)) in
       let_in_names x x.destination (record w { delays = with_value w.delays key (passed ++ xs) }) all.0 all.0.destination
-      (record { active = h.active; current = h.current; future = h.future; delays = with_delay_names w key (passed ++ xs) all.1 h; counts = h.counts })
+      (record { active = h.active; current = h.current; future = h.future; delays = with_delay_names w key (passed ++ xs) all.1 h; retry = h.retry; counts = h.counts })
 
   refused_names : (s : Machine) (x : Transaction) (id : ℕ) (key : Key) (units : ℕ) → StateNames t s → TransactionNames t x → IsBlockId t id →
       StateNames t (refused s x id key units)
@@ -158,8 +162,42 @@ module _ (t : Listing) where
     future = h.future;
     delays = with_delay_names s key _
         (lined_up_names (bound x id units) (delay_at s.delays key) (record { current = named.current; destination = there }) (delay_names s key h)) h;
+    retry = h.retry;
     counts = h.counts;
   }
+
+  watching_names : (s : Machine) (x : Transaction) (read : List Watched) → StateNames t s → TransactionNames t x →
+      AllByRecursion (WatchedNames t) read → StateNames t (watching s x read)
+  watching_names s x read h named all = record {
+    active = tt;
+    current = h.current;
+    future = h.future;
+    delays = h.delays;
+    retry = all_with (WaiterNames t) s.retry _ h.retry (record { transaction = named; read = all }, tt);
+    counts = h.counts;
+  }
+
+  -- those who wake
+  filter_names : {X : Type 0} (P : X → Type 0) (p : X → Bool) (xs : List X) → AllByRecursion P xs → AllByRecursion P (filter p xs)
+  filter_names P p [] all = tt
+  filter_names P p (x ∷ xs) all = all_cond P (p x) _ _ (all.0, filter_names P p xs all.1) (filter_names P p xs all.1)
+
+  transactions_names : (ws : List Waiter) → AllByRecursion (WaiterNames t) ws → AllByRecursion (TransactionNames t) (transactions_of ws)
+  transactions_names [] all = tt
+  transactions_names (w ∷ ws) all = (all.0.transaction, transactions_names ws all.1)
+
+  woken_names : (list : List Watched) (s : Machine) → StateNames t s → StateNames t (woken list s)
+  woken_names list s h =
+      let ws = filter (is_woken list) s.retry in
+      record {
+        active = h.active;
+        current = all_lined_up_names (transactions_of ws) s.current (transactions_names ws (filter_names (WaiterNames t) (is_woken list) s.retry h.retry))
+            h.current;
+        future = h.future;
+        delays = h.delays;
+        retry = filter_names (WaiterNames t) (λ w. not (is_woken list w)) s.retry h.retry;
+        counts = h.counts;
+      }
 
   active_names : (s : Machine) (x : Transaction) → s.active ≡ Some x → StateNames t s → TransactionNames t x
   active_names s x is h = let here : ActiveNames t (Some x) = subst (λ o. ActiveNames t o) is h.active in here
@@ -167,32 +205,35 @@ module _ (t : Listing) where
   -- moves
   moved_names : (s : Machine) (m : Move) → AreNumbered t.lines → IsDecided t s m → StateNames t s → StateNames t (moved s m)
   moved_names s (moves.Start count arrivals) numbered decided h = all_made_names s arrivals (making_of s) (started count s) decided.coming
-      (record { active = h.active; current = h.current; future = h.future; delays = h.delays; counts = h.counts })
-  moved_names s moves.Command numbered decided h = record { active = h.active; current = h.current; future = h.future; delays = h.delays; counts = h.counts }
+      (record { active = h.active; current = h.current; future = h.future; delays = h.delays; retry = h.retry; counts = h.counts })
+  moved_names s moves.Command numbered decided h = record { active = h.active; current = h.current; future = h.future; delays = h.delays; retry = h.retry; counts = h.counts }
   moved_names s (moves.Enter id change fate) numbered decided h =
       entered_has (StateNames t) (StateNames t) t s id change fate decided.1 h
       (λ x is. settled_names s x id change fate h (active_names s x is h) decided.0 (marked_names s x id change numbered decided.1 decided.0))
       (λ v. record { nothing = λ k. k; one = λ a coming k. made_names s a (making_of v) v coming k; lets = lets_names })
   moved_names s (moves.Refuse id key units) numbered decided h =
       with_active_has (StateNames t) s.active (λ x. refused s x id key units) s h (λ x is. refused_names s x id key units h (active_names s x is h) decided.0)
+  moved_names s (moves.Watch read) numbered decided h =
+      with_active_has (StateNames t) s.active (λ x. watching s x read) s h (λ x is. watching_names s x read h (active_names s x is h) (decided numbered))
   moved_names s moves.Pick numbered decided h = picked_has (StateNames t) s s.current h
       (λ x xs is. (let all : AllByRecursion (TransactionNames t) (x ∷ xs) = subst (λ chain. AllByRecursion (TransactionNames t) chain) is h.current in
-      record { active = all.0; current = all.1; future = h.future; delays = h.delays; counts = h.counts }))
+      record { active = all.0; current = all.1; future = h.future; delays = h.delays; retry = h.retry; counts = h.counts }))
   moved_names s (moves.Clock time) numbered decided h = record {
     active = h.active;
     current = all_lined_up_names (due time s.future) s.current (due_names time s.future h.future) h.current;
     future = later_names time s.future h.future;
     delays = h.delays;
+    retry = h.retry;
     counts = h.counts;
   }
 
 -- each state of a run, with what its step reads
 pub run_names : StatesNameBlocks
 run_names t seed n s numbered =
-    over_run t seed (λ n s. StateNames t s) (record { active = tt; current = tt; future = tt; delays = tt; counts = tt })
+    over_run t seed (λ n s. StateNames t s) (record { active = tt; current = tt; future = tt; delays = tt; retry = tt; counts = tt })
     (λ n s m streams there decided h.
-    let next = moved_names t s m numbered decided h in
-    record { active = next.active; current = next.current; future = next.future; delays = next.delays; counts = next.counts })
+    let next = woken_names t (written s m) (moved s m) (moved_names t s m numbered decided h) in
+    record { active = next.active; current = next.current; future = next.future; delays = next.delays; retry = next.retry; counts = next.counts })
     n s
 
 all_read : (t : Listing) (s : Machine) (is : List Item) → ((i : Item) → IsRead t s i → ItemNames t i) → AllByRecursion (IsRead t s) is →

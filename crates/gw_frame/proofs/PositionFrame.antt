@@ -5,12 +5,15 @@ use Rattle.gw_meaning.specs.declared.item.Item.{Item}
 use Rattle.gw_meaning.specs.declared.item.Item.TheVariants as items
 use Rattle.gw_meaning.specs.declared.transaction.Transaction.{Transaction}
 use Rattle.gw_meaning.specs.declared.transaction.Event.{Event}
+use Rattle.gw_meaning.specs.declared.watched.Watched.{Watched}
+use Rattle.gw_meaning.specs.declared.watched.Watched.TheVariants as watched
+use Rattle.gw_meaning.specs.Watching.{Waiter}
 use Rattle.gw_meaning.specs.Listing.{Listing}
 use Rattle.gw_meaning.specs.Machine.{Machine}
 use Rattle.gw_meaning.specs.Step.{step, run}
 use Rattle.gw_meaning.specs.Reads.{reads}
-use Rattle.gw_frame.specs.Moved.{moved_item, moved_transaction, moved_event, moved_delay, moved_count, moved_machine}
-use Rattle.gw_frame.specs.BlockIds.{IsBlockId, IsIdIfAny, TransactionNames, ActiveNames, EventNames, DelayNames, CountNames, StateNames, ItemNames}
+use Rattle.gw_frame.specs.Moved.{moved_item, moved_transaction, moved_event, moved_delay, moved_watched, moved_waiter, moved_count, moved_machine}
+use Rattle.gw_frame.specs.BlockIds.{IsBlockId, IsIdIfAny, TransactionNames, ActiveNames, EventNames, DelayNames, WatchedNames, WaiterNames, CountNames, StateNames, ItemNames}
 use Rattle.gw_frame.specs.Positions.{position_of, shifted, FrameInPositions}
 use Rattle.gw_frame.proofs.ReadLaws.{unseen_reads}
 use Rattle.gw_frame.proofs.Running.{last_step}
@@ -39,6 +42,15 @@ module _ (t u : Listing) (f g h : ℕ → ℕ) (same : (p : ℕ) → IsBlockId t
   list_same P Q a b c each [] there also = refl
   list_same P Q a b c each (x ∷ xs) there also = ap₂ (λ y ys. y ∷ ys) (each x there.0 also.0) (list_same P Q a b c each xs there.1 also.1)
 
+  watched_same : (w : Watched) → WatchedNames t w → WatchedNames u w → moved_watched f w ≡ moved_watched h (moved_watched g w)
+  watched_same (watched.Entity kind key) there also = refl
+  watched_same (watched.Counts id) there also = ap (λ p. watched.Counts p) (same id there also)
+
+  waiter_same : (w : Waiter) → WaiterNames t w → WaiterNames u w → moved_waiter f w ≡ moved_waiter h (moved_waiter g w)
+  waiter_same w there also =
+      ap₂ (λ x read. let v : Waiter = record { transaction = x; read = read } in v) (transaction_same w.transaction there.transaction also.transaction)
+      (list_same (WatchedNames t) (WatchedNames u) (moved_watched f) (moved_watched g) (moved_watched h) watched_same w.read there.read also.read)
+
   state_same : (s : Machine) → StateNames t s → StateNames u s → moved_machine f s ≡ moved_machine h (moved_machine g s)
   state_same s there also =
       let active = active_same s.active there.active also.active in
@@ -49,9 +61,11 @@ module _ (t u : Listing) (f g h : ℕ → ℕ) (same : (p : ℕ) → IsBlockId t
       let delays = list_same (DelayNames t) (DelayNames u) (moved_delay f) (moved_delay g) (moved_delay h)
       (λ d k l. ap (λ chain. (d.0, chain)) (list_same (TransactionNames t) (TransactionNames u) (moved_transaction f) (moved_transaction g)
       (moved_transaction h) transaction_same d.1 k l)) s.delays there.delays also.delays in
+      let retry = list_same (WaiterNames t) (WaiterNames u) (moved_waiter f) (moved_waiter g) (moved_waiter h) waiter_same
+      s.retry there.retry also.retry in
       let counts = list_same (CountNames t) (CountNames u) (moved_count f) (moved_count g) (moved_count h) (λ c k l. ap (λ p. (p, c.1)) (same c.0 k l))
       s.counts there.counts also.counts in
-      rw (active, current, future, delays, counts) refl
+      rw (active, current, future, delays, retry, counts) refl
 
   item_same : (i : Item) → ItemNames t i → ItemNames u i → moved_item f i ≡ moved_item h (moved_item g i)
   item_same (items.Block p) there also = ap (λ q. items.Block q) (same p there also)

@@ -9,7 +9,10 @@ use Rattle.gw_meaning.specs.declared.statement.Block.{Block}
 use Rattle.gw_meaning.specs.declared.transaction.Transaction.{Transaction}
 use Rattle.gw_meaning.specs.declared.transaction.Event.{Event}
 use Rattle.gw_meaning.specs.declared.transaction.Count.{Count}
+use Rattle.gw_meaning.specs.declared.watched.Watched.{Watched}
+use Rattle.gw_meaning.specs.declared.watched.Watched.TheVariants as watched
 use Rattle.gw_meaning.specs.Listing.{Listing, block_at}
+use Rattle.gw_meaning.specs.Watching.{Waiter}
 use Rattle.gw_meaning.specs.Numbers.{AreNumbered}
 use Rattle.gw_meaning.specs.Machine.{Machine}
 use Rattle.gw_meaning.specs.Step.{step, run}
@@ -19,7 +22,8 @@ use Rattle.gw_meaning.specs.Reads.{reads}
 abbrev pub IsBlockId : Listing → ℕ → Type 0
 IsBlockId t id = (id ≡ 0) ⊎ ((block : Block) × (block_at t id ≡ Some block))
 
--- what names no other id: an id that there may be, a transaction, an event, a delay chain and a count
+-- what names no other id: an id that there may be, a transaction, an event, a delay chain, what is watched, who waits for
+-- a change of it, and a count
 abbrev pub IsIdIfAny : Listing → Option ℕ → Type 0
 IsIdIfAny t None = Unit {0}
 IsIdIfAny t (Some id) = IsBlockId t id
@@ -38,6 +42,14 @@ EventNames t e = TransactionNames t e.transaction
 abbrev pub DelayNames : Listing → Key × List Transaction → Type 0
 DelayNames t d = AllByRecursion (TransactionNames t) d.1
 
+abbrev pub WatchedNames : Listing → Watched → Type 0
+WatchedNames t (watched.Entity kind key) = Unit {0}
+WatchedNames t (watched.Counts id) = IsBlockId t id
+
+pub record WaiterNames (t : Listing) (w : Waiter) : Type 0 where
+  pub transaction : TransactionNames t w.transaction
+  pub read : AllByRecursion (WatchedNames t) w.read
+
 abbrev pub CountNames : Listing → ℕ × Count → Type 0
 CountNames t c = IsBlockId t c.0
 
@@ -47,6 +59,7 @@ pub record StateNames (t : Listing) (s : Machine) : Type 0 where
   pub current : AllByRecursion (TransactionNames t) s.current
   pub future : AllByRecursion (EventNames t) s.future
   pub delays : AllByRecursion (DelayNames t) s.delays
+  pub retry : AllByRecursion (WaiterNames t) s.retry
   pub counts : AllByRecursion (CountNames t) s.counts
 
 -- an item: those of a block name its id, and no other does

@@ -9,7 +9,10 @@ use Rattle.gw_meaning.specs.declared.item.End.{End}
 use Rattle.gw_meaning.specs.declared.transaction.Transaction.{Transaction}
 use Rattle.gw_meaning.specs.declared.transaction.Event.{Event}
 use Rattle.gw_meaning.specs.declared.transaction.Count.{Count}
+use Rattle.gw_meaning.specs.declared.watched.Watched.{Watched}
+use Rattle.gw_meaning.specs.declared.watched.Watched.TheVariants as watched
 use Rattle.gw_meaning.specs.Listing.{Listing}
+use Rattle.gw_meaning.specs.Watching.{Waiter}
 use Rattle.gw_meaning.specs.Machine.{Machine}
 use Rattle.gw_meaning.specs.Questions.{Answer, ask}
 
@@ -42,6 +45,13 @@ module _ (move : ℕ → ℕ) where
   abbrev pub moved_delay : Key × List Transaction → Key × List Transaction
   moved_delay d = (d.0, map moved_transaction d.1)
 
+  abbrev pub moved_watched : Watched → Watched
+  moved_watched (watched.Entity kind key) = watched.Entity kind key
+  moved_watched (watched.Counts id) = watched.Counts (move id)
+
+  abbrev pub moved_waiter : Waiter → Waiter
+  moved_waiter w = record { transaction = moved_transaction w.transaction; read = map moved_watched w.read }
+
   abbrev pub moved_count : ℕ × Count → ℕ × Count
   moved_count c = (move c.0, c.1)
 
@@ -53,6 +63,7 @@ module _ (move : ℕ → ℕ) where
         future =
             map moved_event s.future;
         delays = map moved_delay s.delays;
+        retry = map moved_waiter s.retry;
         counts = map moved_count s.counts;
       }
 

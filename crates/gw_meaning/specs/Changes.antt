@@ -1,7 +1,8 @@
 -- What a move does to a state. (Manual: the chains and the counts of blocks. Our own: that an ADVANCE of 0 leaves the
--- transaction active, that a time is fixed when the transaction comes onto the future chain, and that who waited for a
--- facility or a storage enters its block in the step that gives it back.)
-use Rattle.std.specs.Prelude.{ℕ, ℤ, ◌-◌, Bool, true, not, ◌==◌, List, [], ◌∷◌, ◌++◌, Option, Some, None, if◌then◌else◌, filter, nat_lt}
+-- transaction active, that a time is fixed when the transaction comes onto the future chain, that who waited for a
+-- facility or a storage enters its block in the step that gives it back, and that waiters wake when all else is done.)
+use Rattle.std.specs.Prelude.{ℕ, ℤ, ◌-◌, Bool, true, not, ◌==◌, List, [], ◌∷◌, ◌++◌, Option, Some, None, if◌then◌else◌, filter, length, nat_lt}
+use Rattle.std.specs.List.{list_any}
 use Rattle.gw_nums.specs.Range.{is_below}
 use Rattle.gw_meaning.specs.declared.transaction.Transaction.{Transaction}
 use Rattle.gw_meaning.specs.declared.transaction.Event.{Event}
@@ -23,7 +24,10 @@ use Rattle.gw_meaning.specs.declared.moves.Fate.{Fate}
 use Rattle.gw_meaning.specs.declared.moves.Fate.TheVariants as fates
 use Rattle.gw_meaning.specs.declared.moves.Move.{Move}
 use Rattle.gw_meaning.specs.declared.moves.Move.TheVariants as moves
+use Rattle.gw_meaning.specs.declared.watched.Watched.{Watched}
+use Rattle.gw_meaning.specs.declared.watched.Watched.TheVariants as watched
 use Rattle.gw_meaning.specs.Entities.{touched, later}
+use Rattle.gw_meaning.specs.Watching.{Waiter, is_watched, kind_of, transactions_of}
 use Rattle.gw_meaning.specs.Machine.{Machine, raised, count_in, count_at, with_count, delay_at}
 
 -- the current chain with one more transaction: behind its equals, in front of the first of lower priority
@@ -208,6 +212,12 @@ refused s x id key units = record s {
   delays = with_value s.delays key (lined_up (bound x id units) (delay_at s.delays key));
 }
 
+-- the transaction x is refused at a block, and waits as it came for a change of what its attempt read, behind all who
+-- wait so
+abbrev pub watching : Machine → Transaction → List Watched → Machine
+watching s x read =
+    record s { active = None; retry = s.retry ++ record { transaction = x; read = read } ∷ [] }
+
 -- the first of the current chain is active
 abbrev pub picked : Machine → List Transaction → Machine
 picked s [] = s
@@ -241,9 +251,54 @@ moved s (moves.Start count arrivals) = with_making (all_made arrivals (making_of
 moved s moves.Command = record s { commands = raised s.commands }
 moved s (moves.Enter id change fate) = with_active s.active (λ x. entering s x id change fate) s
 moved s (moves.Refuse id key units) = with_active s.active (λ x. refused s x id key units) s
+moved s (moves.Watch read) = with_active s.active (λ x. watching s x read) s
 moved s moves.Pick = picked s s.current
 moved s (moves.Clock time) = advanced s time
 
--- what a step does: its move, with the streams behind its draws
+-- What a move writes: an entered block the counts of the block left and of the block entered, the entity that it names,
+-- and the counts of the blocks that those whom it lets in leave and enter. No other move writes anything: neither a
+-- command, nor a refused attempt, nor the clock.
+
+-- the counts that a transaction changes where it goes to a block
+abbrev pub crossing : Transaction → Option ℕ → List Watched
+crossing x None = []
+crossing x (Some id) = watched.Counts x.current ∷ watched.Counts id ∷ []
+
+-- the counts that those of a delay chain change who are let in
+abbrev pub crossings : List (Option ℕ) → List Transaction → List Watched
+crossings [] xs = []
+crossings (share ∷ shares) [] = []
+crossings (None ∷ shares) (x ∷ xs) = crossings shares xs
+crossings (Some units ∷ shares) (x ∷ xs) = crossing x x.destination ++ crossings shares xs
+
+abbrev pub written_by : Change → Machine → List Watched
+written_by (changes.Entity change) s =
+    watched.Entity (kind_of change.1) change.0 ∷ crossings (deed_shares change.1) (delay_at s.delays change.0)
+written_by change s = []
+
+abbrev pub written_where : Option Transaction → ℕ → Change → Machine → List Watched
+written_where None id change s = []
+written_where (Some x) id change s = crossing x (Some id) ++ written_by change s
+
+abbrev pub written : Machine → Move → List Watched
+written s (moves.Enter id change fate) = written_where s.active id change s
+written s move = []
+
+-- Whoever waits for a change is woken where something is written that its attempt read: one after another, in order of
+-- waiting, they line up on the current chain, and the others go on waiting.
+abbrev pub is_woken : List Watched → Waiter → Bool
+is_woken list w = list_any (is_watched list) w.read
+
+-- how many wait for a change of something
+abbrev pub retries : Machine → Watched → ℕ
+retries s w = length (filter (λ (v : Waiter). is_watched v.read w) s.retry)
+
+abbrev pub woke : List Waiter → List Waiter → Machine → Machine
+woke ws others s = record s { current = all_lined_up (transactions_of ws) s.current; retry = others }
+
+abbrev pub woken : List Watched → Machine → Machine
+woken list s = woke (filter (is_woken list) s.retry) (filter (λ w. not (is_woken list w)) s.retry) s
+
+-- what a step does: its move, then those wake who wait for something that it wrote, with the streams behind its draws
 abbrev pub decided : Machine → Move → List Stream → Machine
-decided s m streams = record (moved s m) { streams = streams }
+decided s m streams = record (woken (written s m) (moved s m)) { streams = streams }

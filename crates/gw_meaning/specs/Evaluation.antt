@@ -1,7 +1,7 @@
 -- Values, attributes and draws. An evaluation goes from the streams before it to its result and the streams behind it,
 -- so draws come in the order of evaluation. (Manual: operands, numerical attributes, and a time of A plus or minus B.
 -- Our own: whole numbers, what a draw stands for, and that the seed is asked for at a stream's first draw alone.)
-use Rattle.std.specs.Prelude.{ℕ, zero, suc, ◌+◌, ◌-◌, ◌*◌, ◌/◌, Bool, true, false, not, ◌&&◌, nat_le, List, Option, unwrap_or, Some, None, Result, Ok, Err, ℤ, pos, ◌+ℤ◌, ◌-ℤ◌, if◌then◌else◌}
+use Rattle.std.specs.Prelude.{ℕ, zero, suc, ◌+◌, ◌-◌, ◌*◌, ◌/◌, Bool, true, false, not, ◌&&◌, nat_le, List, [], ◌∷◌, Option, unwrap_or, Some, None, Result, Ok, Err, ℤ, pos, ◌+ℤ◌, ◌-ℤ◌, if◌then◌else◌}
 use Rattle.gw_nums.specs.declared.val.ArithmeticFault.{ArithmeticFault}
 use Rattle.gw_nums.specs.declared.val.ArithmeticFault.TheVariants as arithmetic_faults
 use Rattle.gw_nums.specs.Millionths.{times}
@@ -27,6 +27,11 @@ use Rattle.gw_meaning.specs.declared.item.End.{End}
 use Rattle.gw_meaning.specs.declared.item.End.TheVariants as ends
 use Rattle.gw_meaning.specs.declared.asker.Asker.{Asker}
 use Rattle.gw_entities.specs.Parameters.{parameter_at}
+use Rattle.gw_meaning.specs.declared.watched.EntityKind.{EntityKind}
+use Rattle.gw_meaning.specs.declared.watched.EntityKind.TheVariants as kinds
+use Rattle.gw_meaning.specs.declared.watched.Watched.{Watched}
+use Rattle.gw_meaning.specs.declared.watched.Watched.TheVariants as watched
+use Rattle.gw_meaning.specs.Watching.{with_all_watched}
 use Rattle.gw_meaning.specs.Entities.{facility_at, line_at, store_at, savevalue_at, switch_at}
 use Rattle.gw_meaning.specs.Machine.{Machine, count_at}
 use Rattle.gw_meaning.specs.Questions.{Answer, Prog, Gives, Ends, Asks, ◌>>=◌}
@@ -295,3 +300,65 @@ time_by s q mean range (Some of) =
 -- a time of a mean plus or minus a range, or times a FUNCTION
 abbrev pub time_prog : Machine → Asker → Option Term → Option Term → Eval ℤ
 time_prog s q mean range = time_by s q mean range (modifier_of range)
+
+-- ---- what an evaluation reads (Our own: once each, in the order of reading)
+
+-- the entity of a kind that an attribute is of
+abbrev pub entity_watched : EntityKind → Subject → Eval (List Watched)
+entity_watched kind of = subject_prog of ~> (λ key. gives (watched.Entity kind key ∷ []))
+
+abbrev pub storage_watched : Subject → Eval (List Watched)
+storage_watched (subjects.Name name) = gives (watched.Entity kinds.Storage (keys.Defined name) ∷ [])
+storage_watched subject = gives []
+
+-- the counts of the block that an attribute is of
+abbrev pub counts_of : Option ℕ → List Watched
+counts_of None = []
+counts_of (Some id) = watched.Counts id ∷ []
+
+abbrev pub counts_watched : Subject → Eval (List Watched)
+counts_watched (subjects.Name name) = asks (items.Named asking.Label name) (λ id. gives (counts_of id))
+counts_watched subject = gives []
+
+-- what an attribute reads that a block may write. The clocks, the termination count, random numbers, and what a
+-- transaction has of its own wake nobody.
+unfoldable pub watched_prog : Class → Subject → Eval (List Watched)
+watched_prog class.F of = entity_watched kinds.Facility of
+watched_prog class.Fc of = entity_watched kinds.Facility of
+watched_prog class.Q of = entity_watched kinds.Queue of
+watched_prog class.Qc of = entity_watched kinds.Queue of
+watched_prog class.Qm of = entity_watched kinds.Queue of
+watched_prog class.Qz of = entity_watched kinds.Queue of
+watched_prog class.X of = entity_watched kinds.Savevalue of
+watched_prog class.Ls of = entity_watched kinds.Switch of
+watched_prog class.S of = storage_watched of
+watched_prog class.R of = storage_watched of
+watched_prog class.Sc of = storage_watched of
+watched_prog class.Sm of = storage_watched of
+watched_prog class.N of = counts_watched of
+watched_prog class.W of = counts_watched of
+watched_prog class of = gives []
+
+abbrev pub watched_by : Question → Eval (List Watched)
+watched_by (AttributeOf class of) = watched_prog class of
+watched_by question = gives []
+
+-- an evaluation in a state, with what it read behind what was read before. Its result, its end and its draws are those
+-- of `evaluated`, and it asks nothing more.
+abbrev pub traced : {A : Type 0} → Machine → Asker → List Watched → Evaluation A → Eval (A × List Watched)
+traced s q read (Yields a) = gives (a, read)
+traced s q read (Stops stop) = ends_with (ends.Error stop)
+traced s q read (Wants question k) = watched_by question ~> (λ more. reply_prog s q question ~>
+    (λ reply. traced s q (with_all_watched read more) (k reply)))
+
+-- the value of an operand that is there, and the entity that an operand names, with what they read
+abbrev pub value_traced : Machine → Asker → List Watched → Option Term → Eval (ℤ × List Watched)
+value_traced s q read None = ends_with (ends.Error Range)
+value_traced s q read (Some term) = traced s q read (value_of term)
+
+abbrev pub entity_traced : Machine → Asker → Option Term → Eval (Key × List Watched)
+entity_traced s q None = ends_with (ends.Error Range)
+entity_traced s q (Some (Named name)) =
+    asks (items.Named asking.Number name) (named name) ~> (λ key. gives (key, []))
+entity_traced s q (Some term) =
+    traced s q [] (value_of term) ~> (λ r. numbered r.0 ~> (λ key. gives (key, r.1)))

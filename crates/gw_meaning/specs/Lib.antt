@@ -4,6 +4,7 @@ pub mod Texts
 pub mod Listing
 pub mod Numbers
 pub mod Entities
+pub mod Watching
 pub mod Machine
 pub mod Questions
 pub mod Evaluation

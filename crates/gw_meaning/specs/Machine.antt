@@ -11,6 +11,7 @@ use Rattle.gw_meaning.specs.Entities.{Entities, no_entities}
 use Rattle.gw_meaning.specs.declared.transaction.Transaction.{Transaction}
 use Rattle.gw_meaning.specs.declared.transaction.Event.{Event}
 use Rattle.gw_meaning.specs.declared.transaction.Count.{Count}
+use Rattle.gw_meaning.specs.Watching.{Waiter}
 
 pub record Machine : Type 0 where
   -- the absolute clock
@@ -36,6 +37,8 @@ pub record Machine : Type 0 where
   -- the delay chain of each facility and storage that somebody waited for, in the order of first waiting: who waits has
   -- the block that refused it as its destination
   pub delays : List (Key × List Transaction)
+  -- the retry chain: who waits for a change of something that it read, in order of waiting
+  pub retry : List Waiter
   -- what is counted at each block, in the order of first use
   pub counts : List (ℕ × Count)
   pub entities : Entities
@@ -62,6 +65,7 @@ zero_state = record {
   current = [];
   future = [];
   delays = [];
+  retry = [];
   counts = [];
   entities = no_entities;
   parameters = [];
@@ -107,4 +111,5 @@ number_of_active None = 0
 number_of_active (Some x) = 1
 
 abbrev pub live : Machine → ℕ
-live s = number_of_active s.active + length s.current + length s.future + length (waiting s.delays)
+live s =
+    number_of_active s.active + length s.current + length s.future + length (waiting s.delays) + length s.retry

@@ -1,7 +1,7 @@
 -- A step: which move it is, by questions; then the move. One definition for each choice, with what is chosen by as an
 -- argument. (Manual: the order of the scan. Our own: commands, priming and picking are steps of their own; the order in
 -- which a GENERATE's operands are met; a facility refuses its own owner, too; units that fit go in, whoever waits; a
--- PRIORITY leaves its transaction active.)
+-- PRIORITY leaves its transaction active; whoever waits for a change tries its block anew when it is woken.)
 use Rattle.std.specs.Prelude.{ℕ, zero, suc, ◌+◌, ◌-◌, Bool, true, false, ◌==◌, List, [], ◌∷◌, ◌++◌, Option, Some, None, Result, Ok, Err, ℤ, pos, ◌&&◌, ◌||◌, if◌then◌else◌, nat_le, nat_lt, min, not, is_some}
 use Rattle.gw_nums.specs.Range.{is_negative, is_below, magnitude}
 use Rattle.gw_nums.specs.declared.val.ArithmeticFault.{ArithmeticFault}
@@ -37,6 +37,11 @@ use Rattle.gw_meaning.specs.declared.auxiliary.Condition.{Condition}
 use Rattle.gw_meaning.specs.declared.auxiliary.Condition.TheVariants as conditions
 use Rattle.gw_meaning.specs.declared.auxiliary.Switching.{Switching}
 use Rattle.gw_meaning.specs.declared.auxiliary.Switching.TheVariants as switchings
+use Rattle.gw_meaning.specs.declared.watched.EntityKind.{EntityKind}
+use Rattle.gw_meaning.specs.declared.watched.EntityKind.TheVariants as kinds
+use Rattle.gw_meaning.specs.declared.watched.Watched.{Watched}
+use Rattle.gw_meaning.specs.declared.watched.Watched.TheVariants as watched
+use Rattle.gw_meaning.specs.Watching.{with_watched}
 use Rattle.gw_meaning.specs.declared.moves.Change.TheVariants as changes
 use Rattle.gw_meaning.specs.declared.transaction_change.TransactionChange.TheVariants as own
 use Rattle.gw_meaning.specs.declared.moves.Fate.{Fate}
@@ -51,7 +56,7 @@ use Rattle.gw_entities.specs.Comings.{came}
 use Rattle.gw_entities.specs.Parameters.{parameter_at}
 use Rattle.gw_meaning.specs.Entities.{facility_at, line_at, store_at, savevalue_at, switch_at}
 use Rattle.gw_meaning.specs.Questions.{Prog, Gives, result_of, items_of, ◌>>=◌}
-use Rattle.gw_meaning.specs.Evaluation.{Eval, gives, ends_with, asks, ◌~>◌, stops_if, value_prog, value_or_zero, value_there, entity_prog, units_prog, arithmetic, millionths, draw, time_prog}
+use Rattle.gw_meaning.specs.Evaluation.{Eval, gives, ends_with, asks, ◌~>◌, stops_if, value_prog, value_or_zero, value_there, entity_prog, units_prog, value_traced, entity_traced, arithmetic, millionths, draw, time_prog}
 use Rattle.gw_meaning.specs.Changes.{decided}
 
 -- The next transaction of a GENERATE: its limit, then the time, then its priority.
@@ -342,8 +347,14 @@ abbrev pub loop_prog : Machine → Asker → ℕ → Option Term → Option Term
 loop_prog s q id parameter label = entity_prog s q parameter ~>
     (λ key. left_of (parameter_at s.parameters q.number key) ~> (λ left. loop_with id key left label))
 
--- TEST: where the relation of the first value to the second does not hold, the transaction goes to the block with the
--- label, and else to the next block.
+-- TEST and GATE: where a transaction may not pass, it goes to the block with the label; without a label it waits for a
+-- change of what was read.
+abbrev pub pass_or_wait : ℕ → Option Term → List Watched → Bool → Eval Move
+pass_or_wait id None read passes =
+    gives (if passes then moves.Enter id changes.Nothing fates.Active else moves.Watch read)
+pass_or_wait id (Some label) read passes = lead_to id (if passes then None else Some label)
+
+-- TEST: it passes where the relation of the first value to the second holds.
 abbrev pub holds : Auxiliary → ℤ → ℤ → Bool
 holds auxiliaries.Equal a b = not (is_below a b) && not (is_below b a)
 holds auxiliaries.NotEqual a b = is_below a b || is_below b a
@@ -353,15 +364,27 @@ holds auxiliaries.Less a b = is_below a b
 holds auxiliaries.LessOrEqual a b = not (is_below b a)
 holds auxiliary a b = false
 
-abbrev pub test_values : ℕ → Auxiliary → Option Term → ℤ → ℤ → Eval Move
-test_values id relation label a b = lead_to id (if holds relation a b then None else label)
+abbrev pub test_values : ℕ → Auxiliary → Option Term → List Watched → ℤ → ℤ → Eval Move
+test_values id relation label read a b = pass_or_wait id label read (holds relation a b)
+
+abbrev pub test_or_wait : Machine → Asker → ℕ → Auxiliary → Option Term → Option Term → Eval Move
+test_or_wait s q id relation first second = value_traced s q [] first ~> (λ a. value_traced s q a.1 second ~>
+    (λ b. test_values id relation None b.1 a.0 b.0))
 
 abbrev pub test_prog : Machine → Asker → ℕ → Auxiliary → Option Term → Option Term → Option Term → Eval Move
-test_prog s q id relation first second label = value_there s q first ~> (λ a. value_there s q second ~>
-    (λ b. test_values id relation label a b))
+test_prog s q id relation first second None = test_or_wait s q id relation first second
+test_prog s q id relation first second (Some label) = value_there s q first ~> (λ a. value_there s q second ~>
+    (λ b. test_values id relation (Some label) [] a b))
 
--- GATE: whether its condition holds of the entity with a key, and whether that hangs on the capacity of a storage. Where
--- it does not hold, the transaction goes to the block with the label.
+-- GATE: the kind of entity that its condition is of, whether it holds of the one with a key, and whether that hangs on
+-- the capacity of a storage.
+abbrev pub kind_of_condition : Condition → EntityKind
+kind_of_condition conditions.InUse = kinds.Facility
+kind_of_condition conditions.NotInUse = kinds.Facility
+kind_of_condition conditions.IsSet = kinds.Switch
+kind_of_condition conditions.IsReset = kinds.Switch
+kind_of_condition condition = kinds.Storage
+
 abbrev pub is_open : Machine → Condition → Key → ℕ → Bool
 is_open s conditions.InUse key capacity = is_some (facility_at s.entities key).owner
 is_open s conditions.NotInUse key capacity = not (is_some (facility_at s.entities key).owner)
@@ -377,19 +400,27 @@ reads_capacity conditions.Full = true
 reads_capacity conditions.NotFull = true
 reads_capacity condition = false
 
-abbrev pub gate_at : Machine → ℕ → Condition → Option Term → Key → ℕ → Eval Move
-gate_at s id condition label key capacity = lead_to id (if is_open s condition key capacity then None else label)
+-- it waits for a change of its entity, and of what was read to find that
+abbrev pub gate_at : Machine → ℕ → Condition → Option Term → Key → List Watched → ℕ → Eval Move
+gate_at s id condition label key read capacity =
+    pass_or_wait id label (with_watched read (watched.Entity (kind_of_condition condition) key))
+    (is_open s condition key capacity)
 
 abbrev pub gate_storage : Machine → ℕ → Condition → Option Term → List ℕ → Bool → Eval Move
 gate_storage s id condition label name true =
-    asks (items.Named asking.Storage name) (gate_at s id condition label (keys.Defined name))
-gate_storage s id condition label name false = gate_at s id condition label (keys.Defined name) 0
+    asks (items.Named asking.Storage name) (gate_at s id condition label (keys.Defined name) [])
+gate_storage s id condition label name false = gate_at s id condition label (keys.Defined name) [] 0
+
+abbrev pub gate_other : Machine → Asker → ℕ → Condition → Option Term → Option Term → Eval Move
+gate_other s q id condition entity None =
+    entity_traced s q entity ~> (λ r. gate_at s id condition None r.0 r.1 0)
+gate_other s q id condition entity (Some label) =
+    entity_prog s q entity ~> (λ key. gate_at s id condition (Some label) key [] 0)
 
 abbrev pub gate_of : Machine → Asker → ℕ → Condition → Option Term → Option Term → Eval Move
 gate_of s q id condition (Some (Defined name)) label =
     gate_storage s id condition label name (reads_capacity condition)
-gate_of s q id condition entity label =
-    entity_prog s q entity ~> (λ key. gate_at s id condition label key 0)
+gate_of s q id condition entity label = gate_other s q id condition entity label
 
 abbrev pub gate_prog : Machine → Asker → ℕ → Auxiliary → Option Term → Option Term → Eval Move
 gate_prog s q id (auxiliaries.Gate condition) entity label = gate_of s q id condition entity label

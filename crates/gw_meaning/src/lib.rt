@@ -1,9 +1,10 @@
 //! What the language means: statements, a version's answers, the state, the questions of a step, the run.
 //!
 //! The definitions stand in `specs/`, in this order: Statements and Texts (verbs, how a statement is listed), Listing
-//! and Numbers (what a version says), Places, Entities and Machine (the state), Questions (what a step may ask),
-//! Evaluation (values and draws), Changes (what a move does to a state), Step (which move it is, and the run), Reads
-//! (what a run read), Point (where a report is taken). The types here are the plain data that they speak of.
+//! and Numbers (what a version says), Places, Entities, Watching and Machine (the state), Questions (what a step may
+//! ask), Evaluation (values and draws), Changes (what a move does to a state, and whom it wakes), Step (which move it
+//! is, and the run), Reads (what a run read), Point (where a report is taken). The types here are the plain data that
+//! they speak of.
 #![tactic(auto)]
 
 mod asker;
@@ -18,6 +19,7 @@ mod statement_id;
 mod text;
 mod transaction;
 mod transaction_change;
+mod watched;
 
 pub use asker::Asker;
 pub use auxiliary::{Auxiliary, Condition, Switching};
@@ -29,3 +31,4 @@ pub use statement::{Block, Body, Command, Definition, Numbered, Replication, Sta
 pub use statement_id::StatementId;
 pub use transaction::{Count, Event, Transaction};
 pub use transaction_change::TransactionChange;
+pub use watched::{EntityKind, Watched};

@@ -1,6 +1,7 @@
 use crate::entity_change::EntityChange;
 use crate::statement_id::StatementId;
 use crate::transaction_change::TransactionChange;
+use crate::watched::Watched;
 use gw_expr::Row;
 use gw_names::Key;
 use gw_nums::{Clock, Time, Val};
@@ -62,6 +63,11 @@ pub enum Move {
         id: StatementId,
         key: Key,
         units: u32,
+    },
+    /// The active transaction is refused at a TEST or a GATE, and waits as it came for a change of something that its
+    /// attempt read.
+    Watch {
+        read: Row<Watched>,
     },
     /// The first transaction of the current chain becomes active.
     Pick,
