@@ -1,0 +1,5 @@
+mod Things
+mod Sifted
+mod Kept
+mod Waiters
+mod Passing
