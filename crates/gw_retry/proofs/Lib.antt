@@ -3,3 +3,4 @@ mod Sifted
 mod Kept
 mod Waiters
 mod Passing
+mod Turning

@@ -4,6 +4,7 @@ ghost use Rattle.gw_meaning.specs.declared.watched.Watched.{Watched};
 ghost use Rattle.gw_meaning.specs.Watching.{is_watched};
 ghost use Rattle.gw_retry.specs.Readings.{Keeps, Marks};
 
+use gw_expr::Row;
 use gw_meaning::Watched;
 use indexmap::IndexSet;
 use std::alloc::{AllocError, Global};
@@ -87,8 +88,19 @@ impl ReadLists {
         written.iter().any(|thing| self.is_marked(thing))
     }
 
+    // The place of a list, all of which is marked from now on.
+    pub fn learn(&mut self, read: Row<Watched>) -> Result<usize, AllocError>
+        ensures there { IfOk result (λ i. slice_get self.new.lists i ≡ Some read) }
+        ensures marked { OnOk result (list_all (is_watched self.new.marks) read ≡ true) }
+        ensures lists { Keeps self.old.lists self.new.lists }
+        ensures marks { Marks self.old.marks [] self.new.marks }
+    {
+        self.mark(read.as_slice())?;
+        self.add(read.into_vec())
+    }
+
     // The place of a list, which comes behind the others where it is not there.
-    pub fn add(&mut self, read: Vec<Watched>) -> Result<usize, AllocError>
+    fn add(&mut self, read: Vec<Watched>) -> Result<usize, AllocError>
         ensures there { IfOk result (λ i. slice_get self.new.lists i ≡ Some read.items) }
         ensures lists { Keeps self.old.lists self.new.lists }
         ensures marks { self.new.marks ≡ self.old.marks }
@@ -98,7 +110,7 @@ impl ReadLists {
     }
 
     // All of a list are marked from now on.
-    pub fn mark(&mut self, read: &[Watched]) -> Result<(), AllocError>
+    fn mark(&mut self, read: &[Watched]) -> Result<(), AllocError>
         ensures lists { self.new.lists ≡ self.old.lists }
         ensures ok { OnOk result (list_all (is_watched self.new.marks) read.now ≡ true) }
         ensures marks { Marks self.old.marks [] self.new.marks }

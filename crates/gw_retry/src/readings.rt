@@ -93,12 +93,15 @@ impl SharedReadings {
                 return Ok(place);
             }
         }
-        self.make_own()?;
-        let Kept::Own(own) = &mut self.kept else {
-            return Err(AllocError);
-        };
-        own.mark(read.as_slice())?;
-        own.add(read.into_vec())
+        match &mut self.kept {
+            Kept::Own(own) => own.learn(read),
+            Kept::Shared(shared) => {
+                let mut own = shared.copy()?;
+                let place = own.learn(read)?;
+                self.kept = Kept::Own(own);
+                Ok(place)
+            }
+        }
     }
 
     // It may be changed without memory from now on.

@@ -16,6 +16,9 @@ use std::slice;
 /// How many lists are kept, at the least, before they are forgotten where nobody waits.
 const MANY: usize = 64;
 
+/// If more than one of so many is woken, they are more than a few.
+const SHARE: usize = 128;
+
 /// Who waits for a change of something that its attempt read, in order of waiting. Copies share what did not change.
 #[derive(Drop)]
 pub struct Retry {
@@ -160,7 +163,13 @@ impl Retry {
     {
         let count = count_woken(&self.waiting, &self.readings, written);
         self.readings.make_own()?;
-        self.waiting.reserve(count)?;
+        // Where more than a few go, all are gone over and laid out anew.
+        let room = if count > self.waiting.len() / SHARE {
+            self.waiting.len().max(count)
+        } else {
+            count
+        };
+        self.waiting.reserve(room)?;
         Ok(count)
     }
 

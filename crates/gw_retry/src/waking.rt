@@ -61,6 +61,28 @@ pub fn take_woken(
     ensures waiting { waiting.new.items ≡
         filter (λ w. not (is_woken written.now (waiter_of readings.now.lists w))) waiting.old.items }
 {
+    if waiting.room() < waiting.len() {
+        take_out(waiting, readings, written, current);
+    } else {
+        turn_over(waiting, readings, written, current);
+    }
+}
+
+// The same, where few go: a place is changed for each of them.
+fn take_out(
+    waiting: &mut SharedList<Waiting>,
+    readings: &SharedReadings,
+    written: &[Watched],
+    current: &mut PriorityChain,
+)
+    requires listed { AreListed readings.now waiting.old.items }
+    requires going { length (filter (is_woken written.now) (waiters_of readings.now.lists waiting.old.items)) ≤ waiting.old.room }
+    requires room { length (filter (is_woken written.now) (waiters_of readings.now.lists waiting.old.items)) ≤ current.old.room }
+    ensures current { current.new.items ≡ all_lined_up (transactions_of
+        (filter (is_woken written.now) (waiters_of readings.now.lists waiting.old.items))) current.old.items }
+    ensures waiting { waiting.new.items ≡
+        filter (λ w. not (is_woken written.now (waiter_of readings.now.lists w))) waiting.old.items }
+{
     let mut kept = 0;
     while kept < waiting.len() {
         let next = *waiting.at(kept);
@@ -70,5 +92,34 @@ pub fn take_woken(
         } else {
             kept += 1;
         }
+    }
+}
+
+// The same, where there is room for all: each is taken off the front, and who stays comes behind the others.
+fn turn_over(
+    waiting: &mut SharedList<Waiting>,
+    readings: &SharedReadings,
+    written: &[Watched],
+    current: &mut PriorityChain,
+)
+    requires listed { AreListed readings.now waiting.old.items }
+    requires turning { length waiting.old.items ≤ waiting.old.room }
+    requires room { length (filter (is_woken written.now) (waiters_of readings.now.lists waiting.old.items)) ≤ current.old.room }
+    ensures current { current.new.items ≡ all_lined_up (transactions_of
+        (filter (is_woken written.now) (waiters_of readings.now.lists waiting.old.items))) current.old.items }
+    ensures waiting { waiting.new.items ≡
+        filter (λ w. not (is_woken written.now (waiter_of readings.now.lists w))) waiting.old.items }
+{
+    let mut left = waiting.len();
+    while left > 0 {
+        let Some(first) = waiting.pop_front() else {
+            unreachable!()
+        };
+        if is_woken(&first, readings, written) {
+            current.line_up(first.transaction);
+        } else {
+            waiting.push(first);
+        }
+        left -= 1;
     }
 }

@@ -76,6 +76,17 @@ impl<T: Copy> SharedList<T> {
         self.len() == 0
     }
 
+    /// For how many changes there is room.
+    pub fn room(&self) -> usize
+        ensures { result ≡ self.now.room }
+    {
+        match &self.form {
+            Form::Empty(_) => 0,
+            Form::Plain(items) => items.capacity() - items.len(),
+            Form::Long(items) => items.room(),
+        }
+    }
+
     /// The item at an index.
     #[inline(always)]
     pub fn at(&self, index: usize) -> &T

@@ -69,6 +69,14 @@ impl<T: Copy> LongList<T> {
         self.total - self.gone
     }
 
+    // For how many changes there is room.
+    pub fn room(&self) -> usize
+        ensures { result ≡ self.now.room }
+    {
+        let chunks = self.chunks.capacity() - self.chunks.len();
+        (self.spare.len() / 2).min(chunks.min(LIMIT - self.total))
+    }
+
     // The item at an index.
     #[inline(always)]
     pub fn at(&self, index: usize) -> &T

@@ -3,7 +3,7 @@ use Rattle.std.proofs.lemmas.Option.{get_or_from_slice_get, slice_get_within}
 use Rattle.gw_meaning.specs.Changes.{is_woken}
 use Rattle.gw_retry.specs.Waiting.{waiter_of, IsListed}
 use Rattle.gw_retry.proofs.Passing.{passing_start, one_goes, one_stays, passed_others, passed_come, room_first, room_rest, room_past, fewer}
-use Rattle.gw_retry.proofs.waking.take_woken.Goals as goal
+use Rattle.gw_retry.proofs.waking.take_out.Goals as goal
 
 pub loop-kept-init : goal.loop-kept-init
 loop-kept-init c = record {

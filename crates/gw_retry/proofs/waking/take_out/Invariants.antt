@@ -1,6 +1,6 @@
 use Rattle.std.proofs.Common.{◌≤◌, ◌-◌, length, drop}
 use Rattle.gw_retry.proofs.Passing.{Passing, woken_of}
-use Rattle.gw_retry.proofs.waking.take_woken.Given as goal
+use Rattle.gw_retry.proofs.waking.take_out.Given as goal
 
 abbrev pub invariant-loop-kept : goal.invariant-loop-kept
 invariant-loop-kept l = record {
