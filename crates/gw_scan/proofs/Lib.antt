@@ -1,3 +1,4 @@
+pub mod Crossing
 pub mod Deciding
 pub mod Tracing
 pub mod StepLaws

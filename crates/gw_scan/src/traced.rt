@@ -2,7 +2,7 @@
 ghost use Rattle.std.specs.Prelude.{◌≡◌, OnOk};
 ghost use Rattle.std.specs.Option.{option_to_list};
 ghost use Rattle.gw_meaning.specs.Evaluation.{subject_prog, entity_watched, storage_watched, counts_watched, counts_of, watched_prog};
-ghost use Rattle.gw_meaning.specs.Watching.{with_watched, with_all_watched};
+ghost use Rattle.gw_meaning.specs.Watching.{is_watched, with_watched, with_all_watched};
 ghost use Rattle.gw_asking.specs.Deciding.{Decides};
 ghost use Rattle.gw_scan.specs.Tracing.{IsTracedStill, TracedReplies, attribute_traced, listed, with_read};
 
@@ -165,9 +165,16 @@ fn keep(read: &mut Vec<Watched>, thing: Option<Watched>) -> Result<(), AllocErro
 pub fn keep_once(read: &mut Vec<Watched>, thing: Watched) -> Result<(), AllocError>
     ensures { OnOk result (read.new.items ≡ with_watched read.old.items thing) }
 {
-    if read.iter().any(|other| thing == *other) {
+    if is_in(read.as_slice(), &thing) {
         return Ok(());
     }
     read.push(thing)?;
     Ok(())
+}
+
+// Whether a thing stands in a list.
+fn is_in(list: &[Watched], thing: &Watched) -> bool
+    ensures { result ≡ is_watched list.now thing.now }
+{
+    list.iter().any(|other| *thing == *other)
 }

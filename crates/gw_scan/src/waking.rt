@@ -6,7 +6,7 @@ ghost use Rattle.gw_meaning.specs.Machine.{Machine};
 ghost use Rattle.gw_meaning.specs.Watching.{kind_of};
 
 use crate::state::State;
-use gw_chains::PriorityChain;
+use gw_chains::{PriorityChain, has_share};
 use gw_meaning::{
     Change, Deed, EntityChange, EntityKind, FacilityDeed, StatementId, StorageDeed, Transaction,
     Watched,
@@ -112,11 +112,11 @@ fn push_crossings(
 ) -> Result<(), AllocError>
     ensures { OnOk result (written.new.items ≡ written.old.items ++ crossings shares.now chain.now.items) }
 {
-    for i in 0..shares.len().min(chain.len()) {
+    for i in 0..chain.len().min(shares.len()) {
         let Some(x) = chain.get(i) else {
             unreachable!()
         };
-        if shares[i].is_some() {
+        if has_share(shares, i) {
             push_crossing(written, x, x.destination.id())?;
         }
     }
