@@ -79,6 +79,25 @@ impl State {
         self.streams = notes.streams();
         Ok(())
     }
+
+    // The end that the next step comes to, or `None` where it is made.
+    fn next_end(&self, case: Case) -> Result<Option<End>, AllocError>
+        ensures { IfOk result (EndsAs (step case.entry.version.now case.entry.seed self.now)) }
+    {
+        let mut notes = Notes::new(case.alloc, self.streams());
+        let decided = self.decide(case, &mut notes);
+        drop(notes);
+        match decided {
+            Ok(to) => {
+                drop(to);
+                Ok(None)
+            }
+            Err(halt) => match halt.why() {
+                Why::End(end) => Ok(Some(end)),
+                Why::Memory => Err(AllocError),
+            },
+        }
+    }
 }
 
 /// The end that a step would come to here, or `None` where the run goes on: no move is made.
@@ -95,14 +114,5 @@ pub fn end_at(
         version,
         seed,
     };
-    let mut notes = Notes::new(alloc, state.streams());
-    let decided = state.decide(case, &mut notes);
-    drop(notes);
-    match decided {
-        Ok(_) => Ok(None),
-        Err(halt) => match halt.why() {
-            Why::End(end) => Ok(Some(end)),
-            Why::Memory => Err(AllocError),
-        },
-    }
+    state.next_end(case)
 }
