@@ -22,7 +22,7 @@ use Rattle.gw_meaning.specs.Watching.{with_all_watched}
 use Rattle.gw_asking.specs.declared.halt.Why.{Why}
 use Rattle.gw_asking.specs.declared.halt.Why.TheVariants as whys
 use Rattle.gw_asking.specs.Halts.{why_of_fault}
-use Rattle.gw_asking.specs.Deciding.{Decides}
+use Rattle.gw_asking.specs.Deciding.{Decides, Comes}
 use Rattle.gw_asking.specs.Noted.{Noted}
 use Rattle.gw_scan.specs.Seeing.{halted}
 use Rattle.gw_scan.specs.Tracing.{attribute_traced, with_read, TracedReplied, IsTracedStill, TracedReplies}
@@ -102,6 +102,13 @@ module _ (t : Listing) (seed : ℕ) (s : Machine) (q : Asker) where
       reply_goes question k reply (with_read (halted r) new.1) old between new.0 said there (evaluation_decides rest)
   evaluation_decides (failed question k fault old new there) = reply_fails question k fault old new there
 
+-- what neither asks nor draws, beside what was read
+pub comes_with : {A : Type 0} (t : Listing) (seed : ℕ) (p : Eval A) (r : Result A Why) (read : List Watched) (xs : Noted) → Comes p r →
+    Decides t seed (p ~> (λ a. gives (a, read))) (with_read r read) xs xs
+comes_with t seed p (Ok a) read xs h =
+    decides_then t seed p (λ x. gives (x, read)) a (Ok (a, read)) xs xs xs (decides_comes t seed p (Ok a) xs h) (decides_gives t seed (a, read) xs)
+comes_with t seed p (Err halt) read xs h = decides_halt t seed p (λ x. gives (x, read)) halt xs xs (decides_comes t seed p (Err halt) xs h)
+
 abbrev trace_of : Traced → Trace
 trace_of w = (w.notes.now, w.read.now.items)
 
@@ -130,3 +137,12 @@ pub traced_decides : {A : Type 0} {p : Evaluation A} {r : Result A Fault} {old n
 traced_decides {old} h ends lists =
     let (of_notes, (state, asker, of_case, name, list)) = noted h in
     rw (ends (sym name), lists (sym list)) (evaluation_decides old.case.version.now old.case.seed old.state.now old.asker.now of_notes)
+
+-- the same, where it came to none
+pub traced_halts : {A : Type 0} {p : Evaluation A} {fault : Fault} {old new : Traced} {notes : Noted} →
+    Evaluates (Replying old.case.version.now) TracedReplies p (Err fault) old new →
+    (old.notes.ghost_name ≡ new.notes.ghost_name → notes ≡ new.notes.now) →
+    Decides old.case.version.now old.case.seed (traced old.state.now old.asker.now old.read.now.items p) (Err (why_of_fault fault)) old.notes.now notes
+traced_halts {old} h ends =
+    let (of_notes, (state, asker, of_case, name, list)) = noted h in
+    rw (ends (sym name)) (evaluation_decides old.case.version.now old.case.seed old.state.now old.asker.now of_notes)

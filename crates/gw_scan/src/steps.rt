@@ -76,8 +76,15 @@ impl State {
     {
         let to = self.decide(case, notes)?;
         self.make(case.alloc, to)?;
-        self.streams = notes.streams();
+        self.take_draws(notes);
         Ok(())
+    }
+
+    // The streams behind the draws that were noted become the state's.
+    fn take_draws(&mut self, notes: &Notes)
+        ensures { self.new ≡ record self.old { streams = notes.now.streams } }
+    {
+        self.streams = notes.streams();
     }
 
     // The end that the next step comes to, or `None` where it is made.

@@ -24,5 +24,5 @@ pub returns : goal.returns
 returns c = (
   c.in_ok-to.to,
   c.in_ok-to.ensures,
-  ap (λ (after : Machine). record after { streams = c.decide.new.notes.streams }) c.in_ok-make.ensures.ok,
+  c.take_draws.ensures ∙ ap (λ (after : Machine). record after { streams = c.decide.new.notes.streams }) c.in_ok-make.ensures.ok,
 )
