@@ -1,5 +1,6 @@
 pub mod Crossing
 pub mod Deciding
+pub mod Nobody
 pub mod Tracing
 pub mod StepLaws
 pub mod Stopping

@@ -131,11 +131,14 @@ impl State {
         let x = *x;
         let clock = self.clocks.clock();
         let written = self.to_wake(alloc, &x, id, change)?;
-        let count = self.retry.reserve(written.as_slice())?;
+        let woken = self.retry.reserve(written.as_slice())?;
+        let Some(others) = woken.checked_add(1) else {
+            return Err(AllocError);
+        };
         self.counts.reserve(id)?;
         reserve(
             change,
-            count + 1,
+            others,
             &mut self.delays,
             &mut self.current,
             &mut self.future,
