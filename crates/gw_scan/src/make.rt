@@ -132,10 +132,13 @@ impl State {
         let clock = self.clocks.clock();
         let written = self.to_wake(alloc, &x, id, change)?;
         let count = self.retry.reserve(written.as_slice())?;
+        let Some(others) = count.checked_add(1) else {
+            return Err(AllocError);
+        };
         self.counts.reserve(id)?;
         reserve(
             change,
-            count + 1,
+            others,
             &mut self.delays,
             &mut self.current,
             &mut self.future,
