@@ -1,7 +1,8 @@
 pub mod Crossing
 pub mod Deciding
-pub mod Nobody
 pub mod Tracing
 pub mod StepLaws
 pub mod Stopping
+pub mod Kept
+pub mod Quiet
 pub mod Evaluating

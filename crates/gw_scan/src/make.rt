@@ -131,8 +131,8 @@ impl State {
         let x = *x;
         let clock = self.clocks.clock();
         let written = self.to_wake(alloc, &x, id, change)?;
-        let woken = self.retry.reserve(written.as_slice())?;
-        let Some(others) = woken.checked_add(1) else {
+        let count = self.retry.reserve(written.as_slice())?;
+        let Some(others) = count.checked_add(1) else {
             return Err(AllocError);
         };
         self.counts.reserve(id)?;

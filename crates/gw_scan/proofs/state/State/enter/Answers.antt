@@ -1,18 +1,22 @@
-use Rattle.std.proofs.Common.{◌≡◌, List, Some, None, sym, ap, ◌∙◌, rules}
-use Rattle.gw_meaning.specs.declared.transaction.Transaction.{Transaction}
-use Rattle.gw_meaning.specs.Changes.{changed, crossed, entering, fated, held_by, marked, placed, woken}
-use Rattle.gw_meaning.specs.Entities.{touched}
-use Rattle.gw_meaning.specs.Machine.{Machine}
+use Rattle.std.proofs.Common.{rules, ◌≡◌, ◌++◌, Some, None, List, not, filter, sym, ap, ap₂, ◌∙◌}
 use Rattle.gw_chains.specs.Chains.{delays_of}
+use Rattle.gw_meaning.specs.declared.watched.Watched.{Watched}
+use Rattle.gw_meaning.specs.declared.transaction.Transaction.{Transaction}
+use Rattle.gw_meaning.specs.Machine.{Machine}
+use Rattle.gw_meaning.specs.Watching.{transactions_of}
+use Rattle.gw_meaning.specs.Changes.{placed, marked, held_by, fated, crossed, changed, entering, all_lined_up, is_woken, woken}
+use Rattle.gw_meaning.specs.Entities.{touched}
+use Rattle.gw_parts.specs.Parts.{entities_of}
 use Rattle.gw_scan.specs.Making.{kept_by}
-use Rattle.gw_scan.proofs.Nobody.{nothing_wakes}
+use Rattle.gw_scan.proofs.Quiet.{nobody_enters}
+use Rattle.gw_scan.proofs.Kept.{number_kept, entered_is}
 use Rattle.gw_scan.proofs.state.State.enter.Goals as goal
 
 pub returns-in_default-clause-ok : goal.returns-in_default-clause-ok
 returns-in_default-clause-ok c =
     let s = c.args.self.now in
     let none : s.active ≡ None = search rules in
-    rw none (sym (nothing_wakes s))
+    nobody_enters s s.active c.args.id c.args.change.now (λ x. entering s x c.args.id c.args.change.now c.args.fate) none
 
 pub returns-clause-ok : goal.returns-clause-ok
 returns-clause-ok c =
@@ -21,47 +25,84 @@ returns-clause-ok c =
     let change = c.args.change.now in
     let fate = c.args.fate in
     let x = c.in-Some.x.now in
-    let y = c.marked.result in
-    let list = c.in_ok-written.written.items in
-    let inside = c.self.inside in
     let active : s.active ≡ Some x = search rules in
-    let there : y ≡ marked change s.clock (placed x id) = search rules in
+    let list : List Watched = c.in_ok-written.written.items in
+    let number = x.number in
+    let y : Transaction = marked change s.clock (placed x id) in
+    let progress = c.settle.new.progress in
+    -- what the calls gave
+    let is_y : c.marked.result ≡ y = search rules in
+    let next : c.self.inside.next ≡ s.next = search rules in
+    let delays : delays_of c.reserve-3.new.delays ≡ s.delays = search rules in
+    let counts : c.cross.new.self.entries ≡ crossed fate s.counts x.current id = search rules in
+    let entities : entities_of c.keep.new.entities ≡ touched change s.clock number s.entities = search rules in
+    let kept : c.keep.new.parameters ≡ kept_by fate number (held_by change number s.parameters) = search rules in
+    let same_number : c.marked.result.number ≡ number =
+        ap (λ (z : Transaction). z.number) is_y ∙ number_kept change s.clock (placed x id) in
+    let parameters : c.keep.new.parameters ≡ kept_by fate c.marked.result.number (held_by change number s.parameters) =
+        kept ∙ ap (λ n. kept_by fate n (held_by change number s.parameters)) (sym same_number) in
+    let commands : progress.commands ≡ s.commands = search rules in
+    let primed : progress.primed ≡ s.primed = search rules in
+    -- behind what becomes of the transaction
     let base : Machine = record s {
       counts = crossed fate s.counts x.current id;
-      entities = touched change s.clock x.number s.entities;
-      parameters = held_by change x.number s.parameters;
+      entities = touched change s.clock number s.entities;
+      parameters = held_by change number s.parameters;
     } in
     let before : record base {
       current = c.reserve-3.new.current.items;
       future = c.reserve-3.new.future.items;
-      remaining = inside.progress.remaining;
-      complete = inside.progress.complete;
+      remaining = c.self.inside.progress.remaining;
+      complete = c.self.inside.progress.complete;
     } ≡ base = search rules in
-    let mid : Machine = record base {
+    let settled = c.settle.ensures.fated base in
+    let rest : Machine = record s {
       active = c.settle.new.active;
-      current = c.settle.new.current.items;
-      future = c.settle.new.future.items;
-      remaining = c.settle.new.progress.remaining;
-      complete = c.settle.new.progress.complete;
-      parameters = kept_by fate y.number base.parameters;
+      remaining = progress.remaining;
+      complete = progress.complete;
+      commands = progress.commands;
+      primed = progress.primed;
+      entities = entities_of c.keep.new.entities;
+      parameters = c.keep.new.parameters;
     } in
-    let settled : mid ≡ fated fate y base = c.settle.ensures.fated base ∙ ap (fated fate y) before in
-    let same : record mid {
-      next = inside.next;
+    let start : Machine = record rest {
+      next = c.self.inside.next;
       delays = delays_of c.reserve-3.new.delays;
       current = c.settle.new.current.items;
       future = c.settle.new.future.items;
       counts = c.cross.new.self.entries;
-    } ≡ mid = search rules in
-    let after : Machine = record mid {
+    } in
+    let is_start : start ≡ record base {
+      active = c.settle.new.active;
+      current = c.settle.new.current.items;
+      future = c.settle.new.future.items;
+      remaining = progress.remaining;
+      complete = progress.complete;
+      parameters = kept_by fate c.marked.result.number base.parameters;
+    } = λ i. record start {
+      next = next i;
+      delays = delays i;
+      counts = counts i;
+      entities = entities i;
+      parameters = parameters i;
+      commands = commands i;
+      primed = primed i;
+    } in
+    let behind : start ≡ fated fate y base = is_start ∙ (settled ∙ ap₂ (fated fate) is_y before) in
+    -- behind whom the change brings
+    let brought : Machine = record rest {
       next = c.bring.new.next;
       delays = delays_of c.bring.new.delays;
       current = c.bring.new.current.items;
       future = c.bring.new.future.items;
       counts = c.bring.new.counts.entries;
     } in
-    let brought : after ≡ changed change (fated fate y base) = c.bring.ensures.brought mid ∙ ap (changed change) (same ∙ settled) in
-    let entered : after ≡ entering s x id change fate = brought ∙ ap (λ (z : Transaction). changed change (fated fate z base)) there in
-    let number : y.number ≡ x.number = search rules in
-    let whole = ap (woken list) entered ∙ c.in_ok-written.ensures (entering s x id change fate) (ap (λ (m : Machine). m.retry) (sym entered)) in
-    rw active (search (rules, number, whole))
+    let entered : brought ≡ entering s x id change fate = c.bring.ensures.brought rest ∙ ap (changed change) behind in
+    -- behind those who wake
+    let current : c.wake.new.current.items ≡
+        all_lined_up (transactions_of (filter (is_woken list) s.retry)) c.bring.new.current.items = search rules in
+    let retry : c.wake.new.self.waiters ≡ filter (λ w. not (is_woken list w)) s.retry = search rules in
+    let after : Machine = record brought { current = c.wake.new.current.items; retry = c.wake.new.self.waiters } in
+    let woke : after ≡ woken list brought = λ i. record brought { current = current i; retry = retry i } in
+    let view = ap (λ (t : Machine). record after { clock = t.clock; since = t.since; streams = t.streams }) c.self.view_is in
+    view ∙ entered_is s after x id change fate list active c.in_ok-written.ensures (woke ∙ ap (woken list) entered)
