@@ -50,5 +50,5 @@ IsTracedStill old new =
 abbrev pub TracedReplies : (question : Question) → Traced → Result (Reply question) Fault → Traced → Type 0
 TracedReplies question old result new =
     TracedReplied old.case.version.now old.case.seed old.state.now old.asker.now question
-        (old.notes.now, old.read.now.items) result (new.notes.now, new.read.now.items)
+    (old.notes.now, old.read.now.items) result (new.notes.now, new.read.now.items)
     × IsTracedStill old new

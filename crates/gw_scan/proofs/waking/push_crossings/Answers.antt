@@ -26,7 +26,7 @@ loop-i-preserved c =
           let front : with_share (drop i shares) (drop i F) ≡ x ∷ ws =
           ap (with_share (drop i shares)) first ∙ with_first shares i x (drop (i + 1) F) some in
           let pushed : w.push_crossing.new.written.items ≡ c.loop-i.written.items ++ crossing x x.destination =
-              w.in_ok-push_crossing.ensures ∙ ap (λ to. c.loop-i.written.items ++ crossing x to) w.id.ensures in
+          w.in_ok-push_crossing.ensures ∙ ap (λ to. c.loop-i.written.items ++ crossing x to) w.id.ensures in
           rw w.written-is (ap (λ (vs : List Watched). vs ++ all_crossing ws) pushed ∙
           (append_assoc c.loop-i.written.items (crossing x x.destination) (all_crossing ws) ∙
           (ap (λ ys. c.loop-i.written.items ++ all_crossing ys) (sym front) ∙ was)))

@@ -38,9 +38,9 @@ returns-clause-ok c =
     let entities : entities_of c.keep.new.entities ≡ touched change s.clock number s.entities = search rules in
     let kept : c.keep.new.parameters ≡ kept_by fate number (held_by change number s.parameters) = search rules in
     let same_number : c.marked.result.number ≡ number =
-        ap (λ (z : Transaction). z.number) is_y ∙ number_kept change s.clock (placed x id) in
+    ap (λ (z : Transaction). z.number) is_y ∙ number_kept change s.clock (placed x id) in
     let parameters : c.keep.new.parameters ≡ kept_by fate c.marked.result.number (held_by change number s.parameters) =
-        kept ∙ ap (λ n. kept_by fate n (held_by change number s.parameters)) (sym same_number) in
+    kept ∙ ap (λ n. kept_by fate n (held_by change number s.parameters)) (sym same_number) in
     let commands : progress.commands ≡ s.commands = search rules in
     let primed : progress.primed ≡ s.primed = search rules in
     -- behind what becomes of the transaction
@@ -100,7 +100,7 @@ returns-clause-ok c =
     let entered : brought ≡ entering s x id change fate = c.bring.ensures.brought rest ∙ ap (changed change) behind in
     -- behind those who wake
     let current : c.wake.new.current.items ≡
-        all_lined_up (transactions_of (filter (is_woken list) s.retry)) c.bring.new.current.items = search rules in
+    all_lined_up (transactions_of (filter (is_woken list) s.retry)) c.bring.new.current.items = search rules in
     let retry : c.wake.new.self.waiters ≡ filter (λ w. not (is_woken list w)) s.retry = search rules in
     let after : Machine = record brought { current = c.wake.new.current.items; retry = c.wake.new.self.waiters } in
     let woke : after ≡ woken list brought = λ i. record brought { current = current i; retry = retry i } in
