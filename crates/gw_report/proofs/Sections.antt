@@ -3,6 +3,8 @@ use Rattle.std.proofs.Common.{◌≡◌, ℕ, ◌+◌, List, [], ◌∷◌, ◌+
 use Rattle.std.specs.List.{flat_map}
 use Rattle.std.proofs.lemmas.List.Concat.{flat_map-append}
 use Rattle.gw_meaning.specs.Listing.{Listing}
+use Rattle.gw_meaning.specs.declared.watched.Watched.TheVariants as watched
+use Rattle.gw_meaning.specs.Changes.{retries}
 use Rattle.gw_meaning.specs.Machine.{Machine, count_at}
 use Rattle.gw_meaning.specs.declared.statement.Block.{Block}
 use Rattle.gw_meaning.specs.declared.statement.Body.TheVariants as bodies
@@ -45,7 +47,7 @@ rows_joined columns f [] = refl
 rows_joined columns f (x ∷ xs) = rw (flat_map-append (row_of columns) (f x) (flat_map f xs), rows_joined columns f xs) refl
 
 pub block_shown : (t : Listing) (s : Machine) (line : Numbered) (block : Block) → line.statement.body ≡ bodies.Block block
-    → rows_of block_columns (block_lines t s line) ≡ row_of block_columns (block_line t line block (count_at s.counts line.number))
+    → rows_of block_columns (block_lines t s line) ≡ row_of block_columns (block_line t line block (count_at s.counts line.number) (retries s (watched.Counts line.number)))
 block_shown t s line block h = rw (h, append-nil) refl
 
 -- lines of one row each, over what is read from each element

@@ -1,5 +1,7 @@
-use Rattle.std.proofs.Common.{◌≡◌, ◌++◌, ◌∷◌, [], ap, sym, ◌∙◌, refl, decimal}
+use Rattle.std.proofs.Common.{◌≡◌, ◌++◌, ◌∷◌, [], ap, sym, ◌∙◌, refl, rules, decimal}
 use Rattle.std.proofs.lemmas.Result.{on_ok_weaker}
+use Rattle.gw_meaning.specs.declared.watched.Watched.TheVariants as watched
+use Rattle.gw_meaning.specs.Changes.{retries}
 use Rattle.gw_meaning.specs.Machine.{count_at}
 use Rattle.gw_report.specs.declared.column.Side.TheVariants.{Left, Right}
 use Rattle.gw_report.specs.Layout.{blanks, fitted, row_of}
@@ -20,7 +22,9 @@ returns c =
     let word = fitted Left 10 c.word.result.now in
     let entries = fitted Right 11 (decimal count.entries) in
     let content = fitted Right 13 (decimal count.content) in
-    let retry = fitted Right 6 (decimal 0) in
+    let waiters = retries s (watched.Counts line.number) in
+    let waiting : c.count-retry.result ≡ waiters = search rules in
+    let retry = fitted Right 6 (decimal c.count-retry.result) in
     let gap = blanks 1 in
     let behind_content = gap ++ (retry ++ 10 ∷ []) in
     let behind_entries = gap ++ (content ++ behind_content) in
@@ -28,9 +32,9 @@ returns c =
     let behind_position = gap ++ (word ++ behind_word) in
     let behind_label = gap ++ (position ++ behind_position) in
     let cells : row_of block_columns (c.label_text.result.now ∷ decimal c.position_of.result ∷ c.word.result.now ∷
-    decimal count.entries ∷ decimal count.content ∷ decimal 0 ∷ []) ≡
-    row_of block_columns (block_line t line c.in-Block.block (count_at s.counts line.number)) =
-    rw (c.label_text.ensures, c.position_of.ensures, c.word.ensures, c.count-count.ensures) refl in
+    decimal count.entries ∷ decimal count.content ∷ decimal c.count-retry.result ∷ []) ≡
+    row_of block_columns (block_line t line c.in-Block.block (count_at s.counts line.number) waiters) =
+    rw (c.label_text.ensures, c.position_of.ensures, c.word.ensures, c.count-count.ensures, waiting) refl in
     on_ok_weaker c.end_row.result (λ end. end
     ∙ cell_then c.put_number-3.new.self gap retry (10 ∷ []) c.put_number-4.new.self c.in_ok-put_number-4.ensures
     ∙ cell_then c.put_number-2.new.self gap content behind_content c.put_number-3.new.self c.in_ok-put_number-3.ensures
