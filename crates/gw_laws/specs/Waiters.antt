@@ -36,7 +36,7 @@ use Rattle.gw_meaning.specs.Evaluation.{Eval, reply_prog, evaluated, value_there
 use Rattle.gw_meaning.specs.Step.{for_one, holds, is_open, decide, step, run}
 use Rattle.gw_model.specs.Well.{Well}
 use Rattle.gw_laws.specs.Delays.{IsLetIn}
-use Rattle.gw_laws.specs.Destinations.{goes_to}
+use Rattle.gw_laws.specs.Destinations.{goes_to, IsAtATestOrAGate}
 
 -- w waits for a change
 abbrev pub Waits : Machine → Waiter → Type 0
@@ -73,6 +73,13 @@ WokenByWhatIsWritten =
     result_of t seed (decide s) ≡ Ok (m, streams) → step t seed s ≡ Ok v → Waits s w →
     (is_woken (written s m) w ≡ true → Contains v.current w.transaction)
     × (is_woken (written s m) w ≡ false → Waits v w)
+
+-- whoever waits tried a TEST or a GATE without a label: the block of its destination where it has one, and else the one
+-- behind its own
+abbrev pub WhoWaitsIsAtATestOrAGate : Type 0
+WhoWaitsIsAtATestOrAGate =
+    (t : Listing) (seed n : ℕ) (s : Machine) → run t seed n ≡ Ok s →
+    (w : Waiter) → Waits s w → IsAtATestOrAGate t w.transaction
 
 -- where no transaction is active, as where the clock moves on, one is picked or a command is done, nobody wakes
 abbrev pub NobodyWakesWhereNoneIsActive : Type 0
