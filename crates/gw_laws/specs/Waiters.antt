@@ -161,13 +161,21 @@ NobodyWaitsAtAnOpenGate =
     b.auxiliary ≡ auxiliaries.Gate condition → key_written t (operand b A) ≡ Some key →
     is_open s condition key (capacity_of t key) ≡ false
 
--- what stays as it is until a block writes it: owners, contents, savevalues and switches, and what a transaction that
--- waits has of its own. (Counts of entries are left out: they are to be set to 0 by a command, which wakes nobody.)
+-- what stays as it is until a block writes it: owners, contents, counts, savevalues and switches, and what a transaction
+-- that waits has of its own. (A RESET would set counts of entries to 0 and wake nobody. None is read so far; once it is,
+-- the law below needs the premise that the version has none.)
 abbrev pub is_lasting : Class → Bool
 is_lasting class.F = true
+is_lasting class.Fc = true
 is_lasting class.S = true
 is_lasting class.R = true
+is_lasting class.Sc = true
+is_lasting class.Sm = true
 is_lasting class.Q = true
+is_lasting class.Qc = true
+is_lasting class.Qm = true
+is_lasting class.Qz = true
+is_lasting class.N = true
 is_lasting class.W = true
 is_lasting class.X = true
 is_lasting class.Ls = true

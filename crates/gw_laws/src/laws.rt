@@ -80,8 +80,8 @@ pub fn nobody_wakes_for_nothing()
 {}
 
 /// Nobody waits at a GATE whose condition holds of the entity that its operand names. Nobody waits at a TEST whose
-/// relation holds, where its values read nothing but what stays until a block writes it: F, Q, S, R, W, X and LS, and the
-/// parameters, the priority and the number of who waits.
+/// relation holds, where its values read nothing but what stays until a block writes it: F, FC, Q, QC, QM, QZ, S, R, SC,
+/// SM, N, W, X and LS, and the parameters, the priority and the number of who waits.
 pub fn nobody_waits_for_what_holds()
     ensures gate { NobodyWaitsAtAnOpenGate }
     ensures test { NobodyWaitsAtATestThatHolds }
