@@ -44,11 +44,34 @@ IsAt id (moves.Refuse to key units) = to ≡ id
 IsAt id (moves.Watch read) = Unit {0}
 IsAt id move = ⊥
 
+-- the same, where whoever waits for a change has the property P
+abbrev pub IsAtOr : Type 0 → ℕ → Move → Type 0
+IsAtOr P id (moves.Enter to change fate) = to ≡ id
+IsAtOr P id (moves.Refuse to key units) = to ≡ id
+IsAtOr P id (moves.Watch read) = P
+IsAtOr P id move = ⊥
+
+at_so : (P : Type 0) (id : ℕ) (m : Move) → IsAtOr P id m → IsAt id m
+at_so P id (moves.Enter to change fate) h = h
+at_so P id (moves.Refuse to key units) h = h
+at_so P id (moves.Watch read) h = tt
+at_so P id m h = absurd h
+
+-- a block at which whoever waits for a change may wait: a TEST or a GATE without a label
+abbrev pub WaitsAtVerb : Block → BlockVerb → Type 0
+WaitsAtVerb b blocks.Test = operand b C ≡ None
+WaitsAtVerb b blocks.Gate = operand b B ≡ None
+WaitsAtVerb b verb = ⊥
+
+abbrev pub WaitsAtBlock : Option Block → Type 0
+WaitsAtBlock None = ⊥
+WaitsAtBlock (Some b) = WaitsAtVerb b b.verb
+
 abbrev pub IsAttempt : Move → Type 0
 IsAttempt move = (id : ℕ) × IsAt id move
 
-abbrev TriesMove : ℕ → Eval Move → Type 0
-TriesMove id p = Tries (IsAt id) p
+abbrev TriesMove : Type 0 → ℕ → Eval Move → Type 0
+TriesMove P id p = Tries (IsAtOr P id) p
 
 module _ (s : Machine) where
   -- ---- the next transaction of a GENERATE, and priming
@@ -90,192 +113,200 @@ module _ (s : Machine) where
   start_tries true count = tries_gives tt
   start_tries false count = tries_bind (first_arrivals_try count) (λ first. tries_gives tt)
 
-  -- ---- attempts
-  generate_tries : (x : Transaction) (id : ℕ) (mean range limit priority : Option Term) → TriesMove id (generate_prog s x id mean range limit priority)
-  generate_tries x id mean range limit priority =
-      tries_stops (not (nat_eq x.current 0)) _ (tries_bind (arrival_tries (for_none s.remaining) id _ mean range limit priority) (λ next. tries_gives refl))
+  -- ---- attempts: whoever waits for a change has the property P
+  module _ (P : Type 0) where
+    generate_tries : (x : Transaction) (id : ℕ) (mean range limit priority : Option Term) → TriesMove P id (generate_prog s x id mean range limit priority)
+    generate_tries x id mean range limit priority =
+        tries_stops (not (nat_eq x.current 0)) _ (tries_bind (arrival_tries (for_none s.remaining) id _ mean range limit priority) (λ next. tries_gives refl))
 
-  advance_tries : (q : Asker) (id : ℕ) (mean range : Option Term) → TriesMove id (advance_prog s q id mean range)
-  advance_tries q id mean range = tries_bind (time_tries s q mean range) (λ v. tries_stops (is_negative v) _ (tries_gives refl))
+    advance_tries : (q : Asker) (id : ℕ) (mean range : Option Term) → TriesMove P id (advance_prog s q id mean range)
+    advance_tries q id mean range = tries_bind (time_tries s q mean range) (λ v. tries_stops (is_negative v) _ (tries_gives refl))
 
-  terminate_tries : (q : Asker) (id : ℕ) (count : Option Term) → TriesMove id (terminate_prog s q id count)
-  terminate_tries q id count = tries_bind (value_or_zero_tries s q count) (λ n. tries_stops (is_negative n) _ (tries_gives refl))
+    terminate_tries : (q : Asker) (id : ℕ) (count : Option Term) → TriesMove P id (terminate_prog s q id count)
+    terminate_tries q id count = tries_bind (value_or_zero_tries s q count) (λ n. tries_stops (is_negative n) _ (tries_gives refl))
 
-  queue_tries : (q : Asker) (id : ℕ) (entity units : Option Term) → TriesMove id (queue_prog s q id entity units)
-  queue_tries q id entity units = tries_bind (entity_tries s q entity) (λ key. tries_bind (units_tries s q units)
-      (λ n. tries_stops
-      (is_too_many ((line_at s.entities key).entries + n) || is_too_many ((line_at s.entities key).level.content + n)) _ (tries_gives refl)))
+    queue_tries : (q : Asker) (id : ℕ) (entity units : Option Term) → TriesMove P id (queue_prog s q id entity units)
+    queue_tries q id entity units = tries_bind (entity_tries s q entity) (λ key. tries_bind (units_tries s q units)
+        (λ n. tries_stops
+        (is_too_many ((line_at s.entities key).entries + n) || is_too_many ((line_at s.entities key).level.content + n)) _ (tries_gives refl)))
 
-  depart_units_tries : (id : ℕ) (key : Key) (line : Line) (at_once : Bool) (units : ℕ) → TriesMove id (depart_units id key line at_once units)
-  depart_units_tries id key line at_once units =
-      tries_stops (at_once && is_too_many (line.zero_entries + units)) _ (tries_stops (nat_lt line.level.content units) _ (tries_gives refl))
+    depart_units_tries : (id : ℕ) (key : Key) (line : Line) (at_once : Bool) (units : ℕ) → TriesMove P id (depart_units id key line at_once units)
+    depart_units_tries id key line at_once units =
+        tries_stops (at_once && is_too_many (line.zero_entries + units)) _ (tries_stops (nat_lt line.level.content units) _ (tries_gives refl))
 
-  depart_tries : (q : Asker) (x : Transaction) (id : ℕ) (entity units : Option Term) → TriesMove id (depart_prog s q x id entity units)
-  depart_tries q x id entity units = tries_bind (entity_tries s q entity) (λ key. tries_bind (units_tries s q units)
-      (λ n. depart_units_tries id key (line_at s.entities key) (came s.entities.comings key x.number) n))
+    depart_tries : (q : Asker) (x : Transaction) (id : ℕ) (entity units : Option Term) → TriesMove P id (depart_prog s q x id entity units)
+    depart_tries q x id entity units = tries_bind (entity_tries s q entity) (λ key. tries_bind (units_tries s q units)
+        (λ n. depart_units_tries id key (line_at s.entities key) (came s.entities.comings key x.number) n))
 
-  seize_or_wait_tries : (id : ℕ) (key : Key) (owned : Bool) → TriesMove id (seize_or_wait id key owned)
-  seize_or_wait_tries id key true = tries_gives refl
-  seize_or_wait_tries id key false = tries_gives refl
+    seize_or_wait_tries : (id : ℕ) (key : Key) (owned : Bool) → TriesMove P id (seize_or_wait id key owned)
+    seize_or_wait_tries id key true = tries_gives refl
+    seize_or_wait_tries id key false = tries_gives refl
 
-  seize_tries : (q : Asker) (id : ℕ) (entity : Option Term) → TriesMove id (seize_prog s q id entity)
-  seize_tries q id entity =
-      tries_bind (entity_tries s q entity) (λ key. seize_or_wait_tries id key (is_some (facility_at s.entities key).owner))
+    seize_tries : (q : Asker) (id : ℕ) (entity : Option Term) → TriesMove P id (seize_prog s q id entity)
+    seize_tries q id entity =
+        tries_bind (entity_tries s q entity) (λ key. seize_or_wait_tries id key (is_some (facility_at s.entities key).owner))
 
-  release_tries : (q : Asker) (x : Transaction) (id : ℕ) (entity : Option Term) → TriesMove id (release_prog s q x id entity)
-  release_tries q x id entity = tries_bind (entity_tries s q entity)
-      (λ key. tries_stops (not (is_owner (facility_at s.entities key).owner x.number)) _ (tries_gives refl))
+    release_tries : (q : Asker) (x : Transaction) (id : ℕ) (entity : Option Term) → TriesMove P id (release_prog s q x id entity)
+    release_tries q x id entity = tries_bind (entity_tries s q entity)
+        (λ key. tries_stops (not (is_owner (facility_at s.entities key).owner x.number)) _ (tries_gives refl))
 
-  enter_or_wait_tries : (id : ℕ) (key : Key) (store : Store) (units : ℕ) (fits : Bool) → TriesMove id (enter_or_wait id key store units fits)
-  enter_or_wait_tries id key store units true = tries_stops (is_too_many (store.entries + units)) _ (tries_gives refl)
-  enter_or_wait_tries id key store units false = tries_gives refl
+    enter_or_wait_tries : (id : ℕ) (key : Key) (store : Store) (units : ℕ) (fits : Bool) → TriesMove P id (enter_or_wait id key store units fits)
+    enter_or_wait_tries id key store units true = tries_stops (is_too_many (store.entries + units)) _ (tries_gives refl)
+    enter_or_wait_tries id key store units false = tries_gives refl
 
-  enter_storage_tries : (id : ℕ) (name : List ℕ) (store : Store) (units : ℕ) (large : Bool) → TriesMove id (enter_storage id name store units large)
-  enter_storage_tries id name store units large =
-      tries_stops (not large) _
-      (tries_asks (items.Named (asking.Fits (beside units store.level.content)) name) (enter_or_wait_tries id (keys.Defined name) store units))
+    enter_storage_tries : (id : ℕ) (name : List ℕ) (store : Store) (units : ℕ) (large : Bool) → TriesMove P id (enter_storage id name store units large)
+    enter_storage_tries id name store units large =
+        tries_stops (not large) _
+        (tries_asks (items.Named (asking.Fits (beside units store.level.content)) name) (enter_or_wait_tries id (keys.Defined name) store units))
 
-  enter_tries : (q : Asker) (id : ℕ) (storage units : Option Term) → TriesMove id (enter_prog s q id storage units)
-  enter_tries q id (Some (Defined name)) units = tries_bind (units_tries s q units)
-      (λ n. tries_asks (items.Named (asking.Fits n) name) (enter_storage_tries id name (store_at s.entities (keys.Defined name)) n))
-  enter_tries q id (Some term) units = tries_ends
-  enter_tries q id None units = tries_ends
+    enter_tries : (q : Asker) (id : ℕ) (storage units : Option Term) → TriesMove P id (enter_prog s q id storage units)
+    enter_tries q id (Some (Defined name)) units = tries_bind (units_tries s q units)
+        (λ n. tries_asks (items.Named (asking.Fits n) name) (enter_storage_tries id name (store_at s.entities (keys.Defined name)) n))
+    enter_tries q id (Some term) units = tries_ends
+    enter_tries q id None units = tries_ends
 
-  shares_try : (name : List ℕ) (content : ℕ) (shares : List (Option ℕ)) (chain : List Transaction) → TriesAny (shares_prog name content shares chain)
-  shares_try name content shares [] = tries_gives tt
-  shares_try name content shares (x ∷ xs) = tries_asks (items.Named (asking.Fits (beside x.asked content)) name)
-      (λ fits. shares_try name (in_use content x.asked fits) (shares ++ share_of x.asked fits ∷ []) xs)
+    shares_try : (name : List ℕ) (content : ℕ) (shares : List (Option ℕ)) (chain : List Transaction) → TriesAny (shares_prog name content shares chain)
+    shares_try name content shares [] = tries_gives tt
+    shares_try name content shares (x ∷ xs) = tries_asks (items.Named (asking.Fits (beside x.asked content)) name)
+        (λ fits. shares_try name (in_use content x.asked fits) (shares ++ share_of x.asked fits ∷ []) xs)
 
-  leave_for_tries : (id : ℕ) (key : Key) (store : Store) (units : ℕ) (shares : List (Option ℕ)) → TriesMove id (leave_for id key store units shares)
-  leave_for_tries id key store units shares = tries_stops (is_too_many (store.entries + all_shares shares)) _ (tries_gives refl)
+    leave_for_tries : (id : ℕ) (key : Key) (store : Store) (units : ℕ) (shares : List (Option ℕ)) → TriesMove P id (leave_for id key store units shares)
+    leave_for_tries id key store units shares = tries_stops (is_too_many (store.entries + all_shares shares)) _ (tries_gives refl)
 
-  leave_units_tries : (id : ℕ) (name : List ℕ) (store : Store) (units : ℕ) → TriesMove id (leave_units s id name store units)
-  leave_units_tries id name store units =
-      tries_stops (nat_lt store.level.content units) _
-      (tries_bind (shares_try name (store.level.content - units) [] (delay_at s.delays (keys.Defined name)))
-      (λ shares. leave_for_tries id (keys.Defined name) store units shares))
+    leave_units_tries : (id : ℕ) (name : List ℕ) (store : Store) (units : ℕ) → TriesMove P id (leave_units s id name store units)
+    leave_units_tries id name store units =
+        tries_stops (nat_lt store.level.content units) _
+        (tries_bind (shares_try name (store.level.content - units) [] (delay_at s.delays (keys.Defined name)))
+        (λ shares. leave_for_tries id (keys.Defined name) store units shares))
 
-  leave_tries : (q : Asker) (id : ℕ) (storage units : Option Term) → TriesMove id (leave_prog s q id storage units)
-  leave_tries q id (Some (Defined name)) units =
-      tries_bind (units_tries s q units) (λ n. leave_units_tries id name (store_at s.entities (keys.Defined name)) n)
-  leave_tries q id (Some term) units = tries_ends
-  leave_tries q id None units = tries_ends
+    leave_tries : (q : Asker) (id : ℕ) (storage units : Option Term) → TriesMove P id (leave_prog s q id storage units)
+    leave_tries q id (Some (Defined name)) units =
+        tries_bind (units_tries s q units) (λ n. leave_units_tries id name (store_at s.entities (keys.Defined name)) n)
+    leave_tries q id (Some term) units = tries_ends
+    leave_tries q id None units = tries_ends
 
-  go_to_tries : (id : ℕ) (to : Option ℕ) → TriesMove id (go_to id to)
-  go_to_tries id None = tries_ends
-  go_to_tries id (Some to) = tries_gives refl
+    go_to_tries : (id : ℕ) (to : Option ℕ) → TriesMove P id (go_to id to)
+    go_to_tries id None = tries_ends
+    go_to_tries id (Some to) = tries_gives refl
 
-  lead_to_tries : (id : ℕ) (label : Option Term) → TriesMove id (lead_to id label)
-  lead_to_tries id (Some (Label name)) = tries_asks (items.Named asking.Label name) (go_to_tries id)
-  lead_to_tries id (Some term) = tries_gives refl
-  lead_to_tries id None = tries_gives refl
+    lead_to_tries : (id : ℕ) (label : Option Term) → TriesMove P id (lead_to id label)
+    lead_to_tries id (Some (Label name)) = tries_asks (items.Named asking.Label name) (go_to_tries id)
+    lead_to_tries id (Some term) = tries_gives refl
+    lead_to_tries id None = tries_gives refl
 
-  transfer_tries : (id : ℕ) (fraction near far : Option Term) → TriesMove id (transfer_prog id fraction near far)
-  transfer_tries id (Some (Fraction part)) near far =
-      tries_bind (draw_tries 1) (λ x. lead_to_tries id (cond (nat_lt (millionths x) part) far near))
-  transfer_tries id (Some term) near far = lead_to_tries id near
-  transfer_tries id None near far = lead_to_tries id near
+    transfer_tries : (id : ℕ) (fraction near far : Option Term) → TriesMove P id (transfer_prog id fraction near far)
+    transfer_tries id (Some (Fraction part)) near far =
+        tries_bind (draw_tries 1) (λ x. lead_to_tries id (cond (nat_lt (millionths x) part) far near))
+    transfer_tries id (Some term) near far = lead_to_tries id near
+    transfer_tries id None near far = lead_to_tries id near
 
-  pass_or_wait_tries : (id : ℕ) (label : Option Term) (read : List Watched) (passes : Bool) → TriesMove id (pass_or_wait id label read passes)
-  pass_or_wait_tries id None read true = tries_gives refl
-  pass_or_wait_tries id None read false = tries_gives tt
-  pass_or_wait_tries id (Some label) read passes = lead_to_tries id (cond passes None (Some label))
+    pass_or_wait_tries : (id : ℕ) (label : Option Term) (read : List Watched) (passes : Bool) → (label ≡ None → P) → TriesMove P id (pass_or_wait id label read passes)
+    pass_or_wait_tries id None read true waits = tries_gives refl
+    pass_or_wait_tries id None read false waits = tries_gives (waits refl)
+    pass_or_wait_tries id (Some label) read passes waits = lead_to_tries id (cond passes None (Some label))
 
-  test_tries : (q : Asker) (id : ℕ) (relation : Auxiliary) (first second label : Option Term) → TriesMove id (test_prog s q id relation first second label)
-  test_tries q id relation first second None = tries_bind (value_traced_tries s q [] first) (λ a. tries_bind (value_traced_tries s q a.1 second)
-      (λ b. pass_or_wait_tries id None b.1 (holds relation a.0 b.0)))
-  test_tries q id relation first second (Some label) = tries_bind (value_there_tries s q first) (λ a. tries_bind (value_there_tries s q second)
-      (λ b. pass_or_wait_tries id (Some label) [] (holds relation a b)))
+    test_tries : (q : Asker) (id : ℕ) (relation : Auxiliary) (first second label : Option Term) → (label ≡ None → P) →
+        TriesMove P id (test_prog s q id relation first second label)
+    test_tries q id relation first second None waits = tries_bind (value_traced_tries s q [] first) (λ a. tries_bind (value_traced_tries s q a.1 second)
+        (λ b. pass_or_wait_tries id None b.1 (holds relation a.0 b.0) waits))
+    test_tries q id relation first second (Some label) waits = tries_bind (value_there_tries s q first) (λ a. tries_bind (value_there_tries s q second)
+        (λ b. pass_or_wait_tries id (Some label) [] (holds relation a b) waits))
 
-  priority_tries : (q : Asker) (id : ℕ) (priority : Option Term) → TriesMove id (priority_prog s q id priority)
-  priority_tries q id priority = tries_bind (value_there_tries s q priority) (λ p. tries_gives refl)
+    priority_tries : (q : Asker) (id : ℕ) (priority : Option Term) → TriesMove P id (priority_prog s q id priority)
+    priority_tries q id priority = tries_bind (value_there_tries s q priority) (λ p. tries_gives refl)
 
-  assign_with_tries : (id : ℕ) (sign : Auxiliary) (key : Key) (was : Option ℤ) (v : ℤ) → TriesMove id (assign_with id sign key was v)
-  assign_with_tries id sign key was v = tries_bind (arithmetic_tries (by_sign sign was v)) (λ to. tries_gives refl)
+    assign_with_tries : (id : ℕ) (sign : Auxiliary) (key : Key) (was : Option ℤ) (v : ℤ) → TriesMove P id (assign_with id sign key was v)
+    assign_with_tries id sign key was v = tries_bind (arithmetic_tries (by_sign sign was v)) (λ to. tries_gives refl)
 
-  assign_tries : (q : Asker) (id : ℕ) (sign : Auxiliary) (parameter value : Option Term) → TriesMove id (assign_prog s q id sign parameter value)
-  assign_tries q id sign parameter value = tries_bind (entity_tries s q parameter) (λ key. tries_bind (value_there_tries s q value)
-      (λ v. assign_with_tries id sign key (parameter_at s.parameters q.number key) v))
+    assign_tries : (q : Asker) (id : ℕ) (sign : Auxiliary) (parameter value : Option Term) → TriesMove P id (assign_prog s q id sign parameter value)
+    assign_tries q id sign parameter value = tries_bind (entity_tries s q parameter) (λ key. tries_bind (value_there_tries s q value)
+        (λ v. assign_with_tries id sign key (parameter_at s.parameters q.number key) v))
 
-  less_one_tries : (was : Option ℤ) → TriesAny (left_of was)
-  less_one_tries None = tries_ends
-  less_one_tries (Some v) = arithmetic_tries (applied operators.Minus v (pos 1))
+    less_one_tries : (was : Option ℤ) → TriesAny (left_of was)
+    less_one_tries None = tries_ends
+    less_one_tries (Some v) = arithmetic_tries (applied operators.Minus v (pos 1))
 
-  loop_back_tries : (id : ℕ) (key : Key) (left : ℤ) (to : Option ℕ) → TriesMove id (loop_back id key left to)
-  loop_back_tries id key left None = tries_ends
-  loop_back_tries id key left (Some to) = tries_gives refl
+    loop_back_tries : (id : ℕ) (key : Key) (left : ℤ) (to : Option ℕ) → TriesMove P id (loop_back id key left to)
+    loop_back_tries id key left None = tries_ends
+    loop_back_tries id key left (Some to) = tries_gives refl
 
-  loop_to_tries : (id : ℕ) (key : Key) (left : ℤ) (label : Option Term) → TriesMove id (loop_to id key left label)
-  loop_to_tries id key left (Some (Label name)) = tries_asks (items.Named asking.Label name) (loop_back_tries id key left)
-  loop_to_tries id key left (Some term) = tries_ends
-  loop_to_tries id key left None = tries_ends
+    loop_to_tries : (id : ℕ) (key : Key) (left : ℤ) (label : Option Term) → TriesMove P id (loop_to id key left label)
+    loop_to_tries id key left (Some (Label name)) = tries_asks (items.Named asking.Label name) (loop_back_tries id key left)
+    loop_to_tries id key left (Some term) = tries_ends
+    loop_to_tries id key left None = tries_ends
 
-  loop_tries : (q : Asker) (id : ℕ) (parameter label : Option Term) → TriesMove id (loop_prog s q id parameter label)
-  loop_tries q id parameter label = tries_bind (entity_tries s q parameter)
-      (λ key. tries_bind (less_one_tries (parameter_at s.parameters q.number key))
-      (λ left. tries_cond (nat_eq (magnitude left) 0) (tries_gives refl) (loop_to_tries id key left label)))
+    loop_tries : (q : Asker) (id : ℕ) (parameter label : Option Term) → TriesMove P id (loop_prog s q id parameter label)
+    loop_tries q id parameter label = tries_bind (entity_tries s q parameter)
+        (λ key. tries_bind (less_one_tries (parameter_at s.parameters q.number key))
+        (λ left. tries_cond (nat_eq (magnitude left) 0) (tries_gives refl) (loop_to_tries id key left label)))
 
-  gate_at_tries : (id : ℕ) (condition : Condition) (label : Option Term) (key : Key) (read : List Watched) (capacity : ℕ) →
-      TriesMove id (gate_at s id condition label key read capacity)
-  gate_at_tries id condition label key read capacity = pass_or_wait_tries id label _ (is_open s condition key capacity)
+    gate_at_tries : (id : ℕ) (condition : Condition) (label : Option Term) (key : Key) (read : List Watched) (capacity : ℕ) → (label ≡ None → P) →
+        TriesMove P id (gate_at s id condition label key read capacity)
+    gate_at_tries id condition label key read capacity waits = pass_or_wait_tries id label _ (is_open s condition key capacity) waits
 
-  gate_storage_tries : (id : ℕ) (condition : Condition) (label : Option Term) (name : List ℕ) (reads : Bool) →
-      TriesMove id (gate_storage s id condition label name reads)
-  gate_storage_tries id condition label name true =
-      tries_asks (items.Named asking.Storage name) (gate_at_tries id condition label (keys.Defined name) [])
-  gate_storage_tries id condition label name false = gate_at_tries id condition label (keys.Defined name) [] 0
+    gate_storage_tries : (id : ℕ) (condition : Condition) (label : Option Term) (name : List ℕ) (reads : Bool) → (label ≡ None → P) →
+        TriesMove P id (gate_storage s id condition label name reads)
+    gate_storage_tries id condition label name true waits =
+        tries_asks (items.Named asking.Storage name) (λ capacity. gate_at_tries id condition label (keys.Defined name) [] capacity waits)
+    gate_storage_tries id condition label name false waits = gate_at_tries id condition label (keys.Defined name) [] 0 waits
 
-  gate_other_tries : (q : Asker) (id : ℕ) (condition : Condition) (entity label : Option Term) → TriesMove id (gate_other s q id condition entity label)
-  gate_other_tries q id condition entity None =
-      tries_bind (entity_traced_tries s q entity) (λ r. gate_at_tries id condition None r.0 r.1 0)
-  gate_other_tries q id condition entity (Some label) =
-      tries_bind (entity_tries s q entity) (λ key. gate_at_tries id condition (Some label) key [] 0)
+    gate_other_tries : (q : Asker) (id : ℕ) (condition : Condition) (entity label : Option Term) → (label ≡ None → P) →
+        TriesMove P id (gate_other s q id condition entity label)
+    gate_other_tries q id condition entity None waits =
+        tries_bind (entity_traced_tries s q entity) (λ r. gate_at_tries id condition None r.0 r.1 0 waits)
+    gate_other_tries q id condition entity (Some label) waits =
+        tries_bind (entity_tries s q entity) (λ key. gate_at_tries id condition (Some label) key [] 0 waits)
 
-  gate_of_tries : (q : Asker) (id : ℕ) (condition : Condition) (entity label : Option Term) → TriesMove id (gate_of s q id condition entity label)
-  gate_of_tries q id condition (Some (Defined name)) label = gate_storage_tries id condition label name (reads_capacity condition)
-  gate_of_tries q id condition (Some term) label = gate_other_tries q id condition (Some term) label
-  gate_of_tries q id condition None label = gate_other_tries q id condition None label
+    gate_of_tries : (q : Asker) (id : ℕ) (condition : Condition) (entity label : Option Term) → (label ≡ None → P) →
+        TriesMove P id (gate_of s q id condition entity label)
+    gate_of_tries q id condition (Some (Defined name)) label waits = gate_storage_tries id condition label name (reads_capacity condition) waits
+    gate_of_tries q id condition (Some term) label waits = gate_other_tries q id condition (Some term) label waits
+    gate_of_tries q id condition None label waits = gate_other_tries q id condition None label waits
 
-  gate_tries : (q : Asker) (id : ℕ) (auxiliary : Auxiliary) (entity label : Option Term) → TriesMove id (gate_prog s q id auxiliary entity label)
-  gate_tries q id (auxiliaries.Gate condition) entity label = gate_of_tries q id condition entity label
-  gate_tries q id auxiliary entity label = tries_ends
+    gate_tries : (q : Asker) (id : ℕ) (auxiliary : Auxiliary) (entity label : Option Term) → (label ≡ None → P) →
+        TriesMove P id (gate_prog s q id auxiliary entity label)
+    gate_tries q id (auxiliaries.Gate condition) entity label waits = gate_of_tries q id condition entity label waits
+    gate_tries q id auxiliary entity label waits = tries_ends
 
-  logic_tries : (q : Asker) (id : ℕ) (auxiliary : Auxiliary) (entity : Option Term) → TriesMove id (logic_prog s q id auxiliary entity)
-  logic_tries q id (auxiliaries.Logic switching) entity = tries_bind (entity_tries s q entity) (λ key. tries_gives refl)
-  logic_tries q id auxiliary entity = tries_ends
+    logic_tries : (q : Asker) (id : ℕ) (auxiliary : Auxiliary) (entity : Option Term) → TriesMove P id (logic_prog s q id auxiliary entity)
+    logic_tries q id (auxiliaries.Logic switching) entity = tries_bind (entity_tries s q entity) (λ key. tries_gives refl)
+    logic_tries q id auxiliary entity = tries_ends
 
-  savevalue_with_tries : (id : ℕ) (sign : Auxiliary) (key : Key) (was : Option ℤ) (v : ℤ) → TriesMove id (savevalue_with id sign key was v)
-  savevalue_with_tries id sign key was v = tries_bind (arithmetic_tries (by_sign sign was v)) (λ to. tries_gives refl)
+    savevalue_with_tries : (id : ℕ) (sign : Auxiliary) (key : Key) (was : Option ℤ) (v : ℤ) → TriesMove P id (savevalue_with id sign key was v)
+    savevalue_with_tries id sign key was v = tries_bind (arithmetic_tries (by_sign sign was v)) (λ to. tries_gives refl)
 
-  savevalue_tries : (q : Asker) (id : ℕ) (sign : Auxiliary) (entity value : Option Term) → TriesMove id (savevalue_prog s q id sign entity value)
-  savevalue_tries q id sign entity value = tries_bind (entity_tries s q entity) (λ key. tries_bind (value_there_tries s q value)
-      (λ v. savevalue_with_tries id sign key (savevalue_at s.entities key) v))
+    savevalue_tries : (q : Asker) (id : ℕ) (sign : Auxiliary) (entity value : Option Term) → TriesMove P id (savevalue_prog s q id sign entity value)
+    savevalue_tries q id sign entity value = tries_bind (entity_tries s q entity) (λ key. tries_bind (value_there_tries s q value)
+        (λ v. savevalue_with_tries id sign key (savevalue_at s.entities key) v))
 
-  block_tries : (x : Transaction) (id : ℕ) (b : Block) (verb : BlockVerb) → TriesMove id (block_prog s x id b verb)
-  block_tries x id b blocks.Generate = generate_tries x id (operand b A) (operand b B) (operand b D) (operand b E)
-  block_tries x id b blocks.Advance = advance_tries (for_one s x) id (operand b A) (operand b B)
-  block_tries x id b blocks.Terminate = terminate_tries (for_one s x) id (operand b A)
-  block_tries x id b blocks.Queue = queue_tries (for_one s x) id (operand b A) (operand b B)
-  block_tries x id b blocks.Depart = depart_tries (for_one s x) x id (operand b A) (operand b B)
-  block_tries x id b blocks.Seize = seize_tries (for_one s x) id (operand b A)
-  block_tries x id b blocks.Release = release_tries (for_one s x) x id (operand b A)
-  block_tries x id b blocks.Enter = enter_tries (for_one s x) id (operand b A) (operand b B)
-  block_tries x id b blocks.Leave = leave_tries (for_one s x) id (operand b A) (operand b B)
-  block_tries x id b blocks.Transfer = transfer_tries id (operand b A) (operand b B) (operand b C)
-  block_tries x id b blocks.Test = test_tries (for_one s x) id b.auxiliary (operand b A) (operand b B) (operand b C)
-  block_tries x id b blocks.Gate = gate_tries (for_one s x) id b.auxiliary (operand b A) (operand b B)
-  block_tries x id b blocks.Logic = logic_tries (for_one s x) id b.auxiliary (operand b A)
-  block_tries x id b blocks.Savevalue = savevalue_tries (for_one s x) id b.auxiliary (operand b A) (operand b B)
+  block_tries : (x : Transaction) (id : ℕ) (b : Block) (verb : BlockVerb) → TriesMove (WaitsAtVerb b verb) id (block_prog s x id b verb)
+  block_tries x id b blocks.Generate = generate_tries ⊥ x id (operand b A) (operand b B) (operand b D) (operand b E)
+  block_tries x id b blocks.Advance = advance_tries ⊥ (for_one s x) id (operand b A) (operand b B)
+  block_tries x id b blocks.Terminate = terminate_tries ⊥ (for_one s x) id (operand b A)
+  block_tries x id b blocks.Queue = queue_tries ⊥ (for_one s x) id (operand b A) (operand b B)
+  block_tries x id b blocks.Depart = depart_tries ⊥ (for_one s x) x id (operand b A) (operand b B)
+  block_tries x id b blocks.Seize = seize_tries ⊥ (for_one s x) id (operand b A)
+  block_tries x id b blocks.Release = release_tries ⊥ (for_one s x) x id (operand b A)
+  block_tries x id b blocks.Enter = enter_tries ⊥ (for_one s x) id (operand b A) (operand b B)
+  block_tries x id b blocks.Leave = leave_tries ⊥ (for_one s x) id (operand b A) (operand b B)
+  block_tries x id b blocks.Transfer = transfer_tries ⊥ id (operand b A) (operand b B) (operand b C)
+  block_tries x id b blocks.Test = test_tries (operand b C ≡ None) (for_one s x) id b.auxiliary (operand b A) (operand b B) (operand b C) (λ none. none)
+  block_tries x id b blocks.Gate = gate_tries (operand b B ≡ None) (for_one s x) id b.auxiliary (operand b A) (operand b B) (λ none. none)
+  block_tries x id b blocks.Logic = logic_tries ⊥ (for_one s x) id b.auxiliary (operand b A)
+  block_tries x id b blocks.Savevalue = savevalue_tries ⊥ (for_one s x) id b.auxiliary (operand b A) (operand b B)
   block_tries x id b blocks.Mark = tries_gives refl
-  block_tries x id b blocks.Priority = priority_tries (for_one s x) id (operand b A)
+  block_tries x id b blocks.Priority = priority_tries ⊥ (for_one s x) id (operand b A)
   block_tries x id b blocks.Buffer = tries_gives refl
-  block_tries x id b blocks.Assign = assign_tries (for_one s x) id b.auxiliary (operand b A) (operand b B)
-  block_tries x id b blocks.Loop = loop_tries (for_one s x) id (operand b A) (operand b B)
+  block_tries x id b blocks.Assign = assign_tries ⊥ (for_one s x) id b.auxiliary (operand b A) (operand b B)
+  block_tries x id b blocks.Loop = loop_tries ⊥ (for_one s x) id (operand b A) (operand b B)
   block_tries x id b verb = tries_ends
 
-  pub meet_tries : (x : Transaction) (id : ℕ) (block : Option Block) → TriesMove id (meet_prog s x id block)
-  meet_tries x id None = tries_ends
-  meet_tries x id (Some b) = block_tries x id b b.verb
+  pub meet_waits : (x : Transaction) (id : ℕ) (block : Option Block) → TriesMove (WaitsAtBlock block) id (meet_prog s x id block)
+  meet_waits x id None = tries_ends
+  meet_waits x id (Some b) = block_tries x id b b.verb
+
+  pub meet_tries : (x : Transaction) (id : ℕ) (block : Option Block) → Tries (IsAt id) (meet_prog s x id block)
+  meet_tries x id block = tries_more (at_so (WaitsAtBlock block) id) (meet_waits x id block)
 
   try_tries : (x : Transaction) (to : Option ℕ) → Tries IsAttempt (try_prog s x to)
   try_tries x None = tries_ends

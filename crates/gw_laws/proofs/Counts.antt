@@ -1,4 +1,4 @@
--- What leaving and entering does to the content of each block.
+-- What leaving and entering does to the content of each block, and that it changes no entries and no content elsewhere.
 use Rattle.std.proofs.Common.{◌≡◌, ℕ, ◌+◌, ◌-◌, ◌<◌, ◌^◌, nat_eq, false, cond, List, [], ◌∷◌, Option, Some, None, refl, ap, sym, ◌∙◌, arith, inl, inr}
 use Rattle.std.proofs.lemmas.Bool.{cases_eq, eq-eqb, ne_eqb, false≢true}
 use Rattle.gw_meaning.specs.declared.transaction.Count.{Count}
@@ -86,14 +86,31 @@ content_crossed fate cs from to p rest is room =
     let more = content_entered fate (left cs from) to p (omega arith) in
     omega arith
 
--- and so do those who stand in no block that is left or entered
-pub content_elsewhere : (fate : Fate) (cs : List (ℕ × Count)) (from to p : ℕ) → nat_eq p from ≡ false → nat_eq p to ≡ false →
-    content (crossed fate cs from to) p ≡ content cs p
-content_elsewhere fate cs from to p left_apart apart =
-    content_there (left cs from) to p _ (λ same. differs p to (sym same) apart)
-    ∙ left_there (count_in cs from) cs from p (λ same. differs p from (sym same) left_apart) where
+pub content_made : (cs : List (ℕ × Count)) (q p : ℕ) → content (made_one cs q) p ≡ content cs p
+content_made cs q p = content_same cs q p _ refl
+
+-- ---- the entries and the content of a block
+
+abbrev pub tally : List (ℕ × Count) → ℕ → ℕ × ℕ
+tally cs p = ((count_at cs p).entries, (count_at cs p).content)
+
+count_there : (o : Option Count) (cs : List (ℕ × Count)) (q p : ℕ) → (q ≡ p → ⊥) → count_in (left_at o cs q) p ≡ count_in cs p
+count_there None cs q p apart = refl
+count_there (Some c) cs q p apart = set_there cs q p (record c { content = c.content - 1 }) apart
+
+pub tally_elsewhere : (fate : Fate) (cs : List (ℕ × Count)) (from to p : ℕ) → nat_eq p from ≡ false → nat_eq p to ≡ false →
+    tally (crossed fate cs from to) p ≡ tally cs p
+tally_elsewhere fate cs from to p left_apart apart =
+    ap (λ o. ((or_no_count o).entries, (or_no_count o).content))
+    (set_there (left cs from) to p _ (λ same. differs p to (sym same) apart)
+    ∙ count_there (count_in cs from) cs from p (λ same. differs p from (sym same) left_apart)) where
       differs : (a b : ℕ) → a ≡ b → nat_eq a b ≡ false → ⊥
       differs a b same apart = false≢true (sym apart ∙ eq-eqb a b same)
 
-pub content_made : (cs : List (ℕ × Count)) (q p : ℕ) → content (made_one cs q) p ≡ content cs p
-content_made cs q p = content_same cs q p _ refl
+pub tally_made : (cs : List (ℕ × Count)) (q p : ℕ) → tally (made_one cs q) p ≡ tally cs p
+tally_made cs q p =
+    let c : Count = record (count_at cs q) { made = raised (count_at cs q).made } in
+    elim (cases_eq q p) [
+      | inl here ↦ rw (← here) (ap (λ o. ((or_no_count o).entries, (or_no_count o).content)) (set_here cs q c))
+      | inr apart ↦ ap (λ o. ((or_no_count o).entries, (or_no_count o).content)) (set_there cs q p c apart)
+    ]

@@ -34,6 +34,7 @@ use Rattle.gw_laws.proofs.OwnValueLaws.{many_parts}
 use Rattle.gw_laws.proofs.Tried.{IsScan, IsCommand, IsNext, no_start, no_command, Makes, changed_keeps, over_moves, IsBehind, step_is_next}
 use Rattle.gw_laws.proofs.Attempts.{IsAt}
 use Rattle.gw_laws.proofs.Waking.{nobody_wakes}
+use Rattle.gw_laws.proofs.GateLaws.{transaction_there}
 use Rattle.gw_streams.specs.declared.stream.Stream.{Stream}
 
 -- ---- where no START is under way, none is active
@@ -501,8 +502,8 @@ stands_on_retry s x read active =
       last_there (w ∷ ws) = let rest = last_there ws in (suc rest.0, omega (arith, rest.1), rest.2)
 
 pub goes_to_its_destination : GoesToItsDestination
-goes_to_its_destination t seed n s v well within there is x y active lives' same =
-    let behind = step_is_next t seed s v (sym (run_on t seed n s there) ∙ is) in
+goes_to_its_destination t seed n s v well within there is_run x y active lives' same =
+    let behind = step_is_next t seed s v (sym (run_on t seed n s there) ∙ is_run) in
     let idle : Idle s = over_moves t seed Idle (λ none. refl) (λ u m streams next h. moved_idle t u m next h) n s there in
     let h = all_numbered t seed well n s there within in
     let room = all_within t seed n s well there in
@@ -518,7 +519,7 @@ goes_to_its_destination t seed n s v well within there is x y active lives' same
         went s x id active h below t v y goes now lives' same
 
     by_move : (id : ℕ) (m : Move) (streams : List Stream) → v ≡ decided s m streams → IsNumbered s → x.number < 2 ^ 64 - 1 → goes_to t x ≡ Some id →
-        IsAt id m → WentWhereItGoes t x y ⊎ WaitsAsItCame v x y
+        IsAt id m → WentWhereItGoes t x y ⊎ WaitsAsItCame t v x y
     by_move id (moves.Enter to change fate) streams is h below goes at' = inl (toward id (moves.Enter to change fate) streams is h below goes at')
     by_move id (moves.Refuse to key units) streams is h below goes at' = inl (toward id (moves.Refuse to key units) streams is h below goes at')
     by_move id (moves.Watch read) streams is h below goes at' =
@@ -530,11 +531,13 @@ goes_to_its_destination t seed n s v well within there is x y active lives' same
         is ∙ ap (λ (w : Machine). let z : Machine = record w { streams = streams } in z) (nobody_wakes u) in
         let now : crowd test v ≡ 0 = ap (crowd test) here ∙ none in
         let still = stayed x below v y now lives' same in
-        inr (subst (λ (w : Machine). Contains (transactions_of w.retry) x) (sym here) (stands_on_retry s x read active), still.0, still.1)
+        let waits : Contains (transactions_of v.retry) x =
+        subst (λ (w : Machine). Contains (transactions_of w.retry) x) (sym here) (stands_on_retry s x read active) in
+        inr (waits, still.0, still.1, transaction_there t seed (suc n) v x is_run waits)
     by_move id m streams is h below goes at' = absurd at'
 
     go : (behind : IsBehind t seed s v) → Idle s → IsNumbered s → s.next < 2 ^ 64 - 1 → (k : ℕ) → s.remaining ≡ k → IsNext t s k behind.move →
-        WentWhereItGoes t x y ⊎ WaitsAsItCame v x y
+        WentWhereItGoes t x y ⊎ WaitsAsItCame t v x y
     go behind idle h low zero none next = absurd (let no : None ≡ Some x = sym (idle none) ∙ active in cc)
     go behind idle h low (suc k) busy next =
         let scan : IsScan t (Some x) behind.move = subst (λ o. IsScan t o behind.move) active next in

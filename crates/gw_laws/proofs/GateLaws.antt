@@ -1,5 +1,7 @@
--- Nobody waits at a GATE whose condition holds: what a refused attempt read it waits for, and what is not written stays.
+-- Nobody waits at a GATE whose condition holds: what a refused attempt read it waits for, and what is not written stays. And whoever
+-- waits so is at a TEST or a GATE without a label.
 use Rattle.std.proofs.Common.{◌≡◌, ℤ, pos, ℕ, zero, suc, Bool, true, false, cond, not, ◌||◌, List, [], ◌∷◌, ◌++◌, filter, Option, Some, None, is_some, nat_eq, nat_le, unwrap_or, Ok, refl, sym, ap, subst, ◌∙◌, inl, inr}
+use Rattle.std.specs.Prelude.{Contains}
 use Rattle.std.specs.List.{AllByRecursion, list_any}
 use Rattle.std.proofs.lemmas.Bool.{cases_Bool, or_parts, or_left, or_right, eqb-true}
 use Rattle.std.proofs.lemmas.List.Folds.{list_any-append}
@@ -7,6 +9,7 @@ use Rattle.gw_nums.specs.Range.{is_below, magnitude}
 use Rattle.gw_names.specs.declared.key.Key.{Key}
 use Rattle.gw_names.specs.declared.key.Key.TheVariants as keys
 use Rattle.gw_names.specs.Keys.{key_eq}
+use Rattle.gw_names.specs.declared.verb.BlockVerb.{BlockVerb}
 use Rattle.gw_names.specs.declared.verb.BlockVerb.TheVariants as blocks
 use Rattle.gw_entities.specs.Tables.{value_of, with_value}
 use Rattle.gw_entities.proofs.Finding.{value_of-with_value}
@@ -41,7 +44,7 @@ use Rattle.gw_meaning.specs.contracts.watched.WatchedEq.TheImpl.Laws as laws
 use Rattle.gw_meaning.specs.Statements.{A, B, operand}
 use Rattle.gw_meaning.specs.Listing.{Listing, block_at, after_at, command_at, number_at, capacity_at, or_next}
 use Rattle.gw_meaning.specs.Entities.{Entities, facility_at, line_at, store_at, savevalue_at, switch_at, done, touched, later}
-use Rattle.gw_meaning.specs.Watching.{Waiter, same_watched, is_watched, with_watched, kind_of}
+use Rattle.gw_meaning.specs.Watching.{Waiter, same_watched, is_watched, with_watched, kind_of, transactions_of}
 use Rattle.gw_meaning.specs.Machine.{Machine, raised, zero_state}
 use Rattle.gw_meaning.specs.Questions.{result_of}
 use Rattle.gw_meaning.specs.Evaluation.{Eval, gives, stops_if, numbered, named, entity_prog, entity_traced}
@@ -50,12 +53,14 @@ use Rattle.gw_meaning.specs.Changes.{entering, refused, watching, with_active, m
 use Rattle.gw_meaning.specs.Step.{for_one, is_open, kind_of_condition, reads_capacity, pass_or_wait, lead_to, go_to, gate_at, gate_storage, gate_other, gate_of, gate_prog, block_prog, meet_prog, try_prog, attempt_prog, scan_prog, move_prog, decide, run}
 use Rattle.gw_frame.proofs.Moves.{settled, settled_is, with_active_has, picked_has}
 use Rattle.gw_frame.proofs.Running.{last_step}
-use Rattle.gw_laws.specs.Destinations.{goes_to}
-use Rattle.gw_laws.specs.Waiters.{named_key, key_written, capacity_of, NobodyWaitsAtAnOpenGate}
+use Rattle.gw_laws.specs.Destinations.{goes_to, IsTestOrGate, IsAtATestOrAGate}
+use Rattle.gw_laws.specs.Waiters.{named_key, key_written, capacity_of, NobodyWaitsAtAnOpenGate, WhoWaitsIsAtATestOrAGate}
 use Rattle.gw_laws.proofs.Waiting.{let_in_is}
 use Rattle.gw_laws.proofs.EndLaws.{went_on}
 use Rattle.gw_laws.proofs.Tried.{Comes, comes_gives, comes_ends, comes_asks, comes_bind, comes_then, comes_more, comes_any, IsOfNobody, IsCommand, command_next, pick_next, changed_keeps}
 use Rattle.gw_laws.proofs.Entries.{at_with}
+use Rattle.gw_laws.proofs.Trying.{gives_so}
+use Rattle.gw_laws.proofs.Attempts.{IsAtOr, WaitsAtVerb, WaitsAtBlock, meet_waits}
 use Rattle.gw_laws.proofs.WaiterLaws.{stands_of, all_stands, who_comes, waits_on, retry_decided}
 
 -- ---- what is watched is told apart
@@ -447,3 +452,42 @@ gates_are_shut t seed =
 pub nobody_waits_at_an_open_gate : NobodyWaitsAtAnOpenGate
 nobody_waits_at_an_open_gate t seed n s is w id b condition key waits goes there verb sort named =
     (all_stands (AtGate t s) s.retry w (gates_are_shut t seed n s is) (stands_of s.retry w waits) id b condition key goes there verb sort named).0
+
+-- ---- whoever waits is at a TEST or a GATE without a label
+
+of_verb : (b : Block) (verb : BlockVerb) → b.verb ≡ verb → WaitsAtVerb b verb → IsTestOrGate b
+of_verb b blocks.Test is none = inl (is, none)
+of_verb b blocks.Gate is none = inr (is, none)
+of_verb b verb is none = absurd none
+
+refused_there : (t : Listing) (seed : ℕ) (s : Machine) (read : List Watched) (r : IsRefusedAt t seed s read) → IsAtATestOrAGate t r.x
+refused_there t seed s read r = go (block_at t r.id) refl waits where
+  waits : WaitsAtBlock (block_at t r.id)
+  waits =
+      gives_so t seed (λ (d : Move × List Stream). IsAtOr (WaitsAtBlock (block_at t r.id)) r.id d.0) (meet_prog s r.x r.id (block_at t r.id) r.before)
+      (moves.Watch read, r.after) ((meet_waits s r.x r.id (block_at t r.id)).from r.before) r.tries
+
+  go : (o : Option Block) → block_at t r.id ≡ o → WaitsAtBlock o → IsAtATestOrAGate t r.x
+  go None there none = absurd none
+  go (Some b) there at' = (r.id, b, r.goes, there, of_verb b b.verb refl at')
+
+abbrev IsThere : Listing → Waiter → Type 0
+IsThere t w = IsAtATestOrAGate t w.transaction
+
+all_there : (t : Listing) (seed n : ℕ) (s : Machine) → run t seed n ≡ Ok s → AllByRecursion (IsThere t) s.retry
+all_there t seed =
+    over_decided t seed (λ n s. AllByRecursion (IsThere t) s.retry) tt
+    (λ n s d there goes all. all_wait_on (IsThere t) (IsThere t) s d.0 d.1 all
+    (who_comes_has (IsThere t) t seed s d.0 (refused_there t seed s) (refused_at t seed s d goes)) (λ w unread is. is))
+
+pub who_waits_is_at_a_test_or_a_gate : WhoWaitsIsAtATestOrAGate
+who_waits_is_at_a_test_or_a_gate t seed n s is w waits = all_stands (IsThere t) s.retry w (all_there t seed n s is) (stands_of s.retry w waits)
+
+-- the same of a transaction that waits so
+pub transaction_there : (t : Listing) (seed n : ℕ) (s : Machine) (x : Transaction) → run t seed n ≡ Ok s → Contains (transactions_of s.retry) x →
+    IsAtATestOrAGate t x
+transaction_there t seed n s x is there =
+    all_stands (IsAtATestOrAGate t) (transactions_of s.retry) x (each s.retry (all_there t seed n s is)) (stands_of (transactions_of s.retry) x there) where
+      each : (ws : List Waiter) → AllByRecursion (IsThere t) ws → AllByRecursion (IsAtATestOrAGate t) (transactions_of ws)
+      each [] all = tt
+      each (w ∷ ws) all = (all.0, each ws all.1)

@@ -37,3 +37,4 @@ pub mod ItemLaws
 pub mod WaiterLaws
 pub mod GateLaws
 pub mod WaitingTests
+pub mod WakingLaws

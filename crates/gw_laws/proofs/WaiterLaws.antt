@@ -1,5 +1,5 @@
 -- Those who wait for a change: who comes and who stays, and in which order they wake.
-use Rattle.std.proofs.Common.{◌≡◌, ◌⊎◌, ℕ, zero, suc, ◌<◌, ◌≤◌, Bool, true, false, not, List, [], ◌∷◌, ◌++◌, append-nil, filter, length, Option, Some, None, Ok, refl, sym, ap, subst, ◌∙◌, inl, inr, arith}
+use Rattle.std.proofs.Common.{◌≡◌, ◌⊎◌, ℕ, zero, suc, ◌<◌, Bool, true, false, not, List, [], ◌∷◌, ◌++◌, append-nil, filter, Option, Some, None, Ok, refl, sym, ap, subst, ◌∙◌, inl, inr, arith}
 use Rattle.std.specs.Prelude.{Contains, slice_get}
 use Rattle.std.specs.List.{AllByRecursion}
 use Rattle.std.proofs.lemmas.Bool.{cases_Bool, cond_both}
@@ -18,7 +18,7 @@ use Rattle.gw_meaning.proofs.Programs.{run_on}
 use Rattle.gw_meaning.proofs.Chains.{IsOrdered, AreNotAbove, ordered_lined}
 use Rattle.gw_frame.proofs.Decided.{step_decides}
 use Rattle.gw_frame.proofs.Moves.{settled, settled_is, with_active_has, picked_has}
-use Rattle.gw_laws.specs.Waiters.{Waits, StandsInFront, WaitersKeepTheirOrder, WokenInOrder, WokenByWhatIsWritten}
+use Rattle.gw_laws.specs.Waiters.{IsAtMostTheActive, Waits, StandsInFront, WaitersKeepTheirOrder, WokenInOrder, WokenByWhatIsWritten}
 use Rattle.gw_laws.proofs.Waiting.{let_in_is}
 use Rattle.gw_laws.proofs.ChainLaws.{all_chained, moved_ordered, never_below_itself}
 use Rattle.gw_laws.proofs.EndLaws.{went_on, goes_on}
@@ -202,14 +202,17 @@ retry_behind s moves.Pick =
     picked_has (λ v. v.retry ≡ s.retry) s s.current refl (λ x xs is. refl) ∙ sym (append-nil s.retry)
 retry_behind s (moves.Clock time) = sym (append-nil s.retry)
 
-one_comes : (m : Move) (o : Option Transaction) → length (who_comes m o) ≤ 1
-one_comes (moves.Watch read) (Some x) = omega arith
-one_comes (moves.Watch read) None = omega arith
-one_comes m o = omega arith
+pub who_comes_is : (m : Move) (o : Option Transaction) → IsAtMostTheActive o (who_comes m o)
+who_comes_is (moves.Watch read) (Some x) = inr (record { transaction = x; read = read }, refl, refl)
+who_comes_is (moves.Watch read) None = inl refl
+who_comes_is m o = inl refl
 
-fewer : (p : Waiter → Bool) (ws : List Waiter) → length (filter p ws) ≤ length ws
-fewer p [] = omega arith
-fewer p (w ∷ ws) = let rest = fewer p ws in elim (cases_Bool (p w)) [ inl is ↦ rw is (omega arith) | inr other ↦ rw other (omega arith) ]
+at_most_still : (p : Waiter → Bool) (o : Option Transaction) (come : List Waiter) → IsAtMostTheActive o come → IsAtMostTheActive o (filter p come)
+at_most_still p o come (inl none) = inl (ap (filter p) none)
+at_most_still p o come (inr (w, one', active)) = elim (cases_Bool (p w)) [
+  | inl is ↦ inr (w, ap (filter p) one' ∙ (rw is refl), active)
+  | inr other ↦ inl (ap (filter p) one' ∙ (rw other refl))
+]
 
 -- whoever read nothing that is written waits on
 abbrev pub waits_on : Machine → Move → Waiter → Bool
@@ -222,13 +225,11 @@ retry_decided s m streams = ap (filter (waits_on s m)) (retry_behind s m) ∙ fi
 pub waiters_keep_their_order : WaitersKeepTheirOrder
 waiters_keep_their_order t seed s v is =
     let went = went_on t seed s v is in
-    let m = went.0.0 in
-    let few = fewer (waits_on s m) (who_comes m s.active) in
-    let one' = one_comes m s.active in (
+    let m = went.0.0 in (
       waits_on s m,
       filter (waits_on s m) (who_comes m s.active),
       ap (λ (u : Machine). u.retry) went.2 ∙ retry_decided s m went.0.1,
-      omega (arith, few, one'),
+      at_most_still (waits_on s m) s.active (who_comes m s.active) (who_comes_is m s.active),
     )
 
 -- ---- whom a step wakes
@@ -263,7 +264,7 @@ woken_by_what_is_written t seed s v w m streams goes is there =
     )
 
 -- whoever waits no longer was woken
-was_woken : (s : Machine) (m : Move) (streams : List Stream) (w : Waiter) → Waits s w → (Waits (decided s m streams) w → ⊥) → is_woken (written s m) w ≡ true
+pub was_woken : (s : Machine) (m : Move) (streams : List Stream) (w : Waiter) → Waits s w → (Waits (decided s m streams) w → ⊥) → is_woken (written s m) w ≡ true
 was_woken s m streams w there gone = elim (cases_Bool (is_woken (written s m) w)) [
   | inl is ↦ is
   | inr unread ↦ absurd (gone (woken_waits_on s m streams w there unread))

@@ -30,6 +30,7 @@ use Rattle.gw_meaning.specs.declared.asker.Asker.{Asker}
 use Rattle.gw_meaning.specs.declared.auxiliary.Auxiliary.{Auxiliary}
 use Rattle.gw_meaning.specs.declared.statement.Block.{Block}
 use Rattle.gw_meaning.specs.declared.transaction.Transaction.{Transaction}
+use Rattle.gw_meaning.specs.declared.transaction.Count.{Count}
 use Rattle.gw_meaning.specs.declared.moves.Arrival.{Arrival}
 use Rattle.gw_meaning.specs.declared.moves.Change.{Change}
 use Rattle.gw_meaning.specs.declared.moves.Change.TheVariants as changes
@@ -47,14 +48,14 @@ use Rattle.gw_meaning.specs.Entities.{facility_at, line_at, store_at, savevalue_
 use Rattle.gw_meaning.specs.Watching.{Waiter, same_watched, is_watched, with_watched, with_all_watched, transactions_of}
 use Rattle.gw_meaning.specs.Machine.{Machine, count_at, delay_at}
 use Rattle.gw_meaning.specs.Questions.{Answer, ask, result_of}
-use Rattle.gw_meaning.specs.Evaluation.{Eval, gives, ends_with, asks, ◌~>◌, stops_if, in_range, amount, numbered, named, subject_prog, storage_prog, units_left, left_prog, counted, block_count, owned, one_if, value_held, parameter_value, value_there, entity_value, storage_value, block_value, attribute_prog, reply_prog, evaluated, entity_watched, storage_watched, counts_of, counts_watched, watched_prog, watched_by, traced, value_traced}
+use Rattle.gw_meaning.specs.Evaluation.{Eval, gives, ends_with, asks, ◌~>◌, stops_if, in_range, amount, numbered, named, subject_prog, storage_prog, units_left, left_prog, counted, block_count, owned, one_if, value_held, parameter_value, value_there, entity_value, attribute_prog, reply_prog, evaluated, entity_watched, storage_watched, counts_of, counts_watched, watched_prog, watched_by, traced, value_traced}
 use Rattle.gw_meaning.specs.Changes.{Making, made, maybe_made, all_made, making_of, deed_shares, let_in, one_let_in, some_let_in, changed, entering, refused, watching, with_active, moved, crossing, crossings, written_by, written_where, written, is_woken, decided}
 use Rattle.gw_meaning.specs.Step.{for_one, holds, test_prog, block_prog, meet_prog, run}
 use Rattle.gw_meaning.proofs.Traces as alone
 use Rattle.gw_meaning.proofs.Programs.{bind_gives, bind_ends}
 use Rattle.gw_frame.proofs.Moves.{settled, settled_is, with_active_has, picked_has}
 use Rattle.gw_laws.specs.Waiters.{is_lasting, IsLasting, ComesTo, ReadsWhatLasts, NobodyWaitsAtATestThatHolds, value_alone, TellingChangesNothing}
-use Rattle.gw_laws.proofs.Counts.{content, content_elsewhere, content_made}
+use Rattle.gw_laws.proofs.Counts.{tally, tally_elsewhere, tally_made}
 use Rattle.gw_frame.proofs.Decided.{is_decided}
 use Rattle.gw_frame.proofs.Known.{IsDecided}
 use Rattle.gw_model.specs.Well.{Well}
@@ -192,10 +193,10 @@ module _ (t : Listing) (seed : ℕ) where
     steady_entity : (class : Class) (of : Subject) → IsSteady (subject_prog of ~> (λ key. entity_value s class key))
     steady_entity class of = steady_bind (subject_prog of) (λ key. entity_value s class key) (steady_subject of) (steady_of_entity class)
 
-    steady_stored : (of : Subject) → IsSteady (storage_prog of (λ key. storage_value s class.S key))
-    steady_stored subjects.Own = steady_ends (ends.Error Range)
-    steady_stored (subjects.Number n) = steady_ends (ends.Error Range)
-    steady_stored (subjects.Name name) = steady_range (pos (store_at s.entities (keys.Defined name)).level.content)
+    steady_stored : (f : Store → ℕ) (of : Subject) → IsSteady (storage_prog of (λ key. amount (f (store_at s.entities key))))
+    steady_stored f subjects.Own = steady_ends (ends.Error Range)
+    steady_stored f (subjects.Number n) = steady_ends (ends.Error Range)
+    steady_stored f (subjects.Name name) = steady_range (pos (f (store_at s.entities (keys.Defined name))))
 
     steady_left : (of : Subject) → IsSteady (left_prog s of)
     steady_left subjects.Own = steady_ends (ends.Error Range)
@@ -204,23 +205,30 @@ module _ (t : Listing) (seed : ℕ) where
         steady_asks (items.Named asking.Storage name) (units_left s (keys.Defined name))
         (steady_range (pos (capacity_at t name - (store_at s.entities (keys.Defined name)).level.content)))
 
-    steady_counted : (id : Option ℕ) → IsSteady (counted id (λ id. block_value s class.W id))
-    steady_counted None = steady_ends (ends.Error Range)
-    steady_counted (Some id) = steady_range (pos (count_at s.counts id).content)
+    steady_counted : (f : Count → ℕ) (id : Option ℕ) → IsSteady (counted id (λ id. amount (f (count_at s.counts id))))
+    steady_counted f None = steady_ends (ends.Error Range)
+    steady_counted f (Some id) = steady_range (pos (f (count_at s.counts id)))
 
-    steady_block : (of : Subject) → IsSteady (block_count of (λ id. block_value s class.W id))
-    steady_block subjects.Own = steady_ends (ends.Error Range)
-    steady_block (subjects.Number n) = steady_ends (ends.Error Range)
-    steady_block (subjects.Name name) =
-        steady_asks (items.Named asking.Label name) (λ id. counted id (λ id. block_value s class.W id)) (steady_counted (label_at t name))
+    steady_block : (f : Count → ℕ) (of : Subject) → IsSteady (block_count of (λ id. amount (f (count_at s.counts id))))
+    steady_block f subjects.Own = steady_ends (ends.Error Range)
+    steady_block f (subjects.Number n) = steady_ends (ends.Error Range)
+    steady_block f (subjects.Name name) =
+        steady_asks (items.Named asking.Label name) (λ id. counted id (λ id. amount (f (count_at s.counts id)))) (steady_counted f (label_at t name))
 
     steady_attribute : (class : Class) (of : Subject) → is_lasting class ≡ true → IsSteady (attribute_prog s q class of)
     unfolding attribute_prog
     steady_attribute class.F of is = steady_entity class.F of
-    steady_attribute class.S of is = steady_stored of
+    steady_attribute class.Fc of is = steady_entity class.Fc of
+    steady_attribute class.S of is = steady_stored (λ q. q.level.content) of
     steady_attribute class.R of is = steady_left of
+    steady_attribute class.Sc of is = steady_stored (λ q. q.entries) of
+    steady_attribute class.Sm of is = steady_stored (λ q. q.greatest) of
     steady_attribute class.Q of is = steady_entity class.Q of
-    steady_attribute class.W of is = steady_block of
+    steady_attribute class.Qc of is = steady_entity class.Qc of
+    steady_attribute class.Qm of is = steady_entity class.Qm of
+    steady_attribute class.Qz of is = steady_entity class.Qz of
+    steady_attribute class.N of is = steady_block (λ c. c.entries) of
+    steady_attribute class.W of is = steady_block (λ c. c.content) of
     steady_attribute class.X of is = steady_entity class.X of
     steady_attribute class.Ls of is = steady_entity class.Ls of
     steady_attribute class.P of is =
@@ -322,7 +330,7 @@ module _ (t : Listing) (seed : ℕ) where
   -- what is on a list of what was read stays, and what a transaction has of its own
   record Stays (s u : Machine) (read : List Watched) (x : Transaction) : Type 0 where
     entity : (kind : EntityKind) (key : Key) → is_watched read (watched.Entity kind key) ≡ true → SameEntity kind key s.entities u.entities
-    counts : (id : ℕ) → is_watched read (watched.Counts id) ≡ true → content u.counts id ≡ content s.counts id
+    counts : (id : ℕ) → is_watched read (watched.Counts id) ≡ true → tally u.counts id ≡ tally s.counts id
     own : (key : Key) → parameter_at u.parameters x.number key ≡ parameter_at s.parameters x.number key
 
   -- which entity was read
@@ -358,13 +366,13 @@ module _ (t : Listing) (seed : ℕ) where
         let there : AllIn read (watched.Entity kinds.Storage (keys.Defined name) ∷ []) = subst (AllIn read) (sym one') all in
         stays.entity kinds.Storage (keys.Defined name) there.0
 
-    stored_replies : (of : Subject) (more : List Watched) (reply : ℤ) → Comes (storage_watched of) more → AllIn read more →
-        Comes (storage_prog of (λ key. storage_value s class.S key)) reply → Comes (storage_prog of (λ key. storage_value u class.S key)) reply
-    stored_replies subjects.Own more reply reads all is = λ streams. absurd (let no = is [] in cc)
-    stored_replies (subjects.Number n) more reply reads all is = λ streams. absurd (let no = is [] in cc)
-    stored_replies (subjects.Name name) more reply reads all is =
+    stored_replies : (f : Store → ℕ) (of : Subject) (more : List Watched) (reply : ℤ) → Comes (storage_watched of) more → AllIn read more →
+        Comes (storage_prog of (λ key. amount (f (store_at s.entities key)))) reply → Comes (storage_prog of (λ key. amount (f (store_at u.entities key)))) reply
+    stored_replies f subjects.Own more reply reads all is = λ streams. absurd (let no = is [] in cc)
+    stored_replies f (subjects.Number n) more reply reads all is = λ streams. absurd (let no = is [] in cc)
+    stored_replies f (subjects.Name name) more reply reads all is =
         let there = storage_there name more reads all in
-        subst (λ p. Comes p reply) (sym (ap (λ (q : Store). amount q.level.content) there)) is
+        subst (λ p. Comes p reply) (sym (ap (λ (q : Store). amount (f q)) there)) is
 
     left_replies : (of : Subject) (more : List Watched) (reply : ℤ) → Comes (storage_watched of) more → AllIn read more →
         Comes (left_prog s of) reply → Comes (left_prog u of) reply
@@ -375,17 +383,21 @@ module _ (t : Listing) (seed : ℕ) where
         subst (λ p. Comes p reply)
         (sym (ap (λ (q : Store). asks (items.Named asking.Storage name) (λ capacity. amount (capacity - q.level.content))) there)) is
 
-    counted_replies : (id : Option ℕ) (reply : ℤ) → AllIn read (counts_of id) → Comes (counted id (λ id. block_value s class.W id)) reply →
-        Comes (counted id (λ id. block_value u class.W id)) reply
-    counted_replies None reply all is = is
-    counted_replies (Some id) reply all is = subst (λ p. Comes p reply) (sym (ap amount (stays.counts id all.0))) is
+    -- a count that the entries and the content of a block decide
+    abbrev StaysCounted : (Count → ℕ) → Type 0
+    StaysCounted f = (id : ℕ) → tally u.counts id ≡ tally s.counts id → f (count_at u.counts id) ≡ f (count_at s.counts id)
 
-    block_replies : (of : Subject) (more : List Watched) (reply : ℤ) → Comes (counts_watched of) more → AllIn read more →
-        Comes (block_count of (λ id. block_value s class.W id)) reply → Comes (block_count of (λ id. block_value u class.W id)) reply
-    block_replies subjects.Own more reply reads all is = λ streams. absurd (let no = is [] in cc)
-    block_replies (subjects.Number n) more reply reads all is = λ streams. absurd (let no = is [] in cc)
-    block_replies (subjects.Name name) more reply reads all is =
-        counted_replies (label_at t name) reply (subst (AllIn read) (sym (given_is (counts_of (label_at t name)) more (reads []))) all) is
+    counted_replies : (f : Count → ℕ) (id : Option ℕ) (reply : ℤ) → StaysCounted f → AllIn read (counts_of id) →
+        Comes (counted id (λ id. amount (f (count_at s.counts id)))) reply → Comes (counted id (λ id. amount (f (count_at u.counts id)))) reply
+    counted_replies f None reply same all is = is
+    counted_replies f (Some id) reply same all is = subst (λ p. Comes p reply) (sym (ap amount (same id (stays.counts id all.0)))) is
+
+    block_replies : (f : Count → ℕ) (of : Subject) (more : List Watched) (reply : ℤ) → StaysCounted f → Comes (counts_watched of) more → AllIn read more →
+        Comes (block_count of (λ id. amount (f (count_at s.counts id)))) reply → Comes (block_count of (λ id. amount (f (count_at u.counts id)))) reply
+    block_replies f subjects.Own more reply same reads all is = λ streams. absurd (let no = is [] in cc)
+    block_replies f (subjects.Number n) more reply same reads all is = λ streams. absurd (let no = is [] in cc)
+    block_replies f (subjects.Name name) more reply same reads all is =
+        counted_replies f (label_at t name) reply same (subst (AllIn read) (sym (given_is (counts_of (label_at t name)) more (reads []))) all) is
 
     attribute_replies : (class : Class) (of : Subject) (more : List Watched) (reply : ℤ) → is_lasting class ≡ true → Comes (watched_prog class of) more →
         AllIn read more → Comes (attribute_prog s (for_one s x) class of) reply → Comes (attribute_prog u (for_one u x) class of) reply
@@ -393,12 +405,29 @@ module _ (t : Listing) (seed : ℕ) where
     attribute_replies class.F of more reply lasting reads all is =
         entity_replies kinds.Facility (entity_value s class.F) (entity_value u class.F) of more reply reads all
         (λ key same. ap (λ (f : Ownership). amount (owned f.owner)) (sym same)) is
-    attribute_replies class.S of more reply lasting reads all is = stored_replies of more reply reads all is
+    attribute_replies class.Fc of more reply lasting reads all is =
+        entity_replies kinds.Facility (entity_value s class.Fc) (entity_value u class.Fc) of more reply reads all
+        (λ key same. ap (λ (f : Ownership). amount f.captures) (sym same)) is
+    attribute_replies class.S of more reply lasting reads all is = stored_replies (λ q. q.level.content) of more reply reads all is
+    attribute_replies class.Sc of more reply lasting reads all is = stored_replies (λ q. q.entries) of more reply reads all is
+    attribute_replies class.Sm of more reply lasting reads all is = stored_replies (λ q. q.greatest) of more reply reads all is
     attribute_replies class.R of more reply lasting reads all is = left_replies of more reply reads all is
     attribute_replies class.Q of more reply lasting reads all is =
         entity_replies kinds.Queue (entity_value s class.Q) (entity_value u class.Q) of more reply reads all
         (λ key same. ap (λ (q : Line). amount q.level.content) (sym same)) is
-    attribute_replies class.W of more reply lasting reads all is = block_replies of more reply reads all is
+    attribute_replies class.Qc of more reply lasting reads all is =
+        entity_replies kinds.Queue (entity_value s class.Qc) (entity_value u class.Qc) of more reply reads all
+        (λ key same. ap (λ (q : Line). amount q.entries) (sym same)) is
+    attribute_replies class.Qm of more reply lasting reads all is =
+        entity_replies kinds.Queue (entity_value s class.Qm) (entity_value u class.Qm) of more reply reads all
+        (λ key same. ap (λ (q : Line). amount q.greatest) (sym same)) is
+    attribute_replies class.Qz of more reply lasting reads all is =
+        entity_replies kinds.Queue (entity_value s class.Qz) (entity_value u class.Qz) of more reply reads all
+        (λ key same. ap (λ (q : Line). amount q.zero_entries) (sym same)) is
+    attribute_replies class.N of more reply lasting reads all is =
+        block_replies (λ c. c.entries) of more reply (λ id same. ap (λ (n : ℕ × ℕ). n.0) same) reads all is
+    attribute_replies class.W of more reply lasting reads all is =
+        block_replies (λ c. c.content) of more reply (λ id same. ap (λ (n : ℕ × ℕ). n.1) same) reads all is
     attribute_replies class.X of more reply lasting reads all is =
         entity_replies kinds.Savevalue (entity_value s class.X) (entity_value u class.X) of more reply reads all
         (λ key same. ap (λ o. gives (unwrap_or o (pos 0))) (sym same)) is
@@ -431,71 +460,71 @@ module _ (t : Listing) (seed : ℕ) where
         (let h = came lasting in
         (h.0, replies question h.2.0 h.0 lasting h.2.1 h.2.2 h.1, h.2, still_came (k h.0) a h.3))
 
--- ---- the content of a block that is not written
+-- ---- the entries and the content of a block that is not written
 
 module _ (p : ℕ) where
   abbrev IsUnwritten : List Watched → Type 0
   IsUnwritten list = is_watched list (watched.Counts p) ≡ false
 
-  let_in_content : (x : Transaction) (to : Option ℕ) (v : Machine) → IsUnwritten (crossing x to) → content (let_in x to v).counts p ≡ content v.counts p
-  let_in_content x None v is = refl
-  let_in_content x (Some id) v is =
+  let_in_tally : (x : Transaction) (to : Option ℕ) (v : Machine) → IsUnwritten (crossing x to) → tally (let_in x to v).counts p ≡ tally v.counts p
+  let_in_tally x None v is = refl
+  let_in_tally x (Some id) v is =
       let first = or_parts (nat_eq p x.current) (nat_eq p id || false) is in
       let second = or_parts (nat_eq p id) false first.1 in
-      content_elsewhere fates.Active v.counts x.current id p first.0 second.0
+      tally_elsewhere fates.Active v.counts x.current id p first.0 second.0
 
-  some_content : (key : Key) (shares : List (Option ℕ)) (passed chain : List Transaction) (v : Machine) → IsUnwritten (crossings shares chain) →
-      content (some_let_in key shares passed chain v).counts p ≡ content v.counts p
-  some_content key [] passed chain v is = refl
-  some_content key (share ∷ shares) passed [] v is = refl
-  some_content key (None ∷ shares) passed (x ∷ xs) v is = some_content key shares (passed ++ x ∷ []) xs v is
-  some_content key (Some units ∷ shares) passed (x ∷ xs) v is =
+  some_tally : (key : Key) (shares : List (Option ℕ)) (passed chain : List Transaction) (v : Machine) → IsUnwritten (crossings shares chain) →
+      tally (some_let_in key shares passed chain v).counts p ≡ tally v.counts p
+  some_tally key [] passed chain v is = refl
+  some_tally key (share ∷ shares) passed [] v is = refl
+  some_tally key (None ∷ shares) passed (x ∷ xs) v is = some_tally key shares (passed ++ x ∷ []) xs v is
+  some_tally key (Some units ∷ shares) passed (x ∷ xs) v is =
       let parts = or_parts (is_watched (crossing x x.destination) (watched.Counts p)) (is_watched (crossings shares xs) (watched.Counts p))
       (sym (list_any-append (same_watched (watched.Counts p)) (crossing x x.destination) (crossings shares xs)) ∙ is) in
-      some_content key shares passed xs (one_let_in key x (passed ++ xs) v) parts.1
-      ∙ let_in_content x x.destination (record v { delays = with_value v.delays key (passed ++ xs) }) parts.0
+      some_tally key shares passed xs (one_let_in key x (passed ++ xs) v) parts.1
+      ∙ let_in_tally x x.destination (record v { delays = with_value v.delays key (passed ++ xs) }) parts.0
 
-  maybe_made_content : (next : Option Arrival) (w : Making) → content (maybe_made next w).counts p ≡ content w.counts p
-  maybe_made_content None w = refl
-  maybe_made_content (Some a) w = content_made w.counts a.id p
+  maybe_made_tally : (next : Option Arrival) (w : Making) → tally (maybe_made next w).counts p ≡ tally w.counts p
+  maybe_made_tally None w = refl
+  maybe_made_tally (Some a) w = tally_made w.counts a.id p
 
-  all_made_content : (arrivals : List Arrival) (w : Making) → content (all_made arrivals w).counts p ≡ content w.counts p
-  all_made_content [] w = refl
-  all_made_content (a ∷ rest) w = all_made_content rest (made a w) ∙ content_made w.counts a.id p
+  all_made_tally : (arrivals : List Arrival) (w : Making) → tally (all_made arrivals w).counts p ≡ tally w.counts p
+  all_made_tally [] w = refl
+  all_made_tally (a ∷ rest) w = all_made_tally rest (made a w) ∙ tally_made w.counts a.id p
 
-  changed_content : (s v : Machine) (change : Change) → v.delays ≡ s.delays → IsUnwritten (written_by change s) →
-      content (changed change v).counts p ≡ content v.counts p
-  changed_content s v (changes.Generate next) same is = maybe_made_content next (making_of v)
-  changed_content s v (changes.Entity change) same is =
+  changed_tally : (s v : Machine) (change : Change) → v.delays ≡ s.delays → IsUnwritten (written_by change s) →
+      tally (changed change v).counts p ≡ tally v.counts p
+  changed_tally s v (changes.Generate next) same is = maybe_made_tally next (making_of v)
+  changed_tally s v (changes.Entity change) same is =
       let chain = ap (λ ds. delay_at ds change.0) same in
-      some_content change.0 (deed_shares change.1) [] (delay_at v.delays change.0) v
+      some_tally change.0 (deed_shares change.1) [] (delay_at v.delays change.0) v
       (subst (λ xs. IsUnwritten (crossings (deed_shares change.1) xs)) (sym chain) is)
-  changed_content s v (changes.Transaction change) same is = refl
-  changed_content s v changes.Nothing same is = refl
+  changed_tally s v (changes.Transaction change) same is = refl
+  changed_tally s v changes.Nothing same is = refl
 
-  entering_content : (s : Machine) (x : Transaction) (id : ℕ) (change : Change) (fate : Fate) → IsUnwritten (written_where (Some x) id change s) →
-      content (entering s x id change fate).counts p ≡ content s.counts p
-  entering_content s x id change fate is =
+  entering_tally : (s : Machine) (x : Transaction) (id : ℕ) (change : Change) (fate : Fate) → IsUnwritten (written_where (Some x) id change s) →
+      tally (entering s x id change fate).counts p ≡ tally s.counts p
+  entering_tally s x id change fate is =
       let same = settled_is s x id change fate in
       let first = or_parts (nat_eq p x.current) _ is in
       let second = or_parts (nat_eq p id) _ first.1 in
-      changed_content s (settled s x id change fate) change same.delays second.1
-      ∙ (ap (λ cs. content cs p) same.counts ∙ content_elsewhere fate s.counts x.current id p first.0 second.0)
+      changed_tally s (settled s x id change fate) change same.delays second.1
+      ∙ (ap (λ cs. tally cs p) same.counts ∙ tally_elsewhere fate s.counts x.current id p first.0 second.0)
 
-  moved_content : (s : Machine) (m : Move) → IsUnwritten (written s m) → content (moved s m).counts p ≡ content s.counts p
-  moved_content s (moves.Start count arrivals) is = all_made_content arrivals (making_of s)
-  moved_content s moves.Command is = refl
-  moved_content s (moves.Enter id change fate) is = go s.active is where
+  moved_tally : (s : Machine) (m : Move) → IsUnwritten (written s m) → tally (moved s m).counts p ≡ tally s.counts p
+  moved_tally s (moves.Start count arrivals) is = all_made_tally arrivals (making_of s)
+  moved_tally s moves.Command is = refl
+  moved_tally s (moves.Enter id change fate) is = go s.active is where
     go : (o : Option Transaction) → IsUnwritten (written_where o id change s) →
-        content (with_active o (λ x. entering s x id change fate) s).counts p ≡ content s.counts p
+        tally (with_active o (λ x. entering s x id change fate) s).counts p ≡ tally s.counts p
     go None h = refl
-    go (Some x) h = entering_content s x id change fate h
-  moved_content s (moves.Refuse id key units) is =
-      with_active_has (λ v. content v.counts p ≡ content s.counts p) s.active (λ x. refused s x id key units) s refl (λ x is. refl)
-  moved_content s (moves.Watch read) is =
-      with_active_has (λ v. content v.counts p ≡ content s.counts p) s.active (λ x. watching s x read) s refl (λ x is. refl)
-  moved_content s moves.Pick is = picked_has (λ v. content v.counts p ≡ content s.counts p) s s.current refl (λ x xs is. refl)
-  moved_content s (moves.Clock time) is = refl
+    go (Some x) h = entering_tally s x id change fate h
+  moved_tally s (moves.Refuse id key units) is =
+      with_active_has (λ v. tally v.counts p ≡ tally s.counts p) s.active (λ x. refused s x id key units) s refl (λ x is. refl)
+  moved_tally s (moves.Watch read) is =
+      with_active_has (λ v. tally v.counts p ≡ tally s.counts p) s.active (λ x. watching s x read) s refl (λ x is. refl)
+  moved_tally s moves.Pick is = picked_has (λ v. tally v.counts p ≡ tally s.counts p) s s.current refl (λ x xs is. refl)
+  moved_tally s (moves.Clock time) is = refl
 
 -- ---- over a run
 
@@ -594,7 +623,7 @@ test_stays t seed s m streams w unread tested = λ id b first second goes there 
     let u = decided s m streams in
     let stays : Stays t seed s u w.read w.transaction = record {
       entity = λ kind key read. moved_entity s m kind key (unread_unwritten (written s m) w.read (watched.Entity kind key) unread read);
-      counts = λ i read. moved_content i s m (unread_unwritten (written s m) w.read (watched.Counts i) unread read);
+      counts = λ i read. moved_tally i s m (unread_unwritten (written s m) w.read (watched.Counts i) unread read);
       own = tested.1;
     } in (
       h.0,

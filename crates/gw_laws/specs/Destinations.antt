@@ -1,9 +1,12 @@
 -- Where transactions go, over every run from zero. (Manual. Within the step limit, since numbers tell transactions
 -- apart there.)
-use Rattle.std.specs.Prelude.{◌≡◌, ℕ, suc, ◌≤◌, ◌⊎◌, List, ◌++◌, map, Option, Some, Ok, Contains}
+use Rattle.std.specs.Prelude.{◌≡◌, ℕ, suc, ◌≤◌, ◌⊎◌, List, ◌++◌, map, Option, Some, None, Ok, Contains}
+use Rattle.gw_names.specs.declared.verb.BlockVerb.TheVariants as blocks
+use Rattle.gw_meaning.specs.declared.statement.Block.{Block}
 use Rattle.gw_meaning.specs.declared.transaction.Transaction.{Transaction}
 use Rattle.gw_meaning.specs.declared.transaction.Event.{Event}
-use Rattle.gw_meaning.specs.Listing.{Listing, after_at, or_next}
+use Rattle.gw_meaning.specs.Statements.{B, C, operand}
+use Rattle.gw_meaning.specs.Listing.{Listing, after_at, block_at, or_next}
 use Rattle.gw_meaning.specs.Machine.{Machine}
 use Rattle.gw_meaning.specs.Step.{run}
 use Rattle.gw_meaning.specs.Watching.{transactions_of}
@@ -18,10 +21,20 @@ goes_to t x = or_next x.destination (after_at t x.current)
 abbrev pub WentWhereItGoes : Listing → Transaction → Transaction → Type 0
 WentWhereItGoes t x y = (goes_to t x ≡ Some y.current) ⊎ ((y.current ≡ x.current) × (goes_to t x ≡ y.destination))
 
--- or it waits as it came for a change of something that it read
-abbrev pub WaitsAsItCame : Machine → Transaction → Transaction → Type 0
-WaitsAsItCame v x y =
+-- the block to which it goes is a TEST or a GATE without a label
+abbrev pub IsTestOrGate : Block → Type 0
+IsTestOrGate b =
+    ((b.verb ≡ blocks.Test) × (operand b C ≡ None)) ⊎ ((b.verb ≡ blocks.Gate) × (operand b B ≡ None))
+
+abbrev pub IsAtATestOrAGate : Listing → Transaction → Type 0
+IsAtATestOrAGate t x =
+    (id : ℕ) × (b : Block) × (goes_to t x ≡ Some id) × (block_at t id ≡ Some b) × IsTestOrGate b
+
+-- or it waits as it came, at a TEST or a GATE without a label, for a change of something that it read
+abbrev pub WaitsAsItCame : Listing → Machine → Transaction → Transaction → Type 0
+WaitsAsItCame t v x y =
     Contains (transactions_of v.retry) x × (y.current ≡ x.current) × (y.destination ≡ x.destination)
+    × IsAtATestOrAGate t x
 
 -- so it is, where it lives on, of the one that was active before a step
 abbrev pub GoesToItsDestination : Type 0
@@ -29,7 +42,7 @@ GoesToItsDestination =
     (t : Listing) (seed n : ℕ) (s v : Machine) → Well t → n ≤ t.limit →
     run t seed n ≡ Ok s → run t seed (suc n) ≡ Ok v →
     (x y : Transaction) → s.active ≡ Some x → Contains (living v) y → y.number ≡ x.number →
-    WentWhereItGoes t x y ⊎ WaitsAsItCame v x y
+    WentWhereItGoes t x y ⊎ WaitsAsItCame t v x y
 
 -- those on the current chain, on the future chain and on the retry chain
 abbrev pub on_chains : Machine → List Transaction

@@ -1,6 +1,6 @@
 -- Those who wait at a TEST or a GATE for a change of something that they read, over every run from zero. (Manual: retry
 -- chains.)
-use Rattle.std.specs.Prelude.{◌≡◌, ◌<◌, ◌≤◌, ℕ, ℤ, suc, Bool, true, false, List, ◌++◌, Option, Some, None, Ok, Contains, filter, length, slice_get, Result, Err}
+use Rattle.std.specs.Prelude.{◌≡◌, ◌<◌, ◌≤◌, ◌⊎◌, ℕ, ℤ, suc, Bool, true, false, List, [], ◌∷◌, ◌++◌, Option, Some, None, Ok, Contains, filter, slice_get, Result, Err}
 use Rattle.std.specs.List.{list_any}
 use Rattle.gw_nums.specs.Range.{magnitude}
 use Rattle.gw_names.specs.declared.key.Key.{Key}
@@ -15,21 +15,28 @@ use Rattle.gw_streams.specs.declared.stream.Stream.{Stream}
 use Rattle.gw_meaning.specs.declared.auxiliary.Auxiliary.TheVariants as auxiliaries
 use Rattle.gw_meaning.specs.declared.auxiliary.Condition.{Condition}
 use Rattle.gw_meaning.specs.declared.statement.Block.{Block}
+use Rattle.gw_meaning.specs.declared.transaction.Transaction.{Transaction}
+use Rattle.gw_meaning.specs.declared.moves.Change.{Change}
+use Rattle.gw_meaning.specs.declared.moves.Change.TheVariants as changes
 use Rattle.gw_meaning.specs.declared.moves.Move.{Move}
+use Rattle.gw_meaning.specs.declared.moves.Move.TheVariants as moves
 use Rattle.gw_meaning.specs.declared.asker.Asker.{Asker}
 use Rattle.gw_meaning.specs.declared.item.End.{End}
 use Rattle.gw_meaning.specs.declared.item.Item.{Item}
+use Rattle.gw_meaning.specs.declared.watched.EntityKind.{EntityKind}
 use Rattle.gw_meaning.specs.declared.watched.Watched.{Watched}
+use Rattle.gw_meaning.specs.declared.watched.Watched.TheVariants as watched
 use Rattle.gw_meaning.specs.Statements.{A, B, operand}
 use Rattle.gw_meaning.specs.Listing.{Listing, block_at, number_at, capacity_at}
-use Rattle.gw_meaning.specs.Watching.{Waiter}
-use Rattle.gw_meaning.specs.Machine.{Machine}
+use Rattle.gw_meaning.specs.Watching.{Waiter, kind_of}
+use Rattle.gw_meaning.specs.Machine.{Machine, delay_at}
 use Rattle.gw_meaning.specs.Questions.{result_of, items_of}
 use Rattle.gw_meaning.specs.Changes.{written, is_woken}
 use Rattle.gw_meaning.specs.Evaluation.{Eval, reply_prog, evaluated, value_there, value_traced}
 use Rattle.gw_meaning.specs.Step.{for_one, holds, is_open, decide, step, run}
 use Rattle.gw_model.specs.Well.{Well}
-use Rattle.gw_laws.specs.Destinations.{goes_to}
+use Rattle.gw_laws.specs.Delays.{IsLetIn}
+use Rattle.gw_laws.specs.Destinations.{goes_to, IsAtATestOrAGate}
 
 -- w waits for a change
 abbrev pub Waits : Machine → Waiter → Type 0
@@ -39,11 +46,18 @@ Waits s w = Contains s.retry w
 abbrev pub StandsInFront : {X : Type 0} → List X → X → X → Type 0
 StandsInFront xs x y = (i j : ℕ) × (i < j) × (slice_get xs i ≡ Some x) × (slice_get xs j ≡ Some y)
 
--- in a step some wait on, in the order in which they were there, and at most one comes, behind these
+-- nobody comes to wait but the active transaction, as it was
+abbrev pub IsAtMostTheActive : Option Transaction → List Waiter → Type 0
+IsAtMostTheActive active come =
+    (come ≡ []) ⊎ ((w : Waiter) × (come ≡ w ∷ []) × (active ≡ Some w.transaction))
+
+-- in a step some wait on, in the order in which they were there, and behind these comes at most the one who was active,
+-- as it was
 abbrev pub WaitersKeepTheirOrder : Type 0
 WaitersKeepTheirOrder =
     (t : Listing) (seed : ℕ) (s v : Machine) → step t seed s ≡ Ok v →
-    (stays : Waiter → Bool) × (come : List Waiter) × (v.retry ≡ filter stays s.retry ++ come) × (length come ≤ 1)
+    (stays : Waiter → Bool) × (come : List Waiter) × (v.retry ≡ filter stays s.retry ++ come)
+    × IsAtMostTheActive s.active come
 
 -- of two of one priority whom a step wakes, the one who came first stands in front
 abbrev pub WokenInOrder : Type 0
@@ -59,6 +73,67 @@ WokenByWhatIsWritten =
     result_of t seed (decide s) ≡ Ok (m, streams) → step t seed s ≡ Ok v → Waits s w →
     (is_woken (written s m) w ≡ true → Contains v.current w.transaction)
     × (is_woken (written s m) w ≡ false → Waits v w)
+
+-- whoever waits tried a TEST or a GATE without a label: the block of its destination where it has one, and else the one
+-- behind its own
+abbrev pub WhoWaitsIsAtATestOrAGate : Type 0
+WhoWaitsIsAtATestOrAGate =
+    (t : Listing) (seed n : ℕ) (s : Machine) → run t seed n ≡ Ok s →
+    (w : Waiter) → Waits s w → IsAtATestOrAGate t w.transaction
+
+-- where no transaction is active, as where the clock moves on, one is picked or a command is done, nobody wakes
+abbrev pub NobodyWakesWhereNoneIsActive : Type 0
+NobodyWakesWhereNoneIsActive =
+    (t : Listing) (seed : ℕ) (s v : Machine) → step t seed s ≡ Ok v → s.active ≡ None → v.retry ≡ s.retry
+
+-- a step's move enters a block
+abbrev pub IsEntry : Move → Type 0
+IsEntry (moves.Enter id change fate) = Unit {0}
+IsEntry move = ⊥
+
+-- where no block is entered, as where the active transaction is refused, all who waited wait on, in their order, and
+-- behind them at most the one who was refused
+abbrev pub NobodyWakesUnlessABlockIsEntered : Type 0
+NobodyWakesUnlessABlockIsEntered =
+    (t : Listing) (seed : ℕ) (s v : Machine) (m : Move) (streams : List Stream) →
+    result_of t seed (decide s) ≡ Ok (m, streams) → step t seed s ≡ Ok v → (IsEntry m → ⊥) →
+    (come : List Waiter) × (v.retry ≡ s.retry ++ come) × IsAtMostTheActive s.active come
+
+-- a block that a transaction leaves for another, or that other one
+abbrev pub IsLeftOrEntered : Transaction → ℕ → ℕ → Type 0
+IsLeftOrEntered x to block = (block ≡ x.current) ⊎ (block ≡ to)
+
+-- x waited on a delay chain before a step, and the step lets it in
+abbrev pub LeavesForItsBlock : Machine → Machine → Transaction → Type 0
+LeavesForItsBlock s v x = (key : Key) × Contains (delay_at s.delays key) x × IsLetIn x v
+
+-- the blocks whose counts change where one is entered: those that the active transaction leaves and enters, and those
+-- that each leaves and enters who is let in
+abbrev pub IsCrossed : Machine → Machine → ℕ → ℕ → Type 0
+IsCrossed s v id block =
+    ((x : Transaction) × (s.active ≡ Some x) × IsLeftOrEntered x id block)
+    ⊎ ((x : Transaction) × (way : LeavesForItsBlock s v x) × IsLeftOrEntered x way.2.0 block)
+
+-- the entity that a block changes
+abbrev pub IsEntityOf : Change → EntityKind → Key → Type 0
+IsEntityOf (changes.Entity change) kind key = (kind ≡ kind_of change.1) × (key ≡ change.0)
+IsEntityOf change kind key = ⊥
+
+-- what an entry changes
+abbrev pub IsChangedBy : Machine → Machine → ℕ → Change → Watched → Type 0
+IsChangedBy s v id change (watched.Counts block) = IsCrossed s v id block
+IsChangedBy s v id change (watched.Entity kind key) = IsEntityOf change kind key
+
+abbrev pub IsChanged : Machine → Machine → Move → Watched → Type 0
+IsChanged s v (moves.Enter id change fate) w = IsChangedBy s v id change w
+IsChanged s v move w = ⊥
+
+-- and whoever wakes read something that the entry changed
+abbrev pub WhoWakesReadWhatChanged : Type 0
+WhoWakesReadWhatChanged =
+    (t : Listing) (seed : ℕ) (s v : Machine) (w : Waiter) (m : Move) (streams : List Stream) →
+    result_of t seed (decide s) ≡ Ok (m, streams) → step t seed s ≡ Ok v → Waits s w → (Waits v w → ⊥) →
+    (r : Watched) × Contains w.read r × IsChanged s v m r
 
 -- the entity that an operand names as it is written: by a name, which may stand for a number, by a number, or by the
 -- name of its definition
@@ -86,13 +161,21 @@ NobodyWaitsAtAnOpenGate =
     b.auxiliary ≡ auxiliaries.Gate condition → key_written t (operand b A) ≡ Some key →
     is_open s condition key (capacity_of t key) ≡ false
 
--- what stays as it is until a block writes it: owners, contents, savevalues and switches, and what a transaction that
--- waits has of its own. (Counts of entries are left out: they are to be set to 0 by a command, which wakes nobody.)
+-- what stays as it is until a block writes it: owners, contents, counts, savevalues and switches, and what a transaction
+-- that waits has of its own. (A RESET would set counts of entries to 0 and wake nobody. None is read so far; once it is,
+-- the law below needs the premise that the version has none.)
 abbrev pub is_lasting : Class → Bool
 is_lasting class.F = true
+is_lasting class.Fc = true
 is_lasting class.S = true
 is_lasting class.R = true
+is_lasting class.Sc = true
+is_lasting class.Sm = true
 is_lasting class.Q = true
+is_lasting class.Qc = true
+is_lasting class.Qm = true
+is_lasting class.Qz = true
+is_lasting class.N = true
 is_lasting class.W = true
 is_lasting class.X = true
 is_lasting class.Ls = true

@@ -23,6 +23,9 @@ ghost use Rattle.gw_laws.specs.Storages.{StoragesAreWithin, NobodyWaitsAtRoom};
 ghost use Rattle.gw_laws.specs.Tests.{EachIsAnOperator, HoldsAsItSays};
 ghost use Rattle.gw_laws.specs.Verbs.{EachVerbIsEvaluated};
 ghost use Rattle.gw_laws.specs.Waiters.{WaitersKeepTheirOrder, WokenInOrder, WokenByWhatIsWritten};
+ghost use Rattle.gw_laws.specs.Waiters.{WhoWaitsIsAtATestOrAGate};
+ghost use Rattle.gw_laws.specs.Waiters.{NobodyWakesWhereNoneIsActive, NobodyWakesUnlessABlockIsEntered};
+ghost use Rattle.gw_laws.specs.Waiters.{WhoWakesReadWhatChanged};
 ghost use Rattle.gw_laws.specs.Waiters.{NobodyWaitsAtAnOpenGate, NobodyWaitsAtATestThatHolds, TellingChangesNothing};
 
 /// The current chain is in order of priority. Of one priority, the first transactions leave it in a step, those that
@@ -54,18 +57,31 @@ pub fn delays_in_order()
     ensures free { NobodyWaitsAtAFreeFacility }
 {}
 
-/// Whoever waits at a TEST or a GATE for a change keeps his place in a step, and at most one comes, behind the others.
+/// Whoever waits at a TEST or a GATE for a change keeps his place in a step, and at most the one who was active comes, as
+/// it was, behind the others.
 /// Whoever read something that the step writes wakes, and is on the current chain then, and whoever did not, waits on.
-/// Of two of one priority whom a step wakes, the one who came first stands in front.
+/// Of two of one priority whom a step wakes, the one who came first stands in front. The block to which whoever waits so
+/// goes is a TEST or a GATE without a label.
 pub fn waiters_wake_in_order()
     ensures places { WaitersKeepTheirOrder }
     ensures turn { WokenInOrder }
     ensures woken { WokenByWhatIsWritten }
+    ensures there { WhoWaitsIsAtATestOrAGate }
+{}
+
+/// The clock, a pick, a command and a refused attempt wake nobody: where no transaction is active, and where no block is
+/// entered, all who waited wait on, in their order, and behind them at most the one who was refused. Whoever wakes where
+/// a block is entered read something that changed: the counts of a block that is left or entered, by the active
+/// transaction or by one that is let in, or the entity that the block names.
+pub fn nobody_wakes_for_nothing()
+    ensures idle { NobodyWakesWhereNoneIsActive }
+    ensures refused { NobodyWakesUnlessABlockIsEntered }
+    ensures changed { WhoWakesReadWhatChanged }
 {}
 
 /// Nobody waits at a GATE whose condition holds of the entity that its operand names. Nobody waits at a TEST whose
-/// relation holds, where its values read nothing but what stays until a block writes it: F, Q, S, R, W, X and LS, and the
-/// parameters, the priority and the number of who waits.
+/// relation holds, where its values read nothing but what stays until a block writes it: F, FC, Q, QC, QM, QZ, S, R, SC,
+/// SM, N, W, X and LS, and the parameters, the priority and the number of who waits.
 pub fn nobody_waits_for_what_holds()
     ensures gate { NobodyWaitsAtAnOpenGate }
     ensures test { NobodyWaitsAtATestThatHolds }
@@ -107,8 +123,9 @@ pub fn each_has_one_place()
 {}
 
 /// The active transaction goes to its destination where it has one, and else to the block behind its own: in a step it
-/// enters that block, waits to enter it, or waits as it came for a change of something that it read. Whoever is on the
-/// current, the future or the retry chain stays in his block, with his destination.
+/// enters that block, waits to enter it, or waits as it came, at a TEST or a GATE without a label, for a change of
+/// something that it read. Whoever is on the current, the future or the retry chain stays in his block, with his
+/// destination.
 pub fn goes_where_it_is_sent()
     ensures goes { GoesToItsDestination }
     ensures stays { OthersStayInTheirBlocks }
