@@ -1,5 +1,5 @@
 -- Waiters, each with the list that it read, and the marks of what they read.
-use Rattle.std.proofs.Common.{◌≡◌, ℕ, Bool, true, false, not, ◌||◌, List, [], ◌∷◌, ◌++◌, map, filter, Some, slice_get, get_or, refl, sym, ap, ap₂, subst, ◌∙◌}
+use Rattle.std.proofs.Common.{◌≡◌, ℕ, ◌+◌, Bool, true, false, not, ◌||◌, List, [], ◌∷◌, ◌++◌, map, filter, take, Some, slice_get, get_or, refl, sym, ap, ap₂, subst, ◌∙◌}
 use Rattle.std.specs.Prelude.{unwrap_or}
 use Rattle.std.specs.List.{list_all, list_any}
 use Rattle.std.proofs.lemmas.List.Elements.{All-head, All-tail, All-weaker, All-filter, filter_passes, filter_agree}
@@ -10,6 +10,7 @@ use Rattle.gw_meaning.specs.Changes.{is_woken}
 use Rattle.gw_retry.specs.declared.retry.Waiting.{Waiting}
 use Rattle.gw_retry.specs.Readings.{Readings, Keeps, Marks}
 use Rattle.gw_retry.specs.Waiting.{waiter_of, waiters_of, IsListed, AreListed}
+use Rattle.gw_retry.proofs.Passing.{front_is}
 use Rattle.gw_retry.proofs.Things.{thing_same, thing_turned}
 use Rattle.gw_retry.proofs.Sifted.{filter_mapped, none_passes, both_true, neither_true, true_both, neither}
 
@@ -106,6 +107,17 @@ one_more r s ws all x place read vs lists listed old more there =
     ap (λ (list : List Watched). record { transaction = x; read = list }) (list_of s.lists w read there) in
     ap (waiters_of s.lists) more ∙ (waiters_pushed s.lists ws w ∙
     ap₂ (λ us v. us ++ v ∷ []) (same_waiters r s ws lists listed ∙ old) new)
+
+-- one more of some waiters is laid out anew, beside lists of their own
+pub one_laid : (r s t : Readings) (items ws all : List Waiting) (i place : ℕ) (w : Waiting) (read : List Watched) → slice_get items i ≡ Some w →
+    slice_get r.lists w.place ≡ Some read → Keeps s.lists t.lists → AreListed s ws → waiters_of s.lists ws ≡ waiters_of r.lists (take i items) →
+    all ≡ ws ++ record { transaction = w.transaction; place = place } ∷ [] → slice_get t.lists place ≡ Some read →
+    waiters_of t.lists all ≡ waiters_of r.lists (take (i + 1) items)
+one_laid r s t items ws all i place w read at was keeps listed old more there =
+    let front = waiters_of r.lists (take i items) in
+    one_more s t ws all w.transaction place read front keeps listed old more there ∙
+    (ap (λ (list : List Watched). front ++ record { transaction = w.transaction; read = list } ∷ []) (sym (list_of r.lists w read was)) ∙
+    (sym (waiters_pushed r.lists (take i items) w) ∙ ap (waiters_of r.lists) (sym (front_is items i w at))))
 
 -- those who are not woken stay listed when the marks of what is written go
 pub not_true : (b : Bool) → not b ≡ true → b ≡ false

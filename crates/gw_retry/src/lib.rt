@@ -3,6 +3,7 @@
 //! All that grows is reserved first, so a refused growth changes nothing that is seen.
 #![tactic(auto)]
 
+mod laying;
 mod lists;
 mod readings;
 mod retry;

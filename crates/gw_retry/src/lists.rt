@@ -99,6 +99,28 @@ impl ReadLists {
         self.add(read.into_vec())
     }
 
+    // The same, for a list of others, which is copied only where it is not there.
+    pub fn learn_copy(&mut self, read: &[Watched]) -> Result<usize, AllocError>
+        ensures there { IfOk result (λ i. slice_get self.new.lists i ≡ Some read.now) }
+        ensures marked { OnOk result (list_all (is_watched self.new.marks) read.now ≡ true) }
+        ensures lists { Keeps self.old.lists self.new.lists }
+        ensures marks { Marks self.old.marks [] self.new.marks }
+    {
+        self.mark(read)?;
+        if let Some(place) = self.place(read) {
+            return Ok(place);
+        }
+        let own = self.copied(read)?;
+        self.add(own)
+    }
+
+    // A copy of a list.
+    fn copied(&self, read: &[Watched]) -> Result<Vec<Watched>, AllocError>
+        ensures { IfOk result (λ v. v.items ≡ read.now) }
+    {
+        read.to_vec(self.allocator())
+    }
+
     // The place of a list, which comes behind the others where it is not there.
     fn add(&mut self, read: Vec<Watched>) -> Result<usize, AllocError>
         ensures there { IfOk result (λ i. slice_get self.new.lists i ≡ Some read.items) }

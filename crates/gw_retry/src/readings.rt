@@ -42,6 +42,15 @@ impl SharedReadings {
         }
     }
 
+    // These lists and marks.
+    pub fn of(lists: ReadLists) -> SharedReadings
+        ensures { result ≡ lists }
+    {
+        SharedReadings {
+            kept: Kept::Own(lists),
+        }
+    }
+
     // Where its memory comes from.
     pub fn allocator(&self) -> Global {
         self.lists().allocator()

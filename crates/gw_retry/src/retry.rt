@@ -3,6 +3,7 @@ ghost use Rattle.gw_meaning.specs.declared.watched.Watched.{Watched};
 ghost use Rattle.gw_meaning.specs.Watching.{Waiter, is_watched, transactions_of};
 ghost use Rattle.gw_meaning.specs.Changes.{is_woken, all_lined_up};
 
+use crate::laying::lay_anew;
 use crate::readings::SharedReadings;
 use crate::waking::{count_woken, take_woken};
 use gw_chains::PriorityChain;
@@ -13,8 +14,9 @@ use std::alloc::{AllocError, Global};
 use std::marker::Model;
 use std::slice;
 
-/// How many lists are kept, at the least, before they are forgotten where nobody waits.
-const MANY: usize = 64;
+/// Lists are forgotten where there are more than two for each who waits, and twice so many besides. Then so much was
+/// read or woken since the last time that laying them out anew costs no more than that did.
+const MANY: usize = 32;
 
 /// If more than one of so many is woken, they are more than a few.
 const SHARE: usize = 128;
@@ -117,7 +119,7 @@ impl Retry {
         ensures ok { OnOk result (self.new.waiters ≡ self.old.waiters ++ record { transaction = x; read = read } ∷ []) }
         ensures err { OnErr result (self.new.waiters ≡ self.old.waiters) }
     {
-        self.forget_read();
+        self.forget_read()?;
         self.waiting.reserve(1)?;
         let place = self.readings.add(read)?;
         self.waiting.push(Waiting {
@@ -127,14 +129,15 @@ impl Retry {
         Ok(())
     }
 
-    // What was read goes where nobody waits, lest it only grow.
-    fn forget_read(&mut self)
+    // What nobody who waits has read goes where there is much of it, lest it only grow. Where memory is refused, all is
+    // as it was.
+    fn forget_read(&mut self) -> Result<(), AllocError>
         ensures { self.new.waiters ≡ self.old.waiters }
     {
-        if self.waiting.is_empty() && self.readings.len() >= MANY {
-            let alloc = self.readings.allocator();
-            self.readings = SharedReadings::new(alloc);
+        if self.readings.len() / 2 > self.waiting.len() + MANY {
+            return lay_anew(&mut self.waiting, &mut self.readings);
         }
+        Ok(())
     }
 
     /// How many will be woken by what is written, with room for them to go. It changes no waiter.
