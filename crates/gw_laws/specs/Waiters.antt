@@ -28,8 +28,8 @@ use Rattle.gw_meaning.specs.declared.watched.Watched.{Watched}
 use Rattle.gw_meaning.specs.declared.watched.Watched.TheVariants as watched
 use Rattle.gw_meaning.specs.Statements.{A, B, operand}
 use Rattle.gw_meaning.specs.Listing.{Listing, block_at, number_at, capacity_at}
-use Rattle.gw_meaning.specs.Watching.{Waiter, kind_of}
-use Rattle.gw_meaning.specs.Machine.{Machine, delay_at}
+use Rattle.gw_meaning.specs.Watching.{Waiter, kind_of, transactions_of}
+use Rattle.gw_meaning.specs.Machine.{Machine, delay_at, waiting}
 use Rattle.gw_meaning.specs.Questions.{result_of, items_of}
 use Rattle.gw_meaning.specs.Changes.{written, is_woken}
 use Rattle.gw_meaning.specs.Evaluation.{Eval, reply_prog, evaluated, value_there, value_traced}
@@ -86,12 +86,26 @@ abbrev pub NobodyWakesWhereNoneIsActive : Type 0
 NobodyWakesWhereNoneIsActive =
     (t : Listing) (seed : ℕ) (s v : Machine) → step t seed s ≡ Ok v → s.active ≡ None → v.retry ≡ s.retry
 
+-- the transaction x waits, on a delay chain or for a change
+abbrev pub HasToWait : Machine → Transaction → Type 0
+HasToWait s x =
+    (y : Transaction) × Contains (waiting s.delays ++ transactions_of s.retry) y × (y.number ≡ x.number)
+
+-- where the active one has to wait behind a step, all who waited wait on, in their order, and behind them at most that
+-- one. (Within the step limit, since numbers tell transactions apart there.)
+abbrev pub NobodyWakesWhereTheActiveHasToWait : Type 0
+NobodyWakesWhereTheActiveHasToWait =
+    (t : Listing) (seed n : ℕ) (s v : Machine) → Well t → n ≤ t.limit →
+    run t seed n ≡ Ok s → run t seed (suc n) ≡ Ok v →
+    (x : Transaction) → s.active ≡ Some x → HasToWait v x →
+    (come : List Waiter) × (v.retry ≡ s.retry ++ come) × IsAtMostTheActive s.active come
+
 -- a step's move enters a block
 abbrev pub IsEntry : Move → Type 0
 IsEntry (moves.Enter id change fate) = Unit {0}
 IsEntry move = ⊥
 
--- where no block is entered, as where the active transaction is refused, all who waited wait on, in their order, and
+-- and so wherever no block is entered: all who waited wait on, in their order, and
 -- behind them at most the one who was refused
 abbrev pub NobodyWakesUnlessABlockIsEntered : Type 0
 NobodyWakesUnlessABlockIsEntered =

@@ -25,7 +25,7 @@ ghost use Rattle.gw_laws.specs.Verbs.{EachVerbIsEvaluated};
 ghost use Rattle.gw_laws.specs.Waiters.{WaitersKeepTheirOrder, WokenInOrder, WokenByWhatIsWritten};
 ghost use Rattle.gw_laws.specs.Waiters.{WhoWaitsIsAtATestOrAGate};
 ghost use Rattle.gw_laws.specs.Waiters.{NobodyWakesWhereNoneIsActive, NobodyWakesUnlessABlockIsEntered};
-ghost use Rattle.gw_laws.specs.Waiters.{WhoWakesReadWhatChanged};
+ghost use Rattle.gw_laws.specs.Waiters.{NobodyWakesWhereTheActiveHasToWait, WhoWakesReadWhatChanged};
 ghost use Rattle.gw_laws.specs.Waiters.{NobodyWaitsAtAnOpenGate, NobodyWaitsAtATestThatHolds, TellingChangesNothing};
 
 /// The current chain is in order of priority. Of one priority, the first transactions leave it in a step, those that
@@ -69,13 +69,14 @@ pub fn waiters_wake_in_order()
     ensures there { WhoWaitsIsAtATestOrAGate }
 {}
 
-/// The clock, a pick, a command and a refused attempt wake nobody: where no transaction is active, and where no block is
-/// entered, all who waited wait on, in their order, and behind them at most the one who was refused. Whoever wakes where
-/// a block is entered read something that changed: the counts of a block that is left or entered, by the active
-/// transaction or by one that is let in, or the entity that the block names.
+/// The clock, a pick, a command and a refused attempt wake nobody. Where no transaction is active, where the active one
+/// has to wait, and wherever no block is entered, all who waited wait on, in their order, and behind them at most the one
+/// who was active. Whoever wakes where a block is entered read something that changed: the counts of a block that is left
+/// or entered, by the active transaction or by one that is let in, or the entity that the block names.
 pub fn nobody_wakes_for_nothing()
     ensures idle { NobodyWakesWhereNoneIsActive }
-    ensures refused { NobodyWakesUnlessABlockIsEntered }
+    ensures refused { NobodyWakesWhereTheActiveHasToWait }
+    ensures entry { NobodyWakesUnlessABlockIsEntered }
     ensures changed { WhoWakesReadWhatChanged }
 {}
 
