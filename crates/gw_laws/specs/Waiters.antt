@@ -105,8 +105,7 @@ abbrev pub IsEntry : Move → Type 0
 IsEntry (moves.Enter id change fate) = Unit {0}
 IsEntry move = ⊥
 
--- and so wherever no block is entered: all who waited wait on, in their order, and
--- behind them at most the one who was refused
+-- and so wherever no block is entered
 abbrev pub NobodyWakesUnlessABlockIsEntered : Type 0
 NobodyWakesUnlessABlockIsEntered =
     (t : Listing) (seed : ℕ) (s v : Machine) (m : Move) (streams : List Stream) →
@@ -142,7 +141,7 @@ abbrev pub IsChanged : Machine → Machine → Move → Watched → Type 0
 IsChanged s v (moves.Enter id change fate) w = IsChangedBy s v id change w
 IsChanged s v move w = ⊥
 
--- and whoever wakes read something that the entry changed
+-- whoever wakes read something that the entry of a block changed
 abbrev pub WhoWakesReadWhatChanged : Type 0
 WhoWakesReadWhatChanged =
     (t : Listing) (seed : ℕ) (s v : Machine) (w : Waiter) (m : Move) (streams : List Stream) →
@@ -175,9 +174,10 @@ NobodyWaitsAtAnOpenGate =
     b.auxiliary ≡ auxiliaries.Gate condition → key_written t (operand b A) ≡ Some key →
     is_open s condition key (capacity_of t key) ≡ false
 
--- what stays as it is until a block writes it: owners, contents, counts, savevalues and switches, and what a transaction
--- that waits has of its own. (A RESET would set counts of entries to 0 and wake nobody. None is read so far; once it is,
--- the law below needs the premise that the version has none.)
+-- what stays as it is until a block writes it: owners, contents, counts, savevalues and switches, and what a
+-- transaction that waits has of its own. (A RESET would set counts of entries to 0 and greatest contents to what is
+-- there, and wake nobody. None is read so far; once it is, the law below needs the premise that the version has none,
+-- or these are left out.)
 abbrev pub is_lasting : Class → Bool
 is_lasting class.F = true
 is_lasting class.Fc = true

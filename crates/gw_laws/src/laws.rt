@@ -57,11 +57,10 @@ pub fn delays_in_order()
     ensures free { NobodyWaitsAtAFreeFacility }
 {}
 
-/// Whoever waits at a TEST or a GATE for a change keeps his place in a step, and at most the one who was active comes, as
-/// it was, behind the others.
-/// Whoever read something that the step writes wakes, and is on the current chain then, and whoever did not, waits on.
-/// Of two of one priority whom a step wakes, the one who came first stands in front. The block to which whoever waits so
-/// goes is a TEST or a GATE without a label.
+/// Whoever waits at a TEST or a GATE for a change keeps his place in a step, and at most the one who was active comes,
+/// as it was, behind the others. Whoever read something that the step writes wakes, and is on the current chain then,
+/// and whoever did not, waits on. Of two of one priority whom a step wakes, the one who came first stands in front. The
+/// block to which whoever waits so goes is a TEST or a GATE without a label.
 pub fn waiters_wake_in_order()
     ensures places { WaitersKeepTheirOrder }
     ensures turn { WokenInOrder }
