@@ -82,7 +82,7 @@ module _ (t : Listing) where
 
 -- ---- nobody with a number passes a test
 
-is_given : (s : Machine) (x : Transaction) → s.active ≡ Some x → IsNumbered s → x.number < s.next
+pub is_given : (s : Machine) (x : Transaction) → s.active ≡ Some x → IsNumbered s → x.number < s.next
 is_given s x active h =
     elim (cases_lt x.number s.next) [
       | inl below ↦ below
@@ -192,7 +192,7 @@ module _ (s : Machine) (x : Transaction) (id : ℕ) (active : s.active ≡ Some 
       kept (has y) (is_right y) (or_right (nat_eq y.current id) (nat_eq y.current x.current && is_for id y.destination) both)
 
   -- no other one has its number
-  no_other : others has s ≡ 0
+  pub no_other : others has s ≡ 0
   no_other =
       let all = active_crowd has s x active in
       let here : one (has x) ≡ 1 = ap one (eq-eqb x.number x.number refl) in
@@ -234,6 +234,12 @@ module _ (s : Machine) (x : Transaction) (id : ℕ) (active : s.active ≡ Some 
   entered_right change fate =
       (changed_keeps IsRight change (settled s x id change fate) (makes_clear x.number low stray stray_other) (lets_clear x.number low stray stray_other)
       (settled_right change fate)).none_passes
+
+  -- behind an entry it waits on no delay chain
+  pub entered_waits_not : (change : Change) (fate : Fate) → many has (waiting (entering s x id change fate).delays) ≡ 0
+  entered_waits_not change fate =
+      (changed_keeps IsRight change (settled s x id change fate) (makes_clear x.number low stray stray_other) (lets_clear x.number low stray stray_other)
+      (settled_right change fate)).none_waits
 
   refused_right : (key : Key) (units : ℕ) → crowd stray (refused s x id key units) ≡ 0
   refused_right key units =

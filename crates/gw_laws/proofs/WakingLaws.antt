@@ -1,8 +1,8 @@
 -- Nobody wakes for nothing: where no block is entered all wait on, and whoever wakes read something that changed.
-use Rattle.std.proofs.Common.{◌≡◌, ◌⊎◌, ℕ, Bool, true, List, [], ◌∷◌, ◌++◌, append-nil, filter, Option, Some, None, Ok, refl, sym, ap, subst, ◌∙◌, inl, inr}
+use Rattle.std.proofs.Common.{◌≡◌, ◌⊎◌, ℕ, ◌-◌, ◌<◌, ◌^◌, arith, Bool, true, List, [], ◌∷◌, ◌++◌, append-nil, filter, Option, Some, None, Ok, refl, sym, ap, subst, ◌∙◌, inl, inr}
 use Rattle.std.specs.Prelude.{Contains}
 use Rattle.std.specs.List.{list_any}
-use Rattle.std.proofs.lemmas.Bool.{cases_Bool}
+use Rattle.std.proofs.lemmas.Bool.{cases_Bool, eq-eqb}
 use Rattle.gw_streams.specs.declared.stream.Stream.{Stream}
 use Rattle.gw_names.specs.declared.key.Key.{Key}
 use Rattle.gw_meaning.specs.declared.transaction.Transaction.{Transaction}
@@ -15,17 +15,22 @@ use Rattle.gw_meaning.specs.declared.watched.Watched.{Watched}
 use Rattle.gw_meaning.specs.declared.watched.Watched.TheVariants as watched
 use Rattle.gw_meaning.specs.Watching.{same_watched, is_watched, transactions_of}
 use Rattle.gw_meaning.specs.Listing.{Listing}
-use Rattle.gw_meaning.specs.Machine.{Machine, delay_at}
+use Rattle.gw_meaning.specs.Machine.{Machine, delay_at, waiting}
 use Rattle.gw_meaning.specs.Questions.{result_of}
 use Rattle.gw_meaning.specs.Step.{decide, step}
 use Rattle.gw_meaning.specs.Changes.{placed, deed_shares, one_let_in, some_let_in, entering, with_active, moved, crossing, crossings, written_by, written_where, written, is_woken, woken, decided}
 use Rattle.gw_frame.proofs.Moves.{settled, settled_is}
-use Rattle.gw_laws.specs.Waiters.{NobodyWakesWhereNoneIsActive, IsEntry, NobodyWakesUnlessABlockIsEntered, IsLeftOrEntered, LeavesForItsBlock, IsChangedBy, IsChanged, WhoWakesReadWhatChanged}
+use Rattle.gw_laws.specs.Waiters.{NobodyWakesWhereNoneIsActive, HasToWait, NobodyWakesWhereTheActiveHasToWait, IsEntry, NobodyWakesUnlessABlockIsEntered, IsLeftOrEntered, LeavesForItsBlock, IsChangedBy, IsChanged, WhoWakesReadWhatChanged}
 use Rattle.gw_laws.proofs.Waiting.{let_in_as, let_in_is, lined_keeps, lined_has}
 use Rattle.gw_laws.proofs.Waking.{nobody_wakes, all_lined_keeps}
 use Rattle.gw_laws.proofs.EndLaws.{went_on, goes_on}
-use Rattle.gw_laws.proofs.WaiterLaws.{Stands, contains_of, who_comes, who_comes_is, retry_behind, was_woken}
+use Rattle.gw_laws.proofs.WaiterLaws.{Stands, contains_of, who_comes, who_comes_is, waits_on, retry_behind, retry_decided, was_woken}
 use Rattle.gw_laws.proofs.GateLaws.{watched_same}
+use Rattle.gw_laws.proofs.Crowd.{many, many_has, many_append, waiters_parts}
+use Rattle.gw_laws.proofs.NumberLaws.{has_number, IsNumbered, all_numbered}
+use Rattle.gw_laws.proofs.Room.{all_within}
+use Rattle.gw_laws.proofs.DestinationLaws.{is_given, no_other, entered_waits_not}
+use Rattle.gw_meaning.proofs.Programs.{run_on}
 
 -- ---- where no block is entered
 
@@ -62,6 +67,40 @@ nobody_wakes_unless_a_block_is_entered t seed s v m streams goes is apart =
     let same = same_behind t seed s v m streams goes is in (
       who_comes m s.active,
       ap (λ (u : Machine). u.retry) (sym same) ∙ all_wait_and s m streams (no_entry s m apart),
+      who_comes_is m s.active,
+    )
+
+-- whoever enters a block does not wait behind the step
+waits_or_enters : (s : Machine) (x : Transaction) (m : Move) (streams : List Stream) → s.active ≡ Some x → IsNumbered s → x.number < 2 ^ 64 - 1 →
+    HasToWait (decided s m streams) x → IsEntry m → ⊥
+waits_or_enters s x (moves.Enter id change fate) streams active h low waits entry =
+    let has = has_number x.number in
+    let m = moves.Enter id change fate in
+    let v = decided s m streams in
+    let same : moved s m ≡ entering s x id change fate = ap (λ o. with_active o (λ y. entering s y id change fate) s) active in
+    let delays : many has (waiting v.delays) ≡ 0 =
+    ap (λ (u : Machine). many has (waiting u.delays)) same ∙ entered_waits_not s x id active h low change fate in
+    let nobody = no_other s x id active h low in
+    let retry : v.retry ≡ filter (waits_on s m) s.retry = retry_decided s m streams ∙ append-nil (filter (waits_on s m) s.retry) in
+    let still : many has (transactions_of v.retry) ≡ many has (transactions_of (filter (waits_on s m) s.retry)) = ap (λ ws. many has (transactions_of ws)) retry in
+    let parts = waiters_parts has (is_woken (written s m)) s.retry in
+    let all = many_append has (waiting v.delays) (transactions_of v.retry) in
+    let some = many_has has (waiting v.delays ++ transactions_of v.retry) waits.0 waits.1 (eq-eqb waits.0.number x.number waits.2) in
+    omega arith
+waits_or_enters s x m streams active h low waits entry = absurd entry
+
+pub nobody_wakes_where_the_active_has_to_wait : NobodyWakesWhereTheActiveHasToWait
+nobody_wakes_where_the_active_has_to_wait t seed n s v well within there is x active waits =
+    let went = went_on t seed s v (sym (run_on t seed n s there) ∙ is) in
+    let m = went.0.0 in
+    let h = all_numbered t seed well n s there within in
+    let room = all_within t seed n s well there in
+    let given = is_given s x active h in
+    let low : x.number < 2 ^ 64 - 1 = omega (arith, given, room.next, well.greatest_limit, within) in
+    let behind = subst (λ u. HasToWait u x) went.2 waits in (
+      who_comes m s.active,
+      ap (λ (u : Machine). u.retry) went.2
+          ∙ all_wait_and s m went.0.1 (no_entry s m (waits_or_enters s x m went.0.1 active h low behind)),
       who_comes_is m s.active,
     )
 

@@ -28,8 +28,8 @@ use Rattle.gw_meaning.specs.declared.watched.Watched.{Watched}
 use Rattle.gw_meaning.specs.declared.watched.Watched.TheVariants as watched
 use Rattle.gw_meaning.specs.Statements.{A, B, operand}
 use Rattle.gw_meaning.specs.Listing.{Listing, block_at, number_at, capacity_at}
-use Rattle.gw_meaning.specs.Watching.{Waiter, kind_of}
-use Rattle.gw_meaning.specs.Machine.{Machine, delay_at}
+use Rattle.gw_meaning.specs.Watching.{Waiter, kind_of, transactions_of}
+use Rattle.gw_meaning.specs.Machine.{Machine, delay_at, waiting}
 use Rattle.gw_meaning.specs.Questions.{result_of, items_of}
 use Rattle.gw_meaning.specs.Changes.{written, is_woken}
 use Rattle.gw_meaning.specs.Evaluation.{Eval, reply_prog, evaluated, value_there, value_traced}
@@ -86,13 +86,26 @@ abbrev pub NobodyWakesWhereNoneIsActive : Type 0
 NobodyWakesWhereNoneIsActive =
     (t : Listing) (seed : ℕ) (s v : Machine) → step t seed s ≡ Ok v → s.active ≡ None → v.retry ≡ s.retry
 
+-- the transaction x waits, on a delay chain or for a change
+abbrev pub HasToWait : Machine → Transaction → Type 0
+HasToWait s x =
+    (y : Transaction) × Contains (waiting s.delays ++ transactions_of s.retry) y × (y.number ≡ x.number)
+
+-- where the active one has to wait behind a step, all who waited wait on, in their order, and behind them at most that
+-- one. (Within the step limit, since numbers tell transactions apart there.)
+abbrev pub NobodyWakesWhereTheActiveHasToWait : Type 0
+NobodyWakesWhereTheActiveHasToWait =
+    (t : Listing) (seed n : ℕ) (s v : Machine) → Well t → n ≤ t.limit →
+    run t seed n ≡ Ok s → run t seed (suc n) ≡ Ok v →
+    (x : Transaction) → s.active ≡ Some x → HasToWait v x →
+    (come : List Waiter) × (v.retry ≡ s.retry ++ come) × IsAtMostTheActive s.active come
+
 -- a step's move enters a block
 abbrev pub IsEntry : Move → Type 0
 IsEntry (moves.Enter id change fate) = Unit {0}
 IsEntry move = ⊥
 
--- where no block is entered, as where the active transaction is refused, all who waited wait on, in their order, and
--- behind them at most the one who was refused
+-- and so wherever no block is entered
 abbrev pub NobodyWakesUnlessABlockIsEntered : Type 0
 NobodyWakesUnlessABlockIsEntered =
     (t : Listing) (seed : ℕ) (s v : Machine) (m : Move) (streams : List Stream) →
@@ -128,7 +141,7 @@ abbrev pub IsChanged : Machine → Machine → Move → Watched → Type 0
 IsChanged s v (moves.Enter id change fate) w = IsChangedBy s v id change w
 IsChanged s v move w = ⊥
 
--- and whoever wakes read something that the entry changed
+-- whoever wakes read something that the entry of a block changed
 abbrev pub WhoWakesReadWhatChanged : Type 0
 WhoWakesReadWhatChanged =
     (t : Listing) (seed : ℕ) (s v : Machine) (w : Waiter) (m : Move) (streams : List Stream) →
@@ -161,9 +174,10 @@ NobodyWaitsAtAnOpenGate =
     b.auxiliary ≡ auxiliaries.Gate condition → key_written t (operand b A) ≡ Some key →
     is_open s condition key (capacity_of t key) ≡ false
 
--- what stays as it is until a block writes it: owners, contents, counts, savevalues and switches, and what a transaction
--- that waits has of its own. (A RESET would set counts of entries to 0 and wake nobody. None is read so far; once it is,
--- the law below needs the premise that the version has none.)
+-- what stays as it is until a block writes it: owners, contents, counts, savevalues and switches, and what a
+-- transaction that waits has of its own. (A RESET would set counts of entries to 0 and greatest contents to what is
+-- there, and wake nobody. None is read so far; once it is, the law below needs the premise that the version has none,
+-- or these are left out.)
 abbrev pub is_lasting : Class → Bool
 is_lasting class.F = true
 is_lasting class.Fc = true

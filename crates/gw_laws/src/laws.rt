@@ -25,7 +25,7 @@ ghost use Rattle.gw_laws.specs.Verbs.{EachVerbIsEvaluated};
 ghost use Rattle.gw_laws.specs.Waiters.{WaitersKeepTheirOrder, WokenInOrder, WokenByWhatIsWritten};
 ghost use Rattle.gw_laws.specs.Waiters.{WhoWaitsIsAtATestOrAGate};
 ghost use Rattle.gw_laws.specs.Waiters.{NobodyWakesWhereNoneIsActive, NobodyWakesUnlessABlockIsEntered};
-ghost use Rattle.gw_laws.specs.Waiters.{WhoWakesReadWhatChanged};
+ghost use Rattle.gw_laws.specs.Waiters.{NobodyWakesWhereTheActiveHasToWait, WhoWakesReadWhatChanged};
 ghost use Rattle.gw_laws.specs.Waiters.{NobodyWaitsAtAnOpenGate, NobodyWaitsAtATestThatHolds, TellingChangesNothing};
 
 /// The current chain is in order of priority. Of one priority, the first transactions leave it in a step, those that
@@ -57,11 +57,10 @@ pub fn delays_in_order()
     ensures free { NobodyWaitsAtAFreeFacility }
 {}
 
-/// Whoever waits at a TEST or a GATE for a change keeps his place in a step, and at most the one who was active comes, as
-/// it was, behind the others.
-/// Whoever read something that the step writes wakes, and is on the current chain then, and whoever did not, waits on.
-/// Of two of one priority whom a step wakes, the one who came first stands in front. The block to which whoever waits so
-/// goes is a TEST or a GATE without a label.
+/// Whoever waits at a TEST or a GATE for a change keeps his place in a step, and at most the one who was active comes,
+/// as it was, behind the others. Whoever read something that the step writes wakes, and is on the current chain then,
+/// and whoever did not, waits on. Of two of one priority whom a step wakes, the one who came first stands in front. The
+/// block to which whoever waits so goes is a TEST or a GATE without a label.
 pub fn waiters_wake_in_order()
     ensures places { WaitersKeepTheirOrder }
     ensures turn { WokenInOrder }
@@ -69,13 +68,14 @@ pub fn waiters_wake_in_order()
     ensures there { WhoWaitsIsAtATestOrAGate }
 {}
 
-/// The clock, a pick, a command and a refused attempt wake nobody: where no transaction is active, and where no block is
-/// entered, all who waited wait on, in their order, and behind them at most the one who was refused. Whoever wakes where
-/// a block is entered read something that changed: the counts of a block that is left or entered, by the active
-/// transaction or by one that is let in, or the entity that the block names.
+/// The clock, a pick, a command and a refused attempt wake nobody. Where no transaction is active, where the active one
+/// has to wait, and wherever no block is entered, all who waited wait on, in their order, and behind them at most the one
+/// who was active. Whoever wakes where a block is entered read something that changed: the counts of a block that is left
+/// or entered, by the active transaction or by one that is let in, or the entity that the block names.
 pub fn nobody_wakes_for_nothing()
     ensures idle { NobodyWakesWhereNoneIsActive }
-    ensures refused { NobodyWakesUnlessABlockIsEntered }
+    ensures refused { NobodyWakesWhereTheActiveHasToWait }
+    ensures entry { NobodyWakesUnlessABlockIsEntered }
     ensures changed { WhoWakesReadWhatChanged }
 {}
 

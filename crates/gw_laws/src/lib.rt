@@ -3,14 +3,15 @@
 //! The current chain and each delay chain are in order of priority. Within a priority the current chain and those of
 //! facilities are first in first out. At a storage, whoever goes on waiting keeps his place. Nobody waits at a free
 //! facility, nor at a storage that has room for what he asks, nor at a GATE whose condition holds. Those who wait for a
-//! change keep their order, and nobody wakes where no block is entered. No two transactions have one number, none is given twice, and each stands in exactly one
-//! place. A block's content is the number of the transactions that stand in it. The clock never goes back, stays within
-//! the horizon, and moves on only when it must. A run ends only for the reason that its end says. No facility has more
-//! captures than steps were made. No count of a queue passes its limit. No storage has more units in use than its
-//! capacity. Parameters are kept of living transactions alone. A transaction's parameters, priority and mark time change
-//! only in steps in which it is active. Nobody but its owner gives a facility back. STARTs are done in order, and each
-//! is counted once. The future chain is in the order of coming onto it. The active transaction goes to its destination,
-//! or else to the next block. A TEST holds where its operator says so.
+//! change keep their order, and nobody wakes where no block is entered. No two transactions have one number, none is
+//! given twice, and each stands in exactly one place. A block's content is the number of the transactions that stand in
+//! it. The clock never goes back, stays within the horizon, and moves on only when it must. A run ends only for the
+//! reason that its end says. No facility has more captures than steps were made. No count of a queue passes its limit.
+//! No storage has more units in use than its capacity. Parameters are kept of living transactions alone. A
+//! transaction's parameters, priority and mark time change only in steps in which it is active. Nobody but its owner
+//! gives a facility back. STARTs are done in order, and each is counted once. The future chain is in the order of
+//! coming onto it. The active transaction goes to its destination, or else to the next block. A TEST holds where its
+//! operator says so.
 #![tactic(auto)]
 
 mod laws;
