@@ -1,4 +1,4 @@
-use Rattle.std.proofs.Common.{◌≡◌, ◌+◌, ◌<◌, ◌≤◌, length, drop, ap, arith}
+use Rattle.std.proofs.Common.{◌+◌, ◌<◌, ◌≤◌, length, ap, arith}
 use Rattle.std.proofs.lemmas.List.{drop_all}
 use Rattle.gw_retry.proofs.Concerned.{skipped, one_counted}
 use Rattle.gw_retry.proofs.Passing.{woken_of}
