@@ -4,3 +4,4 @@ mod Kept
 mod Waiters
 mod Passing
 mod Turning
+mod Concerned

@@ -47,7 +47,7 @@ module _ (r : Readings) (written : List Watched) where
       ap woken (rest_is items i x there) ∙
       ap (λ b. cond b (waiter_of r.lists x ∷ woken (drop (i + 1) items)) (woken (drop (i + 1) items))) wakes
 
-  woken_past : (items : List Waiting) (i : ℕ) (x : Waiting) → slice_get items i ≡ Some x → is_woken written (waiter_of r.lists x) ≡ false →
+  pub woken_past : (items : List Waiting) (i : ℕ) (x : Waiting) → slice_get items i ≡ Some x → is_woken written (waiter_of r.lists x) ≡ false →
       woken (drop i items) ≡ woken (drop (i + 1) items)
   woken_past items i x there rests =
       ap woken (rest_is items i x there) ∙

@@ -1,3 +1,4 @@
 pub mod Readings
 pub mod Kept
 pub mod Waiting
+pub mod Concerned

@@ -4,6 +4,7 @@ ghost use Rattle.gw_meaning.specs.declared.watched.Watched.{Watched};
 ghost use Rattle.gw_meaning.specs.Watching.{Waiter, is_watched, transactions_of};
 ghost use Rattle.gw_meaning.specs.Changes.{is_woken, all_lined_up};
 ghost use Rattle.gw_retry.specs.Waiting.{waiter_of, waiters_of, IsListed, AreListed};
+ghost use Rattle.gw_retry.specs.Concerned.{AreUnconcerned, IsConcernedAt};
 
 use crate::readings::SharedReadings;
 use crate::retry::Waiting;
@@ -27,6 +28,47 @@ fn is_woken(waiting: &Waiting, readings: &SharedReadings, written: &[Watched]) -
     read.iter().any(|thing| is_in(written, thing))
 }
 
+// How many of some waiters at the front read nothing that is written, up to the first who read some of it.
+fn count_passed(run: &[Waiting], readings: &SharedReadings, written: &[Watched]) -> usize
+    requires { AreListed readings.now run.now }
+    ensures within { result ≤ length run.now }
+    ensures passed { AreUnconcerned readings.now.lists written.now run.now 0 result }
+    ensures next { IsConcernedAt readings.now.lists written.now run.now result }
+{
+    for index in 0..run.len() {
+        if is_woken(&run[index], readings, written) {
+            return index;
+        }
+    }
+    run.len()
+}
+
+// The next waiter from an index on who read anything that is written, or else the end. The list is gone over by what
+// lies together, since each look for a place costs the more the more parts it has.
+fn next_woken(
+    waiting: &SharedList<Waiting>,
+    start: usize,
+    readings: &SharedReadings,
+    written: &[Watched],
+) -> usize
+    requires listed { AreListed readings.now waiting.now.items }
+    requires start { start ≤ length waiting.now.items }
+    ensures within { (start ≤ result) × (result ≤ length waiting.now.items) }
+    ensures passed { AreUnconcerned readings.now.lists written.now waiting.now.items start result }
+    ensures next { IsConcernedAt readings.now.lists written.now waiting.now.items result }
+{
+    let mut index = start;
+    while index < waiting.len() {
+        let run = waiting.run(index);
+        let passed = count_passed(run, readings, written);
+        index += passed;
+        if passed < run.len() {
+            return index;
+        }
+    }
+    index
+}
+
 // How many waiters read anything that is written.
 pub fn count_woken(
     waiting: &SharedList<Waiting>,
@@ -37,10 +79,10 @@ pub fn count_woken(
     ensures { result ≡ length (filter (is_woken written.now) (waiters_of readings.now.lists waiting.now.items)) }
 {
     let mut count = 0;
-    for index in 0..waiting.len() {
-        if is_woken(waiting.at(index), readings, written) {
-            count += 1;
-        }
+    let mut index = next_woken(waiting, 0, readings, written);
+    while index < waiting.len() {
+        count += 1;
+        index = next_woken(waiting, index + 1, readings, written);
     }
     count
 }
@@ -83,15 +125,11 @@ fn take_out(
     ensures waiting { waiting.new.items ≡
         filter (λ w. not (is_woken written.now (waiter_of readings.now.lists w))) waiting.old.items }
 {
-    let mut kept = 0;
+    let mut kept = next_woken(waiting, 0, readings, written);
     while kept < waiting.len() {
-        let next = *waiting.at(kept);
-        if is_woken(&next, readings, written) {
-            waiting.remove(kept);
-            current.line_up(next.transaction);
-        } else {
-            kept += 1;
-        }
+        let next = waiting.remove(kept);
+        current.line_up(next.transaction);
+        kept = next_woken(waiting, kept, readings, written);
     }
 }
 

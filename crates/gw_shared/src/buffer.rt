@@ -51,6 +51,15 @@ impl<T: Copy> Buffer<T> {
         &self.items[index]
     }
 
+    // The items from an index on.
+    pub fn from(&self, index: usize) -> &[T]
+        requires { index ≤ length self.now }
+        ensures { result.now ≡ drop index self.now }
+    {
+        let (_, tail) = self.items.as_slice().split_at(index);
+        tail
+    }
+
     // One more at the end.
     #[inline(always)]
     pub fn push(&mut self, x: T)

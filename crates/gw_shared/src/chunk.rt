@@ -1,4 +1,4 @@
-ghost use Rattle.std.specs.Prelude.{◌≡◌, ◌<◌, ◌≤◌, ◌+◌, ◌++◌, ◌∷◌, [], Some, IfOk, length, insert, remove, slice_get, slice_set};
+ghost use Rattle.std.specs.Prelude.{◌≡◌, ◌<◌, ◌≤◌, ◌+◌, ◌++◌, ◌∷◌, [], Some, IfOk, length, drop, insert, remove, slice_get, slice_set};
 ghost use Rattle.gw_shared.specs.Lists.{chunk_items};
 
 use crate::buffer::Buffer;
@@ -39,6 +39,18 @@ impl<T: Copy> Chunk<T> {
             Chunk::Nothing => unreachable!(),
             Chunk::Shared(shared) => shared.at(index),
             Chunk::Own(own) => own.at(index),
+        }
+    }
+
+    // The items from an index on.
+    pub fn from(&self, index: usize) -> &[T]
+        requires { index < length (chunk_items self.now) }
+        ensures { result.now ≡ drop index (chunk_items self.now) }
+    {
+        match self {
+            Chunk::Nothing => unreachable!(),
+            Chunk::Shared(shared) => shared.from(index),
+            Chunk::Own(own) => own.from(index),
         }
     }
 

@@ -1,5 +1,6 @@
 ghost use Rattle.std.specs.Prelude.{◌≡◌, ◌==◌, ◌<◌, ◌≤◌, ◌+◌, ◌^◌, ◌++◌, ◌∷◌, [], Some, IfOk, OnOk, IfNone, length, insert, remove, slice_get, slice_set, option_to_list};
 ghost use Rattle.std.specs.Slice.{IsItemAt};
+ghost use Rattle.gw_shared.specs.Runs.{IsRun};
 ghost use Rattle.std.specs.VecDeque.{deque_len, deque_capacity};
 
 use crate::buffer::CHUNK;
@@ -109,6 +110,20 @@ impl<T: Copy> SharedList<T> {
             Some(self.at(index))
         } else {
             None
+        }
+    }
+
+    /// The items from an index on that lie together, one at the least. To go over a list by these is quicker than by
+    /// [`SharedList::at`], which looks for the place of each.
+    pub fn run(&self, index: usize) -> &[T]
+        requires { index < length self.now.items }
+        ensures some { 0 < length result.now }
+        ensures run { IsRun self.now.items index result.now }
+    {
+        match &self.form {
+            Form::Empty(_) => unreachable!(),
+            Form::Plain(items) => plain_run(items, index),
+            Form::Long(items) => items.run(index),
         }
     }
 
@@ -329,5 +344,19 @@ fn take_out<T: Copy>(items: &mut LongList<T>, index: usize) -> T
     match items.pop_front() {
         Some(x) => x,
         None => unreachable!(),
+    }
+}
+
+// The items from an index on that lie together.
+fn plain_run<T: Copy>(items: &VecDeque<T>, index: usize) -> &[T]
+    requires { index < length items.now.items }
+    ensures some { 0 < length result.now }
+    ensures run { IsRun items.now.items index result.now }
+{
+    let (front, back) = items.as_slices();
+    if index < front.len() {
+        front.split_at(index).1
+    } else {
+        back.split_at(index - front.len()).1
     }
 }

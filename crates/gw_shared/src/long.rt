@@ -1,5 +1,6 @@
 ghost use Rattle.std.specs.Prelude.{◌≡◌, ◌==◌, ◌<◌, ◌≤◌, ◌+◌, ◌-◌, ◌^◌, ◌++◌, ◌∷◌, [], Some, IfOk, OnOk, OnErr, IfNone, length, drop, insert, remove, slice_get, slice_set, option_to_list};
 ghost use Rattle.gw_shared.specs.Lists.{joined};
+ghost use Rattle.gw_shared.specs.Runs.{IsRun};
 
 use crate::buffer::Buffer;
 use crate::chunk::Chunk;
@@ -85,6 +86,16 @@ impl<T: Copy> LongList<T> {
     {
         let place = find(&self.chunks, self.full, self.total, self.gone + index);
         self.chunks[place.chunk].at(place.offset)
+    }
+
+    // The items from an index on that stand in one chunk.
+    pub fn run(&self, index: usize) -> &[T]
+        requires { index < length self.now.items }
+        ensures some { 0 < length result.now }
+        ensures run { IsRun self.now.items index result.now }
+    {
+        let place = find(&self.chunks, self.full, self.total, self.gone + index);
+        self.chunks[place.chunk].from(place.offset)
     }
 
     // Where its memory comes from.
