@@ -32,6 +32,11 @@ assigned held number key value = with_values held number (with_value (values_at 
 abbrev pub without : Held → ℕ → Held
 without held number = filter (λ h. not (nat_eq number h.0)) held
 
+-- with these values of another transaction assigned to one, one by one
+abbrev pub inherited : List (Key × ℤ) → ℕ → Held → Held
+inherited [] number held = held
+inherited (v ∷ vs) number held = inherited vs number (assigned held number v.0 v.1)
+
 -- How `Parameters` keeps them, with a number for each: those of one transaction are put together.
 abbrev pub with_first : Entry ℤ → Held → Held
 with_first e [] = (e.0, e.1 ∷ []) ∷ []

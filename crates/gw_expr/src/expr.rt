@@ -1,5 +1,5 @@
 ghost use Rattle.std.specs.Prelude.{◌≡◌, IfOk};
-ghost use Rattle.gw_expr.specs.Term.{Computed, Defined, Fraction, Label, Named, Value, term_of};
+ghost use Rattle.gw_expr.specs.Term.{Computed, Defined, Fraction, Label, Named, Order, Value, term_of};
 
 use crate::atom::Atom;
 use crate::token::Token;
@@ -7,7 +7,8 @@ use gw_names::{EntityName, Name, StorageName};
 use std::alloc::AllocError;
 use std::marker::Model;
 
-/// An operand: a value, an expression, the name of an entity or of a definition, a block's label or a fraction.
+/// An operand: a value, an expression, the name of an entity or of a definition, a block's label, a fraction or a queue
+/// discipline.
 #[derive(Drop)]
 pub struct Expr {
     node: Node,
@@ -28,6 +29,17 @@ pub enum Node {
     Fraction(u32),
     /// The name of a storage's definition.
     Defined(StorageName),
+    /// The order in which a user chain is served.
+    Order(Discipline),
+}
+
+/// Where a transaction that is linked goes on its user chain.
+#[derive(Clone, Copy)]
+pub enum Discipline {
+    /// `FIFO`: to the back, so that who came first goes first.
+    Fifo,
+    /// `LIFO`: to the front, so that who came last goes first.
+    Lifo,
 }
 
 impl Model for Expr {
@@ -93,6 +105,15 @@ impl Expr {
         }
     }
 
+    /// The operand that is a queue discipline.
+    pub fn order(discipline: Discipline) -> Expr
+        ensures { result ≡ Order discipline }
+    {
+        Expr {
+            node: Node::Order(discipline),
+        }
+    }
+
     /// What the operand consists of.
     pub fn node(&self) -> &Node
         ensures { term_of result.now ≡ self.now }
@@ -111,6 +132,7 @@ impl Expr {
             Node::Label(name) => Ok(Expr::label(name.clone()?)),
             Node::Fraction(millionths) => Ok(Expr::fraction(*millionths)),
             Node::Defined(name) => Ok(Expr::defined(name.name().clone()?)),
+            Node::Order(discipline) => Ok(Expr::order(*discipline)),
         }
     }
 }

@@ -27,7 +27,7 @@ pub use atom::Atom;
 pub use attribute::{Sna, Subject};
 pub use eval_fault::{EvalFault, Fault};
 pub use evaluator::{eval, eval_function, is_of_function};
-pub use expr::{Expr, Node};
+pub use expr::{Discipline, Expr, Node};
 pub use function::{Function, FunctionType, Point};
 pub use laws::{
     constants_hang_on_nothing, expressions_have_their_values, points_have_their_values,

@@ -151,6 +151,8 @@ module _ (t : Listing) (seed : ℕ) where
     attribute_watches class.Qz subject streams = entity_watches kinds.Queue (entity_value s class.Qz) subject streams
     attribute_watches class.X subject streams = entity_watches kinds.Savevalue (entity_value s class.X) subject streams
     attribute_watches class.Ls subject streams = entity_watches kinds.Switch (entity_value s class.Ls) subject streams
+    attribute_watches class.Ch subject streams = entity_watches kinds.UserChain (entity_value s class.Ch) subject streams
+    attribute_watches class.Cc subject streams = entity_watches kinds.UserChain (entity_value s class.Cc) subject streams
     attribute_watches class.S subject streams = storage_watches (storage_prog subject (λ key. storage_value s class.S key)) subject streams
     attribute_watches class.R subject streams = storage_watches (left_prog s subject) subject streams
     attribute_watches class.Sc subject streams = storage_watches (storage_prog subject (λ key. storage_value s class.Sc key)) subject streams

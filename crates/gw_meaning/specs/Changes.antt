@@ -1,7 +1,8 @@
--- What a move does to a state. (Manual: the chains and the counts of blocks. Our own: that an ADVANCE of 0 leaves the
--- transaction active, that a time is fixed when the transaction comes onto the future chain, that who waited for a
--- facility or a storage enters its block in the step that gives it back, and that waiters wake when all else is done.)
-use Rattle.std.specs.Prelude.{ℕ, ℤ, ◌-◌, Bool, true, not, ◌==◌, List, [], ◌∷◌, ◌++◌, Option, Some, None, if◌then◌else◌, filter, length, nat_lt}
+-- What a move does to a state. (Manual: the chains, the counts of blocks, copies and user chains. Our own: that an ADVANCE
+-- of 0 leaves the transaction active, that a time is fixed when the transaction comes onto the future chain, that who
+-- waited for a facility or a storage enters its block in the step that gives it back, that copies are numbered in the
+-- order in which they line up, and that waiters wake when all else is done.)
+use Rattle.std.specs.Prelude.{ℕ, zero, suc, ℤ, ◌-◌, Bool, true, not, ◌==◌, List, [], ◌∷◌, ◌++◌, Option, Some, None, if◌then◌else◌, filter, length, nat_lt}
 use Rattle.std.specs.List.{list_any}
 use Rattle.gw_nums.specs.Range.{is_below}
 use Rattle.gw_meaning.specs.declared.transaction.Transaction.{Transaction}
@@ -9,8 +10,10 @@ use Rattle.gw_meaning.specs.declared.transaction.Event.{Event}
 use Rattle.gw_meaning.specs.declared.transaction.Count.{Count}
 use Rattle.gw_streams.specs.declared.stream.Stream.{Stream}
 use Rattle.gw_names.specs.declared.key.Key.{Key}
+use Rattle.gw_expr.specs.declared.expr.Discipline.{Discipline}
+use Rattle.gw_expr.specs.declared.expr.Discipline.TheVariants as disciplines
 use Rattle.gw_entities.specs.Tables.{with_value}
-use Rattle.gw_entities.specs.Parameters.{assigned, without}
+use Rattle.gw_entities.specs.Parameters.{assigned, inherited, values_at, without}
 use Rattle.gw_meaning.specs.declared.entity_change.Deed.{Deed}
 use Rattle.gw_meaning.specs.declared.entity_change.Deed.TheVariants as deeds
 use Rattle.gw_meaning.specs.declared.entity_change.FacilityDeed.TheVariants as of_facility
@@ -24,11 +27,17 @@ use Rattle.gw_meaning.specs.declared.moves.Fate.{Fate}
 use Rattle.gw_meaning.specs.declared.moves.Fate.TheVariants as fates
 use Rattle.gw_meaning.specs.declared.moves.Move.{Move}
 use Rattle.gw_meaning.specs.declared.moves.Move.TheVariants as moves
+use Rattle.gw_meaning.specs.declared.watched.EntityKind.TheVariants as kinds
 use Rattle.gw_meaning.specs.declared.watched.Watched.{Watched}
 use Rattle.gw_meaning.specs.declared.watched.Watched.TheVariants as watched
 use Rattle.gw_meaning.specs.Entities.{touched, later}
 use Rattle.gw_meaning.specs.Watching.{Waiter, is_watched, kind_of, transactions_of}
-use Rattle.gw_meaning.specs.Machine.{Machine, raised, count_in, count_at, with_count, delay_at}
+use Rattle.gw_meaning.specs.Machine.{Machine, UserChain, raised, count_in, count_at, with_count, delay_at, user_chain_at}
+
+-- what is done where x is active, and nothing where none is
+abbrev pub with_active : Option Transaction → (Transaction → Machine) → Machine → Machine
+with_active None f s = s
+with_active (Some x) f s = f x
 
 -- the current chain with one more transaction: behind its equals, in front of the first of lower priority
 abbrev pub lined_up : Transaction → List Transaction → List Transaction
@@ -53,6 +62,7 @@ abbrev pub content_behind : Fate → ℕ → ℕ
 content_behind fates.Active content = raised content
 content_behind fates.Current content = raised content
 content_behind (fates.Delayed until) content = raised content
+content_behind (fates.Linked key discipline) content = raised content
 content_behind (fates.Destroyed count) content = content
 
 -- the counts after a transaction entered a block
@@ -141,14 +151,26 @@ abbrev pub held_by : Change → ℕ → List (ℕ × List (Key × ℤ)) → List
 held_by (changes.Transaction change) number held = own_held change number held
 held_by change number held = held
 
+-- a user chain with one more transaction, whatever its priority: at the back, or at the front
+abbrev pub joined : Discipline → Transaction → List Transaction → List Transaction
+joined disciplines.Fifo x xs = xs ++ x ∷ []
+joined disciplines.Lifo x xs = x ∷ xs
+
+abbrev pub linked_to : Discipline → Transaction → UserChain → UserChain
+linked_to discipline x c = record { entries = raised c.entries; members = joined discipline x c.members }
+
 -- what becomes of the transaction x: it stays active, goes behind its equals on the current chain, is on the future
--- chain, or is gone, with its parameters and with its count taken from the termination count, which completes the START
--- at 0
+-- chain or on a user chain, or is gone, with its parameters and with its count taken from the termination count, which
+-- completes the START at 0
 abbrev pub fated : Fate → Transaction → Machine → Machine
 fated fates.Active x s = record s { active = Some x }
 fated fates.Current x s = record s { active = None; current = lined_up x s.current }
 fated (fates.Delayed until) x s =
     record s { active = None; future = s.future ++ record { time = until; transaction = x } ∷ [] }
+fated (fates.Linked key discipline) x s = record s {
+  active = None;
+  linked = with_value s.linked key (linked_to discipline x (user_chain_at s.linked key));
+}
 fated (fates.Destroyed count) x s =
     record s {
       active = None;
@@ -186,9 +208,56 @@ deed_shares deed = []
 abbrev pub admitted : Key → Deed → Machine → Machine
 admitted key deed s = some_let_in key (deed_shares deed) [] (delay_at s.delays key) s
 
--- what a block brings: a GENERATE the next transaction, and the change of an entity those whom it lets in
+-- a copy of a transaction, which stands where that does: it has a number of its own, and goes to this block, or on from
+-- its own where there is none
+abbrev pub copied : Transaction → ℕ → Option ℕ → Transaction
+copied x number to = record x { number = number; destination = to }
+
+-- the counts with one more transaction in a block, which did not enter it
+abbrev pub stood : List (ℕ × Count) → ℕ → List (ℕ × Count)
+stood counts id = let c = count_at counts id in with_count counts id (record c { content = raised c.content })
+
+-- one more copy of x is made, with the next number and these parameters, and goes behind its equals
+abbrev pub one_copied : Option ℕ → Transaction → List (Key × ℤ) → Machine → Machine
+one_copied to x values s = record s {
+  next = raised s.next;
+  current = lined_up (copied x s.next to) s.current;
+  counts = stood s.counts x.current;
+  parameters = inherited values s.next s.parameters;
+}
+
+-- so many copies, one by one
+abbrev pub all_copied : ℕ → Option ℕ → Transaction → List (Key × ℤ) → Machine → Machine
+all_copied zero to x values s = s
+all_copied (suc n) to x values s = all_copied n to x values (one_copied to x values s)
+
+-- a transaction that is sent to a block
+abbrev pub sent : Option ℕ → Transaction → Transaction
+sent to x = record x { destination = to }
+
+-- the user chains, where these are on one of them
+abbrev pub with_members : List (Key × UserChain) → Key → List Transaction → List (Key × UserChain)
+with_members linked key xs =
+    with_value linked key (record { entries = (user_chain_at linked key).entries; members = xs })
+
+-- a transaction leaves a user chain, on which these stay, and goes behind its equals
+abbrev pub one_unlinked : Key → Option ℕ → Transaction → List Transaction → Machine → Machine
+one_unlinked key to x others s =
+    record s { current = lined_up (sent to x) s.current; linked = with_members s.linked key others }
+
+-- so many of a user chain leave it, one by one from the front
+abbrev pub some_unlinked : ℕ → Key → Option ℕ → List Transaction → Machine → Machine
+some_unlinked zero key to chain s = s
+some_unlinked (suc n) key to [] s = s
+some_unlinked (suc n) key to (x ∷ xs) s = some_unlinked n key to xs (one_unlinked key to x xs s)
+
+-- what a block brings: a GENERATE the next transaction, a SPLIT the copies of the active one, an UNLINK those whom it
+-- takes off its user chain, and the change of an entity those whom it lets in
 abbrev pub changed : Change → Machine → Machine
 changed (changes.Generate next) s = arrived next s
+changed (changes.Split count to) s =
+    with_active s.active (λ x. all_copied count to x (values_at s.parameters x.number) s) s
+changed (changes.Unlink key count to) s = some_unlinked count key to (user_chain_at s.linked key).members s
 changed (changes.Entity change) s = admitted change.0 change.1 s
 changed change s = s
 
@@ -241,11 +310,6 @@ advanced s time = record s {
   entities = later s.clock time s.entities;
 }
 
--- what a move does, where x is active
-abbrev pub with_active : Option Transaction → (Transaction → Machine) → Machine → Machine
-with_active None f s = s
-with_active (Some x) f s = f x
-
 abbrev pub moved : Machine → Move → Machine
 moved s (moves.Start count arrivals) = with_making (all_made arrivals (making_of s)) (started count s)
 moved s moves.Command = record s { commands = raised s.commands }
@@ -255,8 +319,8 @@ moved s (moves.Watch read) = with_active s.active (λ x. watching s x read) s
 moved s moves.Pick = picked s s.current
 moved s (moves.Clock time) = advanced s time
 
--- What a move writes: an entered block the counts of the block left and of the block entered, the entity that it names,
--- and the counts of the blocks that those whom it lets in leave and enter. No other move writes anything: neither a
+-- What a move writes: an entered block the counts of the block left and of the block entered, the entity that it names (a
+-- user chain also where nobody leaves it), and the counts of the blocks that those whom it lets in leave and enter. No other move writes anything: neither a
 -- command, nor a refused attempt, nor the clock.
 
 -- the counts that a transaction changes where it goes to a block
@@ -272,16 +336,22 @@ crossings (None ∷ shares) (x ∷ xs) = crossings shares xs
 crossings (Some units ∷ shares) (x ∷ xs) = crossing x x.destination ++ crossings shares xs
 
 abbrev pub written_by : Change → Machine → List Watched
+written_by (changes.Unlink key count to) s = watched.Entity kinds.UserChain key ∷ []
 written_by (changes.Entity change) s =
     watched.Entity (kind_of change.1) change.0 ∷ crossings (deed_shares change.1) (delay_at s.delays change.0)
 written_by change s = []
 
-abbrev pub written_where : Option Transaction → ℕ → Change → Machine → List Watched
-written_where None id change s = []
-written_where (Some x) id change s = crossing x (Some id) ++ written_by change s
+-- the user chain to which the transaction is linked
+abbrev pub written_in : Fate → List Watched
+written_in (fates.Linked key discipline) = watched.Entity kinds.UserChain key ∷ []
+written_in fate = []
+
+abbrev pub written_where : Option Transaction → ℕ → Change → Fate → Machine → List Watched
+written_where None id change fate s = []
+written_where (Some x) id change fate s = crossing x (Some id) ++ (written_by change s ++ written_in fate)
 
 abbrev pub written : Machine → Move → List Watched
-written s (moves.Enter id change fate) = written_where s.active id change s
+written s (moves.Enter id change fate) = written_where s.active id change fate s
 written s move = []
 
 -- Whoever waits for a change is woken where something is written that its attempt read: one after another, in order of

@@ -1,7 +1,7 @@
 -- Values, attributes and draws. An evaluation goes from the streams before it to its result and the streams behind it,
 -- so draws come in the order of evaluation. (Manual: operands, numerical attributes, and a time of A plus or minus B.
 -- Our own: whole numbers, what a draw stands for, and that the seed is asked for at a stream's first draw alone.)
-use Rattle.std.specs.Prelude.{ℕ, zero, suc, ◌+◌, ◌-◌, ◌*◌, ◌/◌, Bool, true, false, not, ◌&&◌, nat_le, List, [], ◌∷◌, Option, unwrap_or, Some, None, Result, Ok, Err, ℤ, pos, ◌+ℤ◌, ◌-ℤ◌, if◌then◌else◌}
+use Rattle.std.specs.Prelude.{ℕ, zero, suc, ◌+◌, ◌-◌, ◌*◌, ◌/◌, Bool, true, false, not, ◌&&◌, nat_le, List, [], ◌∷◌, length, Option, unwrap_or, Some, None, Result, Ok, Err, ℤ, pos, ◌+ℤ◌, ◌-ℤ◌, if◌then◌else◌}
 use Rattle.gw_nums.specs.declared.val.ArithmeticFault.{ArithmeticFault}
 use Rattle.gw_nums.specs.declared.val.ArithmeticFault.TheVariants as arithmetic_faults
 use Rattle.gw_nums.specs.Millionths.{times}
@@ -33,7 +33,7 @@ use Rattle.gw_meaning.specs.declared.watched.Watched.{Watched}
 use Rattle.gw_meaning.specs.declared.watched.Watched.TheVariants as watched
 use Rattle.gw_meaning.specs.Watching.{with_all_watched}
 use Rattle.gw_meaning.specs.Entities.{facility_at, line_at, store_at, savevalue_at, switch_at}
-use Rattle.gw_meaning.specs.Machine.{Machine, count_at}
+use Rattle.gw_meaning.specs.Machine.{Machine, count_at, user_chain_at}
 use Rattle.gw_meaning.specs.Questions.{Answer, Prog, Gives, Ends, Asks, ◌>>=◌}
 
 -- an evaluation
@@ -167,7 +167,8 @@ one_if true = 1
 one_if false = 0
 
 -- of a facility: whether it is owned, and its captures; of a queue: its content, its entries, the greatest content and
--- the zero entries; of a savevalue: its value; of a switch: whether it is set. One that nothing touched yet reads 0.
+-- the zero entries; of a savevalue: its value; of a switch: whether it is set; of a user chain: its content, and how many
+-- were linked to it. One that nothing touched yet reads 0.
 abbrev pub entity_value : Machine → Class → Key → Eval ℤ
 entity_value s class.F key = amount (owned (facility_at s.entities key).owner)
 entity_value s class.Fc key = amount (facility_at s.entities key).captures
@@ -177,6 +178,8 @@ entity_value s class.Qm key = amount (line_at s.entities key).greatest
 entity_value s class.Qz key = amount (line_at s.entities key).zero_entries
 entity_value s class.X key = gives (unwrap_or (savevalue_at s.entities key) (pos 0))
 entity_value s class.Ls key = amount (one_if (switch_at s.entities key))
+entity_value s class.Ch key = amount (length (user_chain_at s.linked key).members)
+entity_value s class.Cc key = amount (user_chain_at s.linked key).entries
 entity_value s class key = ends_with (ends.Error Range)
 
 -- of a storage: the units in use, the units that came, and the greatest content
@@ -217,6 +220,8 @@ attribute_prog s q class.Qm of = subject_prog of ~> (λ key. entity_value s clas
 attribute_prog s q class.Qz of = subject_prog of ~> (λ key. entity_value s class.Qz key)
 attribute_prog s q class.X of = subject_prog of ~> (λ key. entity_value s class.X key)
 attribute_prog s q class.Ls of = subject_prog of ~> (λ key. entity_value s class.Ls key)
+attribute_prog s q class.Ch of = subject_prog of ~> (λ key. entity_value s class.Ch key)
+attribute_prog s q class.Cc of = subject_prog of ~> (λ key. entity_value s class.Cc key)
 attribute_prog s q class.S of = storage_prog of (λ key. storage_value s class.S key)
 attribute_prog s q class.R of = left_prog s of
 attribute_prog s q class.Sc of = storage_prog of (λ key. storage_value s class.Sc key)
@@ -331,6 +336,8 @@ watched_prog class.Qm of = entity_watched kinds.Queue of
 watched_prog class.Qz of = entity_watched kinds.Queue of
 watched_prog class.X of = entity_watched kinds.Savevalue of
 watched_prog class.Ls of = entity_watched kinds.Switch of
+watched_prog class.Ch of = entity_watched kinds.UserChain of
+watched_prog class.Cc of = entity_watched kinds.UserChain of
 watched_prog class.S of = storage_watched of
 watched_prog class.R of = storage_watched of
 watched_prog class.Sc of = storage_watched of

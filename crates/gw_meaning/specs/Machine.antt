@@ -13,6 +13,11 @@ use Rattle.gw_meaning.specs.declared.transaction.Event.{Event}
 use Rattle.gw_meaning.specs.declared.transaction.Count.{Count}
 use Rattle.gw_meaning.specs.Watching.{Waiter}
 
+-- a user chain: how many were linked to it, and who is on it, from the front
+pub record UserChain : Type 0 where
+  pub entries : ℕ
+  pub members : List Transaction
+
 pub record Machine : Type 0 where
   -- the absolute clock
   pub clock : ℕ
@@ -39,6 +44,8 @@ pub record Machine : Type 0 where
   pub delays : List (Key × List Transaction)
   -- the retry chain: who waits for a change of something that it read, in order of waiting
   pub retry : List Waiter
+  -- the user chain of each name or number to which somebody was linked, in the order of first linking
+  pub linked : List (Key × UserChain)
   -- what is counted at each block, in the order of first use
   pub counts : List (ℕ × Count)
   pub entities : Entities
@@ -66,6 +73,7 @@ zero_state = record {
   future = [];
   delays = [];
   retry = [];
+  linked = [];
   counts = [];
   entities = no_entities;
   parameters = [];
@@ -100,10 +108,22 @@ with_count (d ∷ ds) id c = if id == d.0 then (d.0, c) ∷ ds else d ∷ with_c
 abbrev pub delay_at : List (Key × List Transaction) → Key → List Transaction
 delay_at delays key = unwrap_or (value_of delays key) []
 
--- all who wait on a delay chain
+-- all who are on such chains
 abbrev pub waiting : List (Key × List Transaction) → List Transaction
 waiting [] = []
 waiting (d ∷ ds) = d.1 ++ waiting ds
+
+-- a user chain, which is empty where nobody was linked to it yet
+abbrev pub no_chain : UserChain
+no_chain = record { entries = 0; members = [] }
+
+abbrev pub user_chain_at : List (Key × UserChain) → Key → UserChain
+user_chain_at linked key = unwrap_or (value_of linked key) no_chain
+
+-- who is on each user chain
+abbrev pub members_of : List (Key × UserChain) → List (Key × List Transaction)
+members_of [] = []
+members_of (c ∷ cs) = (c.0, c.1.members) ∷ members_of cs
 
 -- how many transactions live
 abbrev pub number_of_active : Option Transaction → ℕ
@@ -112,4 +132,9 @@ number_of_active (Some x) = 1
 
 abbrev pub live : Machine → ℕ
 live s =
-    number_of_active s.active + length s.current + length s.future + length (waiting s.delays) + length s.retry
+    number_of_active s.active
+    + length s.current
+    + length s.future
+    + length (waiting s.delays)
+    + length s.retry
+    + length (waiting (members_of s.linked))

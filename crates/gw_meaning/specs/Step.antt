@@ -2,12 +2,12 @@
 -- argument. (Manual: the order of the scan. Our own: commands, priming and picking are steps of their own; the order in
 -- which a GENERATE's operands are met; a facility refuses its own owner, too; units that fit go in, whoever waits; a
 -- PRIORITY leaves its transaction active; whoever waits for a change tries its block anew when it is woken.)
-use Rattle.std.specs.Prelude.{ℕ, zero, suc, ◌+◌, ◌-◌, Bool, true, false, ◌==◌, List, [], ◌∷◌, ◌++◌, Option, Some, None, Result, Ok, Err, ℤ, pos, ◌&&◌, ◌||◌, if◌then◌else◌, nat_le, nat_lt, min, not, is_some}
+use Rattle.std.specs.Prelude.{ℕ, zero, suc, ◌+◌, ◌-◌, Bool, true, false, ◌==◌, List, [], ◌∷◌, ◌++◌, Option, Some, None, Result, Ok, Err, ℤ, pos, ◌&&◌, ◌||◌, if◌then◌else◌, nat_le, nat_lt, min, not, is_some, length}
 use Rattle.gw_nums.specs.Range.{is_negative, is_below, magnitude}
 use Rattle.gw_nums.specs.declared.val.ArithmeticFault.{ArithmeticFault}
 use Rattle.gw_expr.specs.Arithmetic.{applied}
 use Rattle.gw_expr.specs.declared.token.Operator.TheVariants as operators
-use Rattle.gw_expr.specs.Term.{Term, Label, Fraction, Defined}
+use Rattle.gw_expr.specs.Term.{Term, Label, Fraction, Defined, Order}
 use Rattle.gw_expr.specs.declared.stop.Stop.TheVariants.{NegativeTime, NotOwner, LeaveTooMany, DepartTooMany, NoParameter, NoNextBlock, TooManyTransactions, BadCount, TooManyUnits, Range}
 use Rattle.gw_names.specs.declared.key.Key.{Key}
 use Rattle.gw_names.specs.declared.key.Key.TheVariants as keys
@@ -50,7 +50,7 @@ use Rattle.gw_meaning.specs.declared.moves.Move.{Move}
 use Rattle.gw_meaning.specs.declared.moves.Move.TheVariants as moves
 use Rattle.gw_meaning.specs.Statements.{A, B, C, D, E, operand, is_generate_verb}
 use Rattle.gw_meaning.specs.Listing.{Listing}
-use Rattle.gw_meaning.specs.Machine.{Machine, zero_state, raised, live, count_at, delay_at}
+use Rattle.gw_meaning.specs.Machine.{Machine, zero_state, raised, live, count_at, delay_at, user_chain_at}
 use Rattle.gw_entities.specs.Records.{Line, Store, capped}
 use Rattle.gw_entities.specs.Comings.{came}
 use Rattle.gw_entities.specs.Parameters.{parameter_at}
@@ -455,6 +455,59 @@ abbrev pub savevalue_prog : Machine → Asker → ℕ → Auxiliary → Option T
 savevalue_prog s q id sign entity value = entity_prog s q entity ~> (λ key. value_there s q value ~>
     (λ v. savevalue_with id sign key (savevalue_at s.entities key) v))
 
+-- SPLIT: copies of the transaction, as many as its value says and as may live; they go to the block with the label, where
+-- there is one. No label is looked up where no copy is made.
+abbrev pub split_into : ℕ → ℕ → Option ℕ → Eval Move
+split_into id count to = gives (moves.Enter id (changes.Split count to) fates.Active)
+
+abbrev pub split_to : ℕ → ℕ → Option ℕ → Eval Move
+split_to id count None = ends_with (ends.Error NoNextBlock)
+split_to id count (Some to) = split_into id count (Some to)
+
+abbrev pub split_count : ℕ → Option Term → ℕ → Eval Move
+split_count id label zero = split_into id 0 None
+split_count id (Some (Label name)) (suc n) = asks (items.Named asking.Label name) (split_to id (suc n))
+split_count id label (suc n) = split_into id (suc n) None
+
+abbrev pub split_value : Machine → ℕ → Option Term → ℤ → Eval Move
+split_value s id label copies =
+    stops_if (is_negative copies) BadCount
+    (stops_if (nat_lt 100000 (live s + magnitude copies)) TooManyTransactions
+    (split_count id label (magnitude copies)))
+
+abbrev pub split_prog : Machine → Asker → ℕ → Option Term → Option Term → Eval Move
+split_prog s q id copies label = value_there s q copies ~> (λ n. split_value s id label n)
+
+-- LINK: the transaction goes to the back or to the front of a user chain.
+abbrev pub link_prog : Machine → Asker → ℕ → Option Term → Option Term → Eval Move
+link_prog s q id entity (Some (Order discipline)) =
+    entity_prog s q entity ~> (λ key. gives (moves.Enter id changes.Nothing (fates.Linked key discipline)))
+link_prog s q id entity order = ends_with (ends.Error NoNextBlock)
+
+-- UNLINK: from the front of a user chain so many go to the block with the label as the count says and as there are, or
+-- all where there is no count. No label is looked up where nobody goes.
+abbrev pub unlink_some : ℕ → Key → ℕ → Option ℕ → Eval Move
+unlink_some id key count to = gives (moves.Enter id (changes.Unlink key count to) fates.Active)
+
+abbrev pub unlink_to : ℕ → Key → ℕ → Option ℕ → Eval Move
+unlink_to id key count None = ends_with (ends.Error NoNextBlock)
+unlink_to id key count (Some to) = unlink_some id key count (Some to)
+
+abbrev pub unlink_count : ℕ → Key → Option Term → ℕ → Eval Move
+unlink_count id key label zero = unlink_some id key 0 None
+unlink_count id key (Some (Label name)) (suc n) = asks (items.Named asking.Label name) (unlink_to id key (suc n))
+unlink_count id key label (suc n) = ends_with (ends.Error NoNextBlock)
+
+-- how many of so many leave a user chain
+abbrev pub leaving_prog : Machine → Asker → Option Term → ℕ → Eval ℕ
+leaving_prog s q None there = gives there
+leaving_prog s q (Some count) there = units_prog s q (Some count) ~> (λ n. gives (min n there))
+
+abbrev pub unlink_prog : Machine → Asker → ℕ → Option Term → Option Term → Option Term → Eval Move
+unlink_prog s q id entity label count =
+    entity_prog s q entity ~> (λ key. leaving_prog s q count (length (user_chain_at s.linked key).members) ~>
+    (λ n. unlink_count id key label n))
+
 -- by the block's verb; no other verb is read so far
 abbrev pub block_prog : Machine → Transaction → ℕ → Block → BlockVerb → Eval Move
 block_prog s x id b blocks.Generate =
@@ -474,6 +527,9 @@ block_prog s x id b blocks.Gate = gate_prog s (for_one s x) id b.auxiliary (oper
 block_prog s x id b blocks.Logic = logic_prog s (for_one s x) id b.auxiliary (operand b A)
 block_prog s x id b blocks.Savevalue =
     savevalue_prog s (for_one s x) id b.auxiliary (operand b A) (operand b B)
+block_prog s x id b blocks.Split = split_prog s (for_one s x) id (operand b A) (operand b B)
+block_prog s x id b blocks.Link = link_prog s (for_one s x) id (operand b A) (operand b B)
+block_prog s x id b blocks.Unlink = unlink_prog s (for_one s x) id (operand b A) (operand b B) (operand b C)
 block_prog s x id b blocks.Mark = mark_prog id
 block_prog s x id b blocks.Priority = priority_prog s (for_one s x) id (operand b A)
 block_prog s x id b blocks.Buffer = buffer_prog id

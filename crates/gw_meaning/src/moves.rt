@@ -1,8 +1,9 @@
+use crate::destination::Destination;
 use crate::entity_change::EntityChange;
 use crate::statement_id::StatementId;
 use crate::transaction_change::TransactionChange;
 use crate::watched::Watched;
-use gw_expr::Row;
+use gw_expr::{Discipline, Row};
 use gw_names::Key;
 use gw_nums::{Clock, Time, Val};
 
@@ -21,15 +22,28 @@ pub struct Arrival {
 pub enum Change {
     Nothing,
     /// A GENERATE sets the mark time of its transaction and makes the next one, if any.
-    Generate { next: Option<Arrival> },
+    Generate {
+        next: Option<Arrival>,
+    },
     /// What it changes of its transaction, and no more.
     Transaction(TransactionChange),
+    /// A SPLIT makes so many copies of its transaction, which go to this block, or on from its own where none is set.
+    Split {
+        count: u64,
+        to: Destination,
+    },
+    /// An UNLINK sends so many from the front of this user chain to this block; none is set where nobody goes.
+    Unlink {
+        key: Key,
+        count: u64,
+        to: Destination,
+    },
     /// What it makes of the entity that it names, and whom that lets in.
     Entity(EntityChange),
 }
 
 /// What becomes of the transaction that entered a block.
-#[derive(Clone, Copy)]
+#[derive(Drop)]
 pub enum Fate {
     /// It stays active.
     Active,
@@ -37,6 +51,8 @@ pub enum Fate {
     Current,
     /// It goes to the future chain.
     Delayed { until: Time },
+    /// It goes to this user chain: to the back, or to the front.
+    Linked { key: Key, discipline: Discipline },
     /// It is destroyed, and takes `count` from the termination count.
     Destroyed { count: u64 },
 }

@@ -9,6 +9,7 @@ pub enum EntityKind {
     Storage,
     Savevalue,
     Switch,
+    UserChain,
 }
 
 /// What a refused attempt read, and a step may write.
