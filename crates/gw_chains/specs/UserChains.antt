@@ -1,14 +1,9 @@
 -- How `UserChains` keeps the user chains: each beside its key. (Our own.)
-use Rattle.std.specs.Prelude.{◌≡◌, ℕ, List, Option, Some, None, length}
+use Rattle.std.specs.Prelude.{◌≡◌, ℕ, List, length}
 use Rattle.std.specs.List.{IsDistinct, zip}
 use Rattle.gw_names.specs.declared.key.Key.{Key}
 use Rattle.gw_names.specs.Keys.{key_eq}
-use Rattle.gw_meaning.specs.Machine.{UserChain, no_chain, members_of, waiting}
-
--- a user chain, which is empty where nobody was linked to it yet
-abbrev pub or_no_chain : Option UserChain → UserChain
-or_no_chain None = no_chain
-or_no_chain (Some c) = c
+use Rattle.gw_meaning.specs.Machine.{UserChain, members_of, waiting}
 
 -- a chain for each key, and how many are on all of them
 pub record AreLinked (keys : List Key) (chains : List UserChain) (count : ℕ) : Type 0 where

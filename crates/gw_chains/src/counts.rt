@@ -109,10 +109,10 @@ impl Counts {
         ensures entries { self.new.entries ≡ stood self.old.entries id }
         ensures limit { self.new.limit ≡ self.old.limit }
     {
-        let count = self.at(id);
+        let there = self.at(id);
         let count = Count {
-            content: count.content.saturating_add(1),
-            ..count
+            content: there.content.saturating_add(1),
+            ..there
         };
         self.table.set(id.number(), count);
     }

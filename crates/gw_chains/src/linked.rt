@@ -1,8 +1,7 @@
-ghost use Rattle.std.specs.Prelude.{◌≡◌, ◌+◌, ◌<◌, ◌≤◌, ◌^◌, [], length, option_copied, None, IfOk, OnOk, OnErr};
+ghost use Rattle.std.specs.Prelude.{◌≡◌, ◌+◌, ◌-◌, ◌<◌, ◌≤◌, ◌^◌, unwrap_or, [], length, option_copied, None, IfOk, OnOk, OnErr};
 ghost use Rattle.gw_entities.specs.Tables.{value_of, with_value, IsPlace};
 ghost use Rattle.gw_meaning.specs.Changes.{linked_to, some_unlinked};
-ghost use Rattle.gw_meaning.specs.Machine.{Machine, members_of, user_chain_at, waiting};
-ghost use Rattle.gw_chains.specs.UserChains.{or_no_chain};
+ghost use Rattle.gw_meaning.specs.Machine.{Machine, members_of, no_chain, user_chain_at, waiting};
 
 use crate::chain::PriorityChain;
 use crate::user_chain::UserChain;
@@ -84,7 +83,7 @@ impl UserChains {
     }
 
     fn chain(&self, key: &Key) -> Option<&UserChain>
-        ensures { or_no_chain (option_copied result) ≡ user_chain_at self.now key.now }
+        ensures { unwrap_or (option_copied result) no_chain ≡ user_chain_at self.now key.now }
     {
         let index = self.place(key)?;
         Some(&self.chains[index])
