@@ -3,7 +3,7 @@ use Rattle.std.proofs.Common.{◌≡◌, ℕ, zero, suc, List, [], ◌∷◌, re
 use Rattle.std.specs.Prelude.{ℤ, get_or}
 use Rattle.std.specs.List.{list_any, slice_get}
 use Rattle.std.proofs.lemmas.Option.{get_or_from_slice_get}
-use Rattle.gw_expr.specs.Term.{Term, Value, Computed, Named, Defined, Label, Fraction, HasAtom, holds_of_atom, holds_of_token}
+use Rattle.gw_expr.specs.Term.{Term, Value, Computed, Named, Defined, Label, Fraction, Order, HasAtom, holds_of_atom, holds_of_token}
 use Rattle.gw_expr.specs.declared.atom.Atom.{Atom}
 use Rattle.gw_expr.specs.declared.atom.Atom.TheVariants as atoms
 use Rattle.gw_expr.specs.declared.token.Token.{Token}
@@ -67,6 +67,7 @@ no_atom test p one many (Named name) atom h has = absurd has
 no_atom test p one many (Label name) atom h has = absurd has
 no_atom test p one many (Fraction n) atom h has = absurd has
 no_atom test p one many (Defined name) atom h has = absurd has
+no_atom test p one many (Order discipline) atom h has = absurd has
 
 in_no_token : (p : Atom → Bool) (ts : List Token) (i : ℕ) (token : Token) → slice_get ts i ≡ Some token →
     ((atom : Atom) → HasAtom (Computed ts) atom → p atom ≡ false) → holds_of_token p token ≡ false
@@ -81,6 +82,7 @@ in_no_atom p (Named name) f = refl
 in_no_atom p (Label name) f = refl
 in_no_atom p (Fraction n) f = refl
 in_no_atom p (Defined name) f = refl
+in_no_atom p (Order discipline) f = refl
 
 -- each label that an operand names is that of a block
 abbrev pub LabelsThere : List Numbered → Type 0
