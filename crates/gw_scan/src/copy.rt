@@ -4,7 +4,7 @@ ghost use Rattle.std.specs.Prelude.{◌≡◌, IfOk};
 ghost use Rattle.gw_scan.specs.Copies.{ChainsOf, KeptOf};
 
 use crate::state::State;
-use gw_chains::{Counts, DelayChains, FutureChain, PriorityChain};
+use gw_chains::{Counts, DelayChains, FutureChain, PriorityChain, UserChains};
 use gw_entities::Parameters;
 use gw_parts::Entities;
 use gw_retry::Retry;
@@ -17,6 +17,7 @@ pub struct Chains {
     pub future: FutureChain,
     pub delays: DelayChains,
     pub retry: Retry,
+    pub linked: UserChains,
 }
 
 // What a state keeps of blocks, of entities and of transactions.

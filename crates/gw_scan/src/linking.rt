@@ -73,11 +73,11 @@ impl State {
         ensures { Decides case.entry.version.now case.entry.seed
             (leaving_prog self.now asker.now (option_copied count.entry) there) result notes.old notes.new }
     {
-        if count.is_none() {
+        let Some(expr) = count else {
             return Ok(there);
-        }
-        let units = self.units(case, asker, notes, count)?;
-        Ok(there.min(u64::from(units)))
+        };
+        let units = self.units(case, asker, notes, Some(expr))?;
+        Ok(u64::from(units).min(there))
     }
 }
 
@@ -114,12 +114,7 @@ fn unlink_count(
     }
 }
 
-fn unlink_to(
-    id: StatementId,
-    key: Key,
-    count: u64,
-    to: Option<StatementId>,
-) -> Result<Move, Halt>
+fn unlink_to(id: StatementId, key: Key, count: u64, to: Option<StatementId>) -> Result<Move, Halt>
     ensures { Comes (unlink_to id key count to) result }
 {
     match to {

@@ -8,8 +8,8 @@ ghost use Rattle.gw_meaning.specs.Watching.{kind_of};
 use crate::state::State;
 use gw_chains::{PriorityChain, has_share};
 use gw_meaning::{
-    Change, Deed, EntityChange, EntityKind, FacilityDeed, Fate, StatementId, StorageDeed, Transaction,
-    Watched,
+    Change, Deed, EntityChange, EntityKind, FacilityDeed, Fate, StatementId, StorageDeed,
+    Transaction, Watched,
 };
 use std::alloc::{AllocError, Global};
 
