@@ -180,12 +180,12 @@ module _ (t : Listing) where
       let_in_names x x.destination (record w { delays = with_value w.delays key (passed ++ xs) }) all.0 all.0.destination
       (record { active = h.active; current = h.current; future = h.future; delays = with_delay_names w key (passed ++ xs) all.1 h; retry = h.retry; linked = h.linked; counts = h.counts })
 
-  copies_names : AreNumbered t.lines → Copies t (StateNames t)
-  copies_names numbered w to x values named is h =
-      let parent = active_names w x is h in
+  copies_names : AreNumbered t.lines → (s : Machine) → Copies t s (StateNames t)
+  copies_names numbered s w to x values copying h =
+      let parent = active_names w x copying.active h in
       record {
         active = h.active;
-        current = lined_up_names (copied x w.next to) w.current (record { current = parent.current; destination = named numbered }) h.current;
+        current = lined_up_names (copied x w.next to) w.current (record { current = parent.current; destination = copying.named numbered }) h.current;
         future = h.future;
         delays = h.delays;
         retry = h.retry;
@@ -262,7 +262,7 @@ module _ (t : Listing) where
   moved_names s (moves.Enter id change fate) numbered decided h =
       entered_has (StateNames t) (StateNames t) t s id change fate decided.1 h
       (λ x is. settled_names s x id change fate h (active_names s x is h) decided.0 (marked_names s x id change numbered decided.1 decided.0))
-      (λ v. record { nothing = λ k. k; one = λ a coming k. made_names s a (making_of v) v coming k; lets = lets_names; copies = copies_names numbered; unlinks = unlinks_names numbered })
+      (λ v. record { nothing = λ k. k; one = λ a coming k. made_names s a (making_of v) v coming k; lets = lets_names; copies = copies_names numbered s; unlinks = unlinks_names numbered })
   moved_names s (moves.Refuse id key units) numbered decided h =
       with_active_has (StateNames t) s.active (λ x. refused s x id key units) s h (λ x is. refused_names s x id key units h (active_names s x is h) decided.0)
   moved_names s (moves.Watch read) numbered decided h =

@@ -1,10 +1,10 @@
 -- However its questions are answered, an attempt gives a move in which the block that is tried is entered, or refuses; and a START
 -- gives a command's move; or they end with an error.
-use Rattle.std.proofs.Common.{◌≡◌, ℕ, ◌+◌, ◌-◌, nat_eq, nat_le, nat_lt, not, ◌&&◌, ◌||◌, Bool, true, false, cond, List, [], ◌∷◌, ◌++◌, Option, Some, None, is_some, ℤ, pos, refl}
+use Rattle.std.proofs.Common.{◌≡◌, ℕ, zero, suc, length, ◌+◌, ◌-◌, nat_eq, nat_le, nat_lt, not, ◌&&◌, ◌||◌, Bool, true, false, cond, List, [], ◌∷◌, ◌++◌, Option, Some, None, is_some, ℤ, pos, refl}
 use Rattle.gw_nums.specs.Range.{is_negative, magnitude}
 use Rattle.gw_expr.specs.Arithmetic.{applied}
 use Rattle.gw_expr.specs.declared.token.Operator.TheVariants as operators
-use Rattle.gw_expr.specs.Term.{Term, Label, Fraction, Defined}
+use Rattle.gw_expr.specs.Term.{Term, Label, Fraction, Defined, Order}
 use Rattle.gw_names.specs.declared.key.Key.{Key}
 use Rattle.gw_names.specs.declared.key.Key.TheVariants as keys
 use Rattle.gw_names.specs.declared.verb.BlockVerb.{BlockVerb}
@@ -24,10 +24,10 @@ use Rattle.gw_meaning.specs.declared.auxiliary.Condition.{Condition}
 use Rattle.gw_meaning.specs.declared.statement.Block.{Block}
 use Rattle.gw_meaning.specs.declared.transaction.Transaction.{Transaction}
 use Rattle.gw_meaning.specs.Statements.{A, B, C, D, E, operand, is_generate_verb}
-use Rattle.gw_meaning.specs.Machine.{Machine, live, delay_at}
+use Rattle.gw_meaning.specs.Machine.{Machine, live, delay_at, user_chain_at}
 use Rattle.gw_meaning.specs.Entities.{facility_at, line_at, store_at, savevalue_at}
 use Rattle.gw_meaning.specs.Evaluation.{Eval, millionths}
-use Rattle.gw_meaning.specs.Step.{for_none, for_one, arrival_at, arrival_in_time, arrival_prog, first_of_generate, first_of, first_arrival, with_arrival, arrivals_prog, first_arrivals_prog, start_prog, generate_prog, advance_prog, terminate_prog, is_too_many, queue_prog, depart_units, depart_prog, seize_or_wait, seize_prog, is_owner, release_prog, beside, in_use, share_of, all_shares, enter_or_wait, enter_storage, enter_prog, shares_prog, leave_for, leave_units, leave_prog, go_to, lead_to, transfer_prog, holds, test_prog, priority_prog, by_sign, assign_with, assign_prog, is_open, reads_capacity, gate_storage, gate_of, gate_prog, logic_prog, savevalue_with, savevalue_prog, left_of, loop_back, loop_to, loop_prog, block_prog, meet_prog, try_prog, attempt_prog, pass_or_wait, gate_at, gate_other}
+use Rattle.gw_meaning.specs.Step.{for_none, for_one, arrival_at, arrival_in_time, arrival_prog, first_of_generate, first_of, first_arrival, with_arrival, arrivals_prog, first_arrivals_prog, start_prog, generate_prog, advance_prog, terminate_prog, is_too_many, queue_prog, depart_units, depart_prog, seize_or_wait, seize_prog, is_owner, release_prog, beside, in_use, share_of, all_shares, enter_or_wait, enter_storage, enter_prog, shares_prog, leave_for, leave_units, leave_prog, go_to, lead_to, transfer_prog, holds, test_prog, priority_prog, by_sign, assign_with, assign_prog, is_open, reads_capacity, gate_storage, gate_of, gate_prog, logic_prog, savevalue_with, savevalue_prog, split_to, split_count, split_prog, link_prog, unlink_to, unlink_count, leaving_prog, unlink_prog, left_of, loop_back, loop_to, loop_prog, block_prog, meet_prog, try_prog, attempt_prog, pass_or_wait, gate_at, gate_other}
 use Rattle.gw_meaning.specs.declared.watched.Watched.{Watched}
 use Rattle.gw_laws.proofs.Trying.{Tries, TriesAny, tries_gives, tries_ends, tries_asks, tries_stops, tries_cond, tries_bind, tries_more, draw_tries, arithmetic_tries, value_tries, value_there_tries, value_or_zero_tries, entity_tries, units_tries, time_tries, value_traced_tries, entity_traced_tries}
 
@@ -279,6 +279,43 @@ module _ (s : Machine) where
     savevalue_tries q id sign entity value = tries_bind (entity_tries s q entity) (λ key. tries_bind (value_there_tries s q value)
         (λ v. savevalue_with_tries id sign key (savevalue_at s.entities key) v))
 
+    split_to_tries : (id count : ℕ) (to : Option ℕ) → TriesMove P id (split_to id count to)
+    split_to_tries id count None = tries_ends
+    split_to_tries id count (Some to) = tries_gives refl
+
+    split_count_tries : (id : ℕ) (label : Option Term) (count : ℕ) → TriesMove P id (split_count id label count)
+    split_count_tries id label zero = tries_gives refl
+    split_count_tries id (Some (Label name)) (suc n) = tries_asks (items.Named asking.Label name) (split_to_tries id (suc n))
+    split_count_tries id (Some term) (suc n) = tries_gives refl
+    split_count_tries id None (suc n) = tries_gives refl
+
+    split_tries : (q : Asker) (id : ℕ) (copies label : Option Term) → TriesMove P id (split_prog s q id copies label)
+    split_tries q id copies label = tries_bind (value_there_tries s q copies) (λ n. tries_stops (is_negative n) _
+        (tries_stops (nat_lt 100000 (live s + magnitude n)) _ (split_count_tries id label (magnitude n))))
+
+    link_tries : (q : Asker) (id : ℕ) (entity order : Option Term) → TriesMove P id (link_prog s q id entity order)
+    link_tries q id entity (Some (Order discipline)) = tries_bind (entity_tries s q entity) (λ key. tries_gives refl)
+    link_tries q id entity (Some term) = tries_ends
+    link_tries q id entity None = tries_ends
+
+    unlink_to_tries : (id : ℕ) (key : Key) (count : ℕ) (to : Option ℕ) → TriesMove P id (unlink_to id key count to)
+    unlink_to_tries id key count None = tries_ends
+    unlink_to_tries id key count (Some to) = tries_gives refl
+
+    unlink_count_tries : (id : ℕ) (key : Key) (label : Option Term) (count : ℕ) → TriesMove P id (unlink_count id key label count)
+    unlink_count_tries id key label zero = tries_gives refl
+    unlink_count_tries id key (Some (Label name)) (suc n) = tries_asks (items.Named asking.Label name) (unlink_to_tries id key (suc n))
+    unlink_count_tries id key (Some term) (suc n) = tries_ends
+    unlink_count_tries id key None (suc n) = tries_ends
+
+    leaving_tries : (q : Asker) (count : Option Term) (there : ℕ) → TriesAny (leaving_prog s q count there)
+    leaving_tries q None there = tries_gives tt
+    leaving_tries q (Some count) there = tries_bind (units_tries s q (Some count)) (λ n. tries_gives tt)
+
+    unlink_tries : (q : Asker) (id : ℕ) (entity label count : Option Term) → TriesMove P id (unlink_prog s q id entity label count)
+    unlink_tries q id entity label count = tries_bind (entity_tries s q entity)
+        (λ key. tries_bind (leaving_tries q count (length (user_chain_at s.linked key).members)) (unlink_count_tries id key label))
+
   block_tries : (x : Transaction) (id : ℕ) (b : Block) (verb : BlockVerb) → TriesMove (WaitsAtVerb b verb) id (block_prog s x id b verb)
   block_tries x id b blocks.Generate = generate_tries ⊥ x id (operand b A) (operand b B) (operand b D) (operand b E)
   block_tries x id b blocks.Advance = advance_tries ⊥ (for_one s x) id (operand b A) (operand b B)
@@ -294,6 +331,9 @@ module _ (s : Machine) where
   block_tries x id b blocks.Gate = gate_tries (operand b B ≡ None) (for_one s x) id b.auxiliary (operand b A) (operand b B) (λ none. none)
   block_tries x id b blocks.Logic = logic_tries ⊥ (for_one s x) id b.auxiliary (operand b A)
   block_tries x id b blocks.Savevalue = savevalue_tries ⊥ (for_one s x) id b.auxiliary (operand b A) (operand b B)
+  block_tries x id b blocks.Split = split_tries ⊥ (for_one s x) id (operand b A) (operand b B)
+  block_tries x id b blocks.Link = link_tries ⊥ (for_one s x) id (operand b A) (operand b B)
+  block_tries x id b blocks.Unlink = unlink_tries ⊥ (for_one s x) id (operand b A) (operand b B) (operand b C)
   block_tries x id b blocks.Mark = tries_gives refl
   block_tries x id b blocks.Priority = priority_tries ⊥ (for_one s x) id (operand b A)
   block_tries x id b blocks.Buffer = tries_gives refl

@@ -5,7 +5,7 @@ use Rattle.gw_meaning.specs.declared.transaction.Count.{Count}
 use Rattle.gw_meaning.specs.declared.moves.Fate.{Fate}
 use Rattle.gw_meaning.specs.declared.moves.Fate.TheVariants as fates
 use Rattle.gw_meaning.specs.Machine.{count_in, count_at, or_no_count, with_count, raised}
-use Rattle.gw_meaning.specs.Changes.{left_at, left, content_behind, entered, crossed, made_one}
+use Rattle.gw_meaning.specs.Changes.{left_at, left, content_behind, entered, crossed, made_one, stood}
 use Rattle.gw_laws.proofs.Crowd.{one, remains, remains_less}
 
 -- the count that was set, and the others
@@ -61,6 +61,7 @@ behind_is : (fate : Fate) (n : ℕ) → n < 2 ^ 64 - 1 → content_behind fate n
 behind_is fates.Active n room = omega arith
 behind_is fates.Current n room = omega arith
 behind_is (fates.Delayed until) n room = omega arith
+behind_is (fates.Linked key discipline) n room = omega arith
 behind_is (fates.Destroyed count) n room = omega arith
 
 content_entered : (fate : Fate) (cs : List (ℕ × Count)) (q p : ℕ) → content cs p < 2 ^ 64 - 1 →
@@ -88,6 +89,19 @@ content_crossed fate cs from to p rest is room =
 
 pub content_made : (cs : List (ℕ × Count)) (q p : ℕ) → content (made_one cs q) p ≡ content cs p
 content_made cs q p = content_same cs q p _ refl
+
+-- one more stands in a block
+pub content_stood : (cs : List (ℕ × Count)) (q p : ℕ) → content cs p < 2 ^ 64 - 1 → content (stood cs q) p ≡ content cs p + one (nat_eq q p)
+content_stood cs q p room =
+    let new : Count = record (count_at cs q) { content = raised (content cs q) } in
+    elim (cases_eq q p) [
+      | inl here ↦
+          let fits : content cs q < 2 ^ 64 - 1 = rw here room in
+          rw (eq-eqb q p here) (rw (← here) (content_here cs q new ∙ behind_is fates.Active (content cs q) fits))
+      | inr apart ↦
+          let same = content_there cs q p new apart in
+          rw (ne_eqb q p apart) (omega arith)
+    ]
 
 -- ---- the entries and the content of a block
 

@@ -174,10 +174,10 @@ NobodyWaitsAtAnOpenGate =
     b.auxiliary ≡ auxiliaries.Gate condition → key_written t (operand b A) ≡ Some key →
     is_open s condition key (capacity_of t key) ≡ false
 
--- what stays as it is until a block writes it: owners, contents, counts, savevalues and switches, and what a
--- transaction that waits has of its own. (A RESET would set counts of entries to 0 and greatest contents to what is
--- there, and wake nobody. None is read so far; once it is, the law below needs the premise that the version has none,
--- or these are left out.)
+-- what stays as it is until a block writes it: owners, contents, counts, savevalues and switches, who is on a user
+-- chain, and what a transaction that waits has of its own. (A RESET would set counts of entries to 0 and greatest
+-- contents to what is there, and wake nobody. None is read so far; once it is, the law below needs the premise that the
+-- version has none, or these are left out. The entries of a user chain are left out already.)
 abbrev pub is_lasting : Class → Bool
 is_lasting class.F = true
 is_lasting class.Fc = true
@@ -193,6 +193,7 @@ is_lasting class.N = true
 is_lasting class.W = true
 is_lasting class.X = true
 is_lasting class.Ls = true
+is_lasting class.Ch = true
 is_lasting class.P = true
 is_lasting class.Pr = true
 is_lasting class.Xn1 = true
