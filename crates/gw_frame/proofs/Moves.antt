@@ -121,6 +121,15 @@ settled_is s x id change (fates.Destroyed count) = record {
   entities = refl;
 }
 
+-- whoever is active behind it is the one that entered the block
+pub still_active : (s : Machine) (x : Transaction) (id : ℕ) (change : Change) (fate : Fate) (y : Transaction) →
+    (settled s x id change fate).active ≡ Some y → y ≡ marked change s.clock (placed x id)
+still_active s x id change fates.Active y is = let both : Some (marked change s.clock (placed x id)) ≡ Some y = is in cc
+still_active s x id change fates.Current y is = absurd cc
+still_active s x id change (fates.Delayed until) y is = absurd cc
+still_active s x id change (fates.Linked key discipline) y is = absurd cc
+still_active s x id change (fates.Destroyed count) y is = absurd cc
+
 -- what else stays where one is let in: all but the delay chain that it leaves, the current chain and the counts of blocks
 pub let_in_delays : (x : Transaction) (to : Option ℕ) (s : Machine) → (let_in x to s).delays ≡ s.delays
 let_in_delays x None s = refl

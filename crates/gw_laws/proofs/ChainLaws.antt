@@ -1,6 +1,6 @@
 -- The current chain, move by move and over a run: in order of priority, and first in first out within. The delay chains, too,
 -- are in order.
-use Rattle.std.proofs.Common.{◌≡◌, ℕ, ◌+◌, ◌-◌, ◌^◌, ◌<◌, ◌≤◌, ℤ, Option, nat_eq, Bool, true, false, List, [], ◌∷◌, ◌++◌, Some, Ok, refl, sym, ap, ap₂, subst, ◌∙◌, append-nil, append_assoc, arith, inl, inr, filter, not}
+use Rattle.std.proofs.Common.{◌≡◌, ℕ, ◌+◌, ◌-◌, ◌^◌, ◌<◌, ◌≤◌, ℤ, Option, nat_eq, Bool, true, false, List, [], ◌∷◌, ◌++◌, Some, Ok, refl, sym, ap, ap₂, subst, ◌∙◌, append-nil, append_assoc, arith, inl, inr, filter}
 use Rattle.std.specs.List.{AllByRecursion}
 use Rattle.std.specs.Ordering.{int_eq}
 use Rattle.std.proofs.lemmas.Bool.{cases_Bool, eq-eqb, false≢true, or_parts}
@@ -9,7 +9,6 @@ use Rattle.std.proofs.lemmas.List.Elements.{All-from_recursion}
 use Rattle.std.proofs.lemmas.List.Folds.{list_any-append}
 use Rattle.gw_nums.specs.Range.{is_below}
 use Rattle.gw_names.specs.declared.key.Key.{Key}
-use Rattle.gw_entities.specs.Tables.{with_value}
 use Rattle.gw_meaning.specs.declared.transaction.Transaction.{Transaction}
 use Rattle.gw_meaning.specs.declared.moves.Change.{Change}
 use Rattle.gw_meaning.specs.declared.moves.Fate.{Fate}
@@ -28,10 +27,10 @@ use Rattle.gw_laws.specs.Chain.{ChainIsInOrder, ChainIsFirstInFirstOut, IsFirstI
 use Rattle.gw_frame.proofs.Decided.{step_decides}
 use Rattle.gw_frame.proofs.Known.{IsDecided}
 use Rattle.gw_frame.proofs.Keeps.{all_with}
-use Rattle.gw_frame.proofs.Moves.{marked_same, settled, settled_is, current_behind, with_active_has, entered_has, picked_has}
+use Rattle.gw_frame.proofs.Moves.{settled, settled_is, current_behind, with_active_has, entered_has, picked_has}
 use Rattle.gw_frame.proofs.Running.{over_run}
 use Rattle.gw_laws.proofs.Entries.{Each, at_has, with_has}
-use Rattle.gw_laws.proofs.Waiting.{let_in_as, let_in_number, let_in_is, all_without}
+use Rattle.gw_laws.proofs.Waiting.{let_in_as, let_in_is, all_without}
 use Rattle.gw_laws.proofs.Crowd.{one, many, many_lined, future_parts, many_all_lined, woken_crowd}
 use Rattle.gw_laws.proofs.NumberLaws.{has_number, IsNumbered, same_numbered, made_numbered, settled_numbered, lets_numbered, copied_numbered, unlinked_numbered, all_numbered}
 use Rattle.gw_laws.proofs.Room.{all_within}

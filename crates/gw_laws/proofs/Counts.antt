@@ -121,6 +121,11 @@ tally_elsewhere fate cs from to p left_apart apart =
       differs : (a b : ℕ) → a ≡ b → nat_eq a b ≡ false → ⊥
       differs a b same apart = false≢true (sym apart ∙ eq-eqb a b same)
 
+pub tally_stood : (cs : List (ℕ × Count)) (q p : ℕ) → nat_eq p q ≡ false → tally (stood cs q) p ≡ tally cs p
+tally_stood cs q p apart =
+    ap (λ o. ((or_no_count o).entries, (or_no_count o).content))
+    (set_there cs q p _ (λ same. false≢true (sym apart ∙ eq-eqb p q (sym same))))
+
 pub tally_made : (cs : List (ℕ × Count)) (q p : ℕ) → tally (made_one cs q) p ≡ tally cs p
 tally_made cs q p =
     let c : Count = record (count_at cs q) { made = raised (count_at cs q).made } in

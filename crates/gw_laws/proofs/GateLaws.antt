@@ -15,7 +15,7 @@ use Rattle.gw_entities.specs.Tables.{value_of, with_value}
 use Rattle.gw_entities.proofs.Finding.{value_of-with_value}
 use Rattle.gw_entities.proofs.ComingLaws.{key_same}
 use Rattle.gw_expr.specs.declared.atom.Atom.TheVariants as atoms
-use Rattle.gw_expr.specs.Term.{Term, Value, Computed, Named, Label, Fraction, Defined}
+use Rattle.gw_expr.specs.Term.{Term, Value, Computed, Named, Label, Fraction, Defined, Order}
 use Rattle.gw_expr.specs.Evaluation as operands
 use Rattle.gw_expr.specs.declared.stop.Stop.TheVariants.{Range}
 use Rattle.gw_streams.specs.declared.stream.Stream.{Stream}
@@ -34,6 +34,7 @@ use Rattle.gw_meaning.specs.declared.entity_change.Deed.TheVariants as deeds
 use Rattle.gw_meaning.specs.declared.moves.Change.{Change}
 use Rattle.gw_meaning.specs.declared.moves.Change.TheVariants as changes
 use Rattle.gw_meaning.specs.declared.moves.Fate.{Fate}
+use Rattle.gw_meaning.specs.declared.moves.Fate.TheVariants as fates
 use Rattle.gw_meaning.specs.declared.moves.Move.{Move}
 use Rattle.gw_meaning.specs.declared.moves.Move.TheVariants as moves
 use Rattle.gw_meaning.specs.declared.watched.EntityKind.{EntityKind}
@@ -45,13 +46,13 @@ use Rattle.gw_meaning.specs.Statements.{A, B, operand}
 use Rattle.gw_meaning.specs.Listing.{Listing, block_at, after_at, command_at, number_at, capacity_at, or_next}
 use Rattle.gw_meaning.specs.Entities.{Entities, facility_at, line_at, store_at, savevalue_at, switch_at, done, touched, later}
 use Rattle.gw_meaning.specs.Watching.{Waiter, same_watched, is_watched, with_watched, kind_of, transactions_of}
-use Rattle.gw_meaning.specs.Machine.{Machine, raised, zero_state}
+use Rattle.gw_meaning.specs.Machine.{Machine, UserChain, no_chain, raised, delay_at, user_chain_at, zero_state}
 use Rattle.gw_meaning.specs.Questions.{result_of}
 use Rattle.gw_meaning.specs.Evaluation.{Eval, gives, stops_if, numbered, named, entity_prog, entity_traced}
 use Rattle.gw_entities.specs.Records.{Ownership, never_owned, no_line, Store, never_used}
-use Rattle.gw_meaning.specs.Changes.{entering, refused, watching, with_active, moved, written_where, written, is_woken, decided}
+use Rattle.gw_meaning.specs.Changes.{placed, marked, deed_shares, changed, written_by, written_in, entering, refused, watching, with_active, moved, written_where, written, is_woken, decided}
 use Rattle.gw_meaning.specs.Step.{for_one, is_open, kind_of_condition, reads_capacity, pass_or_wait, lead_to, go_to, gate_at, gate_storage, gate_other, gate_of, gate_prog, block_prog, meet_prog, try_prog, attempt_prog, scan_prog, move_prog, decide, run}
-use Rattle.gw_frame.proofs.Moves.{settled, settled_is, with_active_has, picked_has}
+use Rattle.gw_frame.proofs.Moves.{settled, settled_is, linked_behind, some_have, some_unlinked_keep, split_is, with_active_has, picked_has}
 use Rattle.gw_frame.proofs.Running.{last_step}
 use Rattle.gw_laws.specs.Destinations.{goes_to, IsTestOrGate, IsAtATestOrAGate}
 use Rattle.gw_laws.specs.Waiters.{named_key, key_written, capacity_of, NobodyWaitsAtAnOpenGate, WhoWaitsIsAtATestOrAGate}
@@ -71,6 +72,7 @@ kind_same kinds.Queue kinds.Queue p q h = ap (λ n. watched.Entity kinds.Queue n
 kind_same kinds.Storage kinds.Storage p q h = ap (λ n. watched.Entity kinds.Storage n) (key_same p q h)
 kind_same kinds.Savevalue kinds.Savevalue p q h = ap (λ n. watched.Entity kinds.Savevalue n) (key_same p q h)
 kind_same kinds.Switch kinds.Switch p q h = ap (λ n. watched.Entity kinds.Switch n) (key_same p q h)
+kind_same kinds.UserChain kinds.UserChain p q h = ap (λ n. watched.Entity kinds.UserChain n) (key_same p q h)
 kind_same k l p q h = absurd cc
 
 pub watched_same : (v w : Watched) → same_watched v w ≡ true → v ≡ w
@@ -99,26 +101,36 @@ unread_unwritten list (r ∷ rs) w unread has =
 
 -- ---- what is not written stays
 
-abbrev pub SameEntity : EntityKind → Key → Entities → Entities → Type 0
-SameEntity kinds.Facility key e f = facility_at f key ≡ facility_at e key
-SameEntity kinds.Queue key e f = line_at f key ≡ line_at e key
-SameEntity kinds.Storage key e f = store_at f key ≡ store_at e key
-SameEntity kinds.Savevalue key e f = savevalue_at f key ≡ savevalue_at e key
-SameEntity kinds.Switch key e f = switch_at f key ≡ switch_at e key
+-- the entities of a state, and its user chains
+abbrev pub Kept : Type 0
+Kept = Entities × List (Key × UserChain)
 
-entity_itself : (kind : EntityKind) (key : Key) (e : Entities) → SameEntity kind key e e
+abbrev pub kept_of : Machine → Kept
+kept_of s = (s.entities, s.linked)
+
+abbrev pub SameEntity : EntityKind → Key → Kept → Kept → Type 0
+SameEntity kinds.Facility key e f = facility_at f.0 key ≡ facility_at e.0 key
+SameEntity kinds.Queue key e f = line_at f.0 key ≡ line_at e.0 key
+SameEntity kinds.Storage key e f = store_at f.0 key ≡ store_at e.0 key
+SameEntity kinds.Savevalue key e f = savevalue_at f.0 key ≡ savevalue_at e.0 key
+SameEntity kinds.Switch key e f = switch_at f.0 key ≡ switch_at e.0 key
+SameEntity kinds.UserChain key e f = user_chain_at f.1 key ≡ user_chain_at e.1 key
+
+entity_itself : (kind : EntityKind) (key : Key) (e : Kept) → SameEntity kind key e e
 entity_itself kinds.Facility key e = refl
 entity_itself kinds.Queue key e = refl
 entity_itself kinds.Storage key e = refl
 entity_itself kinds.Savevalue key e = refl
 entity_itself kinds.Switch key e = refl
+entity_itself kinds.UserChain key e = refl
 
-later_same : (kind : EntityKind) (key : Key) (before now : ℕ) (e : Entities) → SameEntity kind key e (later before now e)
+later_same : (kind : EntityKind) (key : Key) (before now : ℕ) (e : Kept) → SameEntity kind key e (later before now e.0, e.1)
 later_same kinds.Facility key before now e = refl
 later_same kinds.Queue key before now e = refl
 later_same kinds.Storage key before now e = refl
 later_same kinds.Savevalue key before now e = refl
 later_same kinds.Switch key before now e = refl
+later_same kinds.UserChain key before now e = refl
 
 -- the value of another key
 other_stays : {V : Type 0} (none : V) (es : List (Key × V)) (other : Key) (v : V) (key : Key) → key_eq key other ≡ false →
@@ -126,60 +138,125 @@ other_stays : {V : Type 0} (none : V) (es : List (Key × V)) (other : Key) (v : 
 other_stays none es other v key apart = at_with none es other v key ∙ ap (λ b. cond b v (unwrap_or (value_of es key) none)) apart
 
 -- a deed changes the entity of its kind with the key
-done_same : (kind : EntityKind) (key other : Key) (deed : Deed) (clock number : ℕ) (e : Entities) →
-    same_watched (watched.Entity kind key) (watched.Entity (kind_of deed) other) ≡ false → SameEntity kind key e (done other deed clock number e)
-done_same kinds.Facility key other (deeds.Facility deed) clock number e apart = other_stays never_owned e.facilities other _ key apart
+done_same : (kind : EntityKind) (key other : Key) (deed : Deed) (clock number : ℕ) (e : Kept) →
+    same_watched (watched.Entity kind key) (watched.Entity (kind_of deed) other) ≡ false → SameEntity kind key e (done other deed clock number e.0, e.1)
+done_same kinds.Facility key other (deeds.Facility deed) clock number e apart = other_stays never_owned e.0.facilities other _ key apart
 done_same kinds.Facility key other deed clock number e apart = refl
-done_same kinds.Queue key other (deeds.Queue deed) clock number e apart = other_stays no_line e.queues other _ key apart
+done_same kinds.Queue key other (deeds.Queue deed) clock number e apart = other_stays no_line e.0.queues other _ key apart
 done_same kinds.Queue key other deed clock number e apart = refl
-done_same kinds.Storage key other (deeds.Storage deed) clock number e apart = other_stays never_used e.storages other _ key apart
+done_same kinds.Storage key other (deeds.Storage deed) clock number e apart = other_stays never_used e.0.storages other _ key apart
 done_same kinds.Storage key other deed clock number e apart = refl
 done_same kinds.Savevalue key other (deeds.Savevalue to) clock number e apart =
-    value_of-with_value e.savevalues other to key ∙ ap (λ b. cond b (Some to) (value_of e.savevalues key)) apart
+    value_of-with_value e.0.savevalues other to key ∙ ap (λ b. cond b (Some to) (value_of e.0.savevalues key)) apart
 done_same kinds.Savevalue key other deed clock number e apart = refl
-done_same kinds.Switch key other (deeds.Switch set) clock number e apart = other_stays false e.switches other set key apart
+done_same kinds.Switch key other (deeds.Switch set) clock number e apart = other_stays false e.0.switches other set key apart
 done_same kinds.Switch key other deed clock number e apart = refl
+done_same kinds.UserChain key other deed clock number e apart = refl
 
 entering_entities : (s : Machine) (x : Transaction) (id : ℕ) (change : Change) (fate : Fate) →
     (entering s x id change fate).entities ≡ touched change s.clock x.number s.entities
 entering_entities s x id change fate =
     let e = touched change s.clock x.number s.entities in
-    changed_keeps (λ v. v.entities ≡ e) change (settled s x id change fate) (λ a w k. k)
-    (λ w key y passed ys is k. (let_in_is key y (passed ++ ys) w).entities ∙ k) (settled_is s x id change fate).entities
+    changed_keeps (λ v. v.entities ≡ e) change (settled s x id change fate)
+    (record {
+      makes = λ a w k. k;
+      lets = λ w key y passed ys is k. (let_in_is key y (passed ++ ys) w).entities ∙ k;
+      copies = λ w to y values k. k;
+      unlinks = λ w key to y ys is k. k;
+    })
+    (settled_is s x id change fate).entities
 
-touched_same : (s : Machine) (x : Transaction) (id : ℕ) (change : Change) (kind : EntityKind) (key : Key) →
-    is_watched (written_where (Some x) id change s) (watched.Entity kind key) ≡ false →
-    SameEntity kind key s.entities (touched change s.clock x.number s.entities)
-touched_same s x id (changes.Entity change) kind key unwritten =
+touched_same : (s : Machine) (x : Transaction) (change : Change) (kind : EntityKind) (key : Key) →
+    is_watched (written_by change s) (watched.Entity kind key) ≡ false →
+    SameEntity kind key (kept_of s) (touched change s.clock x.number s.entities, s.linked)
+touched_same s x (changes.Entity change) kind key unwritten =
     let parts = or_parts (same_watched (watched.Entity kind key) (watched.Entity (kind_of change.1) change.0)) _ unwritten in
-    done_same kind key change.0 change.1 s.clock x.number s.entities parts.0
-touched_same s x id (changes.Generate next) kind key unwritten = entity_itself kind key s.entities
-touched_same s x id (changes.Transaction change) kind key unwritten = entity_itself kind key s.entities
-touched_same s x id changes.Nothing kind key unwritten = entity_itself kind key s.entities
+    done_same kind key change.0 change.1 s.clock x.number (kept_of s) parts.0
+touched_same s x (changes.Generate next) kind key unwritten = entity_itself kind key (kept_of s)
+touched_same s x (changes.Transaction change) kind key unwritten = entity_itself kind key (kept_of s)
+touched_same s x (changes.Split count to) kind key unwritten = entity_itself kind key (kept_of s)
+touched_same s x (changes.Unlink chain count to) kind key unwritten = entity_itself kind key (kept_of s)
+touched_same s x changes.Nothing kind key unwritten = entity_itself kind key (kept_of s)
+
+-- a user chain that is not written stays
+fated_chain : (fate : Fate) (x : Transaction) (cs : List (Key × UserChain)) (key : Key) →
+    is_watched (written_in fate) (watched.Entity kinds.UserChain key) ≡ false → user_chain_at (linked_behind fate x cs) key ≡ user_chain_at cs key
+fated_chain fates.Active x cs key unwritten = refl
+fated_chain fates.Current x cs key unwritten = refl
+fated_chain (fates.Delayed until) x cs key unwritten = refl
+fated_chain (fates.Linked chain discipline) x cs key unwritten =
+    let parts = or_parts (same_watched (watched.Entity kinds.UserChain key) (watched.Entity kinds.UserChain chain)) false unwritten in
+    other_stays no_chain cs chain _ key parts.0
+fated_chain (fates.Destroyed count) x cs key unwritten = refl
+
+changed_chain : (s v : Machine) (change : Change) (key : Key) → is_watched (written_by change s) (watched.Entity kinds.UserChain key) ≡ false →
+    user_chain_at (changed change v).linked key ≡ user_chain_at v.linked key
+changed_chain s v (changes.Generate next) key unwritten = refl
+changed_chain s v (changes.Transaction change) key unwritten = refl
+changed_chain s v (changes.Split count to) key unwritten = ap (λ cs. user_chain_at cs key) (split_is v count to).linked
+changed_chain s v (changes.Unlink chain count to) key unwritten =
+    let parts = or_parts (same_watched (watched.Entity kinds.UserChain key) (watched.Entity kinds.UserChain chain)) false unwritten in
+    some_unlinked_keep (λ w. user_chain_at w.linked key ≡ user_chain_at v.linked key) chain to
+    (λ w y ys is same. other_stays no_chain w.linked chain _ key parts.0 ∙ same) count (user_chain_at v.linked chain).members v refl refl
+changed_chain s v (changes.Entity change) key unwritten =
+    some_have (λ w. user_chain_at w.linked key ≡ user_chain_at v.linked key) change.0 (deed_shares change.1) [] (delay_at v.delays change.0) v refl
+    (λ w other y passed ys is same. ap (λ cs. user_chain_at cs key) (let_in_is other y (passed ++ ys) w).linked ∙ same) refl
+changed_chain s v changes.Nothing key unwritten = refl
+
+entered_chain : (s : Machine) (x : Transaction) (id : ℕ) (change : Change) (fate : Fate) (key : Key) →
+    is_watched (written_by change s) (watched.Entity kinds.UserChain key) ≡ false →
+    is_watched (written_in fate) (watched.Entity kinds.UserChain key) ≡ false →
+    user_chain_at (entering s x id change fate).linked key ≡ user_chain_at s.linked key
+entered_chain s x id change fate key by_change by_fate =
+    changed_chain s (settled s x id change fate) change key by_change
+    ∙ (ap (λ cs. user_chain_at cs key) (settled_is s x id change fate).linked
+    ∙ fated_chain fate (marked change s.clock (placed x id)) s.linked key by_fate)
+
+-- what is known of the entities and of the user chains, put together
+both_same : (kind : EntityKind) (key : Key) (e : Kept) (f : Entities) (cs : List (Key × UserChain)) → SameEntity kind key e (f, e.1) →
+    (kind ≡ kinds.UserChain → user_chain_at cs key ≡ user_chain_at e.1 key) → SameEntity kind key e (f, cs)
+both_same kinds.Facility key e f cs same chain = same
+both_same kinds.Queue key e f cs same chain = same
+both_same kinds.Storage key e f cs same chain = same
+both_same kinds.Savevalue key e f cs same chain = same
+both_same kinds.Switch key e f cs same chain = same
+both_same kinds.UserChain key e f cs same chain = chain refl
+
+entered_same : (s : Machine) (x : Transaction) (id : ℕ) (change : Change) (fate : Fate) (kind : EntityKind) (key : Key) →
+    is_watched (written_where (Some x) id change fate s) (watched.Entity kind key) ≡ false →
+    SameEntity kind key (kept_of s) (kept_of (entering s x id change fate))
+entered_same s x id change fate kind key unwritten =
+    let parts = or_parts (is_watched (written_by change s) (watched.Entity kind key)) (is_watched (written_in fate) (watched.Entity kind key))
+    (sym (list_any-append (same_watched (watched.Entity kind key)) (written_by change s) (written_in fate)) ∙ unwritten) in
+    both_same kind key (kept_of s) (entering s x id change fate).entities (entering s x id change fate).linked
+    (subst (λ e. SameEntity kind key (kept_of s) (e, s.linked)) (sym (entering_entities s x id change fate)) (touched_same s x change kind key parts.0))
+    (λ is. entered_chain s x id change fate key
+    (subst (λ k. is_watched (written_by change s) (watched.Entity k key) ≡ false) is parts.0)
+    (subst (λ k. is_watched (written_in fate) (watched.Entity k key) ≡ false) is parts.1))
 
 pub moved_entity : (s : Machine) (m : Move) (kind : EntityKind) (key : Key) → is_watched (written s m) (watched.Entity kind key) ≡ false →
-    SameEntity kind key s.entities (moved s m).entities
-moved_entity s (moves.Start count arrivals) kind key unwritten = entity_itself kind key s.entities
-moved_entity s moves.Command kind key unwritten = entity_itself kind key s.entities
+    SameEntity kind key (kept_of s) (kept_of (moved s m))
+moved_entity s (moves.Start count arrivals) kind key unwritten = entity_itself kind key (kept_of s)
+moved_entity s moves.Command kind key unwritten = entity_itself kind key (kept_of s)
 moved_entity s (moves.Enter id change fate) kind key unwritten = go s.active unwritten where
-  go : (o : Option Transaction) → is_watched (written_where o id change s) (watched.Entity kind key) ≡ false →
-      SameEntity kind key s.entities (with_active o (λ x. entering s x id change fate) s).entities
-  go None is = entity_itself kind key s.entities
-  go (Some x) is = subst (SameEntity kind key s.entities) (sym (entering_entities s x id change fate)) (touched_same s x id change kind key is)
+  go : (o : Option Transaction) → is_watched (written_where o id change fate s) (watched.Entity kind key) ≡ false →
+      SameEntity kind key (kept_of s) (kept_of (with_active o (λ x. entering s x id change fate) s))
+  go None is = entity_itself kind key (kept_of s)
+  go (Some x) is = entered_same s x id change fate kind key is
 moved_entity s (moves.Refuse id key' units) kind key unwritten =
-    let itself = entity_itself kind key s.entities in
-    with_active_has (λ v. SameEntity kind key s.entities v.entities) s.active (λ x. refused s x id key' units) s itself (λ x is. itself)
+    let itself = entity_itself kind key (kept_of s) in
+    with_active_has (λ v. SameEntity kind key (kept_of s) (kept_of v)) s.active (λ x. refused s x id key' units) s itself (λ x is. itself)
 moved_entity s (moves.Watch read) kind key unwritten =
-    let itself = entity_itself kind key s.entities in
-    with_active_has (λ v. SameEntity kind key s.entities v.entities) s.active (λ x. watching s x read) s itself (λ x is. itself)
+    let itself = entity_itself kind key (kept_of s) in
+    with_active_has (λ v. SameEntity kind key (kept_of s) (kept_of v)) s.active (λ x. watching s x read) s itself (λ x is. itself)
 moved_entity s moves.Pick kind key unwritten =
-    let itself = entity_itself kind key s.entities in
-    picked_has (λ v. SameEntity kind key s.entities v.entities) s s.current itself (λ x xs is. itself)
-moved_entity s (moves.Clock time) kind key unwritten = later_same kind key s.clock time s.entities
+    let itself = entity_itself kind key (kept_of s) in
+    picked_has (λ v. SameEntity kind key (kept_of s) (kept_of v)) s s.current itself (λ x xs is. itself)
+moved_entity s (moves.Clock time) kind key unwritten = later_same kind key s.clock time (kept_of s)
 
 -- ---- a condition
 
-open_same : (s u : Machine) (condition : Condition) (key : Key) (capacity : ℕ) → SameEntity (kind_of_condition condition) key s.entities u.entities →
+open_same : (s u : Machine) (condition : Condition) (key : Key) (capacity : ℕ) → SameEntity (kind_of_condition condition) key (kept_of s) (kept_of u) →
     is_open u condition key capacity ≡ is_open s condition key capacity
 open_same s u conditions.InUse key capacity h = ap (λ (f : Ownership). is_some f.owner) h
 open_same s u conditions.NotInUse key capacity h = ap (λ (f : Ownership). not (is_some f.owner)) h
@@ -346,6 +423,7 @@ module _ (t : Listing) (seed : ℕ) (s : Machine) where
   entity_named q (Some (Value (atoms.Attribute class of))) apart = unnamed (Some (Value (atoms.Attribute class of))) refl
   entity_named q (Some (Computed ts)) apart = unnamed (Some (Computed ts)) refl
   entity_named q (Some (Label name)) apart = unnamed (Some (Label name)) refl
+  entity_named q (Some (Order discipline)) apart = unnamed (Some (Order discipline)) refl
   entity_named q (Some (Fraction part)) apart = unnamed (Some (Fraction part)) refl
   entity_named q (Some (Defined name)) apart = absurd (apart name refl)
 
@@ -365,6 +443,7 @@ module _ (t : Listing) (seed : ℕ) (s : Machine) where
   gate_of_shut q id condition (Some (Computed ts)) label = gate_other_shut q id condition (Some (Computed ts)) label (λ name is. cc)
   gate_of_shut q id condition (Some (Named name)) label = gate_other_shut q id condition (Some (Named name)) label (λ name is. cc)
   gate_of_shut q id condition (Some (Label name)) label = gate_other_shut q id condition (Some (Label name)) label (λ name is. cc)
+  gate_of_shut q id condition (Some (Order discipline)) label = gate_other_shut q id condition (Some (Order discipline)) label (λ name is. cc)
   gate_of_shut q id condition (Some (Fraction part)) label = gate_other_shut q id condition (Some (Fraction part)) label (λ name is. cc)
   gate_of_shut q id condition (Some (Defined name)) label = gate_storage_shut id condition label name (reads_capacity condition) refl
 

@@ -18,12 +18,15 @@ use Rattle.gw_meaning.specs.declared.statement.Block.{Block}
 use Rattle.gw_meaning.specs.declared.transaction.Transaction.{Transaction}
 use Rattle.gw_meaning.specs.declared.moves.Change.{Change}
 use Rattle.gw_meaning.specs.declared.moves.Change.TheVariants as changes
+use Rattle.gw_meaning.specs.declared.moves.Fate.{Fate}
+use Rattle.gw_meaning.specs.declared.moves.Fate.TheVariants as fates
 use Rattle.gw_meaning.specs.declared.moves.Move.{Move}
 use Rattle.gw_meaning.specs.declared.moves.Move.TheVariants as moves
 use Rattle.gw_meaning.specs.declared.asker.Asker.{Asker}
 use Rattle.gw_meaning.specs.declared.item.End.{End}
 use Rattle.gw_meaning.specs.declared.item.Item.{Item}
 use Rattle.gw_meaning.specs.declared.watched.EntityKind.{EntityKind}
+use Rattle.gw_meaning.specs.declared.watched.EntityKind.TheVariants as kinds
 use Rattle.gw_meaning.specs.declared.watched.Watched.{Watched}
 use Rattle.gw_meaning.specs.declared.watched.Watched.TheVariants as watched
 use Rattle.gw_meaning.specs.Statements.{A, B, operand}
@@ -127,18 +130,24 @@ IsCrossed s v id block =
     ((x : Transaction) × (s.active ≡ Some x) × IsLeftOrEntered x id block)
     ⊎ ((x : Transaction) × (way : LeavesForItsBlock s v x) × IsLeftOrEntered x way.2.0 block)
 
--- the entity that a block changes
+-- the entity that a block changes, and the user chain from which it takes transactions
 abbrev pub IsEntityOf : Change → EntityKind → Key → Type 0
+IsEntityOf (changes.Unlink chain count to) kind key = (kind ≡ kinds.UserChain) × (key ≡ chain)
 IsEntityOf (changes.Entity change) kind key = (kind ≡ kind_of change.1) × (key ≡ change.0)
 IsEntityOf change kind key = ⊥
 
+-- the user chain to which it links its transaction
+abbrev pub IsLinkedTo : Fate → EntityKind → Key → Type 0
+IsLinkedTo (fates.Linked chain discipline) kind key = (kind ≡ kinds.UserChain) × (key ≡ chain)
+IsLinkedTo fate kind key = ⊥
+
 -- what an entry changes
-abbrev pub IsChangedBy : Machine → Machine → ℕ → Change → Watched → Type 0
-IsChangedBy s v id change (watched.Counts block) = IsCrossed s v id block
-IsChangedBy s v id change (watched.Entity kind key) = IsEntityOf change kind key
+abbrev pub IsChangedBy : Machine → Machine → ℕ → Change → Fate → Watched → Type 0
+IsChangedBy s v id change fate (watched.Counts block) = IsCrossed s v id block
+IsChangedBy s v id change fate (watched.Entity kind key) = IsEntityOf change kind key ⊎ IsLinkedTo fate kind key
 
 abbrev pub IsChanged : Machine → Machine → Move → Watched → Type 0
-IsChanged s v (moves.Enter id change fate) w = IsChangedBy s v id change w
+IsChanged s v (moves.Enter id change fate) w = IsChangedBy s v id change fate w
 IsChanged s v move w = ⊥
 
 -- whoever wakes read something that the entry of a block changed

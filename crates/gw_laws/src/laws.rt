@@ -71,7 +71,8 @@ pub fn waiters_wake_in_order()
 /// The clock, a pick, a command and a refused attempt wake nobody. Where no transaction is active, where the active one
 /// has to wait, and wherever no block is entered, all who waited wait on, in their order, and behind them at most the one
 /// who was active. Whoever wakes where a block is entered read something that changed: the counts of a block that is left
-/// or entered, by the active transaction or by one that is let in, or the entity that the block names.
+/// or entered, by the active transaction or by one that is let in, the entity that the block names, or the user chain to
+/// which it links or from which it unlinks.
 pub fn nobody_wakes_for_nothing()
     ensures idle { NobodyWakesWhereNoneIsActive }
     ensures refused { NobodyWakesWhereTheActiveHasToWait }
@@ -81,7 +82,7 @@ pub fn nobody_wakes_for_nothing()
 
 /// Nobody waits at a GATE whose condition holds of the entity that its operand names. Nobody waits at a TEST whose
 /// relation holds, where its values read nothing but what stays until a block writes it: F, FC, Q, QC, QM, QZ, S, R, SC,
-/// SM, N, W, X and LS, and the parameters, the priority and the number of who waits.
+/// SM, N, W, X, LS and CH, and the parameters, the priority and the number of who waits.
 pub fn nobody_waits_for_what_holds()
     ensures gate { NobodyWaitsAtAnOpenGate }
     ensures test { NobodyWaitsAtATestThatHolds }
@@ -107,8 +108,8 @@ pub fn parameters_are_of_the_living()
     ensures { ParametersAreOfTheLiving }
 {}
 
-/// Only the active transaction's parameters, priority and mark time change in a step, and at most one of its
-/// parameters.
+/// Of those who were there before a step, only the active transaction's parameters, priority and mark time change in it,
+/// and at most one of its parameters.
 pub fn each_keeps_his_own()
     ensures parameters { ParametersAreOnesOwn }
     ensures one { OneParameterIsSet }
@@ -116,7 +117,7 @@ pub fn each_keeps_his_own()
 {}
 
 /// Each transaction stands in exactly one place: it is active, on the current chain, on the future chain, on the delay
-/// chain of one facility or storage, or on the retry chain.
+/// chain of one facility or storage, on the retry chain, or on one user chain.
 pub fn each_has_one_place()
     ensures some { EachHasAPlace }
     ensures one { EachHasOnePlace }
