@@ -1,6 +1,6 @@
 -- Nobody waits at a GATE whose condition holds: what a refused attempt read it waits for, and what is not written stays. And whoever
 -- waits so is at a TEST or a GATE without a label.
-use Rattle.std.proofs.Common.{◌≡◌, ℤ, pos, ℕ, zero, suc, Bool, true, false, cond, not, ◌||◌, List, [], ◌∷◌, ◌++◌, filter, Option, Some, None, is_some, nat_eq, nat_le, unwrap_or, Ok, refl, sym, ap, subst, ◌∙◌, inl, inr}
+use Rattle.std.proofs.Common.{◌≡◌, ◌⊎◌, ℤ, pos, ℕ, zero, suc, Bool, true, false, cond, not, ◌||◌, List, [], ◌∷◌, ◌++◌, filter, Option, Some, None, is_some, nat_eq, nat_le, unwrap_or, Ok, refl, sym, ap, subst, ◌∙◌, inl, inr}
 use Rattle.std.specs.Prelude.{Contains}
 use Rattle.std.specs.List.{AllByRecursion, list_any}
 use Rattle.std.proofs.lemmas.Bool.{cases_Bool, or_parts, or_left, or_right, eqb-true}
@@ -61,7 +61,7 @@ use Rattle.gw_laws.proofs.EndLaws.{went_on}
 use Rattle.gw_laws.proofs.Tried.{Comes, comes_gives, comes_ends, comes_asks, comes_bind, comes_then, comes_more, comes_any, IsOfNobody, IsCommand, command_next, pick_next, changed_keeps}
 use Rattle.gw_laws.proofs.Entries.{at_with}
 use Rattle.gw_laws.proofs.Trying.{gives_so}
-use Rattle.gw_laws.proofs.Attempts.{IsAtOr, WaitsAtVerb, WaitsAtBlock, meet_waits}
+use Rattle.gw_laws.proofs.Attempts.{IsAtOr, WaitsAtVerb, WaitsAtBlock, LinksAtBlock, meet_waits}
 use Rattle.gw_laws.proofs.WaiterLaws.{stands_of, all_stands, who_comes, waits_on, retry_decided}
 
 -- ---- what is watched is told apart
@@ -289,51 +289,71 @@ abbrev pub IfWatches : (List Watched → Type 0) → Move → Type 0
 IfWatches P (moves.Watch read) = P read
 IfWatches P m = Unit {0}
 
-of_nobody : (P : List Watched → Type 0) (m : Move) → IsOfNobody m → IfWatches P m
-of_nobody P (moves.Watch read) h = absurd h
-of_nobody P m h = tt
+-- no attempt of a transaction
+abbrev pub IsNoAttempt : Move → Type 0
+IsNoAttempt (moves.Enter id change fate) = ⊥
+IsNoAttempt (moves.Refuse id key units) = ⊥
+IsNoAttempt (moves.Watch read) = ⊥
+IsNoAttempt m = Unit {0}
 
-of_command : (P : List Watched → Type 0) (c : Option Command) (m : Move) → IsCommand c m → IfWatches P m
-of_command P None (moves.Watch read) h = absurd h
-of_command P (Some (commands.Start count)) (moves.Watch read) h = absurd h
-of_command P (Some (commands.Rmult values)) (moves.Watch read) h = absurd h
-of_command P c m h = tt
+of_nobody : (m : Move) → IsOfNobody m → IsNoAttempt m
+of_nobody moves.Pick h = tt
+of_nobody (moves.Clock time) h = tt
+of_nobody m h = absurd h
+
+of_command : (c : Option Command) (m : Move) → IsCommand c m → IsNoAttempt m
+of_command (Some (commands.Start count)) (moves.Start n arrivals) h = tt
+of_command (Some (commands.Rmult values)) moves.Command h = tt
+of_command c m h = absurd h
 
 module _ (t : Listing) (seed : ℕ) (s : Machine) where
-  pub record IsRefusedAt (read : List Watched) : Type 0 where
+  -- a block is tried, and this comes of it
+  pub record IsTriedAt (m : Move) : Type 0 where
     pub x : Transaction
     pub active : s.active ≡ Some x
     pub id : ℕ
     pub goes : goes_to t x ≡ Some id
     pub before : List Stream
     pub after : List Stream
-    pub tries : result_of t seed (meet_prog s x id (block_at t id) before) ≡ Ok (moves.Watch read, after)
+    pub tries : result_of t seed (meet_prog s x id (block_at t id) before) ≡ Ok (m, after)
 
-  try_refused : (x : Transaction) (to : Option ℕ) → s.active ≡ Some x → goes_to t x ≡ to → Comes t seed (IfWatches IsRefusedAt) (try_prog s x to)
-  try_refused x None active goes = comes_ends
-  try_refused x (Some id) active goes = comes_asks (items.Block id) (record { from = λ streams r is. by_move r.0 streams r.1 is }) where
-    by_move : (m : Move) (before after : List Stream) → result_of t seed (meet_prog s x id (block_at t id) before) ≡ Ok (m, after) → IfWatches IsRefusedAt m
-    by_move (moves.Watch read) before after is =
-        record { x = x; active = active; id = id; goes = goes; before = before; after = after; tries = is }
-    by_move m before after is = tt
+  abbrev pub IsRefusedAt : List Watched → Type 0
+  IsRefusedAt read = IsTriedAt (moves.Watch read)
 
-  attempt_refused : (x : Transaction) (destination : Option ℕ) → s.active ≡ Some x → x.destination ≡ destination →
-      Comes t seed (IfWatches IsRefusedAt) (attempt_prog s x destination)
-  attempt_refused x None active is =
-      comes_asks (items.After x.current) (try_refused x (after_at t x.current) active (ap (λ o. or_next o (after_at t x.current)) is))
-  attempt_refused x (Some id) active is = try_refused x (Some id) active (ap (λ o. or_next o (after_at t x.current)) is)
+  abbrev IsTriedOr : Move → Type 0
+  IsTriedOr m = IsTriedAt m ⊎ IsNoAttempt m
 
-  scan_refused : (o : Option Transaction) → s.active ≡ o → Comes t seed (IfWatches IsRefusedAt) (scan_prog s o)
-  scan_refused None is = comes_more (of_nobody IsRefusedAt) (pick_next t seed s s.current)
-  scan_refused (Some x) is = attempt_refused x x.destination is refl
+  try_tried : (x : Transaction) (to : Option ℕ) → s.active ≡ Some x → goes_to t x ≡ to → Comes t seed IsTriedOr (try_prog s x to)
+  try_tried x None active goes = comes_ends
+  try_tried x (Some id) active goes = comes_asks (items.Block id) (record {
+    from = λ streams r is. inl (record { x = x; active = active; id = id; goes = goes; before = streams; after = r.1; tries = is });
+  })
 
-  move_refused : (remaining : ℕ) → Comes t seed (IfWatches IsRefusedAt) (move_prog s remaining)
-  move_refused zero = comes_asks (items.Cmd (raised s.commands))
-      (comes_more (of_command IsRefusedAt (command_at t (raised s.commands))) (command_next t seed s (command_at t (raised s.commands))))
-  move_refused (suc n) = scan_refused s.active refl
+  attempt_tried : (x : Transaction) (destination : Option ℕ) → s.active ≡ Some x → x.destination ≡ destination →
+      Comes t seed IsTriedOr (attempt_prog s x destination)
+  attempt_tried x None active is =
+      comes_asks (items.After x.current) (try_tried x (after_at t x.current) active (ap (λ o. or_next o (after_at t x.current)) is))
+  attempt_tried x (Some id) active is = try_tried x (Some id) active (ap (λ o. or_next o (after_at t x.current)) is)
+
+  scan_tried : (o : Option Transaction) → s.active ≡ o → Comes t seed IsTriedOr (scan_prog s o)
+  scan_tried None is = comes_more (λ m h. inr (of_nobody m h)) (pick_next t seed s s.current)
+  scan_tried (Some x) is = attempt_tried x x.destination is refl
+
+  move_tried : (remaining : ℕ) → Comes t seed IsTriedOr (move_prog s remaining)
+  move_tried zero = comes_asks (items.Cmd (raised s.commands))
+      (comes_more (λ m h. inr (of_command (command_at t (raised s.commands)) m h)) (command_next t seed s (command_at t (raised s.commands))))
+  move_tried (suc n) = scan_tried s.active refl
+
+  -- what is decided comes of a block that is tried, or is no attempt
+  pub tried_at : (d : Move × List Stream) → result_of t seed (decide s) ≡ Ok d → IsTriedAt d.0 ⊎ IsNoAttempt d.0
+  tried_at d is = (move_tried s.remaining).from s.streams d is
 
   pub refused_at : (d : Move × List Stream) → result_of t seed (decide s) ≡ Ok d → IfWatches IsRefusedAt d.0
-  refused_at d is = (move_refused s.remaining).from s.streams d is
+  refused_at d is = go d.0 (tried_at d is) where
+    go : (m : Move) → IsTriedAt m ⊎ IsNoAttempt m → IfWatches IsRefusedAt m
+    go (moves.Watch read) (inl tried) = tried
+    go (moves.Watch read) (inr none) = absurd none
+    go m h = tt
 
   -- ---- at a GATE
 
@@ -543,7 +563,7 @@ refused_there : (t : Listing) (seed : ℕ) (s : Machine) (read : List Watched) (
 refused_there t seed s read r = go (block_at t r.id) refl waits where
   waits : WaitsAtBlock (block_at t r.id)
   waits =
-      gives_so t seed (λ (d : Move × List Stream). IsAtOr (WaitsAtBlock (block_at t r.id)) r.id d.0) (meet_prog s r.x r.id (block_at t r.id) r.before)
+      gives_so t seed (λ (d : Move × List Stream). IsAtOr (WaitsAtBlock (block_at t r.id)) (LinksAtBlock (block_at t r.id)) r.id d.0) (meet_prog s r.x r.id (block_at t r.id) r.before)
       (moves.Watch read, r.after) ((meet_waits s r.x r.id (block_at t r.id)).from r.before) r.tries
 
   go : (o : Option Block) → block_at t r.id ≡ o → WaitsAtBlock o → IsAtATestOrAGate t r.x
