@@ -57,6 +57,7 @@ use Rattle.gw_frame.proofs.Running.{last_step}
 use Rattle.gw_laws.specs.Destinations.{goes_to, IsTestOrGate, IsAtATestOrAGate}
 use Rattle.gw_laws.specs.Waiters.{named_key, key_written, capacity_of, NobodyWaitsAtAnOpenGate, WhoWaitsIsAtATestOrAGate}
 use Rattle.gw_laws.proofs.Waiting.{let_in_is}
+use Rattle.gw_laws.proofs.Linking.{chain_there, admitted_chain, unlinked_there}
 use Rattle.gw_laws.proofs.EndLaws.{went_on}
 use Rattle.gw_laws.proofs.Tried.{Comes, comes_gives, comes_ends, comes_asks, comes_bind, comes_then, comes_more, comes_any, IsOfNobody, IsCommand, command_next, pick_next, changed_keeps}
 use Rattle.gw_laws.proofs.Entries.{at_with}
@@ -186,7 +187,7 @@ fated_chain fates.Current x cs key unwritten = refl
 fated_chain (fates.Delayed until) x cs key unwritten = refl
 fated_chain (fates.Linked chain discipline) x cs key unwritten =
     let parts = or_parts (same_watched (watched.Entity kinds.UserChain key) (watched.Entity kinds.UserChain chain)) false unwritten in
-    other_stays no_chain cs chain _ key parts.0
+    chain_there cs key chain _ parts.0
 fated_chain (fates.Destroyed count) x cs key unwritten = refl
 
 changed_chain : (s v : Machine) (change : Change) (key : Key) → is_watched (written_by change s) (watched.Entity kinds.UserChain key) ≡ false →
@@ -196,11 +197,8 @@ changed_chain s v (changes.Transaction change) key unwritten = refl
 changed_chain s v (changes.Split count to) key unwritten = ap (λ cs. user_chain_at cs key) (split_is v count to).linked
 changed_chain s v (changes.Unlink chain count to) key unwritten =
     let parts = or_parts (same_watched (watched.Entity kinds.UserChain key) (watched.Entity kinds.UserChain chain)) false unwritten in
-    some_unlinked_keep (λ w. user_chain_at w.linked key ≡ user_chain_at v.linked key) chain to
-    (λ w y ys is same. other_stays no_chain w.linked chain _ key parts.0 ∙ same) count (user_chain_at v.linked chain).members v refl refl
-changed_chain s v (changes.Entity change) key unwritten =
-    some_have (λ w. user_chain_at w.linked key ≡ user_chain_at v.linked key) change.0 (deed_shares change.1) [] (delay_at v.delays change.0) v refl
-    (λ w other y passed ys is same. ap (λ cs. user_chain_at cs key) (let_in_is other y (passed ++ ys) w).linked ∙ same) refl
+    unlinked_there count chain to v key parts.0
+changed_chain s v (changes.Entity change) key unwritten = admitted_chain change.0 change.1 v key
 changed_chain s v changes.Nothing key unwritten = refl
 
 entered_chain : (s : Machine) (x : Transaction) (id : ℕ) (change : Change) (fate : Fate) (key : Key) →

@@ -35,6 +35,8 @@ pub mod TestLaws
 pub mod VerbLaws
 pub mod ItemLaws
 pub mod WaiterLaws
+pub mod Linking
 pub mod GateLaws
+pub mod UserChainLaws
 pub mod WaitingTests
 pub mod WakingLaws

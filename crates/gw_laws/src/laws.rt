@@ -21,6 +21,8 @@ ghost use Rattle.gw_laws.specs.Queues.{QueuesAreWithin};
 ghost use Rattle.gw_laws.specs.Starts.{StartsAreDoneInOrder, NoMoreStartsThanThereAre};
 ghost use Rattle.gw_laws.specs.Storages.{StoragesAreWithin, NobodyWaitsAtRoom};
 ghost use Rattle.gw_laws.specs.Tests.{EachIsAnOperator, HoldsAsItSays};
+ghost use Rattle.gw_laws.specs.UserChains.{UserChainsChangeByLinkAndUnlink, FewerByUnlinkAlone, WhoLeavesIsUnlinked};
+ghost use Rattle.gw_laws.specs.UserChains.{UserChainsAreFirstInFirstOut};
 ghost use Rattle.gw_laws.specs.Verbs.{EachVerbIsEvaluated};
 ghost use Rattle.gw_laws.specs.Waiters.{WaitersKeepTheirOrder, WokenInOrder, WokenByWhatIsWritten};
 ghost use Rattle.gw_laws.specs.Waiters.{WhoWaitsIsAtATestOrAGate};
@@ -66,6 +68,17 @@ pub fn waiters_wake_in_order()
     ensures turn { WokenInOrder }
     ensures woken { WokenByWhatIsWritten }
     ensures there { WhoWaitsIsAtATestOrAGate }
+{}
+
+/// In a step a user chain stays as it is, an UNLINK of it takes some from its front, or a LINK to it brings the one who
+/// was active, to the back or to the front. So where fewer are on it, the step was an UNLINK of it. Whoever leaves it is
+/// on the current chain then, sent to the block of that UNLINK. Where each LINK of the version has the order FIFO, each
+/// user chain is first in, first out.
+pub fn user_chains_in_order()
+    ensures served { UserChainsChangeByLinkAndUnlink }
+    ensures fewer { FewerByUnlinkAlone }
+    ensures leaves { WhoLeavesIsUnlinked }
+    ensures turn { UserChainsAreFirstInFirstOut }
 {}
 
 /// The clock, a pick, a command and a refused attempt wake nobody. Where no transaction is active, where the active one

@@ -22,5 +22,5 @@ pub use laws::{
     goes_where_it_is_sent, items_are_told_apart, nobody_waits_for_what_holds,
     nobody_wakes_for_nothing, numbers_apart, parameters_are_of_the_living, queues_are_within,
     runs_end, starts_are_counted, storages_are_within, telling_changes_nothing,
-    tests_hold_as_they_say, waiters_wake_in_order,
+    tests_hold_as_they_say, user_chains_in_order, waiters_wake_in_order,
 };
