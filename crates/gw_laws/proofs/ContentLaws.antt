@@ -36,7 +36,7 @@ many_fewer test [] = omega arith
 many_fewer test (x ∷ xs) =
     let rest = many_fewer test xs in elim (test x) as (λ b. one b + many test xs ≤ 1 + many anyone xs) [ true ↦ omega arith | false ↦ omega arith ]
 
-crowd_fewer : (test : Transaction → Bool) (s : Machine) → crowd test s ≤ crowd anyone s
+pub crowd_fewer : (test : Transaction → Bool) (s : Machine) → crowd test s ≤ crowd anyone s
 crowd_fewer test s =
     let fewer = many_fewer test (living s) in
     let here = many_living test s in
@@ -151,7 +151,7 @@ moved_counted t s moves.Pick room few decided h =
 moved_counted t s (moves.Clock time) room few decided h = λ p some. h p some ∙ sym (advanced_crowd (stands_in p) s time)
 
 -- over a run
-all_counted : (t : Listing) (seed : ℕ) → Well t → (n : ℕ) (s : Machine) → run t seed n ≡ Ok s → n ≤ t.limit → IsCounted s
+pub all_counted : (t : Listing) (seed : ℕ) → Well t → (n : ℕ) (s : Machine) → run t seed n ≡ Ok s → n ≤ t.limit → IsCounted s
 all_counted t seed well =
     over_run t seed (λ n s. n ≤ t.limit → IsCounted s) (λ within p some. refl)
     (λ n s m streams there decided h within.

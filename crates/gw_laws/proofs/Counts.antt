@@ -103,6 +103,36 @@ content_stood cs q p room =
           rw (ne_eqb q p apart) (omega arith)
     ]
 
+-- the entries of a block, where one leaves another for it, and where one more stands in it
+set_entries : (cs : List (ℕ × Count)) (q p : ℕ) (c : Count) → c.entries ≡ (count_at cs q).entries →
+    (count_at (with_count cs q c) p).entries ≡ (count_at cs p).entries
+set_entries cs q p c same =
+    elim (cases_eq q p) [
+      | inl here ↦ rw (← here) (ap (λ o. (or_no_count o).entries) (set_here cs q c) ∙ same)
+      | inr apart ↦ ap (λ o. (or_no_count o).entries) (set_there cs q p c apart)
+    ]
+
+entries_left_at : (o : Option Count) (cs : List (ℕ × Count)) (q p : ℕ) → count_in cs q ≡ o →
+    (count_at (left_at o cs q) p).entries ≡ (count_at cs p).entries
+entries_left_at None cs q p is = refl
+entries_left_at (Some c) cs q p is = set_entries cs q p (record c { content = c.content - 1 }) (sym (ap (λ o. (or_no_count o).entries) is))
+
+entries_left : (cs : List (ℕ × Count)) (q p : ℕ) → (count_at (left cs q) p).entries ≡ (count_at cs p).entries
+entries_left cs q p = entries_left_at (count_in cs q) cs q p refl
+
+pub entries_crossed_here : (fate : Fate) (cs : List (ℕ × Count)) (from to : ℕ) →
+    (count_at (crossed fate cs from to) to).entries ≡ raised (count_at cs to).entries
+entries_crossed_here fate cs from to =
+    ap (λ o. (or_no_count o).entries) (set_here (left cs from) to _) ∙ ap raised (entries_left cs from to)
+
+pub entries_crossed_there : (fate : Fate) (cs : List (ℕ × Count)) (from to p : ℕ) → (to ≡ p → ⊥) →
+    (count_at (crossed fate cs from to) p).entries ≡ (count_at cs p).entries
+entries_crossed_there fate cs from to p apart =
+    ap (λ o. (or_no_count o).entries) (set_there (left cs from) to p _ apart) ∙ entries_left cs from p
+
+pub entries_stood : (cs : List (ℕ × Count)) (q p : ℕ) → (count_at (stood cs q) p).entries ≡ (count_at cs p).entries
+entries_stood cs q p = set_entries cs q p _ refl
+
 -- ---- the entries and the content of a block
 
 abbrev pub tally : List (ℕ × Count) → ℕ → ℕ × ℕ

@@ -46,13 +46,13 @@ use Rattle.gw_meaning.specs.Statements.{A, B, operand}
 use Rattle.gw_meaning.specs.Listing.{Listing, block_at, after_at, command_at, number_at, capacity_at, or_next}
 use Rattle.gw_meaning.specs.Entities.{Entities, facility_at, line_at, store_at, savevalue_at, switch_at, done, touched, later}
 use Rattle.gw_meaning.specs.Watching.{Waiter, same_watched, is_watched, with_watched, kind_of, transactions_of}
-use Rattle.gw_meaning.specs.Machine.{Machine, UserChain, no_chain, raised, delay_at, user_chain_at, zero_state}
+use Rattle.gw_meaning.specs.Machine.{Machine, UserChain, raised, user_chain_at, zero_state}
 use Rattle.gw_meaning.specs.Questions.{result_of}
 use Rattle.gw_meaning.specs.Evaluation.{Eval, gives, stops_if, numbered, named, entity_prog, entity_traced}
 use Rattle.gw_entities.specs.Records.{Ownership, never_owned, no_line, Store, never_used}
-use Rattle.gw_meaning.specs.Changes.{placed, marked, deed_shares, changed, written_by, written_in, entering, refused, watching, with_active, moved, written_where, written, is_woken, decided}
+use Rattle.gw_meaning.specs.Changes.{placed, marked, changed, written_by, written_in, entering, refused, watching, with_active, moved, written_where, written, is_woken, decided}
 use Rattle.gw_meaning.specs.Step.{for_one, is_open, kind_of_condition, reads_capacity, pass_or_wait, lead_to, go_to, gate_at, gate_storage, gate_other, gate_of, gate_prog, block_prog, meet_prog, try_prog, attempt_prog, scan_prog, move_prog, decide, run}
-use Rattle.gw_frame.proofs.Moves.{settled, settled_is, linked_behind, some_have, some_unlinked_keep, split_is, with_active_has, picked_has}
+use Rattle.gw_frame.proofs.Moves.{settled, settled_is, linked_behind, split_is, with_active_has, picked_has}
 use Rattle.gw_frame.proofs.Running.{last_step}
 use Rattle.gw_laws.specs.Destinations.{goes_to, IsTestOrGate, IsAtATestOrAGate}
 use Rattle.gw_laws.specs.Waiters.{named_key, key_written, capacity_of, NobodyWaitsAtAnOpenGate, WhoWaitsIsAtATestOrAGate}

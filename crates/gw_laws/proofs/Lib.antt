@@ -38,5 +38,6 @@ pub mod WaiterLaws
 pub mod Linking
 pub mod GateLaws
 pub mod UserChainLaws
+pub mod CopyLaws
 pub mod WaitingTests
 pub mod WakingLaws

@@ -1,5 +1,5 @@
 -- The user chains, move by move: whoever comes is linked, and whoever goes is unlinked, from the front.
-use Rattle.std.proofs.Common.{◌≡◌, ◌⊎◌, ℕ, suc, true, false, List, [], ◌∷◌, ◌++◌, ◌+◌, filter, length, Option, Some, None, Ok, refl, sym, ap, subst, ◌∙◌, append-nil, arith, inl, inr}
+use Rattle.std.proofs.Common.{◌≡◌, ◌⊎◌, ℕ, suc, List, [], ◌∷◌, ◌++◌, ◌+◌, filter, length, Option, Some, None, Ok, refl, sym, ap, subst, ◌∙◌, append-nil, arith, inl, inr}
 use Rattle.std.specs.Prelude.{Contains, drop, take}
 use Rattle.std.proofs.lemmas.Bool.{cases_Bool}
 use Rattle.std.proofs.lemmas.List.{take-append-drop, length-append}
@@ -11,7 +11,7 @@ use Rattle.gw_names.specs.declared.verb.BlockVerb.TheVariants as blocks
 use Rattle.gw_entities.proofs.ComingLaws.{key_same}
 use Rattle.gw_expr.specs.declared.expr.Discipline.{Discipline}
 use Rattle.gw_expr.specs.declared.expr.Discipline.TheVariants as disciplines
-use Rattle.gw_expr.specs.Term.{Term, Order}
+use Rattle.gw_expr.specs.Term.{Order}
 use Rattle.gw_streams.specs.declared.stream.Stream.{Stream}
 use Rattle.gw_meaning.specs.declared.statement.Block.{Block}
 use Rattle.gw_meaning.specs.declared.transaction.Transaction.{Transaction}
@@ -26,13 +26,12 @@ use Rattle.gw_meaning.specs.Listing.{Listing, block_at}
 use Rattle.gw_meaning.specs.Watching.{transactions_of}
 use Rattle.gw_meaning.specs.Machine.{Machine, UserChain, user_chain_at}
 use Rattle.gw_meaning.specs.Questions.{result_of}
-use Rattle.gw_meaning.specs.Changes.{joined, linked_to, sent, placed, marked, some_unlinked, entering, refused, watching, with_active, moved, written, is_woken, decided}
+use Rattle.gw_meaning.specs.Changes.{joined, linked_to, sent, placed, entering, refused, watching, with_active, moved, written, is_woken, decided}
 use Rattle.gw_meaning.specs.Step.{meet_prog, decide, step}
 use Rattle.gw_frame.proofs.Decided.{is_decided}
 use Rattle.gw_frame.proofs.Known.{IsDecidedFate, IsDecided}
 use Rattle.gw_frame.proofs.Moves.{settled, with_active_has, picked_has, split_is}
-use Rattle.gw_laws.specs.Living.{IsActive}
-use Rattle.gw_laws.specs.UserChains.{on_chain, IsUnlink, IsLink, TookFromTheFront, OneCame, UserChainsChangeByLinkAndUnlink, FewerByUnlinkAlone, WhoLeavesIsUnlinked, EachLinkIsFifo, IsAtMostTheActive, UserChainsAreFirstInFirstOut}
+use Rattle.gw_laws.specs.UserChains.{on_chain, IsUnlink, IsLink, TookFromTheFront, OneCame, UserChainsChangeByLinkAndUnlink, FewerByUnlinkAlone, WhoLeavesIsUnlinked, EachLinkIsFifo, UserChainsAreFirstInFirstOut}
 use Rattle.gw_laws.proofs.Attempts.{IsAtOr, WaitsAtBlock, LinksAtVerb, LinksAtBlock, meet_waits}
 use Rattle.gw_laws.proofs.EndLaws.{went_on, goes_on}
 use Rattle.gw_laws.proofs.GateLaws.{IsTriedAt, IsNoAttempt, tried_at}
@@ -121,7 +120,7 @@ module _ (s : Machine) (key : Key) where
   moved_served t moves.Pick decided' = picked_has (IsServed moves.Pick) s s.current (inl refl) (λ x xs is. inl refl)
   moved_served t (moves.Clock time) decided' = inl refl
 
-same_behind : (t : Listing) (seed : ℕ) (s v : Machine) (m : Move) (streams : List Stream) → result_of t seed (decide s) ≡ Ok (m, streams) →
+pub same_behind : (t : Listing) (seed : ℕ) (s v : Machine) (m : Move) (streams : List Stream) → result_of t seed (decide s) ≡ Ok (m, streams) →
     step t seed s ≡ Ok v → decided s m streams ≡ v
 same_behind t seed s v m streams goes is = let both : Ok (decided s m streams) ≡ Ok v = sym (goes_on t seed s (m, streams) goes) ∙ is in cc
 
@@ -158,7 +157,7 @@ taken_stands s id count key to x y active there =
     subst (λ o. Contains (with_active o f s).current (sent to x)) (sym active)
     (unlinked_stands count key to (on_chain s key) (settled s y id (changes.Unlink key count to) fates.Active) x refl there)
 
-who_is_active : (t : Listing) (seed : ℕ) (s : Machine) (m : Move) (streams : List Stream) (id : ℕ) (change : Change) (fate : Fate) →
+pub who_is_active : (t : Listing) (seed : ℕ) (s : Machine) (m : Move) (streams : List Stream) (id : ℕ) (change : Change) (fate : Fate) →
     result_of t seed (decide s) ≡ Ok (m, streams) → m ≡ moves.Enter id change fate → (y : Transaction) × (s.active ≡ Some y)
 who_is_active t seed s m streams id change fate goes is =
     elim (tried_at t seed s (m, streams) goes) [

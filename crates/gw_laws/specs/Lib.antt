@@ -3,6 +3,7 @@ pub mod Places
 pub mod Destinations
 pub mod Waiters
 pub mod UserChains
+pub mod Copies
 pub mod Chain
 pub mod Delays
 pub mod Numbering
