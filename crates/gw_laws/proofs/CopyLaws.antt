@@ -86,13 +86,13 @@ module _ (to : Option ℕ) (x : Transaction) (values : List (Key × ℤ)) where
 
 -- ---- a step that is the entry of a SPLIT
 
-record SplitsAs (t : Listing) (s v : Machine) (id count : ℕ) (to : Option ℕ) : Type 0 where
-  parent : Transaction
-  active : s.active ≡ Some parent
-  few : count ≤ 100000
-  streams : List Stream
-  is : v ≡ decided s (moves.Enter id (changes.Split count to) fates.Active) streams
-  enters : moved s (moves.Enter id (changes.Split count to) fates.Active) ≡ entering s parent id (changes.Split count to) fates.Active
+pub record SplitsAs (t : Listing) (s v : Machine) (id count : ℕ) (to : Option ℕ) : Type 0 where
+  pub parent : Transaction
+  pub active : s.active ≡ Some parent
+  pub few : count ≤ 100000
+  pub streams : List Stream
+  pub is : v ≡ decided s (moves.Enter id (changes.Split count to) fates.Active) streams
+  pub enters : moved s (moves.Enter id (changes.Split count to) fates.Active) ≡ entering s parent id (changes.Split count to) fates.Active
 
 fate_is : (s : Machine) (count : ℕ) (to : Option ℕ) (fate : Fate) → IsDecidedFate s (changes.Split count to) fate → fate ≡ fates.Active
 fate_is s count to fates.Active h = refl
@@ -101,7 +101,7 @@ fate_is s count to (fates.Delayed until) h = absurd (let no = h.0 in cc)
 fate_is s count to (fates.Linked key discipline) h = absurd cc
 fate_is s count to (fates.Destroyed number) h = absurd cc
 
-splits_as : (t : Listing) (seed : ℕ) (s v : Machine) (id count : ℕ) (to : Option ℕ) → IsSplit t seed s v id count to → SplitsAs t s v id count to
+pub splits_as : (t : Listing) (seed : ℕ) (s v : Machine) (id count : ℕ) (to : Option ℕ) → IsSplit t seed s v id count to → SplitsAs t s v id count to
 splits_as t seed s v id count to h =
     let m = moves.Enter id (changes.Split count to) h.fate in
     let goes = sym (run_on t seed h.moment s h.before) ∙ h.behind in
@@ -122,36 +122,36 @@ splits_as t seed s v id count to h =
 
 -- the state behind the entry, before anybody wakes
 module _ (s : Machine) (id count : ℕ) (to : Option ℕ) (parent : Transaction) where
-  abbrev now_placed : Transaction
+  abbrev pub now_placed : Transaction
   now_placed = placed parent id
 
-  abbrev settles : Machine
+  abbrev pub settles : Machine
   settles = settled s parent id (changes.Split count to) fates.Active
 
-  abbrev held : List (Key × ℤ)
+  abbrev pub held : List (Key × ℤ)
   held = values_at s.parameters parent.number
 
-  abbrev splits : Machine
+  abbrev pub splits : Machine
   splits = all_copied count to now_placed held settles
 
 module _ (t : Listing) (seed : ℕ) (s v : Machine) (id count : ℕ) (to : Option ℕ) (split : IsSplit t seed s v id count to) where
-  abbrev as_is : SplitsAs t s v id count to
+  abbrev pub as_is : SplitsAs t s v id count to
   as_is = splits_as t seed s v id count to split
 
-  abbrev x : Transaction
+  abbrev pub x : Transaction
   x = now_placed s id count to as_is.parent
 
-  abbrev u : Machine
+  abbrev pub u : Machine
   u = splits s id count to as_is.parent
 
-  abbrev m : Move
+  abbrev pub m : Move
   m = moves.Enter id (changes.Split count to) fates.Active
 
   abbrev wakers : List Transaction
   wakers = transactions_of (filter (is_woken (written s m)) u.retry)
 
   -- what the step makes of a state is what it makes of this one
-  comes_behind : v ≡ (let w : Machine = record (woken (written s m) u) { streams = as_is.streams } in w)
+  pub comes_behind : v ≡ (let w : Machine = record (woken (written s m) u) { streams = as_is.streams } in w)
   comes_behind =
       as_is.is ∙ ap (λ (w : Machine). let z : Machine = record (woken (written s m) w) { streams = as_is.streams } in z) as_is.enters
 
@@ -161,15 +161,15 @@ module _ (t : Listing) (seed : ℕ) (s v : Machine) (id count : ℕ) (to : Optio
   is_active : v.active ≡ Some x
   is_active = ap (λ (w : Machine). w.active) comes_behind ∙ after.active
 
-  the_one : (y : Transaction) → v.active ≡ Some y → x ≡ y
+  pub the_one : (y : Transaction) → v.active ≡ Some y → x ≡ y
   the_one y active = let both : Some x ≡ Some y = sym is_active ∙ active in cc
 
-  room : s.next + 100000 < 2 ^ 64 - 1
+  pub room : s.next + 100000 < 2 ^ 64 - 1
   room =
       let far = all_within t seed split.moment s split.well split.within split.before in
       omega (arith, far.next, split.within, split.well.greatest_limit)
 
-  next_is : v.next ≡ s.next + count
+  pub next_is : v.next ≡ s.next + count
   next_is =
       ap (λ (w : Machine). w.next) comes_behind
       ∙ copies_next to x (held s id count to as_is.parent) count (settles s id count to as_is.parent) (omega (arith, room, as_is.few))

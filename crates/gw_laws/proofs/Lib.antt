@@ -39,5 +39,6 @@ pub mod Linking
 pub mod GateLaws
 pub mod UserChainLaws
 pub mod CopyLaws
+pub mod InheritLaws
 pub mod WaitingTests
 pub mod WakingLaws

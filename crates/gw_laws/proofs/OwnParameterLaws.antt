@@ -70,7 +70,7 @@ change_elsewhere : (k n : ℕ) (change : Change) (held : Held) → nat_eq k n �
 change_elsewhere k n (changes.Transaction change) held apart = own_elsewhere k n change held apart
 change_elsewhere k n change held apart = refl
 
-inherited_elsewhere : (k n : ℕ) (values : Values) (held : Held) → nat_eq k n ≡ false → lookup (nat_eq k) (inherited values n held) ≡ lookup (nat_eq k) held
+pub inherited_elsewhere : (k n : ℕ) (values : Values) (held : Held) → nat_eq k n ≡ false → lookup (nat_eq k) (inherited values n held) ≡ lookup (nat_eq k) held
 inherited_elsewhere k n [] held apart = refl
 inherited_elsewhere k n (v ∷ vs) held apart =
     inherited_elsewhere k n vs (assigned held n v.0 v.1) apart ∙ set_elsewhere k n held (with_value (values_at held n) v.0 v.1) apart
@@ -135,7 +135,7 @@ parameters_are_ones_own t seed n s v there is k given =
 
 -- ---- of one transaction, one parameter is set at most
 
-set_here : (n : ℕ) (held : Held) (values : Values) → lookup (nat_eq n) (with_values held n values) ≡ Some values
+pub set_here : (n : ℕ) (held : Held) (values : Values) → lookup (nat_eq n) (with_values held n values) ≡ Some values
 set_here n [] values = let here = eq-eqb n n refl in rw here refl
 set_here n (h ∷ hs) values =
     elim (cases_Bool (nat_eq n h.0)) [

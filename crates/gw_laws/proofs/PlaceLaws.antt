@@ -25,6 +25,7 @@ use Rattle.gw_frame.proofs.Moves.{settled, with_active_has, entered_has, picked_
 use Rattle.gw_frame.proofs.UserChains.{members_at, members_with}
 use Rattle.gw_frame.proofs.Running.{over_run}
 use Rattle.gw_laws.specs.Places.{Place, Active, OnCurrent, OnFuture, OnDelay, OnRetry, OnUserChain, who_stands, EachHasAPlace, EachHasOnePlace}
+use Rattle.gw_laws.proofs.Entries.{AreOnce, with_once}
 use Rattle.gw_laws.proofs.Waiting.{let_in_is}
 use Rattle.gw_laws.proofs.Crowd.{many, many_has, many_append, active_many, many_active, future_many, many_future, crowd}
 use Rattle.gw_laws.proofs.NumberLaws.{has_number, all_numbered}
@@ -155,20 +156,6 @@ each_has_one_place t seed n s well within is p q x y here there same =
     one_place (has_number k) s p q once (omega arith) (omega arith)
 
 -- ---- in some place: no key has two delay chains, and none two user chains
-
-abbrev AreOnce : List (Key × List Transaction) → Type 0
-AreOnce [] = Unit {0}
-AreOnce (d ∷ ds) = (value_of ds d.0 ≡ None) × AreOnce ds
-
-with_once : (ds : List (Key × List Transaction)) (key : Key) (xs : List Transaction) → AreOnce ds → AreOnce (with_value ds key xs)
-with_once [] key xs all = (refl, tt)
-with_once (d ∷ ds) key xs all = go (key_eq key d.0) refl (with_once ds key xs all.1) where
-  go : (b : Bool) → key_eq key d.0 ≡ b → AreOnce (with_value ds key xs) → AreOnce (cond b ((d.0, xs) ∷ ds) (d ∷ with_value ds key xs))
-  go true is rest = all
-  go false other rest = (
-    value_of-with_value ds key xs d.0 ∙ (ap (λ b. cond b (Some xs) (value_of ds d.0)) (key_eq_equiv.symm d.0 key ∙ other) ∙ all.0),
-    rest,
-  )
 
 chain_once : (cs : List (Key × UserChain)) (key : Key) (c : UserChain) → AreOnce (members_of cs) → AreOnce (members_of (with_value cs key c))
 chain_once cs key c all = rw (members_with cs key c) (with_once (members_of cs) key c.members all)

@@ -5,6 +5,8 @@ ghost use Rattle.gw_laws.specs.Chain.{FutureKeepsItsOrder, NobodyLeavesBeforeHis
 ghost use Rattle.gw_laws.specs.Clock.{ClockNeverGoesBack, ClockStaysWithin, NothingIsOverdue};
 ghost use Rattle.gw_laws.specs.Clock.{ClockMovesOnlyWhenItMust, ClockMovesWhenItMust};
 ghost use Rattle.gw_laws.specs.Contents.{ContentsAreCounts};
+ghost use Rattle.gw_laws.specs.Copies.{TheParentStaysActive, EachCopyHasANumber, CopiesAreAlike, CopiesInherit};
+ghost use Rattle.gw_laws.specs.Copies.{CopiesLineUpInOrder, CopiesAreNoEntries, CopiesStandInTheBlock};
 ghost use Rattle.gw_laws.specs.Delays.{DelaysAreInOrder, DelaysAreFirstInFirstOut, WhoWaitsKeepsHisPlace};
 ghost use Rattle.gw_laws.specs.Delays.{WhoWaitsIsBound, WhoLeavesIsLetIn, FirstTakesOver, NobodyWaitsAtAFreeFacility};
 ghost use Rattle.gw_laws.specs.Destinations.{GoesToItsDestination, OthersStayInTheirBlocks};
@@ -79,6 +81,20 @@ pub fn user_chains_in_order()
     ensures fewer { FewerByUnlinkAlone }
     ensures leaves { WhoLeavesIsUnlinked }
     ensures turn { UserChainsAreFirstInFirstOut }
+{}
+
+/// A transaction that enters a SPLIT stays active, and stands in its block. Each copy has a number of its own, in their
+/// order: so many are given as copies are made. It has the priority, the mark time, the block and the parameters of that
+/// transaction, and goes to the block of the SPLIT's label, or on from its own. The copies stand on the current chain in
+/// the order of their numbers, behind all of their priority. A copy stands in its block and is no entry of it.
+pub fn copies_are_made()
+    ensures parent { TheParentStaysActive }
+    ensures numbers { EachCopyHasANumber }
+    ensures alike { CopiesAreAlike }
+    ensures parameters { CopiesInherit }
+    ensures order { CopiesLineUpInOrder }
+    ensures entries { CopiesAreNoEntries }
+    ensures content { CopiesStandInTheBlock }
 {}
 
 /// The clock, a pick, a command and a refused attempt wake nobody. Where no transaction is active, where the active one
