@@ -1,5 +1,5 @@
 -- The parameters of copies: each has those of the transaction of which it is a copy.
-use Rattle.std.proofs.Common.{◌≡◌, ℕ, zero, suc, ◌+◌, ◌-◌, ◌^◌, ◌<◌, ◌≤◌, nat_eq, nat_lt, true, false, Bool, cond, not, ℤ, List, [], ◌∷◌, ◌++◌, filter, Option, Some, None, Ok, unwrap_or, refl, sym, ap, subst, ◌∙◌, arith, inl, inr}
+use Rattle.std.proofs.Common.{◌≡◌, ℕ, zero, suc, ◌+◌, ◌-◌, ◌^◌, ◌<◌, ◌≤◌, nat_eq, nat_lt, true, false, Bool, cond, ℤ, [], ◌∷◌, ◌++◌, Option, Some, None, Ok, unwrap_or, refl, sym, ap, subst, ◌∙◌, arith, inl, inr}
 use Rattle.std.specs.List.{AllByRecursion}
 use Rattle.std.specs.Map.{lookup}
 use Rattle.std.proofs.lemmas.Bool.{cases_Bool, cases_eq, cases_lt, ne_eqb}
@@ -25,11 +25,11 @@ use Rattle.gw_meaning.specs.Step.{run}
 use Rattle.gw_frame.proofs.Known.{IsDecided}
 use Rattle.gw_frame.proofs.Moves.{settled, all_copied_keep, with_active_has, entered_has, picked_has}
 use Rattle.gw_frame.proofs.Running.{over_run}
-use Rattle.gw_laws.specs.Copies.{IsSplit, CopiesInherit}
-use Rattle.gw_laws.proofs.CopyLaws.{SplitsAs, splits_as, comes_behind, the_one, next_is, room}
+use Rattle.gw_laws.specs.Copies.{CopiesInherit}
+use Rattle.gw_laws.proofs.CopyLaws.{settles, splits, Splits, splits_so, is_parent, split_next}
 use Rattle.gw_laws.proofs.DestinationLaws.{is_given}
 use Rattle.gw_laws.proofs.Entries.{AreOnce, with_once}
-use Rattle.gw_laws.proofs.NumberLaws.{has_number, IsNumbered, all_numbered}
+use Rattle.gw_laws.proofs.NumberLaws.{IsNumbered, all_numbered}
 use Rattle.gw_laws.proofs.OwnParameterLaws.{set_here, inherited_elsewhere}
 use Rattle.gw_laws.proofs.ParameterLaws.{Values, times, is_of, all_kept, let_in_parameters}
 use Rattle.gw_laws.proofs.Crowd.{one}
@@ -190,24 +190,22 @@ new_has_none t seed n s is numbered k key above =
 
 pub copies_inherit_parameters : CopiesInherit
 copies_inherit_parameters t seed s v id count to split y number key active above below =
-    let h : SplitsAs t s v id count to = splits_as t seed s v id count to split in
+    let h = splits_so t seed s v id count to split in
     let parent = h.parent in
     let x = placed parent id in
     let values = values_at s.parameters parent.number in
-    let w = settled s parent id (changes.Split count to) fates.Active in
+    let w = settles s id count to parent in
     let numbered = all_numbered t seed split.well split.moment s split.before split.within in
     let once = values_once s.parameters parent.number (all_once t seed split.moment s split.before) in
-    let far = room t seed s v id count to split in
-    let next = next_is t seed s v id count to split in
-    let low : s.next + count < 2 ^ 64 - 1 = omega (arith, far, h.few) in
-    let given = is_given s parent h.active numbered in
-    let now : (k : ℕ) → parameter_at v.parameters k key ≡ parameter_at (all_copied count to x values w).parameters k key =
-    λ k. ap (λ (u : Machine). parameter_at u.parameters k key) (comes_behind t seed s v id count to split) in
+    let next = split_next s v id count to h in
+    let low : s.next + count < 2 ^ 64 - 1 = omega (arith, h.room, h.few) in
+    let now : (k : ℕ) → parameter_at v.parameters k key ≡ parameter_at (splits s id count to parent).parameters k key =
+    λ k. ap (λ (u : Machine). parameter_at u.parameters k key) h.is in
     let copy = copies_inherit to x values once key count w low
     (λ k new. new_has_none t seed split.moment s split.before numbered k key new) number above (omega (arith, below, next)) in
-    let own' = copies_elsewhere to x values once key count w parent.number given low in
+    let his = copies_elsewhere to x values once key count w parent.number (is_given s parent h.active numbered) low in
     now number
     ∙ (copy
-    ∙ (sym own'
+    ∙ (sym his
     ∙ (sym (now parent.number)
-    ∙ ap (λ (z : Transaction). parameter_at v.parameters z.number key) (the_one t seed s v id count to split y active))))
+    ∙ ap (λ (z : Transaction). parameter_at v.parameters z.number key) (is_parent s v id count to h y active))))

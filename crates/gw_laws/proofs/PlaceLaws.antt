@@ -1,5 +1,5 @@
 -- Each living transaction stands in one place, and in no other.
-use Rattle.std.proofs.Common.{◌≡◌, ℕ, ◌+◌, ◌≤◌, Bool, true, false, cond, List, [], ◌∷◌, ◌++◌, map, Some, None, unwrap_or, refl, sym, ap, subst, ◌∙◌, inl, inr, arith}
+use Rattle.std.proofs.Common.{◌≡◌, ℕ, ◌+◌, ◌≤◌, Bool, true, false, cond, List, [], ◌∷◌, ◌++◌, map, Some, unwrap_or, refl, sym, ap, subst, ◌∙◌, inl, inr, arith}
 use Rattle.std.specs.Prelude.{Contains, option_to_list}
 use Rattle.std.proofs.lemmas.Bool.{cases_Bool, eq-eqb}
 use Rattle.std.proofs.lemmas.List.Elements.{Contains-append_cases}
@@ -8,7 +8,6 @@ use Rattle.gw_names.specs.Keys.{key_eq}
 use Rattle.gw_entities.specs.Tables.{value_of, with_value}
 use Rattle.gw_entities.proofs.ComingLaws.{key_same}
 use Rattle.gw_entities.proofs.TableLaws.{key_eq_equiv}
-use Rattle.gw_entities.proofs.Finding.{value_of-with_value}
 use Rattle.gw_meaning.specs.declared.transaction.Transaction.{Transaction}
 use Rattle.gw_meaning.specs.declared.transaction.Event.{Event}
 use Rattle.gw_meaning.specs.declared.moves.Change.{Change}

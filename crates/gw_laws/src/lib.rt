@@ -18,10 +18,10 @@ mod laws;
 
 pub use laws::{
     chain_in_order, clock_goes_on, contents_are_counts, copies_are_made, delays_in_order,
-    each_has_one_place,
-    each_keeps_his_own, each_verb_is_evaluated, facilities_are_used, facilities_have_owners,
-    goes_where_it_is_sent, items_are_told_apart, nobody_waits_for_what_holds,
-    nobody_wakes_for_nothing, numbers_apart, parameters_are_of_the_living, queues_are_within,
-    runs_end, starts_are_counted, storages_are_within, telling_changes_nothing,
-    tests_hold_as_they_say, user_chains_in_order, waiters_wake_in_order,
+    each_has_one_place, each_keeps_his_own, each_verb_is_evaluated, facilities_are_used,
+    facilities_have_owners, goes_where_it_is_sent, items_are_told_apart,
+    nobody_waits_for_what_holds, nobody_wakes_for_nothing, numbers_apart,
+    parameters_are_of_the_living, queues_are_within, runs_end, starts_are_counted,
+    storages_are_within, telling_changes_nothing, tests_hold_as_they_say, user_chains_in_order,
+    waiters_wake_in_order,
 };
