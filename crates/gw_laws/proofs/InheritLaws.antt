@@ -26,7 +26,7 @@ use Rattle.gw_frame.proofs.Known.{IsDecided}
 use Rattle.gw_frame.proofs.Moves.{settled, all_copied_keep, with_active_has, entered_has, picked_has}
 use Rattle.gw_frame.proofs.Running.{over_run}
 use Rattle.gw_laws.specs.Copies.{CopiesInherit}
-use Rattle.gw_laws.proofs.CopyLaws.{settles, splits, Splits, splits_so, is_parent, split_next}
+use Rattle.gw_laws.proofs.CopyLaws.{settles, splits, splits_so, is_parent, split_next}
 use Rattle.gw_laws.proofs.DestinationLaws.{is_given}
 use Rattle.gw_laws.proofs.Entries.{AreOnce, with_once}
 use Rattle.gw_laws.proofs.NumberLaws.{IsNumbered, all_numbered}

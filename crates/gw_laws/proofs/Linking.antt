@@ -1,5 +1,5 @@
 -- The user chains where one is linked and where some are unlinked: the chain of the key, and each other one.
-use Rattle.std.proofs.Common.{◌≡◌, ℕ, zero, suc, true, false, cond, List, [], ◌∷◌, ◌++◌, Option, refl, ap, subst, ◌∙◌, arith}
+use Rattle.std.proofs.Common.{◌≡◌, ℕ, zero, suc, false, cond, List, [], ◌∷◌, ◌++◌, Option, refl, ap, subst, ◌∙◌, arith}
 use Rattle.std.specs.Prelude.{Contains, drop, take}
 use Rattle.gw_names.specs.declared.key.Key.{Key}
 use Rattle.gw_names.specs.Keys.{key_eq}
@@ -9,15 +9,11 @@ use Rattle.gw_meaning.specs.declared.entity_change.Deed.{Deed}
 use Rattle.gw_meaning.specs.Machine.{Machine, UserChain, no_chain, delay_at, user_chain_at}
 use Rattle.gw_meaning.specs.Changes.{deed_shares, admitted, sent, one_unlinked, some_unlinked}
 use Rattle.gw_frame.proofs.Moves.{some_have, some_unlinked_keep}
-use Rattle.gw_frame.proofs.UserChains.{members_set}
+use Rattle.gw_frame.proofs.UserChains.{chain_set, members_set}
 use Rattle.gw_laws.proofs.Entries.{at_with}
 use Rattle.gw_laws.proofs.Waiting.{let_in_is, lined_keeps, lined_has}
 
--- where a user chain is set, that of the key and each other one
-pub chain_here : (cs : List (Key × UserChain)) (q key : Key) (c : UserChain) → key_eq q key ≡ true →
-    user_chain_at (with_value cs key c) q ≡ c
-chain_here cs q key c is = at_with no_chain cs key c q ∙ ap (λ b. cond b c (user_chain_at cs q)) is
-
+-- where a user chain is set, each other one stays
 pub chain_there : (cs : List (Key × UserChain)) (q key : Key) (c : UserChain) → key_eq q key ≡ false →
     user_chain_at (with_value cs key c) q ≡ user_chain_at cs q
 chain_there cs q key c other = at_with no_chain cs key c q ∙ ap (λ b. cond b c (user_chain_at cs q)) other
@@ -40,6 +36,12 @@ pub unlinked_here : (count : ℕ) (key : Key) (to : Option ℕ) (chain : List Tr
 unlinked_here zero key to chain w is = is
 unlinked_here (suc n) key to [] w is = is
 unlinked_here (suc n) key to (x ∷ xs) w is = unlinked_here n key to xs (one_unlinked key to x xs w) (members_set w.linked key xs)
+
+pub unlinked_entries : (count : ℕ) (key : Key) (to : Option ℕ) (v : Machine) →
+    (user_chain_at (some_unlinked count key to (user_chain_at v.linked key).members v).linked key).entries ≡ (user_chain_at v.linked key).entries
+unlinked_entries count key to v =
+    some_unlinked_keep (λ w. (user_chain_at w.linked key).entries ≡ (user_chain_at v.linked key).entries) key to
+    (λ w y ys is same. ap (λ (c : UserChain). c.entries) (chain_set w.linked key _) ∙ same) count (user_chain_at v.linked key).members v refl refl
 
 -- whoever is unlinked stands on the current chain
 pub unlinked_stands : (count : ℕ) (key : Key) (to : Option ℕ) (chain : List Transaction) (w : Machine) (x : Transaction) →

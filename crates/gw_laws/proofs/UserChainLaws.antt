@@ -31,23 +31,25 @@ use Rattle.gw_meaning.specs.Step.{meet_prog, decide, step}
 use Rattle.gw_frame.proofs.Decided.{is_decided}
 use Rattle.gw_frame.proofs.Known.{IsDecidedFate, IsDecided}
 use Rattle.gw_frame.proofs.Moves.{settled, with_active_has, picked_has, split_is}
-use Rattle.gw_laws.specs.UserChains.{on_chain, IsUnlink, IsLink, TookFromTheFront, OneCame, UserChainsChangeByLinkAndUnlink, FewerByUnlinkAlone, WhoLeavesIsUnlinked, EachLinkIsFifo, UserChainsAreFirstInFirstOut}
+use Rattle.gw_laws.specs.UserChains.{chain_of, on_chain, IsLink, IsPlacedBy, TookFromTheFront, OneCame, UserChainsChangeByLinkAndUnlink, FewerByUnlinkAlone, WhoLeavesIsUnlinked, EachLinkIsFifo, UserChainsAreFirstInFirstOut}
+use Rattle.gw_frame.proofs.UserChains.{chain_set}
 use Rattle.gw_laws.proofs.Attempts.{IsAtOr, WaitsAtBlock, LinksAtVerb, LinksAtBlock, meet_waits}
 use Rattle.gw_laws.proofs.EndLaws.{went_on, goes_on}
 use Rattle.gw_laws.proofs.GateLaws.{IsTriedAt, IsNoAttempt, tried_at}
-use Rattle.gw_laws.proofs.Linking.{chain_here, chain_there, admitted_chain, unlinked_there, unlinked_here, unlinked_stands}
+use Rattle.gw_laws.proofs.Linking.{chain_there, admitted_chain, unlinked_there, unlinked_here, unlinked_entries, unlinked_stands}
 use Rattle.gw_laws.proofs.Trying.{gives_so}
 use Rattle.gw_laws.proofs.Waking.{all_lined_keeps}
 
 -- ---- a user chain in a step
 
+joined_is : (discipline : Discipline) (x : Transaction) (xs : List Transaction) → IsPlacedBy discipline x xs (joined discipline x xs)
+joined_is disciplines.Fifo x xs = refl
+joined_is disciplines.Lifo x xs = refl
+
 module _ (s : Machine) (key : Key) where
   abbrev IsServed : Move → Machine → Type 0
   IsServed m v =
-      (on_chain v key ≡ on_chain s key) ⊎ (TookFromTheFront m key (on_chain s key) (on_chain v key) ⊎ OneCame s m key (on_chain s key) (on_chain v key))
-
-  same_chain : (m : Move) (v : Machine) → user_chain_at v.linked key ≡ user_chain_at s.linked key → IsServed m v
-  same_chain m v same = inl (ap (λ (c : UserChain). c.members) same)
+      (chain_of v key ≡ chain_of s key) ⊎ (TookFromTheFront m key (chain_of s key) (chain_of v key) ⊎ OneCame s m key (chain_of s key) (chain_of v key))
 
   -- an entry that leaves the transaction active
   stays_served : (x : Transaction) (id : ℕ) (change : Change) → IsServed (moves.Enter id change fates.Active) (entering s x id change fates.Active)
@@ -55,25 +57,23 @@ module _ (s : Machine) (key : Key) where
   stays_served x id (changes.Transaction change) = inl refl
   stays_served x id changes.Nothing = inl refl
   stays_served x id (changes.Entity change) =
-      let m = moves.Enter id (changes.Entity change) fates.Active in
-      same_chain m (entering s x id (changes.Entity change) fates.Active)
-      (admitted_chain change.0 change.1 (settled s x id (changes.Entity change) fates.Active) key)
+      inl (admitted_chain change.0 change.1 (settled s x id (changes.Entity change) fates.Active) key)
   stays_served x id (changes.Split count to) =
-      let m = moves.Enter id (changes.Split count to) fates.Active in
-      same_chain m (entering s x id (changes.Split count to) fates.Active)
-      (ap (λ cs. user_chain_at cs key) (split_is (settled s x id (changes.Split count to) fates.Active) count to).linked)
+      inl (ap (λ cs. user_chain_at cs key) (split_is (settled s x id (changes.Split count to) fates.Active) count to).linked)
   stays_served x id (changes.Unlink chain count to) =
       let m = moves.Enter id (changes.Unlink chain count to) fates.Active in
       let v = settled s x id (changes.Unlink chain count to) fates.Active in
+      let w = entering s x id (changes.Unlink chain count to) fates.Active in
+      let took : TookFromTheFront m chain (chain_of s chain) (chain_of w chain) = record {
+        count = count;
+        to = to;
+        unlinks = (id, refl);
+        members = unlinked_here count chain to (on_chain s chain) v refl;
+        entries = unlinked_entries count chain to v;
+      } in
       elim (cases_Bool (key_eq key chain)) [
-        | inl is ↦
-            let same = key_same key chain is in
-            let here = unlinked_here count chain to (on_chain s chain) v refl in
-            let now : on_chain (entering s x id (changes.Unlink chain count to) fates.Active) key ≡ drop count (on_chain s key) =
-            subst (λ k. on_chain (entering s x id (changes.Unlink chain count to) fates.Active) k ≡ drop count (on_chain s k)) (sym same) here in
-            let by : IsUnlink key count to m = (id, ap (λ k. moves.Enter id (changes.Unlink k count to) fates.Active) (sym same)) in
-            inr (inl (count, to, by, now))
-        | inr other ↦ same_chain m (entering s x id (changes.Unlink chain count to) fates.Active) (unlinked_there count chain to v key other)
+        | inl is ↦ inr (inl (subst (λ k. TookFromTheFront m k (chain_of s k) (chain_of w k)) (sym (key_same key chain is)) took))
+        | inr other ↦ inl (unlinked_there count chain to v key other)
       ]
 
   -- an entry that links it
@@ -83,15 +83,18 @@ module _ (s : Machine) (key : Key) where
       let m = moves.Enter id changes.Nothing (fates.Linked chain discipline) in
       let y = placed x id in
       let v = entering s x id changes.Nothing (fates.Linked chain discipline) in
+      let here = chain_set s.linked chain (linked_to discipline y (chain_of s chain)) in
+      let came : OneCame s m chain (chain_of s chain) (chain_of v chain) = record {
+        discipline = discipline;
+        who = y;
+        was_active = (x, active, refl);
+        links = (id, refl);
+        members = subst (λ (c : UserChain). IsPlacedBy discipline y (on_chain s chain) c.members) (sym here) (joined_is discipline y (on_chain s chain));
+        entries = ap (λ (c : UserChain). c.entries) here;
+      } in
       elim (cases_Bool (key_eq key chain)) [
-        | inl is ↦
-            let same = key_same key chain is in
-            let now : on_chain v key ≡ joined discipline y (on_chain s key) =
-            ap (λ (c : UserChain). c.members) (chain_here s.linked key chain (linked_to discipline y (user_chain_at s.linked chain)) is)
-            ∙ ap (λ k. joined discipline y (on_chain s k)) (sym same) in
-            let by : IsLink key discipline m = (id, ap (λ k. moves.Enter id changes.Nothing (fates.Linked k discipline)) (sym same)) in
-            inr (inr (discipline, y, by, (x, active, refl), now))
-        | inr other ↦ same_chain m v (chain_there s.linked key chain _ other)
+        | inl is ↦ inr (inr (subst (λ k. OneCame s m k (chain_of s k) (chain_of v k)) (sym (key_same key chain is)) came))
+        | inr other ↦ inl (chain_there s.linked key chain _ other)
       ]
 
   entered_served : (x : Transaction) (id : ℕ) (change : Change) (fate : Fate) → s.active ≡ Some x → IsDecidedFate s change fate →
@@ -128,26 +131,24 @@ pub user_chains_change_by_link_and_unlink : UserChainsChangeByLinkAndUnlink
 user_chains_change_by_link_and_unlink t seed s v m streams goes is key =
     subst (IsServed s key m) (same_behind t seed s v m streams goes is) (moved_served s key t m (is_decided t seed s (m, streams) goes))
 
-joined_more : (discipline : Discipline) (x : Transaction) (xs : List Transaction) → length (joined discipline x xs) ≡ length xs + 1
-joined_more disciplines.Fifo x xs = length-append xs (x ∷ [])
-joined_more disciplines.Lifo x xs = omega arith
+one_more : (discipline : Discipline) (x : Transaction) (xs ys : List Transaction) → IsPlacedBy discipline x xs ys → length ys ≡ length xs + 1
+one_more disciplines.Fifo x xs ys is = ap length is ∙ length-append xs (x ∷ [])
+one_more disciplines.Lifo x xs ys is = let same = ap length is in omega arith
 
 pub fewer_by_unlink_alone : FewerByUnlinkAlone
 fewer_by_unlink_alone t seed s v m streams goes is key fewer =
     elim (user_chains_change_by_link_and_unlink t seed s v m streams goes is key) [
-      | inl same ↦ absurd (let alike = ap length same in omega (arith, fewer, alike))
+      | inl same ↦ absurd (let alike = ap (λ (c : UserChain). length c.members) same in omega (arith, fewer, alike))
       | inr (inl took) ↦ took
-      | inr (inr came) ↦ absurd (
-          let now = ap length came.4 in
-          let more = joined_more came.0 came.1 (on_chain s key) in
-          omega (arith, fewer, now, more))
+      | inr (inr came) ↦ absurd (let more = one_more came.discipline came.who (on_chain s key) (on_chain v key) came.members in omega (arith, fewer, more))
     ]
 
 -- ---- whoever leaves
 
-joined_has : (discipline : Discipline) (y : Transaction) (xs : List Transaction) (x : Transaction) → Contains xs x → Contains (joined discipline y xs) x
-joined_has disciplines.Fifo y xs x there = Contains-append_left xs (y ∷ []) x there
-joined_has disciplines.Lifo y xs x there = (suc there.0, omega (arith, there.1), there.2)
+stays_beside : (discipline : Discipline) (y : Transaction) (xs ys : List Transaction) (x : Transaction) → IsPlacedBy discipline y xs ys → Contains xs x →
+    Contains ys x
+stays_beside disciplines.Fifo y xs ys x is there = subst (λ zs. Contains zs x) (sym is) (Contains-append_left xs (y ∷ []) x there)
+stays_beside disciplines.Lifo y xs ys x is there = subst (λ zs. Contains zs x) (sym is) (suc there.0, omega (arith, there.1), there.2)
 
 -- whom an UNLINK takes it sends to the current chain
 taken_stands : (s : Machine) (id count : ℕ) (key : Key) (to : Option ℕ) (x y : Transaction) → s.active ≡ Some y →
@@ -169,21 +170,21 @@ pub who_leaves_is_unlinked : WhoLeavesIsUnlinked
 who_leaves_is_unlinked t seed s v m streams goes is key x there =
     let same = same_behind t seed s v m streams goes is in
     elim (user_chains_change_by_link_and_unlink t seed s v m streams goes is key) [
-      | inl stays ↦ inl (subst (λ xs. Contains xs x) (sym stays) there)
+      | inl stays ↦ inl (subst (λ (c : UserChain). Contains c.members x) (sym stays) there)
       | inr (inl took) ↦
-          let count = took.0 in
-          let to = took.1 in
+          let count = took.count in
+          let to = took.to in
           let whole = subst (λ xs. Contains xs x) (sym (take-append-drop count (on_chain s key))) there in
           elim (Contains-append_cases (take count (on_chain s key)) (drop count (on_chain s key)) x whole) [
             | inl front ↦
-                let y = who_is_active t seed s m streams took.2.0 (changes.Unlink key count to) fates.Active goes took.2.1 in
-                let stands = taken_stands s took.2.0 count key to x y.0 y.1 front in
-                let here : Contains (moved s m).current (sent to x) = subst (λ n. Contains (moved s n).current (sent to x)) (sym took.2.1) stands in
+                let y = who_is_active t seed s m streams took.unlinks.0 (changes.Unlink key count to) fates.Active goes took.unlinks.1 in
+                let stands = taken_stands s took.unlinks.0 count key to x y.0 y.1 front in
+                let here : Contains (moved s m).current (sent to x) = subst (λ n. Contains (moved s n).current (sent to x)) (sym took.unlinks.1) stands in
                 let now = all_lined_keeps (transactions_of (filter (is_woken (written s m)) (moved s m).retry)) (moved s m).current (sent to x) here in
-                inr (count, to, took.2, subst (λ (u : Machine). Contains u.current (sent to x)) same now)
-            | inr behind ↦ inl (subst (λ xs. Contains xs x) (sym took.3) behind)
+                inr (count, to, took.unlinks, subst (λ (u : Machine). Contains u.current (sent to x)) same now)
+            | inr behind ↦ inl (subst (λ xs. Contains xs x) (sym took.members) behind)
           ]
-      | inr (inr came) ↦ inl (subst (λ xs. Contains xs x) (sym came.4) (joined_has came.0 came.1 (on_chain s key) x there))
+      | inr (inr came) ↦ inl (stays_beside came.discipline came.who (on_chain s key) (on_chain v key) x came.members there)
     ]
 
 -- ---- first in, first out
@@ -227,11 +228,12 @@ pub user_chains_are_first_in_first_out : UserChainsAreFirstInFirstOut
 user_chains_are_first_in_first_out t seed s v each is key =
     let went = went_on t seed s v is in
     elim (user_chains_change_by_link_and_unlink t seed s v went.0.0 went.0.1 went.1 is key) [
-      | inl same ↦ (0, [], same ∙ sym (append-nil (on_chain s key)), inl refl)
-      | inr (inl took) ↦ (took.0, [], took.3 ∙ sym (append-nil (drop took.0 (on_chain s key))), inl refl)
+      | inl same ↦ (0, [], ap (λ (c : UserChain). c.members) same ∙ sym (append-nil (on_chain s key)), inl refl)
+      | inr (inl took) ↦ (took.count, [], took.members ∙ sym (append-nil (drop took.count (on_chain s key))), inl refl)
       | inr (inr came) ↦
-          let link = linked_by t seed s went.0.0 went.0.1 key came.0 went.1 came.2 in
-          let fifo = is_fifo t each came.0 link.0 link.1 link.2 link.3 link.4 in
-          let now : on_chain v key ≡ on_chain s key ++ came.1 ∷ [] = came.4 ∙ ap (λ d. joined d came.1 (on_chain s key)) fifo in
-          (0, came.1 ∷ [], now, inr (came.1, refl, came.3))
+          let link = linked_by t seed s went.0.0 went.0.1 key came.discipline went.1 came.links in
+          let fifo = is_fifo t each came.discipline link.0 link.1 link.2 link.3 link.4 in
+          let now : on_chain v key ≡ on_chain s key ++ came.who ∷ [] =
+          subst (λ d. IsPlacedBy d came.who (on_chain s key) (on_chain v key)) fifo came.members in
+          (0, came.who ∷ [], now, inr (came.who, refl, came.was_active))
     ]

@@ -14,15 +14,17 @@ use Rattle.gw_meaning.specs.declared.moves.Move.{Move}
 use Rattle.gw_meaning.specs.declared.moves.Move.TheVariants as moves
 use Rattle.gw_meaning.specs.Statements.{B, operand}
 use Rattle.gw_meaning.specs.Listing.{Listing, block_at}
-use Rattle.gw_meaning.specs.Machine.{Machine, user_chain_at}
-use Rattle.gw_meaning.specs.Changes.{joined, sent}
+use Rattle.gw_meaning.specs.Machine.{Machine, UserChain, raised, user_chain_at}
 use Rattle.gw_meaning.specs.Questions.{result_of}
 use Rattle.gw_meaning.specs.Step.{decide, step}
 use Rattle.gw_laws.specs.Living.{IsActive}
 
--- who is on a user chain, from the front
+-- a user chain, and who is on it, from the front
+abbrev pub chain_of : Machine → Key → UserChain
+chain_of s key = user_chain_at s.linked key
+
 abbrev pub on_chain : Machine → Key → List Transaction
-on_chain s key = (user_chain_at s.linked key).members
+on_chain s key = (chain_of s key).members
 
 -- a step's move is an UNLINK of this chain, which sends so many to a block
 abbrev pub IsUnlink : Key → ℕ → Option ℕ → Move → Type 0
@@ -32,24 +34,35 @@ IsUnlink key count to m = (id : ℕ) × (m ≡ moves.Enter id (changes.Unlink ke
 abbrev pub IsLink : Key → Discipline → Move → Type 0
 IsLink key discipline m = (id : ℕ) × (m ≡ moves.Enter id changes.Nothing (fates.Linked key discipline))
 
--- an UNLINK of the chain took so many, from the front
-abbrev pub TookFromTheFront : Move → Key → List Transaction → List Transaction → Type 0
-TookFromTheFront m key before after =
-    (count : ℕ) × (to : Option ℕ) × IsUnlink key count to m × (after ≡ drop count before)
+-- so many were taken from the front
+pub record TookFromTheFront (m : Move) (key : Key) (before after : UserChain) : Type 0 where
+  pub count : ℕ
+  pub to : Option ℕ
+  pub unlinks : IsUnlink key count to m
+  pub members : after.members ≡ drop count before.members
+  pub entries : after.entries ≡ before.entries
 
--- by a LINK to the chain the one who was active came: to the back, or to the front
-abbrev pub OneCame : Machine → Move → Key → List Transaction → List Transaction → Type 0
-OneCame s m key before after =
-    (discipline : Discipline) × (x : Transaction) × IsLink key discipline m × IsActive s x.number
-    × (after ≡ joined discipline x before)
+-- by FIFO one comes to the back, and by LIFO to the front
+abbrev pub IsPlacedBy : Discipline → Transaction → List Transaction → List Transaction → Type 0
+IsPlacedBy disciplines.Fifo x before after = after ≡ before ++ x ∷ []
+IsPlacedBy disciplines.Lifo x before after = after ≡ x ∷ before
+
+-- the one who was active came, and is counted
+pub record OneCame (s : Machine) (m : Move) (key : Key) (before after : UserChain) : Type 0 where
+  pub discipline : Discipline
+  pub who : Transaction
+  pub was_active : IsActive s who.number
+  pub links : IsLink key discipline m
+  pub members : IsPlacedBy discipline who before.members after.members
+  pub entries : after.entries ≡ raised before.entries
 
 -- in a step a user chain stays as it is, an UNLINK of it takes some from its front, or a LINK to it brings one
 abbrev pub UserChainsChangeByLinkAndUnlink : Type 0
 UserChainsChangeByLinkAndUnlink =
     (t : Listing) (seed : ℕ) (s v : Machine) (m : Move) (streams : List Stream) →
     result_of t seed (decide s) ≡ Ok (m, streams) → step t seed s ≡ Ok v → (key : Key) →
-    (on_chain v key ≡ on_chain s key)
-    ⊎ (TookFromTheFront m key (on_chain s key) (on_chain v key) ⊎ OneCame s m key (on_chain s key) (on_chain v key))
+    (chain_of v key ≡ chain_of s key)
+    ⊎ (TookFromTheFront m key (chain_of s key) (chain_of v key) ⊎ OneCame s m key (chain_of s key) (chain_of v key))
 
 -- so where fewer are on it, the step was an UNLINK of it
 abbrev pub FewerByUnlinkAlone : Type 0
@@ -57,7 +70,7 @@ FewerByUnlinkAlone =
     (t : Listing) (seed : ℕ) (s v : Machine) (m : Move) (streams : List Stream) →
     result_of t seed (decide s) ≡ Ok (m, streams) → step t seed s ≡ Ok v →
     (key : Key) → length (on_chain v key) < length (on_chain s key) →
-    TookFromTheFront m key (on_chain s key) (on_chain v key)
+    TookFromTheFront m key (chain_of s key) (chain_of v key)
 
 -- whoever is on a user chain stays on it, or an UNLINK of it sends him to its block: then he is on the current chain
 abbrev pub WhoLeavesIsUnlinked : Type 0
@@ -66,7 +79,8 @@ WhoLeavesIsUnlinked =
     result_of t seed (decide s) ≡ Ok (m, streams) → step t seed s ≡ Ok v →
     (key : Key) (x : Transaction) → Contains (on_chain s key) x →
     Contains (on_chain v key) x
-    ⊎ ((count : ℕ) × (to : Option ℕ) × IsUnlink key count to m × Contains v.current (sent to x))
+    ⊎ ((count : ℕ) × (to : Option ℕ) × IsUnlink key count to m
+    × Contains v.current (let y : Transaction = record x { destination = to } in y))
 
 -- each LINK of the version has the order FIFO
 abbrev pub EachLinkIsFifo : Listing → Type 0

@@ -73,7 +73,7 @@ pub fn waiters_wake_in_order()
 {}
 
 /// In a step a user chain stays as it is, an UNLINK of it takes some from its front, or a LINK to it brings the one who
-/// was active, to the back or to the front. So where fewer are on it, the step was an UNLINK of it. Whoever leaves it is
+/// was active, to the back by FIFO and to the front by LIFO, and counts him. So where fewer are on it, the step was an UNLINK of it. Whoever leaves it is
 /// on the current chain then, sent to the block of that UNLINK. Where each LINK of the version has the order FIFO, each
 /// user chain is first in, first out.
 pub fn user_chains_in_order()
