@@ -135,9 +135,11 @@ module _ (s : Machine) where
 
   -- ---- attempts: whoever waits for a change has the property P, and whoever is linked is so by a discipline with the property L
   module _ (P : Type 0) (L : Discipline → Type 0) where
-    generate_tries : (x : Transaction) (id : ℕ) (mean range limit priority : Option Term) → TriesMove P L id (generate_prog s x id mean range limit priority)
+    generate_tries : (x : Transaction) (id : ℕ) (mean range limit priority : Option Term) →
+        TriesMove P L id (generate_prog s x id mean range limit priority)
     generate_tries x id mean range limit priority =
-        tries_stops (not (nat_eq x.current 0)) _ (tries_bind (arrival_tries (for_none s.remaining) id _ mean range limit priority) (λ next. tries_gives (refl, tt)))
+        tries_stops (not (nat_eq x.current 0)) _
+        (tries_bind (arrival_tries (for_none s.remaining) id _ mean range limit priority) (λ next. tries_gives (refl, tt)))
 
     advance_tries : (q : Asker) (id : ℕ) (mean range : Option Term) → TriesMove P L id (advance_prog s q id mean range)
     advance_tries q id mean range =
@@ -178,7 +180,8 @@ module _ (s : Machine) where
     enter_or_wait_tries id key store units true = tries_stops (is_too_many (store.entries + units)) _ (tries_gives (refl, tt))
     enter_or_wait_tries id key store units false = tries_gives refl
 
-    enter_storage_tries : (id : ℕ) (name : List ℕ) (store : Store) (units : ℕ) (large : Bool) → TriesMove P L id (enter_storage id name store units large)
+    enter_storage_tries : (id : ℕ) (name : List ℕ) (store : Store) (units : ℕ) (large : Bool) →
+        TriesMove P L id (enter_storage id name store units large)
     enter_storage_tries id name store units large =
         tries_stops (not large) _
         (tries_asks (items.Named (asking.Fits (beside units store.level.content)) name) (enter_or_wait_tries id (keys.Defined name) store units))
@@ -194,7 +197,8 @@ module _ (s : Machine) where
     shares_try name content shares (x ∷ xs) = tries_asks (items.Named (asking.Fits (beside x.asked content)) name)
         (λ fits. shares_try name (in_use content x.asked fits) (shares ++ share_of x.asked fits ∷ []) xs)
 
-    leave_for_tries : (id : ℕ) (key : Key) (store : Store) (units : ℕ) (shares : List (Option ℕ)) → TriesMove P L id (leave_for id key store units shares)
+    leave_for_tries : (id : ℕ) (key : Key) (store : Store) (units : ℕ) (shares : List (Option ℕ)) →
+        TriesMove P L id (leave_for id key store units shares)
     leave_for_tries id key store units shares = tries_stops (is_too_many (store.entries + all_shares shares)) _ (tries_gives (refl, tt))
 
     leave_units_tries : (id : ℕ) (name : List ℕ) (store : Store) (units : ℕ) → TriesMove P L id (leave_units s id name store units)
@@ -224,7 +228,8 @@ module _ (s : Machine) where
     transfer_tries id (Some term) near far = lead_to_tries id near
     transfer_tries id None near far = lead_to_tries id near
 
-    pass_or_wait_tries : (id : ℕ) (label : Option Term) (read : List Watched) (passes : Bool) → (label ≡ None → P) → TriesMove P L id (pass_or_wait id label read passes)
+    pass_or_wait_tries : (id : ℕ) (label : Option Term) (read : List Watched) (passes : Bool) → (label ≡ None → P) →
+        TriesMove P L id (pass_or_wait id label read passes)
     pass_or_wait_tries id None read true waits = tries_gives (refl, tt)
     pass_or_wait_tries id None read false waits = tries_gives (waits refl)
     pass_or_wait_tries id (Some label) read passes waits = lead_to_tries id (cond passes None (Some label))
@@ -341,7 +346,8 @@ module _ (s : Machine) where
     unlink_tries q id entity label count = tries_bind (entity_tries s q entity)
         (λ key. tries_bind (leaving_tries q count (length (user_chain_at s.linked key).members)) (unlink_count_tries id key label))
 
-  block_tries : (x : Transaction) (id : ℕ) (b : Block) (verb : BlockVerb) → TriesMove (WaitsAtVerb b verb) (LinksAtVerb b verb) id (block_prog s x id b verb)
+  block_tries : (x : Transaction) (id : ℕ) (b : Block) (verb : BlockVerb) →
+      TriesMove (WaitsAtVerb b verb) (LinksAtVerb b verb) id (block_prog s x id b verb)
   block_tries x id b blocks.Generate = generate_tries ⊥ never x id (operand b A) (operand b B) (operand b D) (operand b E)
   block_tries x id b blocks.Advance = advance_tries ⊥ never (for_one s x) id (operand b A) (operand b B)
   block_tries x id b blocks.Terminate = terminate_tries ⊥ never (for_one s x) id (operand b A)
@@ -352,7 +358,8 @@ module _ (s : Machine) where
   block_tries x id b blocks.Enter = enter_tries ⊥ never (for_one s x) id (operand b A) (operand b B)
   block_tries x id b blocks.Leave = leave_tries ⊥ never (for_one s x) id (operand b A) (operand b B)
   block_tries x id b blocks.Transfer = transfer_tries ⊥ never id (operand b A) (operand b B) (operand b C)
-  block_tries x id b blocks.Test = test_tries (operand b C ≡ None) never (for_one s x) id b.auxiliary (operand b A) (operand b B) (operand b C) (λ none. none)
+  block_tries x id b blocks.Test =
+      test_tries (operand b C ≡ None) never (for_one s x) id b.auxiliary (operand b A) (operand b B) (operand b C) (λ none. none)
   block_tries x id b blocks.Gate = gate_tries (operand b B ≡ None) never (for_one s x) id b.auxiliary (operand b A) (operand b B) (λ none. none)
   block_tries x id b blocks.Logic = logic_tries ⊥ never (for_one s x) id b.auxiliary (operand b A)
   block_tries x id b blocks.Savevalue = savevalue_tries ⊥ never (for_one s x) id b.auxiliary (operand b A) (operand b B)

@@ -102,7 +102,8 @@ unlinked_counted : (w : Machine) (key : Key) (to : Option ℕ) (x : Transaction)
 unlinked_counted w key to x xs is h p some = h p some ∙ sym (unlinked_crowd (stands_in p) w key to x xs is refl)
 
 -- each move
-moved_counted : (t : Listing) (s : Machine) (m : Move) → s.next + 100000 < 2 ^ 64 - 1 → crowd anyone s < s.next → IsDecided t s m → IsCounted s → IsCounted (moved s m)
+moved_counted : (t : Listing) (s : Machine) (m : Move) → s.next + 100000 < 2 ^ 64 - 1 → crowd anyone s < s.next → IsDecided t s m → IsCounted s →
+    IsCounted (moved s m)
 moved_counted t s (moves.Start count arrivals) room few decided h = all_made_counted arrivals (making_of s) (started count s) h
 moved_counted t s moves.Command room few decided h = h
 moved_counted t s (moves.Enter id change fate) room few decided h =

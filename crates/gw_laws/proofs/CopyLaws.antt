@@ -203,7 +203,8 @@ all_parts : (P : Transaction → Type 0) (xs ys : List Transaction) → AllByRec
 all_parts P [] ys all = (tt, all)
 all_parts P (x ∷ xs) ys all = let rest = all_parts P xs ys all.1 in ((all.0, rest.0), rest.1)
 
-all_lined_all : (P : Transaction → Type 0) (xs ys : List Transaction) → AllByRecursion P xs → AllByRecursion P ys → AllByRecursion P (all_lined_up xs ys)
+all_lined_all : (P : Transaction → Type 0) (xs ys : List Transaction) → AllByRecursion P xs → AllByRecursion P ys →
+    AllByRecursion P (all_lined_up xs ys)
 all_lined_all P [] ys new all = all
 all_lined_all P (x ∷ xs) ys new all = all_lined_all P xs _ new.1 (lined_all P x ys new.0 all)
 
@@ -251,7 +252,8 @@ module _ (s v : Machine) (id count : ℕ) (to : Option ℕ) (h : Splits s v id c
       let active : AllByRecursion P (option_to_list v.active) =
       subst (λ o. AllByRecursion P (option_to_list o)) (sym (split_active s v id count to h)) (inl parent_there.0, tt) in
       let current : AllByRecursion P v.current =
-      subst (AllByRecursion P) (sym (split_current s v id count to h)) (all_lined_all P (transactions_of (filter (is_woken list) u.retry)) _ woken' lined) in
+      subst (AllByRecursion P) (sym (split_current s v id count to h))
+      (all_lined_all P (transactions_of (filter (is_woken list) u.retry)) _ woken' lined) in
       let future : AllByRecursion P (events v.future) =
       subst (λ es. AllByRecursion P (events es)) (sym (ap (λ (w : Machine). w.future) h.is ∙ same.future)) (old (events s.future) future_there.0) in
       let delays : AllByRecursion P (waiting v.delays) =
@@ -272,7 +274,8 @@ pub copies_are_alike : CopiesAreAlike
 copies_are_alike t seed s v id count to split z y active lives new =
     let h = splits_so t seed s v id count to split in
     let P : Transaction → Type 0 = WasOrIsCopy s v id count to h in
-    let there = recursion_from_All (WasThere s v id count to h) (living s) (numbers_are_given t seed split.moment s split.well split.within split.before) in
+    let given = numbers_are_given t seed split.moment s split.well split.within split.before in
+    let there = recursion_from_All (WasThere s v id count to h) (living s) given in
     elim (All-contains P (living v) y (All-from_recursion P (living v) (all_known s v id count to h there)) lives) [
       | inl was ↦ absurd (omega (arith, was, new))
       | inr copy ↦ subst (λ w. IsCopyOf w to y) (is_parent s v id count to h z active) copy

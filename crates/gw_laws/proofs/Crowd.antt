@@ -278,7 +278,8 @@ module _ (test : Transaction → Bool) where
 
   -- whoever is linked comes onto a user chain
   pub settled_linked : (s : Machine) (x : Transaction) (id : ℕ) (change : Change) (fate : Fate) →
-      many (waiting (members_of (settled s x id change fate).linked)) ≤ one (test (marked change s.clock (placed x id))) + many (waiting (members_of s.linked))
+      many (waiting (members_of (settled s x id change fate).linked)) ≤
+      one (test (marked change s.clock (placed x id))) + many (waiting (members_of s.linked))
   settled_linked s x id change fates.Active = omega arith
   settled_linked s x id change fates.Current = omega arith
   settled_linked s x id change (fates.Delayed until) = omega arith

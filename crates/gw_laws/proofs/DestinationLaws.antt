@@ -485,7 +485,9 @@ module _ (x : Transaction) (low : x.number < 2 ^ 64 - 1) where
 
   all_made_same : (arrivals : List Arrival) (w : Making) (s : Machine) → NoneChanged (with_making w s) → NoneChanged (with_making (all_made arrivals w) s)
   all_made_same [] w s h = h
-  all_made_same (a ∷ rest) w s h = all_made_same rest (made a w) s (makes_clear x.number low changed_one changed_other (has_number x.number) changed_sent a (with_making w s) h)
+  all_made_same (a ∷ rest) w s h =
+      all_made_same rest (made a w) s
+      (makes_clear x.number low changed_one changed_other (has_number x.number) changed_sent a (with_making w s) h)
 
   moved_same : (t : Listing) (s : Machine) (m : Move) → IsDecided t s m → OthersAreActive s → NoneChanged s → NoneChanged (moved s m)
   moved_same t s (moves.Start count arrivals) decided others h =
@@ -564,8 +566,9 @@ others_stay_in_their_blocks t seed n s v well within there is x y stands lives' 
     let before = before_step x low s h stands given in
     let moved' = moved_same x low t s after.move after.is_decided before.0 before.1 in
     let test = changed_one x low in
-    let none = (woken_clear x.number low test (changed_other x low) (has_number x.number) (changed_sent x low) (written s after.move) (moved s after.move) moved').none_passes in
-    let now : crowd test v ≡ 0 = ap (crowd test) after.is ∙ none in
+    let clear =
+    woken_clear x.number low test (changed_other x low) (has_number x.number) (changed_sent x low) (written s after.move) (moved s after.move) moved' in
+    let now : crowd test v ≡ 0 = ap (crowd test) after.is ∙ clear.none_passes in
     stayed x low v y now lives' same
 
 -- ---- the one that was active, wherever it is now

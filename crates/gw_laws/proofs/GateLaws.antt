@@ -561,7 +561,8 @@ refused_there : (t : Listing) (seed : ℕ) (s : Machine) (read : List Watched) (
 refused_there t seed s read r = go (block_at t r.id) refl waits where
   waits : WaitsAtBlock (block_at t r.id)
   waits =
-      gives_so t seed (λ (d : Move × List Stream). IsAtOr (WaitsAtBlock (block_at t r.id)) (LinksAtBlock (block_at t r.id)) r.id d.0) (meet_prog s r.x r.id (block_at t r.id) r.before)
+      gives_so t seed (λ (d : Move × List Stream). IsAtOr (WaitsAtBlock (block_at t r.id)) (LinksAtBlock (block_at t r.id)) r.id d.0)
+      (meet_prog s r.x r.id (block_at t r.id) r.before)
       (moves.Watch read, r.after) ((meet_waits s r.x r.id (block_at t r.id)).from r.before) r.tries
 
   go : (o : Option Block) → block_at t r.id ≡ o → WaitsAtBlock o → IsAtATestOrAGate t r.x

@@ -77,7 +77,8 @@ change_once : (change : Change) (n : ℕ) (held : Held) → AllOnce held → All
 change_once (changes.Transaction change) n held all = own_once change n held all
 change_once change n held all = all
 
-settled_once : (s : Machine) (x : Transaction) (id : ℕ) (change : Change) (fate : Fate) → AllOnce s.parameters → AllOnce (settled s x id change fate).parameters
+settled_once : (s : Machine) (x : Transaction) (id : ℕ) (change : Change) (fate : Fate) → AllOnce s.parameters →
+    AllOnce (settled s x id change fate).parameters
 settled_once s x id change (fates.Destroyed count) all =
     forgotten_once (held_by change x.number s.parameters) (marked change s.clock (placed x id)).number (change_once change x.number s.parameters all)
 settled_once s x id change fate all = change_once change x.number s.parameters all
@@ -157,7 +158,8 @@ module _ (to : Option ℕ) (x : Transaction) (values : Values) (once : AreOnce v
       elim (cases_eq w.next k) [
         | inl here ↦
             let first : parameter_at u.parameters w.next key ≡ value_of values key =
-            inherits values w.next w.parameters key once ∙ (ap (or_else (value_of values key)) (fresh w.next (omega arith)) ∙ or_none (value_of values key)) in
+            inherits values w.next w.parameters key once
+            ∙ (ap (or_else (value_of values key)) (fresh w.next (omega arith)) ∙ or_none (value_of values key)) in
             let still = copies_elsewhere n u w.next (omega (arith, room')) (omega (arith, room')) in
             subst (λ j. parameter_at (all_copied n to x values u).parameters j key ≡ value_of values key) here (still ∙ first)
         | inr other ↦ copies_inherit n u (omega (arith, room'))

@@ -43,7 +43,8 @@ same_numbered s v next fewer h = record {
 }
 
 -- a new transaction has the next number
-pub made_numbered : (a : Arrival) (w : Making) (s : Machine) → w.next < 2 ^ 64 - 1 → IsNumbered (with_making w s) → IsNumbered (with_making (made a w) s)
+pub made_numbered : (a : Arrival) (w : Making) (s : Machine) → w.next < 2 ^ 64 - 1 → IsNumbered (with_making w s) →
+    IsNumbered (with_making (made a w) s)
 made_numbered a w s room h = record {
   apart = λ k.
       let push = future_push (has_number k) w.future (newcomer w.next a) in
@@ -108,7 +109,8 @@ copied_numbered to x values s room h = record {
 }
 
 -- whoever is unlinked keeps the number
-pub unlinked_numbered : (w : Machine) (key : Key) (to : Option ℕ) (x : Transaction) (xs : List Transaction) → (user_chain_at w.linked key).members ≡ x ∷ xs →
+pub unlinked_numbered : (w : Machine) (key : Key) (to : Option ℕ) (x : Transaction) (xs : List Transaction) →
+    (user_chain_at w.linked key).members ≡ x ∷ xs →
     IsNumbered w → IsNumbered (one_unlinked key to x xs w)
 unlinked_numbered w key to x xs is h =
     same_numbered w (one_unlinked key to x xs w) refl (λ k. let same = unlinked_crowd (has_number k) w key to x xs is refl in omega arith) h
@@ -246,7 +248,8 @@ module _ (k : ℕ) (test : Transaction → Bool) (of : IsOf k test) where
       (user_chain_at w.linked key).members ≡ x ∷ xs → IsGone w → IsGone (one_unlinked key to x xs w)
   unlinked_gone w key to x xs is h = let same = unlinked_crowd test w key to x xs is (of.goes x to) in (h.0, omega (arith, same, h.1))
 
-  pub moved_gone : (t : Listing) (s : Machine) (m : Move) → s.next + length t.lines + 100000 < 2 ^ 64 - 1 → IsDecided t s m → StaysSo s → IsGone s → IsGone (moved s m)
+  pub moved_gone : (t : Listing) (s : Machine) (m : Move) → s.next + length t.lines + 100000 < 2 ^ 64 - 1 → IsDecided t s m → StaysSo s → IsGone s →
+      IsGone (moved s m)
   moved_gone t s (moves.Start count arrivals) room decided stays h =
       all_made_gone arrivals (making_of s) (started count s) (omega (arith, room, decided.few)) h
   moved_gone t s moves.Command room decided stays h = h

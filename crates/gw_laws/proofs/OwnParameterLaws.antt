@@ -70,7 +70,8 @@ change_elsewhere : (k n : ℕ) (change : Change) (held : Held) → nat_eq k n �
 change_elsewhere k n (changes.Transaction change) held apart = own_elsewhere k n change held apart
 change_elsewhere k n change held apart = refl
 
-pub inherited_elsewhere : (k n : ℕ) (values : Values) (held : Held) → nat_eq k n ≡ false → lookup (nat_eq k) (inherited values n held) ≡ lookup (nat_eq k) held
+pub inherited_elsewhere : (k n : ℕ) (values : Values) (held : Held) → nat_eq k n ≡ false →
+    lookup (nat_eq k) (inherited values n held) ≡ lookup (nat_eq k) held
 inherited_elsewhere k n [] held apart = refl
 inherited_elsewhere k n (v ∷ vs) held apart =
     inherited_elsewhere k n vs (assigned held n v.0 v.1) apart ∙ set_elsewhere k n held (with_value (values_at held n) v.0 v.1) apart
@@ -210,7 +211,8 @@ module _ (k : ℕ) where
   unlinked_sets s w key to x xs is (inl sets) = inl sets
   unlinked_sets s w key to x xs is (inr gone) = inr (unlinked_gone k (has_number k) (of_number k) w key to x xs is gone)
 
-  moved_sets : (t : Listing) (s : Machine) (m : Move) → s.next + 100000 < 2 ^ 64 - 1 → k < s.next → IsDecided t s m → IsNumbered s → SetsOne s (moved s m)
+  moved_sets : (t : Listing) (s : Machine) (m : Move) → s.next + 100000 < 2 ^ 64 - 1 → k < s.next → IsDecided t s m → IsNumbered s →
+      SetsOne s (moved s m)
   moved_sets t s (moves.Enter id change fate) room given decided h =
       entered_has (λ v. (v.next ≡ s.next) × SetsOne s v) (SetsOne s) t s id change fate decided.1 (inl (inl refl))
       (λ x is. ((settled_is s x id change fate).next, settled_sets s x id change fate is h))
@@ -241,7 +243,8 @@ one_parameter_is_set t seed n s v well within there is k given lives' =
     let room = all_within t seed n s well within there in
     let sets =
     woken_sets k (written s after.move) s (moved s after.move)
-    (moved_sets k t s after.move (omega (arith, room.next, within, well.greatest_limit)) given after.is_decided (all_numbered t seed well n s there within)) in
+    (moved_sets k t s after.move (omega (arith, room.next, within, well.greatest_limit)) given after.is_decided
+    (all_numbered t seed well n s there within)) in
     elim (subst (SetsOne k s) (sym after.is) sets) [
       | inl one' ↦ one'
       | inr gone ↦ absurd (let no = alive k (living v) (many_living (has_number k) v ∙ gone.1) in false≢true (sym no ∙ lives'))

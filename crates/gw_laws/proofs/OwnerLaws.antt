@@ -239,7 +239,13 @@ moved_free t s (moves.Start count arrivals) decided h = h
 moved_free t s moves.Command decided h = h
 moved_free t s (moves.Enter id change fate) decided h =
     entered_has NobodyWaits NobodyWaits t s id change fate decided.1 h (λ x is. settled_free t s x id change fate decided.1 h)
-    (λ v. record { nothing = λ k. k; one = λ a coming k. k; lets = lets_free; copies = λ w to x values copying k. k; unlinks = λ w key to x xs named is k. k })
+    (λ v. record {
+      nothing = λ k. k;
+      one = λ a coming k. k;
+      lets = lets_free;
+      copies = λ w to x values copying k. k;
+      unlinks = λ w key to x xs named is k. k;
+    })
 moved_free t s (moves.Refuse id key units) decided h =
     with_active_has NobodyWaits s.active (λ x. refused s x id key units) s h (λ x is. refused_free t s x id key units decided.1 h)
 moved_free t s (moves.Watch read) decided h = with_active_has NobodyWaits s.active (λ x. watching s x read) s h (λ x is. h)

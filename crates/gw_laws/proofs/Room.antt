@@ -33,7 +33,8 @@ made_within most a w s room h =
     let push = future_push anyone w.future (newcomer w.next a) in
     record { next = omega (arith, h.next); crowd = omega (arith, room, push, h.next, h.crowd) }
 
-all_made_within : (most : ℕ) (arrivals : List Arrival) (w : Making) (s : Machine) → most + length arrivals < 2 ^ 64 - 2 → IsWithin most (with_making w s) →
+all_made_within : (most : ℕ) (arrivals : List Arrival) (w : Making) (s : Machine) → most + length arrivals < 2 ^ 64 - 2 →
+    IsWithin most (with_making w s) →
     IsWithin (most + length arrivals) (with_making (all_made arrivals w) s)
 all_made_within most [] w s room h = record { next = omega (arith, h.next); crowd = h.crowd }
 all_made_within most (a ∷ rest) w s room h =
@@ -57,7 +58,9 @@ moved_within t s (moves.Enter id change fate) most room few decided h =
     (λ x is. same_within most s (settled s x id change fate) (settled_is s x id change fate).next (settled_fewer anyone s x id change fate is refl) h)
     (λ v. record {
       nothing = λ k. within_more most (most + 100000) v (omega arith) k;
-      one = λ a coming k. within_more (most + 1) (most + 100000) (with_making (made a (making_of v)) v) (omega arith) (made_within most a (making_of v) v (omega (arith, room)) k);
+      one = λ a coming k.
+          within_more (most + 1) (most + 100000) (with_making (made a (making_of v)) v) (omega arith)
+          (made_within most a (making_of v) v (omega (arith, room)) k);
       lets = λ w key x passed xs is k.
           (let same = lets_crowd anyone w key x passed xs is refl in
           same_within (most + 100000) w (one_let_in key x (passed ++ xs) w) (let_in_is key x (passed ++ xs) w).next (omega arith) k);

@@ -89,7 +89,8 @@ module _ (s : Machine) (key : Key) where
         who = y;
         was_active = (x, active, refl);
         links = (id, refl);
-        members = subst (λ (c : UserChain). IsPlacedBy discipline y (on_chain s chain) c.members) (sym here) (joined_is discipline y (on_chain s chain));
+        members =
+            subst (λ (c : UserChain). IsPlacedBy discipline y (on_chain s chain) c.members) (sym here) (joined_is discipline y (on_chain s chain));
         entries = ap (λ (c : UserChain). c.entries) here;
       } in
       elim (cases_Bool (key_eq key chain)) [
@@ -140,12 +141,15 @@ fewer_by_unlink_alone t seed s v m streams goes is key fewer =
     elim (user_chains_change_by_link_and_unlink t seed s v m streams goes is key) [
       | inl same ↦ absurd (let alike = ap (λ (c : UserChain). length c.members) same in omega (arith, fewer, alike))
       | inr (inl took) ↦ took
-      | inr (inr came) ↦ absurd (let more = one_more came.discipline came.who (on_chain s key) (on_chain v key) came.members in omega (arith, fewer, more))
+      | inr (inr came) ↦ absurd (
+          let more = one_more came.discipline came.who (on_chain s key) (on_chain v key) came.members in
+          omega (arith, fewer, more))
     ]
 
 -- ---- whoever leaves
 
-stays_beside : (discipline : Discipline) (y : Transaction) (xs ys : List Transaction) (x : Transaction) → IsPlacedBy discipline y xs ys → Contains xs x →
+stays_beside : (discipline : Discipline) (y : Transaction) (xs ys : List Transaction) (x : Transaction) → IsPlacedBy discipline y xs ys →
+    Contains xs x →
     Contains ys x
 stays_beside disciplines.Fifo y xs ys x is there = subst (λ zs. Contains zs x) (sym is) (Contains-append_left xs (y ∷ []) x there)
 stays_beside disciplines.Lifo y xs ys x is there = subst (λ zs. Contains zs x) (sym is) (suc there.0, omega (arith, there.1), there.2)
@@ -179,7 +183,8 @@ who_leaves_is_unlinked t seed s v m streams goes is key x there =
             | inl front ↦
                 let y = who_is_active t seed s m streams took.unlinks.0 (changes.Unlink key count to) fates.Active goes took.unlinks.1 in
                 let stands = taken_stands s took.unlinks.0 count key to x y.0 y.1 front in
-                let here : Contains (moved s m).current (sent to x) = subst (λ n. Contains (moved s n).current (sent to x)) (sym took.unlinks.1) stands in
+                let here : Contains (moved s m).current (sent to x) =
+                subst (λ n. Contains (moved s n).current (sent to x)) (sym took.unlinks.1) stands in
                 let now = all_lined_keeps (transactions_of (filter (is_woken (written s m)) (moved s m).retry)) (moved s m).current (sent to x) here in
                 inr (count, to, took.unlinks, subst (λ (u : Machine). Contains u.current (sent to x)) same now)
             | inr behind ↦ inl (subst (λ xs. Contains xs x) (sym took.members) behind)
@@ -201,15 +206,17 @@ linked_by : (t : Listing) (seed : ℕ) (s : Machine) (m : Move) (streams : List 
 linked_by t seed s m streams key discipline goes link =
     elim (tried_at t seed s (m, streams) goes) [
       | inl tried ↦ at_block tried (block_at t tried.id) refl (links tried)
-      | inr none ↦ absurd (let no : IsNoAttempt (moves.Enter link.0 changes.Nothing (fates.Linked key discipline)) = subst (λ n. IsNoAttempt n) link.1 none in no)
+      | inr none ↦ absurd (
+          let no : IsNoAttempt (moves.Enter link.0 changes.Nothing (fates.Linked key discipline)) = subst (λ n. IsNoAttempt n) link.1 none in
+          no)
     ]
   where
     links : (tried : IsTriedAt t seed s m) → LinksAtBlock (block_at t tried.id) discipline
     links tried =
         let blk = block_at t tried.id in
         let at' : IsAtOr (WaitsAtBlock blk) (LinksAtBlock blk) tried.id m =
-        gives_so t seed (λ (d : Move × List Stream). IsAtOr (WaitsAtBlock blk) (LinksAtBlock blk) tried.id d.0) (meet_prog s tried.x tried.id blk tried.before)
-        (m, tried.after) ((meet_waits s tried.x tried.id blk).from tried.before) tried.tries in
+        gives_so t seed (λ (d : Move × List Stream). IsAtOr (WaitsAtBlock blk) (LinksAtBlock blk) tried.id d.0)
+        (meet_prog s tried.x tried.id blk tried.before) (m, tried.after) ((meet_waits s tried.x tried.id blk).from tried.before) tried.tries in
         let there : IsAtOr (WaitsAtBlock blk) (LinksAtBlock blk) tried.id (moves.Enter link.0 changes.Nothing (fates.Linked key discipline)) =
         subst (IsAtOr (WaitsAtBlock blk) (LinksAtBlock blk) tried.id) link.1 at' in
         there.1

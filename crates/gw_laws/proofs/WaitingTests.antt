@@ -629,7 +629,8 @@ was_given s w h waits =
           omega arith)
     ]
 
-waiting_own : (t : Listing) (s : Machine) (m : Move) (w : Waiter) → s.next < 2 ^ 64 → IsDecided t s m → IsNumbered s → Contains s.retry w → OwnStays s m w
+waiting_own : (t : Listing) (s : Machine) (m : Move) (w : Waiter) → s.next < 2 ^ 64 → IsDecided t s m → IsNumbered s → Contains s.retry w →
+    OwnStays s m w
 waiting_own t s m w low decided' numbered waits key = elim (moved_elsewhere w.transaction.number t s m low (was_given s w numbered waits) decided') [
   | inl same ↦ ap (λ values. value_of values key) same
   | inr active ↦ absurd (not_active s w numbered waits active)
