@@ -3,7 +3,7 @@
 use Rattle.std.proofs.Common.{◌≡◌, ◌⊎◌, ℤ, pos, ℕ, zero, suc, Bool, true, false, cond, not, ◌||◌, List, [], ◌∷◌, ◌++◌, filter, Option, Some, None, is_some, nat_eq, nat_le, unwrap_or, Ok, refl, sym, ap, subst, ◌∙◌, inl, inr}
 use Rattle.std.specs.Prelude.{Contains}
 use Rattle.std.specs.List.{AllByRecursion, list_any}
-use Rattle.std.proofs.lemmas.Bool.{cases_Bool, or_parts, or_left, or_right, eqb-true}
+use Rattle.std.proofs.lemmas.Bool.{cases_Bool, false≢true, or_parts, or_left, or_right, eqb-true}
 use Rattle.std.proofs.lemmas.List.Folds.{list_any-append}
 use Rattle.gw_nums.specs.Range.{is_below, magnitude}
 use Rattle.gw_names.specs.declared.key.Key.{Key}
@@ -74,7 +74,7 @@ kind_same kinds.Storage kinds.Storage p q h = ap (λ n. watched.Entity kinds.Sto
 kind_same kinds.Savevalue kinds.Savevalue p q h = ap (λ n. watched.Entity kinds.Savevalue n) (key_same p q h)
 kind_same kinds.Switch kinds.Switch p q h = ap (λ n. watched.Entity kinds.Switch n) (key_same p q h)
 kind_same kinds.UserChain kinds.UserChain p q h = ap (λ n. watched.Entity kinds.UserChain n) (key_same p q h)
-kind_same k l p q h = absurd cc
+kind_same k l p q h = absurd (false≢true h)
 
 pub watched_same : (v w : Watched) → same_watched v w ≡ true → v ≡ w
 watched_same (watched.Entity k p) (watched.Entity l q) h = kind_same k l p q h
