@@ -162,7 +162,8 @@ module _ (move : ℕ → ℕ) (is : IsMove move) where
   one_copied_moved to x values s = rw (lined_up_moved move (copied x s.next to) s.current, stood_moved move is s.counts x.current) refl
 
   all_copied_moved : (count : ℕ) (to : Option ℕ) (x : Transaction) (values : List (Key × ℤ)) (s : Machine) →
-      all_copied count (option_map move to) (moved_transaction move x) values (moved_machine move s) ≡ moved_machine move (all_copied count to x values s)
+      all_copied count (option_map move to) (moved_transaction move x) values (moved_machine move s) ≡
+      moved_machine move (all_copied count to x values s)
   all_copied_moved zero to x values s = refl
   all_copied_moved (suc n) to x values s =
       ap (all_copied n (option_map move to) (moved_transaction move x) values) (one_copied_moved to x values s) ∙

@@ -373,7 +373,8 @@ module _ (move : ℕ → ℕ) (is : IsMove move) where
       (λ key. follows_bind _ (value_there_follows move is s q value) (λ v. savevalue_with_follows id sign key (savevalue_at s.entities key) v))
 
   -- SPLIT
-  split_to_follows : (id count : ℕ) (to : Option ℕ) → Follows move (moved_move move) (split_to id count to) (split_to (move id) count (option_map move to))
+  split_to_follows : (id count : ℕ) (to : Option ℕ) →
+      Follows move (moved_move move) (split_to id count to) (split_to (move id) count (option_map move to))
   split_to_follows id count None = follows_ends
   split_to_follows id count (Some to) = follows_gives refl
 

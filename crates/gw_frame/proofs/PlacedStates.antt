@@ -111,15 +111,55 @@ module _ (t : Listing) where
 
   -- entering a block
   fated_names : (fate : Fate) (x : Transaction) (s : Machine) → TransactionNames t x → StateNames t s → StateNames t (fated fate x s)
-  fated_names fates.Active x s named h = record { active = named; current = h.current; future = h.future; delays = h.delays; retry = h.retry; linked = h.linked; counts = h.counts }
+  fated_names fates.Active x s named h = record {
+    active = named;
+    current = h.current;
+    future = h.future;
+    delays = h.delays;
+    retry = h.retry;
+    linked = h.linked;
+    counts = h.counts;
+  }
   fated_names fates.Current x s named h =
-      record { active = tt; current = lined_up_names x s.current named h.current; future = h.future; delays = h.delays; retry = h.retry; linked = h.linked; counts = h.counts }
+      record {
+        active = tt;
+        current = lined_up_names x s.current named h.current;
+        future = h.future;
+        delays = h.delays;
+        retry = h.retry;
+        linked = h.linked;
+        counts = h.counts;
+      }
   fated_names (fates.Delayed until) x s named h =
-      record { active = tt; current = h.current; future = all_with (EventNames t) s.future _ h.future (named, tt); delays = h.delays; retry = h.retry; linked = h.linked; counts = h.counts }
+      record {
+        active = tt;
+        current = h.current;
+        future = all_with (EventNames t) s.future _ h.future (named, tt);
+        delays = h.delays;
+        retry = h.retry;
+        linked = h.linked;
+        counts = h.counts;
+      }
   fated_names (fates.Linked key discipline) x s named h =
       let all = linked_to_names discipline x (user_chain_at s.linked key) named (members_names s key h) in
-      record { active = tt; current = h.current; future = h.future; delays = h.delays; retry = h.retry; linked = with_chain_names s key _ all h; counts = h.counts }
-  fated_names (fates.Destroyed count) x s named h = record { active = tt; current = h.current; future = h.future; delays = h.delays; retry = h.retry; linked = h.linked; counts = h.counts }
+      record {
+        active = tt;
+        current = h.current;
+        future = h.future;
+        delays = h.delays;
+        retry = h.retry;
+        linked = with_chain_names s key _ all h;
+        counts = h.counts;
+      }
+  fated_names (fates.Destroyed count) x s named h = record {
+    active = tt;
+    current = h.current;
+    future = h.future;
+    delays = h.delays;
+    retry = h.retry;
+    linked = h.linked;
+    counts = h.counts;
+  }
 
   own_names : (x : Transaction) (id clock : ℕ) (change : TransactionChange) → AreNumbered t.lines → IsDecidedOwn t change → IsBlockId t id →
       TransactionNames t (own_marked change clock (placed x id))
@@ -142,7 +182,15 @@ module _ (t : Listing) where
       TransactionNames t (marked change s.clock (placed x id)) → StateNames t (settled s x id change fate)
   settled_names s x id change fate h moving named there =
       let counts = with_count_names (left s.counts x.current) id _ named (left_names s.counts x.current moving.current h.counts) in
-      fated_names fate _ _ there (record { active = h.active; current = h.current; future = h.future; delays = h.delays; retry = h.retry; linked = h.linked; counts = counts })
+      fated_names fate _ _ there (record {
+        active = h.active;
+        current = h.current;
+        future = h.future;
+        delays = h.delays;
+        retry = h.retry;
+        linked = h.linked;
+        counts = counts;
+      })
 
   crossed_names : (cs : List (ℕ × Count)) (from to : ℕ) → IsBlockId t from → IsBlockId t to → AllByRecursion (CountNames t) cs →
       AllByRecursion (CountNames t) (crossed fates.Active cs from to)
@@ -151,7 +199,15 @@ module _ (t : Listing) where
   let_in_names : (x : Transaction) (destination : Option ℕ) (s : Machine) → TransactionNames t x → IsIdIfAny t destination → StateNames t s →
       StateNames t (let_in x destination s)
   let_in_names x None s waits to h =
-      record { active = h.active; current = lined_up_names x s.current waits h.current; future = h.future; delays = h.delays; retry = h.retry; linked = h.linked; counts = h.counts }
+      record {
+        active = h.active;
+        current = lined_up_names x s.current waits h.current;
+        future = h.future;
+        delays = h.delays;
+        retry = h.retry;
+        linked = h.linked;
+        counts = h.counts;
+      }
   let_in_names x (Some id) s waits to h = record {
     active = h.active;
     current = lined_up_names (placed x id) s.current (record { current = to; destination = tt }) h.current;
@@ -178,14 +234,22 @@ module _ (t : Listing) where
   lets_names w key x passed xs is h =
       let all = part_names passed x xs (subst (λ chain. AllByRecursion (TransactionNames t) chain) is (delay_names w key h)) in
       let_in_names x x.destination (record w { delays = with_value w.delays key (passed ++ xs) }) all.0 all.0.destination
-      (record { active = h.active; current = h.current; future = h.future; delays = with_delay_names w key (passed ++ xs) all.1 h; retry = h.retry; linked = h.linked; counts = h.counts })
+      (record {
+        active = h.active;
+        current = h.current;
+        future = h.future;
+        delays = with_delay_names w key (passed ++ xs) all.1 h;
+        retry = h.retry;
+        linked = h.linked;
+        counts = h.counts;
+      })
 
-  copies_names : AreNumbered t.lines → Copies t (StateNames t)
-  copies_names numbered w to x values named is h =
-      let parent = active_names w x is h in
+  copies_names : AreNumbered t.lines → (s : Machine) → Copies t s (StateNames t)
+  copies_names numbered s w to x values copying h =
+      let parent = active_names w x copying.active h in
       record {
         active = h.active;
-        current = lined_up_names (copied x w.next to) w.current (record { current = parent.current; destination = named numbered }) h.current;
+        current = lined_up_names (copied x w.next to) w.current (record { current = parent.current; destination = copying.named numbered }) h.current;
         future = h.future;
         delays = h.delays;
         retry = h.retry;
@@ -258,11 +322,25 @@ module _ (t : Listing) where
   moved_names : (s : Machine) (m : Move) → AreNumbered t.lines → IsDecided t s m → StateNames t s → StateNames t (moved s m)
   moved_names s (moves.Start count arrivals) numbered decided h = all_made_names s arrivals (making_of s) (started count s) decided.coming
       (record { active = h.active; current = h.current; future = h.future; delays = h.delays; retry = h.retry; linked = h.linked; counts = h.counts })
-  moved_names s moves.Command numbered decided h = record { active = h.active; current = h.current; future = h.future; delays = h.delays; retry = h.retry; linked = h.linked; counts = h.counts }
+  moved_names s moves.Command numbered decided h = record {
+    active = h.active;
+    current = h.current;
+    future = h.future;
+    delays = h.delays;
+    retry = h.retry;
+    linked = h.linked;
+    counts = h.counts;
+  }
   moved_names s (moves.Enter id change fate) numbered decided h =
       entered_has (StateNames t) (StateNames t) t s id change fate decided.1 h
       (λ x is. settled_names s x id change fate h (active_names s x is h) decided.0 (marked_names s x id change numbered decided.1 decided.0))
-      (λ v. record { nothing = λ k. k; one = λ a coming k. made_names s a (making_of v) v coming k; lets = lets_names; copies = copies_names numbered; unlinks = unlinks_names numbered })
+      (λ v. record {
+        nothing = λ k. k;
+        one = λ a coming k. made_names s a (making_of v) v coming k;
+        lets = lets_names;
+        copies = copies_names numbered s;
+        unlinks = unlinks_names numbered;
+      })
   moved_names s (moves.Refuse id key units) numbered decided h =
       with_active_has (StateNames t) s.active (λ x. refused s x id key units) s h (λ x is. refused_names s x id key units h (active_names s x is h) decided.0)
   moved_names s (moves.Watch read) numbered decided h =
@@ -286,7 +364,15 @@ run_names t seed n s numbered =
     over_run t seed (λ n s. StateNames t s) (record { active = tt; current = tt; future = tt; delays = tt; retry = tt; linked = tt; counts = tt })
     (λ n s m streams there decided h.
     let next = woken_names t (written s m) (moved s m) (moved_names t s m numbered decided h) in
-    record { active = next.active; current = next.current; future = next.future; delays = next.delays; retry = next.retry; linked = next.linked; counts = next.counts })
+    record {
+      active = next.active;
+      current = next.current;
+      future = next.future;
+      delays = next.delays;
+      retry = next.retry;
+      linked = next.linked;
+      counts = next.counts;
+    })
     n s
 
 all_read : (t : Listing) (s : Machine) (is : List Item) → ((i : Item) → IsRead t s i → ItemNames t i) → AllByRecursion (IsRead t s) is →
