@@ -13,7 +13,7 @@ LATER_COMMANDS = "RESET CLEAR".split()
 LATER_BLOCKS = ["TABULATE"]
 VERBS = BLOCKS + DEFINITIONS + COMMANDS + LATER_DEFINITIONS + LATER_COMMANDS + LATER_BLOCKS
 # The operands of a verb: a value, an entity, one with a sign behind it or none, a storage, a label, a fraction, an
-# expression, a number, a count, a seed, or a key word; `some` is a value or ALL, and `order` FIFO or LIFO; `!` where one
+# expression, a number, a count, a seed, a value or ALL (`some`), FIFO or LIFO (`order`), or a key word; `!` where one
 # must be there.
 FORMS = {
     "GENERATE": "value value value value value",
