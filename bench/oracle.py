@@ -11,6 +11,7 @@ from statements import OF_THE_MOMENT, OF_VARIABLES
 from statements import Fault, is_name, statement_of_edit, statements_of
 
 MODULUS = 2147483647
+MOST_ALIVE = 100000
 
 
 class End(Exception):
@@ -108,6 +109,13 @@ class Storage(Level):
         self.most = max(self.most, self.content)
 
 
+class UserChain:
+    entries = 0
+
+    def __init__(self):
+        self.members = []
+
+
 class Transaction:
     current = mark = asked = 0
     destination = None
@@ -115,6 +123,12 @@ class Transaction:
     def __init__(self, number, priority, generate):
         self.number, self.priority, self.destination = number, priority, generate
         self.came, self.parameters = {}, {}
+
+    def copy(self, number, to):
+        """A copy with a number of its own, which came to no queue and goes to a block, or on from its own."""
+        other = Transaction(number, self.priority, to)
+        other.current, other.mark, other.parameters = self.current, self.mark, dict(self.parameters)
+        return other
 
 
 class Run:
@@ -127,7 +141,7 @@ class Run:
         self.streams = {j: ("set", j) for j in range(1, 8)}
         self.current, self.future, self.waiting, self.retrying = [], [], {}, []
         self.counts, self.facilities, self.queues, self.storages = {}, {}, {}, {}
-        self.savevalues, self.switches = {}, {}
+        self.savevalues, self.switches, self.linked = {}, {}, {}
         self.reads, self.clocks, self.ends = [], [], []
 
     def count(self, id):
@@ -181,6 +195,9 @@ class Run:
             return facility.captures if of == "FC" else int(facility.owner is not None)
         if of in ("X", "LS"):
             return self.savevalues.get(key, 0) if of == "X" else int(self.switches.get(key, False))
+        if of in ("CH", "CC"):
+            chain = self.linked.get(key, UserChain())
+            return len(chain.members) if of == "CH" else chain.entries
         queue = self.queues.get(key, Queue())
         return {"Q": queue.content, "QC": queue.entries, "QM": queue.most, "QZ": queue.zero}[of]
 
@@ -367,6 +384,13 @@ class Run:
         self.next += 1
         self.count(generate)["made"] += 1
 
+    def have_room(self, more):
+        """Stops where too many would live with so many more."""
+        chains = [self.current, self.future, self.retrying, *self.waiting.values()]
+        chains += [chain.members for chain in self.linked.values()]
+        if (self.active is not None) + sum(map(len, chains)) + more > MOST_ALIVE:
+            raise End("X9")
+
     def pick(self):
         self.active = self.current.pop(0)
 
@@ -413,6 +437,8 @@ class Run:
     # ---- blocks
     def generate(self, x, block):
         arrival = self.arrival(block)
+        if arrival:
+            self.have_room(1)
 
         def go():
             self.enter(x, block)
@@ -643,6 +669,60 @@ class Run:
 
         return go
 
+    def split(self, x, block):
+        copies, label = self.value(block, 0), block.operand(1)
+        if copies < 0:
+            raise End("X11")
+        self.have_room(copies)
+        to = self.resolved(label) if copies and label is not None else None
+
+        def go():
+            self.enter(x, block)
+            for _ in range(copies):
+                line_up(self.current, x.copy(self.next, to))
+                self.next += 1
+            self.count(block.id)["content"] += copies
+
+        return go
+
+    def link(self, x, block):
+        key = self.key(block)
+
+        def go():
+            self.enter(x, block)
+            self.written.add(("chain", key))
+            self.active = None
+            chain = self.linked.setdefault(key, UserChain())
+            chain.entries += 1
+            chain.members.insert(0 if block.operand(1) == "LIFO" else len(chain.members), x)
+
+        return go
+
+    def unlink(self, x, block):
+        key, some = self.key(block), block.tree(2)
+        chain = self.linked.get(key, UserChain())
+        most = len(chain.members)
+        if some is not None and some[0] != "word":
+            units = self.evaluate(block, some)
+            if units < 1:
+                raise End("X11")
+            most = min(most, units)
+        to = self.resolved(block.operand(1)) if most else None
+
+        def go():
+            self.enter(x, block)
+            self.written.add(("chain", key))
+            for _ in range(most):
+                other = chain.members.pop(0)
+                other.destination = to
+                line_up(self.current, other)
+
+        return go
+
+    def resolved(self, label):
+        self.items.append(("label", label))
+        return self.version.label(label)
+
     def transfer(self, x, block):
         label = block.operand(1)
         if block.operand(0) is not None:
@@ -700,7 +780,7 @@ class Run:
 
 
 # Of which kind the entity is that an attribute reads.
-KINDS = {"F": "facility", "FC": "facility", "X": "savevalue", "LS": "switch"}
+KINDS = {"F": "facility", "FC": "facility", "X": "savevalue", "LS": "switch", "CH": "chain", "CC": "chain"}
 KINDS |= dict.fromkeys(["Q", "QC", "QM", "QZ"], "queue")
 # What each operator of a TEST asks of the two values.
 HOLDS = {"E": eq, "NE": ne, "G": gt, "GE": ge, "L": lt, "LE": le}
@@ -738,8 +818,10 @@ def within(value):
 
 
 def line_up(chain, x):
-    """Behind its equals, in front of the first of lower priority."""
-    place = next((i for i, y in enumerate(chain) if y.priority < x.priority), len(chain))
+    """Behind its equals, in front of the first of lower priority; the last of the chain has the lowest."""
+    place = len(chain)
+    while place and chain[place - 1].priority < x.priority:
+        place -= 1
     chain.insert(place, x)
 
 

@@ -3,17 +3,18 @@ import re
 
 BLOCKS = (
     "GENERATE ADVANCE TERMINATE QUEUE DEPART SEIZE RELEASE ENTER LEAVE TRANSFER TEST GATE LOGIC SAVEVALUE MARK"
-    " PRIORITY BUFFER ASSIGN LOOP"
+    " PRIORITY BUFFER ASSIGN LOOP SPLIT LINK UNLINK"
 ).split()
 DEFINITIONS = "STORAGE EQU VARIABLE FUNCTION".split()
 COMMANDS = "START RMULT".split()
 # The verbs of later stages, which are no names either.
 LATER_DEFINITIONS = ["TABLE"]
 LATER_COMMANDS = "RESET CLEAR".split()
-LATER_BLOCKS = "TABULATE LINK UNLINK SPLIT".split()
+LATER_BLOCKS = ["TABULATE"]
 VERBS = BLOCKS + DEFINITIONS + COMMANDS + LATER_DEFINITIONS + LATER_COMMANDS + LATER_BLOCKS
 # The operands of a verb: a value, an entity, one with a sign behind it or none, a storage, a label, a fraction, an
-# expression, a number, a count, a seed, or a key word; `!` where one must be there.
+# expression, a number, a count, a seed, a value or ALL (`some`), FIFO or LIFO (`order`), or a key word; `!` where one
+# must be there.
 FORMS = {
     "GENERATE": "value value value value value",
     "ADVANCE": "value value",
@@ -34,6 +35,9 @@ FORMS = {
     "ASSIGN": "changed! value!",
     "LOOP": "entity! label!",
     "BUFFER": "",
+    "SPLIT": "value! label",
+    "LINK": "entity! order!",
+    "UNLINK": "entity! label! some",
     "STORAGE": "count!",
     "EQU": "number!",
     "VARIABLE": "expression!",
@@ -55,7 +59,7 @@ OF_BLOCKS = "N W".split()
 OF_STORAGES = "S R SC SM".split()
 OF_VARIABLES = ["V"]
 OF_FUNCTIONS = ["FN"]
-OF_ENTITIES = "P F FC Q QC QM QZ X LS".split()
+OF_ENTITIES = "P F FC Q QC QM QZ X LS CH CC".split()
 POINT = r"-?(?:[0-9]+(?:\.[0-9]{0,6})?|\.[0-9]{1,6})"
 TOKEN = re.compile(r"[A-Z0-9_$]+|[-+#\\@()]")
 DEEPEST = 32
@@ -291,6 +295,8 @@ def read_operands(verb, auxiliary, operands):
 def read_operand(form, word):
     if form == "changed":
         return read_operand("entity", word[:-1] if word[-1] in "+-" and len(word) > 1 else word)
+    if form == "some" and word != "ALL":
+        return read_operand("value", word)
     if form in ("value", "entity") and word[0] == "(":
         return in_parentheses(word)
     if form == "expression":
@@ -306,13 +312,16 @@ def read_operand(form, word):
     return as_word(form, word)
 
 
+KEY_WORDS = {"NP": ["NP"], "order": ["FIFO", "LIFO"], "some": ["ALL"]}
+
+
 def as_word(form, word):
     """An operand that is neither a value nor a name of its own."""
     if form == "fraction":
         if not re.fullmatch(r"[0-9]+\.[0-9]{0,6}|\.[0-9]{1,6}", word) or float(word) > 1:
             raise Bad
-    elif form == "NP":
-        if word != "NP":
+    elif form in KEY_WORDS:
+        if word not in KEY_WORDS[form]:
             raise Bad
     elif form == "curve":
         if not re.fullmatch("[CD][0-9]+", word) or not 1 <= int(word[1:]) <= 1000:
