@@ -1,5 +1,5 @@
-ghost use Rattle.std.specs.Prelude.{◌≡◌, ◌≤◌, IfOk};
-ghost use Rattle.gw_meaning.specs.Classes.{scale_of};
+ghost use Rattle.std.specs.Prelude.{◌≡◌, ◌≤◌, ◌+◌, IfOk};
+ghost use Rattle.gw_meaning.specs.Classes.{scale_of, limit_of};
 
 use gw_expr::Expr;
 use gw_nums::Val;
@@ -86,5 +86,13 @@ impl Classes {
         ensures most { result ≤ 1000 }
     {
         self.count
+    }
+
+    /// The upper limit of the class behind so many others. The last class has none.
+    pub fn limit(self, i: u32) -> i32
+        requires { i + 2 ≤ self.count }
+        ensures { result ≡ limit_of self i }
+    {
+        (self.first.get() + i64::from(i) * i64::from(self.width)) as i32
     }
 }
