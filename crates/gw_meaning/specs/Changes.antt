@@ -1,7 +1,7 @@
--- What a move does to a state. (Manual: the chains, the counts of blocks, copies, user chains, RESET and CLEAR. Our own:
--- that an ADVANCE of 0 leaves the transaction active, that a time is fixed when the transaction comes onto the future
--- chain, that who waited for a facility or a storage enters its block in the step that gives it back, that copies are
--- numbered in the order in which they line up, and that waiters wake when all else is done.)
+-- What a move does to a state. (Manual: the chains, the counts of blocks, copies, user chains, RESET and CLEAR. Our
+-- own: that an ADVANCE of 0 leaves the transaction active, that a time is fixed when the transaction comes onto the
+-- future chain, that who waited for a facility or a storage enters its block in the step that gives it back, that
+-- copies are numbered in the order in which they line up, and that waiters wake when all else is done.)
 use Rattle.std.specs.Prelude.{ℕ, zero, suc, ℤ, ◌-◌, Bool, true, not, ◌==◌, List, [], ◌∷◌, ◌++◌, Option, Some, None, if◌then◌else◌, filter, length, nat_lt}
 use Rattle.std.specs.List.{list_any}
 use Rattle.gw_nums.specs.Range.{is_below}
@@ -342,9 +342,9 @@ moved s (moves.Watch read) = with_active s.active (λ x. watching s x read) s
 moved s moves.Pick = picked s s.current
 moved s (moves.Clock time) = advanced s time
 
--- What a move writes: an entered block the counts of the block left and of the block entered, the entity that it names (a
--- user chain also where nobody leaves it), and the counts of the blocks that those whom it lets in leave and enter. No other move writes anything: neither a
--- command, nor a refused attempt, nor the clock.
+-- What a move writes: an entered block the counts of the block left and of the block entered, the entity that it names
+-- (a user chain also where nobody leaves it), and the counts of the blocks that those whom it lets in leave and enter.
+-- No other move writes anything: neither a command, nor a refused attempt, nor the clock.
 
 -- the counts that a transaction changes where it goes to a block
 abbrev pub crossing : Transaction → Option ℕ → List Watched

@@ -167,8 +167,8 @@ one_if true = 1
 one_if false = 0
 
 -- of a facility: whether it is owned, and its captures; of a queue: its content, its entries, the greatest content and
--- the zero entries; of a savevalue: its value; of a switch: whether it is set; of a user chain: its content, and how many
--- were linked to it. One that nothing touched yet reads 0.
+-- the zero entries; of a savevalue: its value; of a switch: whether it is set; of a user chain: its content, and how
+-- many were linked to it. One that nothing touched yet reads 0.
 abbrev pub entity_value : Machine → Class → Key → Eval ℤ
 entity_value s class.F key = amount (owned (facility_at s.entities key).owner)
 entity_value s class.Fc key = amount (facility_at s.entities key).captures

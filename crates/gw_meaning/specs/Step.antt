@@ -457,8 +457,8 @@ abbrev pub savevalue_prog : Machine → Asker → ℕ → Auxiliary → Option T
 savevalue_prog s q id sign entity value = entity_prog s q entity ~> (λ key. value_there s q value ~>
     (λ v. savevalue_with id sign key (savevalue_at s.entities key) v))
 
--- SPLIT: copies of the transaction, as many as its value says and as may live; they go to the block with the label, where
--- there is one. No label is looked up where no copy is made.
+-- SPLIT: copies of the transaction, as many as its value says and as may live; they go to the block with the label,
+-- where there is one. No label is looked up where no copy is made.
 abbrev pub split_into : ℕ → ℕ → Option ℕ → Eval Move
 split_into id count to = gives (moves.Enter id (changes.Split count to) fates.Active)
 
