@@ -7,5 +7,4 @@ pub mod BlockLaws
 pub mod Leasts
 pub mod FutureLaws
 pub mod Beside
-mod Keyed
 mod LinkedLaws

@@ -15,7 +15,7 @@ use Rattle.gw_meaning.specs.Changes.{lined_up, all_lined_up, joined, linked_to, 
 use Rattle.gw_meaning.specs.Machine.{Machine, UserChain, no_chain, user_chain_at, members_of, delay_at, waiting}
 use Rattle.gw_chains.specs.UserChains.{AreLinked}
 use Rattle.gw_chains.proofs.DelayLaws.{waiting_with}
-use Rattle.gw_chains.proofs.Keyed.{value_there, set_beside, no_key_beside, zip_more, apart_beside, with_same, with_again, value_set}
+use Rattle.gw_entities.proofs.Keyed.{value_there, set_beside, no_key_beside, zip_more, apart_beside, with_same, with_again, value_set}
 
 abbrev Linked : Type 0
 Linked = List (Key × UserChain)
