@@ -8,3 +8,4 @@ pub mod Leasts
 pub mod FutureLaws
 pub mod Beside
 mod LinkedLaws
+pub mod AnewLaws

@@ -73,10 +73,11 @@ impl Tables {
             with_value self.old key.now (unwrap_or (value_of self.old key.now) [] ++ value ∷ [])) }
         ensures err { OnErr result (self.new ≡ self.old) }
     {
-        match self.place(key) {
-            Some(index) => self.values[index].push(value),
-            None => self.begin(key, value),
-        }
+        let Some(index) = self.place(key) else {
+            return self.begin(key, value);
+        };
+        self.values[index].push(value)?;
+        Ok(())
     }
 
     // The same of a table that was not touched yet.
@@ -144,7 +145,7 @@ fn as_many_empty(alloc: Global, values: &[Values]) -> Result<Vec<Values>, AllocE
     ensures { IfOk result (λ vs. vs.items ≡ map (λ v. []) values.now) }
 {
     let mut empty = Vec::with_capacity(alloc, values.len())?;
-    for _ in values {
+    for _table in values {
         empty.push(Values::new(alloc))?;
     }
     Ok(empty)
