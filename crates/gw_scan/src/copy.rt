@@ -36,6 +36,7 @@ impl State {
         self.current.share()?;
         self.delays.share()?;
         self.retry.share()?;
+        self.linked.share()?;
         self.future.share()?;
         self.entities.share()?;
         self.parameters.share()
@@ -57,6 +58,7 @@ impl State {
             future: chains.future,
             delays: chains.delays,
             retry: chains.retry,
+            linked: chains.linked,
             counts: kept.counts,
             entities: kept.entities,
             parameters: kept.parameters,
@@ -69,11 +71,13 @@ impl State {
         let current = self.current.copy()?;
         let future = self.future.copy()?;
         let delays = self.delays.copy()?;
+        let retry = self.retry.copy()?;
         Ok(Chains {
             current,
             future,
             delays,
-            retry: self.retry.copy()?,
+            retry,
+            linked: self.linked.copy()?,
         })
     }
 
