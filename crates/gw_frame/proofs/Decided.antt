@@ -7,7 +7,7 @@ use Rattle.std.proofs.lemmas.Bool.Decides.{nat_tests}
 use Rattle.std.proofs.Math.Nat.{min-le_right}
 use Rattle.std.proofs.lemmas.List.{length-append}
 use Rattle.gw_nums.specs.Range.{is_negative, magnitude}
-use Rattle.gw_expr.specs.Term.{Term, Label, Fraction, Defined, Order}
+use Rattle.gw_expr.specs.Term.{Term, Label, Fraction, Defined, Table, Order}
 use Rattle.gw_streams.specs.declared.stream.Stream.{Stream}
 use Rattle.gw_meaning.specs.declared.asker.Asker.{Asker}
 use Rattle.gw_meaning.specs.declared.item.Item.{Item}
@@ -23,6 +23,7 @@ use Rattle.gw_meaning.specs.declared.statement.Numbered.{Numbered}
 use Rattle.gw_meaning.specs.declared.transaction.Transaction.{Transaction}
 use Rattle.gw_meaning.specs.declared.moves.Arrival.{Arrival}
 use Rattle.gw_meaning.specs.declared.moves.Move.{Move}
+use Rattle.gw_meaning.specs.declared.moves.Move.TheVariants as moves
 use Rattle.gw_meaning.specs.declared.moves.Change.TheVariants as changes
 use Rattle.gw_meaning.specs.declared.watched.Watched.{Watched}
 use Rattle.gw_meaning.specs.declared.watched.Watched.TheVariants as watched
@@ -33,7 +34,7 @@ use Rattle.gw_entities.specs.Comings.{came}
 use Rattle.gw_meaning.specs.Entities.{facility_at, line_at, savevalue_at}
 use Rattle.gw_meaning.specs.Machine.{Machine, raised, live, delay_at, user_chain_at}
 use Rattle.gw_meaning.specs.Questions.{ask, result_of}
-use Rattle.gw_meaning.specs.Evaluation.{Eval, asks, named, owned, millionths}
+use Rattle.gw_meaning.specs.Evaluation.{Eval, gives, asks, named, owned, millionths}
 use Rattle.gw_meaning.specs.Step.{for_none, for_one, arrival_at, arrival_in_time, arrival_prog, first_of_generate, first_of, first_arrival, with_arrival, prime_prog, arrivals_prog, first_arrivals_prog, start_prog, command_prog, generate_prog, delay_of, advance_prog, terminate_prog, is_too_many, queue_units, queue_prog, depart_units, depart_prog, seize_or_wait, seize_prog, first_number, is_owner, release_to, release_prog, go_to, lead_to, transfer_prog, priority_prog, block_prog, meet_prog, try_prog, attempt_prog, least_time, within_prog, clock_prog, pick_prog, scan_prog, move_prog, decide, step_prog}
 use Rattle.gw_expr.specs.Arithmetic.{applied}
 use Rattle.gw_expr.specs.declared.token.Operator.TheVariants as operators
@@ -41,7 +42,7 @@ use Rattle.gw_meaning.specs.declared.auxiliary.Auxiliary.{Auxiliary}
 use Rattle.gw_meaning.specs.declared.auxiliary.Auxiliary.TheVariants as auxiliaries
 use Rattle.gw_meaning.specs.declared.auxiliary.Condition.{Condition}
 use Rattle.gw_entities.specs.Parameters.{parameter_at}
-use Rattle.gw_meaning.specs.Step.{by_sign, assign_with, assign_prog, left_of, loop_back, loop_to, loop_prog, pass_or_wait, holds, test_prog, kind_of_condition, is_open, reads_capacity, gate_at, gate_storage, gate_other, gate_of, gate_prog, logic_prog, savevalue_with, savevalue_prog, split_to, split_count, split_prog, link_prog, unlink_to, unlink_count, leaving_prog, unlink_prog}
+use Rattle.gw_meaning.specs.Step.{by_sign, assign_with, assign_prog, left_of, loop_back, loop_to, loop_prog, pass_or_wait, holds, test_prog, kind_of_condition, is_open, reads_capacity, gate_at, gate_storage, gate_other, gate_of, gate_prog, logic_prog, savevalue_with, savevalue_prog, split_to, split_count, split_prog, link_prog, unlink_to, unlink_count, leaving_prog, unlink_prog, tabulate_with, tabulate_prog}
 use Rattle.gw_frame.specs.BlockIds.{IsBlockId, ActiveNames, TransactionNames}
 use Rattle.gw_frame.proofs.Generates.{IsBlockIn, generates_there}
 use Rattle.gw_frame.proofs.Labels.{label_there}
@@ -146,6 +147,8 @@ module _ (t : Listing) (seed : ℕ) (s : Machine) where
   command_decides (Some (commands.Start count)) before = steps before (start_prog s s.primed count) (start_decides s.primed count)
   command_decides (Some (commands.Rmult values)) before =
       prog_gives (tt, tt, λ seven. (let set = set_first before values in (set.1 ∙ seven, set.0)))
+  command_decides (Some commands.Reset) before = steps before (gives moves.Reset) (keeps_gives tt)
+  command_decides (Some commands.Clear) before = steps before (gives moves.Clear) (keeps_gives tt)
 
   -- blocks
   generate_decides : (x : Transaction) (id : ℕ) (mean range limit priority : Option Term) → IsBlockId t id →
@@ -442,6 +445,17 @@ module _ (t : Listing) (seed : ℕ) (s : Machine) where
       (λ key h. keeps_bind (leaving_decides q count (length (user_chain_at s.linked key).members))
       (λ n there. unlink_count_decides id key label n there named))
 
+  -- TABULATE
+  tabulate_with_decides : (q : Asker) (id : ℕ) (key : Key) (argument : Option Term) → IsBlockId t id →
+      Decides t seed s (IsDecided t s) (tabulate_with s q id key argument)
+  tabulate_with_decides q id key argument named = keeps_bind (value_there_decides t seed s q argument) (λ v h. keeps_gives (named, tt, tt))
+
+  tabulate_decides : (q : Asker) (id : ℕ) (table : Option Term) → IsBlockId t id → Decides t seed s (IsDecided t s) (tabulate_prog s q id table)
+  tabulate_decides q id (Some (Table name)) named = keeps_asks (items.Named asking.Table name) refl (λ numbered there. tt)
+      (tabulate_with_decides q id (keys.Defined name) (ask t seed (items.Named asking.Table name)) named)
+  tabulate_decides q id (Some term) named = keeps_ends
+  tabulate_decides q id None named = keeps_ends
+
   block_decides : (x : Transaction) (id : ℕ) (b : Block) (verb : BlockVerb) → s.active ≡ Some x → IsBlockId t id →
       Decides t seed s (IsDecided t s) (block_prog s x id b verb)
   block_decides x id b blocks.Generate is named = generate_decides x id (operand b A) (operand b B) (operand b D) (operand b E) named
@@ -461,12 +475,12 @@ module _ (t : Listing) (seed : ℕ) (s : Machine) where
   block_decides x id b blocks.Split is named = split_decides (for_one s x) id (operand b A) (operand b B) named
   block_decides x id b blocks.Link is named = link_decides (for_one s x) id (operand b A) (operand b B) named
   block_decides x id b blocks.Unlink is named = unlink_decides (for_one s x) id (operand b A) (operand b B) (operand b C) named
+  block_decides x id b blocks.Tabulate is named = tabulate_decides (for_one s x) id (operand b A) named
   block_decides x id b blocks.Mark is named = keeps_gives (named, tt, tt)
   block_decides x id b blocks.Priority is named = priority_decides (for_one s x) id (operand b A) named
   block_decides x id b blocks.Buffer is named = keeps_gives (named, tt, refl)
   block_decides x id b blocks.Assign is named = assign_decides (for_one s x) id b.auxiliary (operand b A) (operand b B) named
   block_decides x id b blocks.Loop is named = loop_decides (for_one s x) id (operand b A) (operand b B) named
-  block_decides x id b verb is named = keeps_ends
 
   -- attempts: an id that is no block ends the run
   try_block : (x : Transaction) (id : ℕ) (block : Option Block) → s.active ≡ Some x → block_at t id ≡ block →

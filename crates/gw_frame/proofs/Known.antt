@@ -156,6 +156,8 @@ AreWatched t read = AreNumbered t.lines → AllByRecursion (WatchedNames t) read
 abbrev pub IsDecided : Listing → Machine → Move → Type 0
 IsDecided t s (moves.Start count arrivals) = AreFirst t s arrivals
 IsDecided t s moves.Command = Unit {0}
+IsDecided t s moves.Reset = Unit {0}
+IsDecided t s moves.Clear = Unit {0}
 IsDecided t s (moves.Enter id change fate) = IsBlockId t id × IsDecidedChange t s change × IsDecidedFate s change fate
 IsDecided t s (moves.Refuse id key units) = IsBlockId t id × IsRefused t s key units
 IsDecided t s (moves.Watch read) = AreWatched t read
