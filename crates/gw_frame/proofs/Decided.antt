@@ -27,7 +27,7 @@ use Rattle.gw_meaning.specs.declared.moves.Move.TheVariants as moves
 use Rattle.gw_meaning.specs.declared.moves.Change.TheVariants as changes
 use Rattle.gw_meaning.specs.declared.watched.Watched.{Watched}
 use Rattle.gw_meaning.specs.declared.watched.Watched.TheVariants as watched
-use Rattle.gw_meaning.specs.Listing.{Listing, capacity_at, block_at, label_at, generates_in, is_generate}
+use Rattle.gw_meaning.specs.Listing.{Listing, command_at, capacity_at, block_at, label_at, generates_in, is_generate}
 use Rattle.gw_meaning.specs.Numbers.{AreNumbered}
 use Rattle.gw_names.specs.declared.key.Key.{Key}
 use Rattle.gw_entities.specs.Comings.{came}
@@ -142,13 +142,14 @@ module _ (t : Listing) (seed : ℕ) (s : Machine) where
         (let h = (decides.from before).runs r is in (h.0, h.1, λ seven. (let k = h.2 seven in (k.seven, k.seed))));
   }
 
-  command_decides : (command : Option Command) (before : List Stream) → ProgKeeps t seed (IsStepped before) (command_prog s command before)
-  command_decides None before = prog_ends
-  command_decides (Some (commands.Start count)) before = steps before (start_prog s s.primed count) (start_decides s.primed count)
-  command_decides (Some (commands.Rmult values)) before =
+  command_decides : (command : Option Command) (before : List Stream) → s.remaining ≡ 0 → command_at t (raised s.commands) ≡ command →
+      ProgKeeps t seed (IsStepped before) (command_prog s command before)
+  command_decides None before idle next = prog_ends
+  command_decides (Some (commands.Start count)) before idle next = steps before (start_prog s s.primed count) (start_decides s.primed count)
+  command_decides (Some (commands.Rmult values)) before idle next =
       prog_gives (tt, tt, λ seven. (let set = set_first before values in (set.1 ∙ seven, set.0)))
-  command_decides (Some commands.Reset) before = steps before (gives moves.Reset) (keeps_gives tt)
-  command_decides (Some commands.Clear) before = steps before (gives moves.Clear) (keeps_gives tt)
+  command_decides (Some commands.Reset) before idle next = steps before (gives moves.Reset) (keeps_gives (record { idle = idle; next = next }))
+  command_decides (Some commands.Clear) before idle next = steps before (gives moves.Clear) (keeps_gives (record { idle = idle; next = next }))
 
   -- blocks
   generate_decides : (x : Transaction) (id : ℕ) (mean range limit priority : Option Term) → IsBlockId t id →
@@ -522,16 +523,16 @@ module _ (t : Listing) (seed : ℕ) (s : Machine) where
   scan_decides None is = pick_decides s.current is
   scan_decides (Some x) is = attempt_decides x x.destination is
 
-  move_decides : (remaining : ℕ) (before : List Stream) → ProgKeeps t seed (IsStepped before) (move_prog s remaining before)
-  move_decides zero before = record {
+  move_decides : (remaining : ℕ) (before : List Stream) → s.remaining ≡ remaining → ProgKeeps t seed (IsStepped before) (move_prog s remaining before)
+  move_decides zero before idle = record {
     runs = λ r is.
-        (let h = (command_decides (ask t seed (items.Cmd (raised s.commands))) before).runs r is in (h.0, ((λ numbered named. tt), h.1), h.2));
+        (let h = (command_decides (command_at t (raised s.commands)) before idle refl).runs r is in (h.0, ((λ numbered named. tt), h.1), h.2));
   }
-  move_decides (suc n) before = steps before (scan_prog s s.active) (scan_decides s.active refl)
+  move_decides (suc n) before some = steps before (scan_prog s s.active) (scan_decides s.active refl)
 
   -- the move of a step, from any streams
   pub move_is_decided : (before : List Stream) (d : Move × List Stream) → result_of t seed (move_prog s s.remaining before) ≡ Ok d → IsDecided t s d.0
-  move_is_decided before d is = ((move_decides s.remaining before).runs d is).0
+  move_is_decided before d is = ((move_decides s.remaining before refl).runs d is).0
 
   -- the decision
   pub is_decided : (d : Move × List Stream) → result_of t seed (decide s) ≡ Ok d → IsDecided t s d.0
@@ -539,5 +540,5 @@ module _ (t : Listing) (seed : ℕ) (s : Machine) where
 
   -- the step
   pub step_decides : ProgKeeps t seed (λ v is. IsAfter t s v × AllByRecursion (IsRead t s) is × ReadsSeed s.streams v.streams is) (step_prog s)
-  step_decides = prog_bind (move_decides s.remaining s.streams)
+  step_decides = prog_bind (move_decides s.remaining s.streams refl)
       (λ d is h. prog_gives (record { move = d.0; streams = d.1; is_decided = h.0; is = refl }, rw append-nil h.1, rw append-nil h.2))
