@@ -1,4 +1,5 @@
 // Laws of every run from zero.
+ghost use Rattle.gw_laws.specs.Anew.{ClearBeginsAnew, ResetMovesNobody, ResetCountsAnew, TabulateAddsOneValue};
 ghost use Rattle.gw_laws.specs.Chain.{ChainIsInOrder, ChainIsFirstInFirstOut};
 ghost use Rattle.gw_laws.specs.Chain.{FirstBecomesActive, TheFirstIsPicked, AllOfATimeCome};
 ghost use Rattle.gw_laws.specs.Chain.{FutureKeepsItsOrder, NobodyLeavesBeforeHisTime};
@@ -244,4 +245,18 @@ pub fn each_verb_is_evaluated()
 /// of no other one.
 pub fn items_are_told_apart()
     ensures { AnItemIsItself }
+{}
+
+/// Right behind a CLEAR the state is that before the first step, but for the streams and what is done of the commands.
+/// Behind a RESET each transaction stands where it stood, as it was; owners, contents, savevalues, switches, the clock,
+/// the next number and the streams stay; and entries, captures, the values of tables and the relative clock begin at 0.
+pub fn runs_begin_anew()
+    ensures cleared { ClearBeginsAnew }
+    ensures stays { ResetMovesNobody }
+    ensures counts { ResetCountsAnew }
+{}
+
+/// A TABULATE brings one value to its table, behind the others, and changes no other entity.
+pub fn a_table_takes_one_value()
+    ensures { TabulateAddsOneValue }
 {}
