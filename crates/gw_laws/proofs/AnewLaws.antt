@@ -10,6 +10,7 @@ use Rattle.gw_meaning.specs.declared.entity_change.Deed.TheVariants as deeds
 use Rattle.gw_meaning.specs.declared.moves.Change.TheVariants as changes
 use Rattle.gw_meaning.specs.declared.moves.Move.{Move}
 use Rattle.gw_meaning.specs.declared.moves.Move.TheVariants as moves
+use Rattle.gw_meaning.specs.declared.moves.Fate.TheVariants as fates
 use Rattle.gw_meaning.specs.declared.statement.Command.{Command}
 use Rattle.gw_meaning.specs.declared.statement.Command.TheVariants as commands
 use Rattle.gw_meaning.specs.declared.transaction.Count.{Count}
@@ -24,7 +25,6 @@ use Rattle.gw_laws.specs.Anew.{IsNextCommand, ClearBeginsAnew, NobodyMoved, Rese
 use Rattle.gw_laws.proofs.Anew.{all_look, chain_members, chain_entries, owner_reset, queue_reset, storage_reset, count_reset}
 use Rattle.gw_laws.proofs.Entries.{at_with}
 use Rattle.gw_laws.proofs.EndLaws.{goes_on}
-use Rattle.gw_laws.proofs.GateLaws.{entering_entities}
 use Rattle.gw_laws.proofs.UserChainLaws.{same_behind, who_is_active}
 use Rattle.gw_laws.proofs.Waking.{nobody_wakes}
 
@@ -107,14 +107,11 @@ added key value clock number e =
 pub tabulate_adds_one_value : TabulateAddsOneValue
 tabulate_adds_one_value t seed s v m streams key value goes is tabulates =
     let id = tabulates.0 in
-    let fate = tabulates.1 in
     let change = changes.Entity (key, deeds.Table value) in
-    let who = who_is_active t seed s m streams id change fate goes tabulates.2 in
-    let f : Transaction → Machine = λ x. entering s x id change fate in
-    let there : (moved s (moves.Enter id change fate)).entities ≡ done key (deeds.Table value) s.clock who.0.number s.entities =
-    ap (λ o. (with_active o f s).entities) who.1 ∙ entering_entities s who.0 id change fate in
-    let whole : (moved s m).entities ≡ done key (deeds.Table value) s.clock who.0.number s.entities =
-    ap (λ n. (moved s n).entities) tabulates.2 ∙ there in
-    let behind : v.entities ≡ done key (deeds.Table value) s.clock who.0.number s.entities =
-    ap (λ (w : Machine). w.entities) (sym (same_behind t seed s v m streams goes is)) ∙ whole in
-    subst (OneValueMore key value s.entities) (sym behind) (added key value s.clock who.0.number s.entities)
+    let who = who_is_active t seed s m streams id change fates.Active goes tabulates.1 in
+    let P : Machine → Type 0 = λ w. OneValueMore key value s.entities w.entities × (w.linked ≡ s.linked) in
+    let f : Transaction → Machine = λ x. entering s x id change fates.Active in
+    let here : P (f who.0) = (added key value s.clock who.0.number s.entities, refl) in
+    let there : P (moved s (moves.Enter id change fates.Active)) = subst (λ o. P (with_active o f s)) (sym who.1) here in
+    let behind : P (decided s m streams) = subst (λ n. P (moved s n)) (sym tabulates.1) there in
+    subst P (same_behind t seed s v m streams goes is) behind

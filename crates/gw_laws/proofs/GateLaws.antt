@@ -182,7 +182,7 @@ done_same kinds.UserChain key other deed clock number e apart = refl
 done_same kinds.Table key other (deeds.Table value) clock number e apart = other_stays [] e.0.tables other _ key apart
 done_same kinds.Table key other deed clock number e apart = refl
 
-pub entering_entities : (s : Machine) (x : Transaction) (id : ℕ) (change : Change) (fate : Fate) →
+entering_entities : (s : Machine) (x : Transaction) (id : ℕ) (change : Change) (fate : Fate) →
     (entering s x id change fate).entities ≡ touched change s.clock x.number s.entities
 entering_entities s x id change fate =
     let e = touched change s.clock x.number s.entities in

@@ -44,11 +44,11 @@ use Rattle.gw_meaning.specs.declared.watched.Watched.{Watched}
 use Rattle.gw_meaning.specs.declared.watched.Watched.TheVariants as watched
 use Rattle.gw_meaning.specs.Statements.{A, B, C, operand}
 use Rattle.gw_meaning.specs.Listing.{Listing, block_at, label_at, number_at, capacity_at}
-use Rattle.gw_meaning.specs.Entities.{facility_at, line_at, store_at, savevalue_at, switch_at}
+use Rattle.gw_meaning.specs.Entities.{facility_at, line_at, store_at, savevalue_at, switch_at, table_at}
 use Rattle.gw_meaning.specs.Watching.{Waiter, same_watched, is_watched, with_watched, with_all_watched, transactions_of}
-use Rattle.gw_meaning.specs.Machine.{Machine, count_at, delay_at, user_chain_at}
+use Rattle.gw_meaning.specs.Machine.{Machine, UserChain, count_at, delay_at, user_chain_at}
 use Rattle.gw_meaning.specs.Questions.{Answer, ask, result_of}
-use Rattle.gw_meaning.specs.Evaluation.{Eval, gives, ends_with, asks, ◌~>◌, stops_if, in_range, amount, numbered, named, subject_prog, defined_prog, units_left, left_prog, counted, block_count, owned, one_if, value_held, parameter_value, value_there, entity_value, attribute_prog, reply_prog, evaluated, entity_watched, defined_watched, counts_of, counts_watched, watched_prog, watched_by, traced, value_traced}
+use Rattle.gw_meaning.specs.Evaluation.{Eval, gives, ends_with, asks, ◌~>◌, stops_if, in_range, amount, numbered, named, subject_prog, defined_prog, units_left, left_prog, counted, block_count, owned, one_if, value_held, parameter_value, value_there, entity_value, table_value, attribute_prog, reply_prog, evaluated, entity_watched, defined_watched, counts_of, counts_watched, watched_prog, watched_by, traced, value_traced}
 use Rattle.gw_meaning.specs.Changes.{placed, all_copied, written_in, Making, made, maybe_made, all_made, making_of, deed_shares, let_in, one_let_in, some_let_in, changed, entering, refused, watching, with_active, moved, crossing, crossings, written_by, written_where, written, is_woken, decided}
 use Rattle.gw_meaning.specs.Step.{for_one, holds, test_prog, block_prog, meet_prog, run}
 use Rattle.gw_meaning.proofs.Traces as alone
@@ -217,6 +217,11 @@ module _ (resets : Bool) (t : Listing) (seed : ℕ) where
     steady_stored f (subjects.Number n) = steady_ends (ends.Error Range)
     steady_stored f (subjects.Name name) = steady_range (pos (f (store_at s.entities (keys.Defined name))))
 
+    steady_table : (of : Subject) → IsSteady (defined_prog of (λ key. table_value s key))
+    steady_table subjects.Own = steady_ends (ends.Error Range)
+    steady_table (subjects.Number n) = steady_ends (ends.Error Range)
+    steady_table (subjects.Name name) = steady_range (pos (length (table_at s.entities (keys.Defined name))))
+
     steady_left : (of : Subject) → IsSteady (left_prog s of)
     steady_left subjects.Own = steady_ends (ends.Error Range)
     steady_left (subjects.Number n) = steady_ends (ends.Error Range)
@@ -251,6 +256,8 @@ module _ (resets : Bool) (t : Listing) (seed : ℕ) where
     steady_attribute class.X of is = steady_entity class.X of
     steady_attribute class.Ls of is = steady_entity class.Ls of
     steady_attribute class.Ch of is = steady_entity class.Ch of
+    steady_attribute class.Cc of is = steady_entity class.Cc of
+    steady_attribute class.Tc of is = steady_table of
     steady_attribute class.P of is =
         steady_bind (subject_prog of) (λ key. parameter_value s q key) (steady_subject of)
         (λ key. steady_stops (not q.is_transaction) NoParameter _ (steady_held (parameter_at s.parameters q.number key)))
@@ -427,6 +434,17 @@ module _ (resets : Bool) (t : Listing) (seed : ℕ) where
     stored_replies f (subjects.Name name) more reply same reads all is =
         subst (λ p. Comes p reply) (sym (ap (λ (n : ℕ). amount n) (same name more reads all))) is
 
+    table_replies : (of : Subject) (more : List Watched) (reply : ℤ) → resets ≡ false → Comes (defined_watched kinds.Table of) more →
+        AllIn read more →
+        Comes (defined_prog of (λ key. table_value s key)) reply → Comes (defined_prog of (λ key. table_value u key)) reply
+    table_replies subjects.Own more reply never reads all is = λ streams. absurd (let no = is [] in cc)
+    table_replies (subjects.Number n) more reply never reads all is = λ streams. absurd (let no = is [] in cc)
+    table_replies (subjects.Name name) more reply never reads all is =
+        let one' : watched.Entity kinds.Table (keys.Defined name) ∷ [] ≡ more = given_is _ more (reads []) in
+        let there : AllIn read (watched.Entity kinds.Table (keys.Defined name) ∷ []) = subst (AllIn read) (sym one') all in
+        let same = stays.counted never kinds.Table (keys.Defined name) there.0 in
+        subst (λ p. Comes p reply) (sym (ap (λ (values : List ℤ). amount (length values)) same)) is
+
     left_replies : (of : Subject) (more : List Watched) (reply : ℤ) → Comes (defined_watched kinds.Storage of) more → AllIn read more →
         Comes (left_prog s of) reply → Comes (left_prog u of) reply
     left_replies subjects.Own more reply reads all is = λ streams. absurd (let no = is [] in cc)
@@ -494,6 +512,11 @@ module _ (resets : Bool) (t : Listing) (seed : ℕ) where
     attribute_replies class.Ch of more reply lasting reads all is =
         entity_replies kinds.UserChain (entity_value s class.Ch) (entity_value u class.Ch) of more reply reads all
         (λ key same. ap (λ (xs : List Transaction). amount (length xs)) (sym same)) is
+    attribute_replies class.Cc of more reply lasting reads all is =
+        counted_entity class.Cc refl lasting kinds.UserChain (entity_value s class.Cc) (entity_value u class.Cc) of more reply reads all
+        (λ key same. ap (λ (c : UserChain). amount c.entries) (sym same)) is
+    attribute_replies class.Tc of more reply lasting reads all is =
+        table_replies of more reply (not_through resets class.Tc refl lasting) reads all is
     attribute_replies class.P of more reply lasting reads all is =
         let parts = bind_parts (subject_prog of) (λ key. parameter_value s (for_one s x) key) [] (reply, []) (is []) in
         let key = parts.0.0 in

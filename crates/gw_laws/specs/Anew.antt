@@ -6,7 +6,7 @@ use Rattle.gw_meaning.specs.declared.statement.Command.{Command}
 use Rattle.gw_meaning.specs.declared.statement.Command.TheVariants as commands
 use Rattle.gw_meaning.specs.declared.entity_change.Deed.TheVariants as deeds
 use Rattle.gw_meaning.specs.declared.moves.Change.TheVariants as changes
-use Rattle.gw_meaning.specs.declared.moves.Fate.{Fate}
+use Rattle.gw_meaning.specs.declared.moves.Fate.TheVariants as fates
 use Rattle.gw_meaning.specs.declared.moves.Move.{Move}
 use Rattle.gw_meaning.specs.declared.moves.Move.TheVariants as moves
 use Rattle.gw_meaning.specs.Entities.{Entities, facility_at, line_at, store_at, table_at}
@@ -44,9 +44,9 @@ ClearBeginsAnew =
     (t : Listing) (seed : ℕ) (s v : Machine) → IsNextCommand t s commands.Clear → step t seed s ≡ Ok v →
     v ≡ record zero_state { commands = raised s.commands; complete = s.complete; streams = s.streams }
 
--- behind a RESET each transaction stands where it stood, as it was, and each facility has the owner, each queue, storage
--- and block the content, and each user chain the transactions that it had; savevalues, switches, the clock, the next
--- number and the streams stay
+-- a RESET moves nobody: each transaction stands where it stood, as it was, and has what it had of its own; each facility
+-- has the owner, each queue, storage and block the content, and each user chain the transactions that it had; savevalues,
+-- switches, the clock, the numbering and the streams stay
 pub record NobodyMoved (s v : Machine) : Type 0 where
   pub clock : v.clock ≡ s.clock
   pub next : v.next ≡ s.next
@@ -87,12 +87,11 @@ abbrev pub ResetCountsAnew : Type 0
 ResetCountsAnew =
     (t : Listing) (seed : ℕ) (s v : Machine) → IsNextCommand t s commands.Reset → step t seed s ≡ Ok v → IsCountedAnew v
 
--- a step's move is a TABULATE: a block is entered that brings one more value to a table
+-- a step's move is a TABULATE, which brings one value to a table
 abbrev pub IsTabulate : Key → ℤ → Move → Type 0
-IsTabulate key value m =
-    (id : ℕ) × (fate : Fate) × (m ≡ moves.Enter id (changes.Entity (key, deeds.Table value)) fate)
+IsTabulate key value m = (id : ℕ) × (m ≡ moves.Enter id (changes.Entity (key, deeds.Table value)) fates.Active)
 
--- it stands behind the others of its table, and no other entity changes
+-- one value comes to a table, behind its others, and no other entity changes
 pub record OneValueMore (key : Key) (value : ℤ) (before after : Entities) : Type 0 where
   pub here : table_at after key ≡ table_at before key ++ value ∷ []
   pub elsewhere : (other : Key) → other ≢ key → table_at after other ≡ table_at before other
@@ -107,4 +106,4 @@ abbrev pub TabulateAddsOneValue : Type 0
 TabulateAddsOneValue =
     (t : Listing) (seed : ℕ) (s v : Machine) (m : Move) (streams : List Stream) (key : Key) (value : ℤ) →
     result_of t seed (decide s) ≡ Ok (m, streams) → step t seed s ≡ Ok v → IsTabulate key value m →
-    OneValueMore key value s.entities v.entities
+    OneValueMore key value s.entities v.entities × (v.linked ≡ s.linked)

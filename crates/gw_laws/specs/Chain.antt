@@ -80,7 +80,7 @@ FutureKeepsItsOrder =
     run t seed n ≡ Ok s → run t seed (suc n) ≡ Ok v →
     KeepPlaces (numbers_coming s.future) (numbers_coming v.future)
 
--- in a step that is no CLEAR, nobody leaves the future chain but at his time
+-- nobody leaves the future chain but at his time, unless a CLEAR removes all; a RESET moves nobody
 abbrev pub NobodyLeavesBeforeHisTime : Type 0
 NobodyLeavesBeforeHisTime =
     (t : Listing) (seed n : ℕ) (s v : Machine) → run t seed n ≡ Ok s → run t seed (suc n) ≡ Ok v → IsNoClear t s →

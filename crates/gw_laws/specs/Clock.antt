@@ -7,7 +7,7 @@ use Rattle.gw_meaning.specs.declared.statement.Command.TheVariants as commands
 use Rattle.gw_meaning.specs.Step.{step, run}
 use Rattle.gw_laws.specs.Anew.{NoneBetween}
 
--- it never goes back where no CLEAR is done, which sets it to 0; a RESET leaves it
+-- it never goes back, unless a CLEAR sets it to 0; a RESET leaves it
 abbrev pub ClockNeverGoesBack : Type 0
 ClockNeverGoesBack =
     (t : Listing) (seed m n : ℕ) (s v : Machine) → m ≤ n → run t seed m ≡ Ok s → run t seed n ≡ Ok v →

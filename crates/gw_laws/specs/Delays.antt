@@ -51,7 +51,7 @@ WhoWaitsIsBound =
 abbrev pub IsLetIn : Transaction → Machine → Type 0
 IsLetIn x v = (id : ℕ) × (x.destination ≡ Some id) × Contains v.current (placed x id)
 
--- in a step that is no CLEAR, whoever waits goes on waiting or is let in
+-- in a step, whoever waits goes on waiting or is let in, unless a CLEAR removes all; a RESET moves nobody
 abbrev pub WhoLeavesIsLetIn : Type 0
 WhoLeavesIsLetIn =
     (t : Listing) (seed n : ℕ) (s v : Machine) → run t seed n ≡ Ok s → run t seed (suc n) ≡ Ok v → IsNoClear t s →
@@ -68,7 +68,7 @@ pub record TakesOver (key : Key) (s v : Machine) : Type 0 where
   pub stands : Contains v.current (placed first block)
   pub owns : (facility_at v.entities key).owner ≡ Some first.number
 
--- so it is where the chain of a facility gets shorter in a step that is no CLEAR
+-- so it is where the chain of a facility gets shorter in a step, unless a CLEAR empties it; a RESET moves nobody
 abbrev pub FirstTakesOver : Type 0
 FirstTakesOver =
     (t : Listing) (seed n : ℕ) (s v : Machine) → run t seed n ≡ Ok s → run t seed (suc n) ≡ Ok v → IsNoClear t s →

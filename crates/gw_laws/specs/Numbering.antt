@@ -27,15 +27,15 @@ NumbersAreGiven =
 abbrev pub lives : Machine → ℕ → Bool
 lives s number = list_any (λ (x : Transaction). x.number == number) (living s)
 
--- no number is given twice where no CLEAR is done between, with which the numbering begins at 1 again (a RESET leaves
--- it): one that was given, and whose transaction is gone, does not come back
+-- no number is given twice: one that was given, and whose transaction is gone, does not come back, unless a CLEAR lets
+-- the numbering begin at 1 again; a RESET leaves it
 abbrev pub NumbersAreGivenOnce : Type 0
 NumbersAreGivenOnce =
     (t : Listing) (seed m n : ℕ) (s v : Machine) → Well t → m ≤ n → n ≤ t.limit →
     run t seed m ≡ Ok s → run t seed n ≡ Ok v → NoneBetween commands.Clear t seed m n →
     (number : ℕ) → number < s.next → lives s number ≡ false → lives v number ≡ false
 
--- in a step that is no CLEAR, no transaction but the active one ceases to live
+-- in a step no transaction but the active one ceases to live, unless a CLEAR removes all; a RESET removes nobody
 abbrev pub OnlyTheActiveGoes : Type 0
 OnlyTheActiveGoes =
     (t : Listing) (seed n : ℕ) (s v : Machine) → run t seed n ≡ Ok s → run t seed (suc n) ≡ Ok v → IsNoClear t s →

@@ -22,9 +22,9 @@ ParametersAreOfTheLiving =
     (t : Listing) (seed n : ℕ) (s : Machine) → run t seed n ≡ Ok s →
     (number : ℕ) → has_parameters s number ≡ true → lives s number ≡ true
 
--- in a step that is no CLEAR, no parameters change but those of the active transaction: those that are kept under any
--- other number that was given before it are the same, none more, none fewer and none with another value (a copy that the step makes has
--- those of the active transaction: Copies)
+-- in a step no parameters change but those of the active transaction, unless a CLEAR forgets all (a RESET leaves them):
+-- those that are kept under any other number that was given before it are the same, none more, none fewer and none with
+-- another value (a copy that the step makes has those of the active transaction: Copies)
 abbrev pub ParametersAreOnesOwn : Type 0
 ParametersAreOnesOwn =
     (t : Listing) (seed n : ℕ) (s v : Machine) → run t seed n ≡ Ok s → run t seed (suc n) ≡ Ok v → IsNoClear t s →

@@ -79,7 +79,7 @@ UserChainsChangeByLinkAndUnlink =
     ⊎ (OneCame s m key (chain_of s key) (chain_of v key)
     ⊎ (CountedAnew m (chain_of s key) (chain_of v key) ⊎ Emptied m (chain_of v key))))
 
--- so where fewer are on it, the step was an UNLINK of it, if it was no CLEAR
+-- so where fewer are on it, the step was an UNLINK of it, unless it was a CLEAR
 abbrev pub FewerByUnlinkAlone : Type 0
 FewerByUnlinkAlone =
     (t : Listing) (seed : ℕ) (s v : Machine) (m : Move) (streams : List Stream) →
@@ -87,8 +87,8 @@ FewerByUnlinkAlone =
     (key : Key) → length (on_chain v key) < length (on_chain s key) →
     TookFromTheFront m key (chain_of s key) (chain_of v key)
 
--- in a step that is no CLEAR, whoever is on a user chain stays on it, or an UNLINK of it sends him to its block: then he
--- is on the current chain
+-- whoever is on a user chain stays on it, or an UNLINK of it sends him to its block: then he is on the current chain. So
+-- it is unless a CLEAR removes all; a RESET moves nobody.
 abbrev pub WhoLeavesIsUnlinked : Type 0
 WhoLeavesIsUnlinked =
     (t : Listing) (seed : ℕ) (s v : Machine) (m : Move) (streams : List Stream) →

@@ -64,15 +64,16 @@ WaitersKeepTheirOrder =
     (stays : Waiter → Bool) × (come : List Waiter) × (v.retry ≡ filter stays s.retry ++ come)
     × IsAtMostTheActive s.active come
 
--- of two of one priority whom a step wakes that is no CLEAR, the one who came first stands in front
+-- of two of one priority whom a step wakes, the one who came first stands in front (a CLEAR wakes nobody: it removes
+-- all; and a RESET wakes nobody)
 abbrev pub WokenInOrder : Type 0
 WokenInOrder =
     (t : Listing) (seed n : ℕ) (s v : Machine) → run t seed n ≡ Ok s → run t seed (suc n) ≡ Ok v → IsNoClear t s →
     (w u : Waiter) → StandsInFront s.retry w u → w.transaction.priority ≡ u.transaction.priority →
     (Waits v w → ⊥) → (Waits v u → ⊥) → StandsInFront v.current w.transaction u.transaction
 
--- in a step that is no CLEAR, whoever read something that the step writes wakes, and is on the current chain then;
--- whoever did not, waits on
+-- whoever read something that the step writes wakes, and is on the current chain then; whoever did not, waits on, unless
+-- a CLEAR removes all
 abbrev pub WokenByWhatIsWritten : Type 0
 WokenByWhatIsWritten =
     (t : Listing) (seed : ℕ) (s v : Machine) (w : Waiter) (m : Move) (streams : List Stream) →
@@ -87,8 +88,8 @@ WhoWaitsIsAtATestOrAGate =
     (t : Listing) (seed n : ℕ) (s : Machine) → run t seed n ≡ Ok s →
     (w : Waiter) → Waits s w → IsAtATestOrAGate t w.transaction
 
--- where no transaction is active, as where the clock moves on, one is picked or a command is done, nobody wakes. (A
--- CLEAR, behind which nobody waits, is another step.)
+-- where no transaction is active, as where the clock moves on, one is picked or a command is done, as a RESET, nobody
+-- wakes: all wait on, unless a CLEAR removes them
 abbrev pub NobodyWakesWhereNoneIsActive : Type 0
 NobodyWakesWhereNoneIsActive =
     (t : Listing) (seed : ℕ) (s v : Machine) → step t seed s ≡ Ok v → IsNoClear t s → s.active ≡ None → v.retry ≡ s.retry
@@ -112,7 +113,7 @@ abbrev pub IsEntry : Move → Type 0
 IsEntry (moves.Enter id change fate) = Unit {0}
 IsEntry move = ⊥
 
--- and so wherever no block is entered and no CLEAR is done
+-- and so wherever no block is entered, unless a CLEAR removes all
 abbrev pub NobodyWakesUnlessABlockIsEntered : Type 0
 NobodyWakesUnlessABlockIsEntered =
     (t : Listing) (seed : ℕ) (s v : Machine) (m : Move) (streams : List Stream) →
@@ -154,7 +155,7 @@ abbrev pub IsChanged : Machine → Machine → Move → Watched → Type 0
 IsChanged s v (moves.Enter id change fate) w = IsChangedBy s v id change fate w
 IsChanged s v move w = ⊥
 
--- whoever wakes, in a step that is no CLEAR, read something that the entry of a block changed
+-- whoever wakes read something that the entry of a block changed (whom a CLEAR removes does not wake)
 abbrev pub WhoWakesReadWhatChanged : Type 0
 WhoWakesReadWhatChanged =
     (t : Listing) (seed : ℕ) (s v : Machine) (w : Waiter) (m : Move) (streams : List Stream) →
@@ -189,8 +190,7 @@ NobodyWaitsAtAnOpenGate =
     is_open s condition key (capacity_of t key) ≡ false
 
 -- what stays as it is until a block writes it, but for a RESET: owners, contents, counts, savevalues and switches, who is
--- on a user chain, and what a transaction that waits has of its own. (The entries of a user chain and the values of a
--- table are left out.)
+-- on a user chain, and what a transaction that waits has of its own
 abbrev pub is_lasting : Class → Bool
 is_lasting class.F = true
 is_lasting class.Fc = true
@@ -207,12 +207,14 @@ is_lasting class.W = true
 is_lasting class.X = true
 is_lasting class.Ls = true
 is_lasting class.Ch = true
+is_lasting class.Cc = true
+is_lasting class.Tc = true
 is_lasting class.P = true
 is_lasting class.Pr = true
 is_lasting class.Xn1 = true
 is_lasting class = false
 
--- what a RESET leaves of that as it is. The others it counts anew, and wakes nobody.
+-- what a RESET leaves of that as it is; the others it counts anew, and wakes nobody
 abbrev pub outlasts_reset : Class → Bool
 outlasts_reset class.Fc = false
 outlasts_reset class.Sc = false
@@ -221,9 +223,11 @@ outlasts_reset class.Qc = false
 outlasts_reset class.Qm = false
 outlasts_reset class.Qz = false
 outlasts_reset class.N = false
+outlasts_reset class.Cc = false
+outlasts_reset class.Tc = false
 outlasts_reset class = true
 
--- what lasts where a RESET may have been done, and where none was
+-- what lasts where RESETs may be done, and where none is
 abbrev pub lasts_through : Bool → Class → Bool
 lasts_through true class = is_lasting class && outlasts_reset class
 lasts_through false class = is_lasting class
@@ -252,7 +256,7 @@ Lasts resets t seed s q term x =
     ReadsWhatLasts resets t seed s q (value_of term) × ComesTo t seed (evaluated s q (value_of term)) x
 
 -- nobody waits at a TEST whose relation holds of two values that read nothing but what lasts: where no RESET was done up
--- to there, what it would count anew lasts, too. (Within the step limit, since numbers tell transactions apart there.)
+-- to there, what it counts anew lasts, too. (Within the step limit, since numbers tell transactions apart there.)
 abbrev pub NobodyWaitsAtATestThatHolds : Type 0
 NobodyWaitsAtATestThatHolds =
     (resets : Bool) (t : Listing) (seed n : ℕ) (s : Machine) → Well t → n ≤ t.limit → run t seed n ≡ Ok s →

@@ -38,7 +38,7 @@ ghost use Rattle.gw_laws.specs.Waiters.{NobodyWaitsAtAnOpenGate, NobodyWaitsAtAT
 /// stay keep their order, and those that come stand behind them. Whoever becomes active was the first of all, and where
 /// none is active while a START is under way, the first becomes so. Where the clock moves on, all transactions of its
 /// new time come, in the order in which they came onto the future chain. On that chain, whoever stays in a step keeps
-/// his place, and whoever comes stands behind. Nobody leaves it but at his time.
+/// his place, and whoever comes stands behind. Nobody leaves it but at his time, unless a CLEAR removes all.
 pub fn chain_in_order()
     ensures order { ChainIsInOrder }
     ensures turn { ChainIsFirstInFirstOut }
@@ -52,7 +52,7 @@ pub fn chain_in_order()
 /// Each delay chain is in order of priority. Of one priority, those that go on waiting keep their places in a step, and
 /// those that come stand behind them. Whoever waits has a block to go to. Whoever waits no longer stands on the current
 /// chain, in that block. At a facility, the first leaves first: where its chain gets shorter, its first transaction has
-/// left it, and owns the facility. Nobody waits at a free facility.
+/// left it, and owns the facility. So it is where no CLEAR removes all. Nobody waits at a free facility.
 pub fn delays_in_order()
     ensures order { DelaysAreInOrder }
     ensures turn { DelaysAreFirstInFirstOut }
@@ -65,8 +65,8 @@ pub fn delays_in_order()
 
 /// Whoever waits at a TEST or a GATE for a change keeps his place in a step, and at most the one who was active comes,
 /// as it was, behind the others. Whoever read something that the step writes wakes, and is on the current chain then,
-/// and whoever did not, waits on. Of two of one priority whom a step wakes, the one who came first stands in front. The
-/// block to which whoever waits so goes is a TEST or a GATE without a label.
+/// and whoever did not, waits on, unless a CLEAR removes all. Of two of one priority whom a step wakes, the one who came
+/// first stands in front. The block to which whoever waits so goes is a TEST or a GATE without a label.
 pub fn waiters_wake_in_order()
     ensures places { WaitersKeepTheirOrder }
     ensures turn { WokenInOrder }
@@ -74,10 +74,11 @@ pub fn waiters_wake_in_order()
     ensures there { WhoWaitsIsAtATestOrAGate }
 {}
 
-/// In a step a user chain stays as it is, an UNLINK of it takes some from its front, or a LINK to it brings the one who
-/// was active, to the back by FIFO and to the front by LIFO, and counts him. So where fewer are on it, the step was an UNLINK of it. Whoever leaves it is
-/// on the current chain then, sent to the block of that UNLINK. Where each LINK of the version has the order FIFO, each
-/// user chain is first in, first out.
+/// In a step a user chain stays as it is, an UNLINK of it takes some from its front, a LINK to it brings the one who was
+/// active, to the back by FIFO and to the front by LIFO, and counts him, a RESET counts it anew and moves nobody, or a
+/// CLEAR empties it. So where fewer are on it and the step was no CLEAR, it was an UNLINK of it. Whoever leaves it is on
+/// the current chain then, sent to the block of that UNLINK. Where each LINK of the version has the order FIFO, each user
+/// chain is first in, first out.
 pub fn user_chains_in_order()
     ensures served { UserChainsChangeByLinkAndUnlink }
     ensures fewer { FewerByUnlinkAlone }
@@ -103,7 +104,7 @@ pub fn copies_are_made()
 
 /// The clock, a pick, a command and a refused attempt wake nobody. Where no transaction is active, where the active one
 /// has to wait, and wherever no block is entered, all who waited wait on, in their order, and behind them at most the one
-/// who was active. Whoever wakes where a block is entered read something that changed: the counts of a block that is left
+/// who was active, unless a CLEAR removes all. Whoever wakes where a block is entered read something that changed: the counts of a block that is left
 /// or entered, by the active transaction or by one that is let in, the entity that the block names, or the user chain to
 /// which it links or from which it unlinks.
 pub fn nobody_wakes_for_nothing()
@@ -114,8 +115,9 @@ pub fn nobody_wakes_for_nothing()
 {}
 
 /// Nobody waits at a GATE whose condition holds of the entity that its operand names. Nobody waits at a TEST whose
-/// relation holds, where its values read nothing but what stays until a block writes it: F, FC, Q, QC, QM, QZ, S, R, SC,
-/// SM, N, W, X, LS and CH, and the parameters, the priority and the number of who waits.
+/// relation holds, where its values read nothing but what stays until a block writes it: F, Q, S, R, W, X, LS and CH, and
+/// the parameters, the priority and the number of who waits; and, where no RESET was done, FC, QC, QM, QZ, SC, SM, N, CC
+/// and TC, too.
 pub fn nobody_waits_for_what_holds()
     ensures gate { NobodyWaitsAtAnOpenGate }
     ensures test { NobodyWaitsAtATestThatHolds }
@@ -127,8 +129,9 @@ pub fn telling_changes_nothing()
     ensures { TellingChangesNothing }
 {}
 
-/// No two transactions have one number, and each number was given: it is below the next one. No number is given twice.
-/// In a step no transaction but the active one ceases to live.
+/// No two transactions have one number, and each number was given: it is below the next one. No number is given twice,
+/// unless a CLEAR lets the numbering begin at 1 again. In a step no transaction but the active one ceases to live, unless
+/// a CLEAR removes all.
 pub fn numbers_apart()
     ensures apart { NumbersAreApart }
     ensures given { NumbersAreGiven }
@@ -142,7 +145,7 @@ pub fn parameters_are_of_the_living()
 {}
 
 /// Of those who were there before a step, only the active transaction's parameters, priority and mark time change in it,
-/// and at most one of its parameters.
+/// and at most one of its parameters. A CLEAR forgets all of them.
 pub fn each_keeps_his_own()
     ensures parameters { ParametersAreOnesOwn }
     ensures one { OneParameterIsSet }
@@ -170,7 +173,7 @@ pub fn contents_are_counts()
     ensures { ContentsAreCounts }
 {}
 
-/// The clock never goes back and stays within the horizon, and no time on the future chain lies before it. It moves on
+/// The clock never goes back, unless a CLEAR sets it to 0, and stays within the horizon, and no time on the future chain lies before it. It moves on
 /// only where no transaction was active or on the current chain, and only to the least time of the future chain. While
 /// a START is under way, it does so there, where that time lies within the horizon.
 pub fn clock_goes_on()
@@ -194,14 +197,14 @@ pub fn runs_end()
     ensures error { ErrorsAreOfAttempts }
 {}
 
-/// A facility has no more captures than steps were made. Its content is 1 while it is owned and 0 while it is free. It
+/// A facility has no more captures than steps were made, and a RESET counts them anew. Its content is 1 while it is owned and 0 while it is free. It
 /// was owned for no longer than the clock has run, and it did not change later than now.
 pub fn facilities_are_used()
     ensures { FacilitiesAreUsed }
 {}
 
 /// Nobody but its owner gives a facility back. It goes to the first that waits for it, and is free where nobody does.
-/// Nobody but the active transaction takes one that was free before the step.
+/// Nobody but the active transaction takes one that was free before the step. Behind a CLEAR all are free.
 pub fn facilities_have_owners()
     ensures gives { OnlyTheOwnerGivesBack }
     ensures given { TheFirstIsGivenIt }
