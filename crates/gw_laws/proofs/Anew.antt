@@ -29,18 +29,6 @@ pub clears_or : (m : Move) → Clears m ⊎ (Clears m → ⊥)
 clears_or moves.Clear = inl tt
 clears_or m = inr (λ c. c)
 
-pub resets_or : (m : Move) → Resets m ⊎ (Resets m → ⊥)
-resets_or moves.Reset = inl tt
-resets_or m = inr (λ c. c)
-
-pub clears_is : (m : Move) → Clears m → m ≡ moves.Clear
-clears_is moves.Clear c = refl
-clears_is m c = absurd c
-
-pub resets_is : (m : Move) → Resets m → m ≡ moves.Reset
-resets_is moves.Reset c = refl
-resets_is m c = absurd c
-
 -- where no CLEAR is next, none is decided
 pub no_clear : (t : Listing) (s : Machine) (m : Move) → IsDecided t s m → IsNoClear t s → Clears m → ⊥
 no_clear t s moves.Clear decided none c = none (record { idle = decided.idle; next = decided.next })
@@ -110,9 +98,6 @@ members_anew (c ∷ cs) = ap (λ ds. (c.0, c.1.members) ∷ ds) (members_anew cs
 
 pub crowd_reset : (test : Transaction → Bool) (s : Machine) → crowd test (reset s) ≡ crowd test s
 crowd_reset test s = let same = ap (λ ds. many test (waiting ds)) (members_anew s.linked) in omega arith
-
-pub living_reset : (s : Machine) → living (reset s) ≡ living s
-living_reset s = rw (members_anew s.linked) refl
 
 pub chain_members : (s : Machine) (key : Key) → (user_chain_at (reset s).linked key).members ≡ (user_chain_at s.linked key).members
 chain_members s key = look_anew user_chain_anew (λ (c : UserChain). c.members) no_chain (λ c. refl) s.linked key

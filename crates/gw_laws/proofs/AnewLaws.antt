@@ -54,6 +54,8 @@ reset_is t seed s v next is =
 pub reset_moves_nobody : ResetMovesNobody
 reset_moves_nobody t seed s v next is = subst (NobodyMoved s) (reset_is t seed s v next is) (record {
   clock = refl;
+  complete = refl;
+  primed = refl;
   next = refl;
   streams = refl;
   active = refl;

@@ -44,11 +44,13 @@ ClearBeginsAnew =
     (t : Listing) (seed : ℕ) (s v : Machine) → IsNextCommand t s commands.Clear → step t seed s ≡ Ok v →
     v ≡ record zero_state { commands = raised s.commands; complete = s.complete; streams = s.streams }
 
--- a RESET moves nobody: each transaction stands where it stood, as it was, and has what it had of its own; each facility
--- has the owner, each queue, storage and block the content, and each user chain the transactions that it had; savevalues,
--- switches, the clock, the numbering and the streams stay
+-- a RESET moves nobody: each transaction stands where it stood, as it was, and has what it had of its own; each
+-- facility has the owner, each queue, storage and block the content, and each user chain the transactions that it had;
+-- savevalues, switches, the clock, the numbering, the streams and what a GENERATE made stay
 pub record NobodyMoved (s v : Machine) : Type 0 where
   pub clock : v.clock ≡ s.clock
+  pub complete : v.complete ≡ s.complete
+  pub primed : v.primed ≡ s.primed
   pub next : v.next ≡ s.next
   pub streams : v.streams ≡ s.streams
   pub active : v.active ≡ s.active

@@ -87,8 +87,8 @@ FewerByUnlinkAlone =
     (key : Key) → length (on_chain v key) < length (on_chain s key) →
     TookFromTheFront m key (chain_of s key) (chain_of v key)
 
--- whoever is on a user chain stays on it, or an UNLINK of it sends him to its block: then he is on the current chain. So
--- it is unless a CLEAR removes all; a RESET moves nobody.
+-- whoever is on a user chain stays on it, or an UNLINK of it sends him to its block: then he is on the current chain.
+-- So it is unless a CLEAR removes all; a RESET moves nobody.
 abbrev pub WhoLeavesIsUnlinked : Type 0
 WhoLeavesIsUnlinked =
     (t : Listing) (seed : ℕ) (s v : Machine) (m : Move) (streams : List Stream) →

@@ -72,8 +72,8 @@ WokenInOrder =
     (w u : Waiter) → StandsInFront s.retry w u → w.transaction.priority ≡ u.transaction.priority →
     (Waits v w → ⊥) → (Waits v u → ⊥) → StandsInFront v.current w.transaction u.transaction
 
--- whoever read something that the step writes wakes, and is on the current chain then; whoever did not, waits on, unless
--- a CLEAR removes all
+-- whoever read something that the step writes wakes, and is on the current chain then; whoever did not, waits on,
+-- unless a CLEAR removes all
 abbrev pub WokenByWhatIsWritten : Type 0
 WokenByWhatIsWritten =
     (t : Listing) (seed : ℕ) (s v : Machine) (w : Waiter) (m : Move) (streams : List Stream) →
@@ -92,7 +92,8 @@ WhoWaitsIsAtATestOrAGate =
 -- wakes: all wait on, unless a CLEAR removes them
 abbrev pub NobodyWakesWhereNoneIsActive : Type 0
 NobodyWakesWhereNoneIsActive =
-    (t : Listing) (seed : ℕ) (s v : Machine) → step t seed s ≡ Ok v → IsNoClear t s → s.active ≡ None → v.retry ≡ s.retry
+    (t : Listing) (seed : ℕ) (s v : Machine) → step t seed s ≡ Ok v → IsNoClear t s → s.active ≡ None →
+    v.retry ≡ s.retry
 
 -- the transaction x waits, on a delay chain or for a change
 abbrev pub HasToWait : Machine → Transaction → Type 0
@@ -189,8 +190,8 @@ NobodyWaitsAtAnOpenGate =
     b.auxiliary ≡ auxiliaries.Gate condition → key_written t (operand b A) ≡ Some key →
     is_open s condition key (capacity_of t key) ≡ false
 
--- what stays as it is until a block writes it, but for a RESET: owners, contents, counts, savevalues and switches, who is
--- on a user chain, and what a transaction that waits has of its own
+-- what stays as it is until a block writes it, but for a RESET: owners, contents, counts, savevalues and switches, who
+-- is on a user chain, and what a transaction that waits has of its own
 abbrev pub is_lasting : Class → Bool
 is_lasting class.F = true
 is_lasting class.Fc = true
@@ -255,8 +256,8 @@ abbrev pub Lasts : Bool → Listing → ℕ → Machine → Asker → Term → �
 Lasts resets t seed s q term x =
     ReadsWhatLasts resets t seed s q (value_of term) × ComesTo t seed (evaluated s q (value_of term)) x
 
--- nobody waits at a TEST whose relation holds of two values that read nothing but what lasts: where no RESET was done up
--- to there, what it counts anew lasts, too. (Within the step limit, since numbers tell transactions apart there.)
+-- nobody waits at a TEST whose relation holds of two values that read nothing but what lasts: where no RESET was done
+-- up to there, what it counts anew lasts, too. (Within the step limit, since numbers tell transactions apart there.)
 abbrev pub NobodyWaitsAtATestThatHolds : Type 0
 NobodyWaitsAtATestThatHolds =
     (resets : Bool) (t : Listing) (seed n : ℕ) (s : Machine) → Well t → n ≤ t.limit → run t seed n ≡ Ok s →

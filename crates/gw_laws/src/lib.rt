@@ -7,10 +7,10 @@
 //! facility, nor at a storage that has room for what he asks, nor at a GATE whose condition holds. Those who wait for a
 //! change keep their order, and nobody wakes where no block is entered. No two transactions have one number, none is
 //! given twice, and each stands in exactly one place. A block's content is the number of the transactions that stand in
-//! it. But for a CLEAR the clock never goes back; it stays within the horizon, and moves on only when it must. A run ends only for the
-//! reason that its end says. Whoever leaves a user chain is unlinked from its front. A copy is as its parent is but for
-//! its number. No facility has more captures than steps were made. No count of a queue passes its limit.
-//! No storage has more units in use than its capacity. Parameters are kept of living transactions alone. A
+//! it. But for a CLEAR the clock never goes back; it stays within the horizon, and moves on only when it must. A run
+//! ends only for the reason that its end says. Whoever leaves a user chain is unlinked from its front. A copy is as its
+//! parent is but for its number. No facility has more captures than steps were made. No count of a queue passes its
+//! limit. No storage has more units in use than its capacity. Parameters are kept of living transactions alone. A
 //! transaction's parameters, priority and mark time change only in steps in which it is active. Nobody but its owner
 //! gives a facility back. STARTs are done in order, and each is counted once. The future chain is in the order of
 //! coming onto it. The active transaction goes to its destination, or else to the next block. A TEST holds where its
