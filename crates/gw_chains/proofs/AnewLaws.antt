@@ -1,5 +1,5 @@
 -- What is counted of blocks, counted anew one by one.
-use Rattle.std.proofs.Common.{◌≡◌, ℕ, zero, suc, ◌+◌, Bool, true, false, cond, nat_eq, List, [], ◌∷◌, ◌++◌, map, take, drop, Option, Some, None, refl, sym, ap, subst, ◌∙◌, arith}
+use Rattle.std.proofs.Common.{◌≡◌, ℕ, zero, suc, ◌+◌, ◌<◌, length, Bool, true, false, cond, nat_eq, List, [], ◌∷◌, ◌++◌, map, take, drop, Option, Some, None, refl, sym, ap, subst, ◌∙◌, arith}
 use Rattle.std.specs.Prelude.{slice_get}
 use Rattle.std.specs.List.{AllByRecursion, IsDistinct, list_any}
 use Rattle.std.specs.Map.{keys_of}
@@ -13,6 +13,19 @@ itself n = grind (arith, nat_tests)
 
 turned : (m n : ℕ) → nat_eq m n ≡ false → nat_eq n m ≡ false
 turned m n apart = grind (arith, nat_tests)
+
+-- a pair that is there has a value
+pub has_value : {V : Type 0} (es : List (ℕ × V)) (i n : ℕ) (v : V) → slice_get es i ≡ Some (n, v) → value_in es n ≡ None → ⊥
+has_value [] i n v at none = absurd cc
+has_value {V = V} (e ∷ es) zero n v at none =
+    let own : nat_eq n e.0 ≡ true = ap (λ (q : ℕ × V). nat_eq n q.0) (Some_same at) ∙ itself n in
+    some_is_none e.1 (sym (ap (λ b. cond b (Some e.1) (value_in es n)) own) ∙ none) where
+      some_is_none : (x : V) → Some x ≡ None → ⊥
+      some_is_none x h = absurd cc
+has_value {V = V} (e ∷ es) (suc i) n v at none = go (nat_eq n e.0) none (has_value es i n v at) where
+  go : (b : Bool) → cond b (Some e.1) (value_in es n) ≡ None → (value_in es n ≡ None → ⊥) → ⊥
+  go true h rest = absurd cc
+  go false h rest = rest h
 
 module _ {V : Type 0} (f : V → V) where
   abbrev pub anew : ℕ × V → ℕ × V
@@ -60,3 +73,13 @@ module _ {V : Type 0} (f : V → V) where
   next_there [] (suc i) p at = absurd cc
   next_there (e ∷ es) zero p at = at
   next_there (e ∷ es) (suc i) p at = next_there es i p at
+
+  pub one_is_left : (es : List (ℕ × V)) (i : ℕ) → i < length es → slice_get (partly es i) i ≡ None → ⊥
+  one_is_left [] i within none = absurd (omega (arith, within))
+  one_is_left (e ∷ es) zero within none = absurd cc
+  one_is_left (e ∷ es) (suc i) within none = one_is_left es i (omega (arith, within)) none
+
+  -- all of them
+  pub all_done : (es : List (ℕ × V)) → partly es (length es) ≡ map anew es
+  all_done [] = refl
+  all_done (e ∷ es) = ap (λ (l : List (ℕ × V)). anew e ∷ l) (all_done es)

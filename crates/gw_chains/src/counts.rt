@@ -139,7 +139,13 @@ impl Counts {
     {
         for place in 0..self.table.len() {
             if let Some((id, count)) = self.table.pair(place) {
-                self.table.set(id, Count { entries: 0, ..count });
+                self.table.set(
+                    id,
+                    Count {
+                        entries: 0,
+                        ..count
+                    },
+                );
             }
         }
     }
