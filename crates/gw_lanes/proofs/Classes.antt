@@ -1,13 +1,13 @@
 -- The counts of what is at most a limit, by blocks; and the counts of classes by them.
 use Rattle.std.proofs.Common.{◌≡◌, ℕ, zero, suc, ◌+◌, ◌-◌, ◌*◌, ◌/◌, ◌%◌, ◌^◌, ◌<◌, ◌≤◌, Bool, true, false, not, ◌&&◌, cond, List, [], ◌∷◌, length, map, take, drop, replicate, get_or, set, length-set, Option, Some, None, refl, sym, ap, subst, ◌∙◌, inl, inr, arith, w32, of_z, FitsSigned, suc-mul, count_ones}
-use Rattle.std.specs.Prelude.{ℤ, pos, ◌≤ℤ◌, int_le, count_by}
-use Rattle.std.specs.List.{sum_by}
+use Rattle.std.specs.Prelude.{ℤ, pos, ◌≤ℤ◌, int_le, count_by, sum}
+use Rattle.std.specs.List.{range_with_len, sum_by}
 use Rattle.std.specs.Simd.{first_chunks}
 use Rattle.std.specs.Simd.Lanes.{zip2, mask_l, top}
 use Rattle.std.proofs.lemmas.Simd.{zip2_splat, ones-mask_l, mask_l-mod}
 use Rattle.std.proofs.lemmas.List.{drop-drop, take-append-drop, length-map}
 use Rattle.std.proofs.lemmas.List.Sums.{sum_by-append, sum_by-cons}
-use Rattle.std.proofs.lemmas.List.FromFn.{fill_by_all}
+use Rattle.std.proofs.lemmas.List.FromFn.{fill_by_all, sum_by-map-range_with_len_more}
 use Rattle.std.proofs.lemmas.List.Edits.{fill_by_more}
 use Rattle.std.proofs.lemmas.Int.{ints}
 use Rattle.std.proofs.lemmas.Bool.{cases_Bool}
@@ -194,3 +194,22 @@ all_set limits zs counts i b end slots so_far was =
     let last : length zs - b ≡ count_by (is_in limits (length limits)) zs = omega (arith, last_class limits zs, before_last) in
     fill_by_all (λ k. count_by (is_in limits k) zs) (set counts (length limits) (length zs - b)) (length limits + 1) 0
     (omega (arith, length-set {A = ℕ}, slots)) (one_set limits zs counts (length limits) (length zs - b) (omega arith) front last)
+
+-- the first i classes together have what is at most the limit before the next one
+front_counted : (limits zs : List ℤ) → AreRising limits → (i : ℕ) → i ≤ length limits →
+    sum (map (λ k. count_by (is_in limits k) zs) (range_with_len 0 i)) ≡ before limits zs i
+front_counted limits zs rising zero le = refl
+front_counted limits zs rising (suc i) le =
+    let more = sum_by-map-range_with_len_more (λ n. n) (λ k. count_by (is_in limits k) zs) 0 i i (omega arith) in
+    let so_far = front_counted limits zs rising i (omega arith) in
+    let all = class_at limits zs rising i (omega arith) in
+    let e : i + 1 ≡ suc i = omega arith in
+    let same = ap (λ (n : ℕ). sum (map (λ k. count_by (is_in limits k) zs) (range_with_len 0 n))) e in
+    omega (arith, more, so_far, all, same)
+
+-- all classes together have each number once
+pub all_counted : (limits zs : List ℤ) → AreRising limits → sum (class_counts limits zs) ≡ length zs
+all_counted limits zs rising =
+    let n = length limits in
+    let more = sum_by-map-range_with_len_more (λ m. m) (λ k. count_by (is_in limits k) zs) 0 n n (omega arith) in
+    omega (arith, more, front_counted limits zs rising n (omega arith), last_class limits zs)

@@ -1,4 +1,4 @@
-ghost use Rattle.std.specs.Prelude.{◌≡◌, ◌+◌, ◌<◌, ◌≤◌, ◌^◌, length};
+ghost use Rattle.std.specs.Prelude.{◌≡◌, ◌+◌, ◌<◌, ◌≤◌, ◌^◌, length, sum};
 ghost use Rattle.std.specs.List.{sum_by};
 ghost use Rattle.gw_lanes.specs.Counts.{count_at_most, class_counts, AllFit, AreRising};
 
@@ -60,12 +60,13 @@ fn count_each(values: &[i32], limit: i32) -> usize
 }
 
 /// Sets each slot to how many of the values lie in its class: those of slot i are above the limit before limit i and at
-/// most limit i, and those of the last slot are above all limits.
+/// most limit i, and those of the last slot are above all limits. Together they count each value once.
 pub fn class_counts(values: &[i32], limits: &[i32], counts: &mut [u32])
     requires few { length values.now < 2 ^ 32 }
     requires rising { AreRising limits.now }
     requires slots { length counts.old ≡ length limits.now + 1 }
-    ensures { counts.new ≡ class_counts limits.now values.now }
+    ensures classes { counts.new ≡ class_counts limits.now values.now }
+    ensures each_once { sum counts.new ≡ length values.now }
 {
     let mut before = 0;
     for i in 0..limits.len() {

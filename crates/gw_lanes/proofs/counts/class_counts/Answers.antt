@@ -1,7 +1,8 @@
 use Rattle.std.proofs.Common.{◌≡◌, ℤ, ap, ◌∙◌, sym, arith, rules, pos, get_or, w32, FitsSigned, length-set, ℕ}
+use Rattle.std.specs.Prelude.{sum}
 use Rattle.std.proofs.lemmas.Int.{to_z-of_z}
 use Rattle.gw_lanes.specs.Counts.{count_at_most}
-use Rattle.gw_lanes.proofs.Classes.{class_at, next_set, before_next, all_set}
+use Rattle.gw_lanes.proofs.Classes.{class_at, next_set, before_next, all_set, all_counted}
 use Rattle.gw_lanes.proofs.counts.class_counts.Goals as goal
 
 pub overflow_sub-counts : goal.overflow_sub-counts
@@ -29,7 +30,11 @@ loop-i-preserved c =
           c.loop-i.invariant.slots c.loop-i.invariant.set c.loop-i.invariant.before_is found;
     }
 
-pub returns : goal.returns
-returns c =
+pub returns-clause-classes : goal.returns-clause-classes
+returns-clause-classes c =
     all_set c.args.limits.now c.args.values.now c.loop-i.counts c.loop-i.i c.loop-i.before (omega arith) c.loop-i.invariant.slots
     c.loop-i.invariant.set c.loop-i.invariant.before_is
+
+pub returns-clause-each_once : goal.returns-clause-each_once
+returns-clause-each_once c =
+    ap sum (returns-clause-classes c) ∙ all_counted c.args.limits.now c.args.values.now c.requires.rising
