@@ -1,5 +1,5 @@
 -- Nobody waits at a TEST that holds: what its attempt read and nobody wrote since replies as it did.
-use Rattle.std.proofs.Common.{◌≡◌, ℤ, pos, ℕ, ◌-◌, ◌^◌, ◌<◌, ◌≤◌, length, Bool, true, false, cond, not, nat_eq, ◌||◌, List, [], ◌∷◌, ◌++◌, Option, Some, None, unwrap_or, Result, Ok, Err, refl, sym, ap, ap₂, subst, ◌∙◌, inl, inr, arith}
+use Rattle.std.proofs.Common.{◌≡◌, ◌⊎◌, ℤ, pos, ℕ, zero, suc, ◌-◌, ◌^◌, ◌<◌, ◌≤◌, length, Bool, true, false, cond, not, nat_eq, ◌||◌, List, [], ◌∷◌, ◌++◌, Option, Some, None, unwrap_or, Result, Ok, Err, refl, sym, ap, ap₂, subst, ◌∙◌, inl, inr, arith}
 use Rattle.std.specs.Prelude.{Contains}
 use Rattle.std.specs.List.{AllByRecursion}
 use Rattle.std.proofs.lemmas.Bool.{cases_lt, or_parts, or_left, eq-eqb, and_parts, false≢true}
@@ -46,15 +46,15 @@ use Rattle.gw_meaning.specs.Statements.{A, B, C, operand}
 use Rattle.gw_meaning.specs.Listing.{Listing, block_at, label_at, number_at, capacity_at}
 use Rattle.gw_meaning.specs.Entities.{facility_at, line_at, store_at, savevalue_at, switch_at, table_at}
 use Rattle.gw_meaning.specs.Watching.{Waiter, same_watched, is_watched, with_watched, with_all_watched, transactions_of}
-use Rattle.gw_meaning.specs.Machine.{Machine, UserChain, count_at, delay_at, user_chain_at}
+use Rattle.gw_meaning.specs.Machine.{Machine, UserChain, zero_state, count_at, delay_at, user_chain_at}
 use Rattle.gw_meaning.specs.Questions.{Answer, ask, result_of}
 use Rattle.gw_meaning.specs.Evaluation.{Eval, gives, ends_with, asks, ◌~>◌, stops_if, in_range, amount, numbered, named, subject_prog, defined_prog, units_left, left_prog, counted, block_count, owned, one_if, value_held, parameter_value, value_there, entity_value, table_value, attribute_prog, reply_prog, evaluated, entity_watched, defined_watched, counts_of, counts_watched, watched_prog, watched_by, traced, value_traced}
 use Rattle.gw_meaning.specs.Changes.{placed, all_copied, written_in, Making, made, maybe_made, all_made, making_of, deed_shares, let_in, one_let_in, some_let_in, changed, entering, refused, watching, with_active, moved, crossing, crossings, written_by, written_where, written, is_woken, decided}
-use Rattle.gw_meaning.specs.Step.{for_one, holds, test_prog, block_prog, meet_prog, run}
+use Rattle.gw_meaning.specs.Step.{for_one, holds, test_prog, block_prog, meet_prog, decide, run}
 use Rattle.gw_meaning.proofs.Traces as alone
 use Rattle.gw_meaning.proofs.Programs.{bind_gives, bind_ends}
 use Rattle.gw_frame.proofs.Moves.{settled, settled_is, marked_same, still_active, all_copied_keep, unlink_is, with_active_has, picked_has}
-use Rattle.gw_laws.specs.Waiters.{is_lasting, outlasts_reset, lasts_through, IsLasting, ComesTo, ReadsWhatLasts, NobodyWaitsAtATestThatHolds, value_alone, TellingChangesNothing}
+use Rattle.gw_laws.specs.Waiters.{is_lasting, outlasts_reset, lasts_through, IsLasting, ComesTo, ReadsWhatLasts, WaitsSince, NobodyWaitsAtATestThatHolds, value_alone, TellingChangesNothing}
 use Rattle.gw_laws.proofs.Counts.{tally, tally_elsewhere, tally_made, tally_stood}
 use Rattle.gw_laws.proofs.Room.{all_low}
 use Rattle.gw_frame.proofs.Decided.{is_decided}
@@ -66,10 +66,12 @@ use Rattle.gw_laws.proofs.Crowd.{one, many_has, active_crowd}
 use Rattle.gw_laws.proofs.NumberLaws.{has_number, IsNumbered, all_numbered}
 use Rattle.gw_laws.proofs.OwnParameterLaws.{moved_elsewhere}
 use Rattle.gw_laws.proofs.WaiterLaws.{Stands, stands_of, contains_of, stands_transactions, all_stands, who_comes}
-use Rattle.gw_laws.proofs.GateLaws.{kept_of, SameEntity, KeptEntity, moved_entity, moved_kept, with_has, unread_unwritten, IsRefusedAt, refused_at, IfWatches, passes_or, one_of, over_decided, all_wait_on}
+use Rattle.gw_laws.proofs.GateLaws.{kept_of, SameEntity, KeptEntity, moved_entity, moved_kept, with_has, unread_unwritten, IsRefusedAt, refused_at, IfWatches, passes_or, one_of, all_wait_on}
 use Rattle.gw_laws.proofs.Anew.{count_reset, no_reset_decided}
 use Rattle.gw_laws.specs.Anew.{Resets, Clears, NoneBetween}
 use Rattle.gw_meaning.specs.declared.statement.Command.TheVariants as commands
+use Rattle.gw_frame.proofs.Running.{last_step}
+use Rattle.gw_laws.proofs.EndLaws.{went_on, ends_for_good}
 
 -- what lasts through a RESET, lasts
 does_last : (resets : Bool) (class : Class) → lasts_through resets class ≡ true → is_lasting class ≡ true
@@ -757,28 +759,100 @@ test_stays resets t seed s m streams none w apart unread tested = λ id b first 
       still_came resets t seed s u w.read w.transaction stays (operands.value_of second) h.1 h.4,
     ))
 
-tests_fail : (resets : Bool) (t : Listing) (seed : ℕ) → Well t → (n : ℕ) (s : Machine) → run t seed n ≡ Ok s → n ≤ t.limit →
-    (resets ≡ false → NoneBetween commands.Reset t seed 0 n) → AllByRecursion (AtTest resets t seed s) s.retry
-tests_fail resets t seed well =
-    over_decided t seed (λ n s. n ≤ t.limit → (resets ≡ false → NoneBetween commands.Reset t seed 0 n) → AllByRecursion (AtTest resets t seed s) s.retry)
-    (λ within none. tt)
-    (λ n s d there goes all within none.
-    let early : n ≤ t.limit = omega (arith, within) in
-    let numbered = all_numbered t seed well n s there early in
-    let own : (w : Waiter) → Stands s.retry w → (Clears d.0 → ⊥) → OwnStays s d.0 w =
-    λ w stands apart. waiting_own t s d.0 w (all_low t seed n s there) (is_decided t seed s d goes) apart numbered (contains_of s.retry w stands) in
-    let earlier : resets ≡ false → NoneBetween commands.Reset t seed 0 n = λ never k u from below. none never k u from (omega (arith, below)) in
-    let no_reset : resets ≡ false → Resets d.0 → ⊥ =
-    λ never. no_reset_decided t s d.0 (is_decided t seed s d goes) (none never n s (omega arith) (omega arith) there) in
-    all_wait_on (Tested resets t seed s d.0) (AtTest resets t seed (decided s d.0 d.1)) s d.0 d.1
-    (each_tested (AtTest resets t seed s) (λ w. (Clears d.0 → ⊥) → OwnStays s d.0 w) s.retry own (all early earlier))
-    (coming_tested resets t seed s d.0 (refused_at t seed s d goes)) (test_stays resets t seed s d.0 d.1 no_reset))
+-- what a state of a run has and each decision behind it keeps, each later state has
+over_later : (t : Listing) (seed : ℕ) (P : ℕ → Machine → Type 0) (m : ℕ) (start : Machine) → run t seed m ≡ Ok start → P m start →
+    ((n : ℕ) (s : Machine) (d : Move × List Stream) → m ≤ n → run t seed n ≡ Ok s → result_of t seed (decide s) ≡ Ok d → P n s →
+    P (suc n) (decided s d.0 d.1)) →
+    (n : ℕ) (s : Machine) → m ≤ n → run t seed n ≡ Ok s → P n s
+over_later t seed P m start at first keeps zero v before is = let same : m ≡ zero = omega arith in here same where
+  here : m ≡ zero → P zero v
+  here same = let both : Ok start ≡ Ok v = sym at ∙ (ap (run t seed) same ∙ is) in let states : start ≡ v = cc in
+      subst (λ k. P k v) same (subst (P m) states first)
+over_later t seed P m start at first keeps (suc n) v before is =
+    elim (cases_lt n m) [
+      | inl late ↦ here (omega arith)
+      | inr early ↦
+          let last = last_step t seed n v is in
+          let went = went_on t seed last.before v last.goes in
+          subst (P (suc n)) (sym went.2)
+          (keeps n last.before went.0 early last.there went.1 (over_later t seed P m start at first keeps n last.before early last.there))
+    ]
+  where
+    here : m ≡ suc n → P (suc n) v
+    here same = let both : Ok start ≡ Ok v = sym at ∙ (ap (run t seed) same ∙ is) in let states : start ≡ v = cc in
+        subst (λ k. P k v) same (subst (P m) states first)
+
+each_stands : (Q : Waiter → Type 0) (ws : List Waiter) → ((w : Waiter) → Stands ws w → Q w) → AllByRecursion Q ws
+each_stands Q [] each = tt
+each_stands Q (w ∷ ws) each = (each w (inl refl), each_stands Q ws (λ v there. each v (inr there)))
+
+each_more : (P Q : Waiter → Type 0) (ws : List Waiter) → ((w : Waiter) → P w → Q w) → AllByRecursion P ws → AllByRecursion Q ws
+each_more P Q [] more all = tt
+each_more P Q (w ∷ ws) more all = (more w all.0, each_more P Q ws more all.1)
+
+-- whoever came behind a moment waits at no TEST that holds
+module _ (resets : Bool) (t : Listing) (seed : ℕ) (well : Well t) (m : ℕ) (start : Machine) where
+  abbrev CameOr : Machine → Waiter → Type 0
+  CameOr s w = Contains start.retry w ⊎ AtTest resets t seed s w
+
+  abbrev CameOrTested : Machine → Move → Waiter → Type 0
+  CameOrTested s move w = CameOr s w × ((Clears move → ⊥) → OwnStays s move w)
+
+  abbrev NoReset : ℕ → Type 0
+  NoReset n = resets ≡ false → NoneBetween commands.Reset t seed m n
+
+  came_stays : (s : Machine) (move : Move) (streams : List Stream) → (resets ≡ false → Resets move → ⊥) → (w : Waiter) → (Clears move → ⊥) →
+      is_woken (written s move) w ≡ false → CameOrTested s move w → CameOr (decided s move streams) w
+  came_stays s move streams none w apart unread (inl there, own) = inl there
+  came_stays s move streams none w apart unread (inr tested, own) = inr (test_stays resets t seed s move streams none w apart unread (tested, own))
+
+  tests_fail : run t seed m ≡ Ok start → (n : ℕ) (s : Machine) → m ≤ n → run t seed n ≡ Ok s → n ≤ t.limit → NoReset n →
+      AllByRecursion (CameOr s) s.retry
+  tests_fail at =
+      over_later t seed (λ n s. n ≤ t.limit → NoReset n → AllByRecursion (CameOr s) s.retry) m start at
+      (λ within none. each_stands (CameOr start) start.retry (λ w stands. inl (contains_of start.retry w stands)))
+      (λ n s d from there goes all within none.
+      let early : n ≤ t.limit = omega (arith, within) in
+      let numbered = all_numbered t seed well n s there early in
+      let own : (w : Waiter) → Stands s.retry w → (Clears d.0 → ⊥) → OwnStays s d.0 w =
+      λ w stands apart. waiting_own t s d.0 w (all_low t seed n s there) (is_decided t seed s d goes) apart numbered (contains_of s.retry w stands) in
+      let earlier : NoReset n = λ never k u start' below. none never k u start' (omega (arith, below)) in
+      let no_reset : resets ≡ false → Resets d.0 → ⊥ =
+      λ never. no_reset_decided t s d.0 (is_decided t seed s d goes) (none never n s from (omega arith) there) in
+      all_wait_on (CameOrTested s d.0) (CameOr (decided s d.0 d.1)) s d.0 d.1
+      (each_tested (CameOr s) (λ w. (Clears d.0 → ⊥) → OwnStays s d.0 w) s.retry own (all early earlier))
+      (each_more (Tested resets t seed s d.0) (CameOrTested s d.0) (who_comes d.0 s.active) (λ w tested. (inr tested.0, tested.1))
+      (coming_tested resets t seed s d.0 (refused_at t seed s d goes)))
+      (came_stays s d.0 d.1 no_reset))
+
+-- a run that came so far came to a state before
+state_before : (t : Listing) (seed m n : ℕ) (s : Machine) → m ≤ n → run t seed n ≡ Ok s → (u : Machine) × (run t seed m ≡ Ok u)
+state_before t seed m n s before is = go (run t seed m) refl where
+  go : (r : Result Machine End) → run t seed m ≡ r → (u : Machine) × (run t seed m ≡ Ok u)
+  go (Ok u) at = (u, at)
+  go (Err end) at = absurd (let no : Err end ≡ Ok s = sym (ends_for_good t seed m n end before at) ∙ is in cc)
+
+waits_at_test : (resets : Bool) (t : Listing) (seed m n : ℕ) (s : Machine) → Well t → n ≤ t.limit → run t seed n ≡ Ok s → (w : Waiter) →
+    Contains s.retry w → (resets ≡ false → WaitsSince t seed m n w) → AtTest resets t seed s w
+waits_at_test true t seed m n s well within is w waits since =
+    let all = tests_fail true t seed well 0 zero_state refl n s (omega arith) is within (λ never. absurd cc) in
+    elim (all_stands (CameOr true t seed well 0 zero_state s) s.retry w all (stands_of s.retry w waits)) [
+      | inl there ↦ absurd (omega (arith, there.1))
+      | inr tested ↦ tested
+    ]
+waits_at_test false t seed m n s well within is w waits since =
+    let h = since refl in
+    let first = state_before t seed m n s h.before is in
+    let all = tests_fail false t seed well m first.0 first.1 n s h.before is within (λ never. h.no_reset) in
+    elim (all_stands (CameOr false t seed well m first.0 s) s.retry w all (stands_of s.retry w waits)) [
+      | inl there ↦ absurd (h.not_yet first.0 first.1 there)
+      | inr tested ↦ tested
+    ]
 
 pub nobody_waits_at_a_test_that_holds : NobodyWaitsAtATestThatHolds
-nobody_waits_at_a_test_that_holds resets t seed n s well within is none w id b first second x y waits goes there verb one' two left' right' =
+nobody_waits_at_a_test_that_holds resets t seed m n s well within is w id b first second x y waits since goes there verb one' two left' right' =
     let q = for_one s w.transaction in
-    let all = tests_fail resets t seed well n s is within none in
-    let h = all_stands (AtTest resets t seed s) s.retry w all (stands_of s.retry w waits) id b first second goes there verb one' two in
+    let h = waits_at_test resets t seed m n s well within is w waits since id b first second goes there verb one' two in
     let a : h.0 ≡ x = came_is resets t seed s q w.read (operands.value_of first) h.0 x h.3 left'.0 left'.1 in
     let c : h.1 ≡ y = came_is resets t seed s q w.read (operands.value_of second) h.1 y h.4 right'.0 right'.1 in
     sym (ap₂ (holds b.auxiliary) a c) ∙ h.2

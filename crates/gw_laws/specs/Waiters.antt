@@ -256,13 +256,20 @@ abbrev pub Lasts : Bool → Listing → ℕ → Machine → Asker → Term → �
 Lasts resets t seed s q term x =
     ReadsWhatLasts resets t seed s q (value_of term) × ComesTo t seed (evaluated s q (value_of term)) x
 
+-- w came to wait behind the moment m, and no RESET was done from there up to the moment n
+pub record WaitsSince (t : Listing) (seed m n : ℕ) (w : Waiter) : Type 0 where
+  pub before : m ≤ n
+  pub not_yet : (u : Machine) → run t seed m ≡ Ok u → Waits u w → ⊥
+  pub no_reset : NoneBetween commands.Reset t seed m n
+
 -- nobody waits at a TEST whose relation holds of two values that read nothing but what lasts: where no RESET was done
--- up to there, what it counts anew lasts, too. (Within the step limit, since numbers tell transactions apart there.)
+-- since he came to wait, what it counts anew lasts, too. (Within the step limit, since numbers tell transactions apart
+-- there.)
 abbrev pub NobodyWaitsAtATestThatHolds : Type 0
 NobodyWaitsAtATestThatHolds =
-    (resets : Bool) (t : Listing) (seed n : ℕ) (s : Machine) → Well t → n ≤ t.limit → run t seed n ≡ Ok s →
-    (resets ≡ false → NoneBetween commands.Reset t seed 0 n) →
+    (resets : Bool) (t : Listing) (seed m n : ℕ) (s : Machine) → Well t → n ≤ t.limit → run t seed n ≡ Ok s →
     (w : Waiter) (id : ℕ) (b : Block) (first second : Term) (x y : ℤ) → Waits s w →
+    (resets ≡ false → WaitsSince t seed m n w) →
     goes_to t w.transaction ≡ Some id → block_at t id ≡ Some b → b.verb ≡ blocks.Test →
     operand b A ≡ Some first → operand b B ≡ Some second →
     Lasts resets t seed s (for_one s w.transaction) first x →

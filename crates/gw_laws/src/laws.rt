@@ -116,8 +116,8 @@ pub fn nobody_wakes_for_nothing()
 
 /// Nobody waits at a GATE whose condition holds of the entity that its operand names. Nobody waits at a TEST whose
 /// relation holds, where its values read nothing but what stays until a block writes it: F, Q, S, R, W, X, LS and CH,
-/// and the parameters, the priority and the number of who waits; and, where no RESET was done, FC, QC, QM, QZ, SC, SM,
-/// N, CC and TC, too.
+/// and the parameters, the priority and the number of who waits; and, where no RESET was done since he came to wait, FC,
+/// QC, QM, QZ, SC, SM, N, CC and TC, too.
 pub fn nobody_waits_for_what_holds()
     ensures gate { NobodyWaitsAtAnOpenGate }
     ensures test { NobodyWaitsAtATestThatHolds }
