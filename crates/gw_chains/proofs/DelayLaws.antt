@@ -63,15 +63,6 @@ pub written_is : (cs fs : Chains) (key : Key) (was chain : Chain Transaction) �
     delays_of fs ≡ with_value (delays_of cs) key chain.items
 written_is cs fs key was chain found is = ap delays_of (is ∙ set_value_is cs key chain was (sym found)) ∙ with_delay cs key chain
 
--- the chain that is there already
-pub with_same : (ds : Delays) (key : Key) (xs : List Transaction) → value_of ds key ≡ Some xs → with_value ds key xs ≡ ds
-with_same [] key xs h = absurd cc
-with_same (d ∷ ds) key xs h = go (key_eq key d.0) h (with_same ds key xs) where
-  go : (b : Bool) → cond b (Some d.1) (value_of ds key) ≡ Some xs → (value_of ds key ≡ Some xs → with_value ds key xs ≡ ds) →
-      cond b ((d.0, xs) ∷ ds) (d ∷ with_value ds key xs) ≡ d ∷ ds
-  go true h rest = let same : d.1 ≡ xs = cc in ap (λ ys. (d.0, ys) ∷ ds) (sym same)
-  go false h rest = ap (λ (es : Delays). d ∷ es) (rest h)
-
 pub value_is : (cs : Chains) (key : Key) (was : Chain Transaction) → Some was ≡ value_of cs key → value_of (delays_of cs) key ≡ Some was.items
 value_is [] key was h = absurd cc
 value_is (c ∷ cs) key was h = go (key_eq key c.0) h (value_is cs key was) where

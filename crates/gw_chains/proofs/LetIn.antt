@@ -1,9 +1,8 @@
 -- Whom a deed lets in: those with a share are let in, and the others go on waiting, in their order.
-use Rattle.std.proofs.Common.{◌≡◌, ℕ, zero, suc, ◌+◌, ◌-◌, ◌≤◌, ◌<◌, Bool, true, false, cond, List, [], ◌∷◌, ◌++◌, length, drop, get_or, min, slice_get, remove, Option, Some, None, IfSome, refl, sym, ap, subst, ◌∙◌, arith, append_assoc, add-one}
+use Rattle.std.proofs.Common.{◌≡◌, ℕ, zero, suc, ◌+◌, ◌-◌, ◌≤◌, ◌<◌, true, false, cond, List, [], ◌∷◌, ◌++◌, length, drop, get_or, min, slice_get, remove, Option, Some, None, IfSome, refl, sym, ap, subst, ◌∙◌, arith, append_assoc, add-one}
 use Rattle.std.proofs.lemmas.Grind.{common_steps}
 use Rattle.std.proofs.lemmas.List.{drop_more, length-append, length-drop}
 use Rattle.gw_names.specs.declared.key.Key.{Key}
-use Rattle.gw_names.specs.Keys.{key_eq}
 use Rattle.gw_entities.specs.Tables.{value_of, with_value}
 use Rattle.gw_entities.proofs.Lookups.{Some_same}
 use Rattle.gw_entities.proofs.TableLaws.{key_eq_equiv}
@@ -13,7 +12,8 @@ use Rattle.gw_meaning.specs.Machine.{Machine, delay_at, waiting, AreInOrder}
 use Rattle.gw_meaning.specs.Changes.{let_in, some_let_in}
 use Rattle.gw_meaning.proofs.Chains.{AreNotAbove, IsOrdered, ordered, in_order}
 use Rattle.gw_chains.specs.Chains.{Chain, delays_of, IsWaitingPlace, has_share, with_share, without_share, IsWithin, AreWithin, HasRoomToLetAllIn, all_let_in}
-use Rattle.gw_chains.proofs.DelayLaws.{with_same, waiting_with}
+use Rattle.gw_chains.proofs.Keyed.{with_same, with_again}
+use Rattle.gw_chains.proofs.DelayLaws.{waiting_with}
 
 abbrev Shares : Type 0
 Shares = List (Option ℕ)
@@ -98,16 +98,6 @@ without_fewer (Some units ∷ shares) (x ∷ xs) = let rest = without_fewer shar
 value_with : (ds : Delays) (key : Key) (xs : List Transaction) → value_of (with_value ds key xs) key ≡ Some xs
 value_with ds key xs =
     value_of-with_value ds key xs key ∙ ap (λ b. cond b (Some xs) (value_of ds key)) (key_eq_equiv.refl key)
-
-with_again : (ds : Delays) (key : Key) (xs ys : List Transaction) → with_value (with_value ds key xs) key ys ≡ with_value ds key ys
-with_again [] key xs ys = ap (λ b. cond b ((key, ys) ∷ []) ((key, xs) ∷ (key, ys) ∷ [])) (key_eq_equiv.refl key)
-with_again (d ∷ ds) key xs ys = go (key_eq key d.0) refl (with_again ds key xs ys) where
-  go : (b : Bool) → key_eq key d.0 ≡ b → with_value (with_value ds key xs) key ys ≡ with_value ds key ys →
-      with_value (cond b ((d.0, xs) ∷ ds) (d ∷ with_value ds key xs)) key ys ≡ cond b ((d.0, ys) ∷ ds) (d ∷ with_value ds key ys)
-  go true here rest = ap (λ b. cond b ((d.0, ys) ∷ ds) ((d.0, xs) ∷ with_value ds key ys)) here
-  go false here rest =
-      ap (λ b. cond b ((d.0, ys) ∷ with_value ds key xs) (d ∷ with_value (with_value ds key xs) key ys)) here ∙
-      ap (λ (es : Delays). d ∷ es) rest
 
 -- who is let in leaves the delay chains as they are
 let_in_beside : (x : Transaction) (to : Option ℕ) (s : Machine) (ds : Delays) →

@@ -5,3 +5,4 @@ pub mod Chains
 pub mod Blocks
 pub mod Forms
 pub mod Delays
+pub mod UserChains

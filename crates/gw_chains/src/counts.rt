@@ -1,7 +1,7 @@
 ghost use Rattle.std.specs.Prelude.{◌≡◌, ◌<◌, ◌≤◌, [], All, IfOk, OnOk};
 ghost use Rattle.gw_meaning.specs.declared.moves.Arrival.{Arrival};
 ghost use Rattle.gw_meaning.specs.Machine.{count_at, raised};
-ghost use Rattle.gw_meaning.specs.Changes.{left, crossed, content_behind, made_one};
+ghost use Rattle.gw_meaning.specs.Changes.{left, crossed, content_behind, made_one, stood};
 
 use gw_meaning::{Arrival, Count, Fate, StatementId};
 use gw_table::Table;
@@ -102,6 +102,21 @@ impl Counts {
         }
     }
 
+    /// One more transaction stands in a block, which it did not enter.
+    #[tactic(auto, using(crate::proofs::CountLaws::with_count_is))]
+    pub fn stand(&mut self, id: StatementId)
+        requires { id < self.old.limit }
+        ensures entries { self.new.entries ≡ stood self.old.entries id }
+        ensures limit { self.new.limit ≡ self.old.limit }
+    {
+        let there = self.at(id);
+        let count = Count {
+            content: there.content.saturating_add(1),
+            ..there
+        };
+        self.table.set(id.number(), count);
+    }
+
     /// A GENERATE made one more.
     #[tactic(auto, using(crate::proofs::CountLaws::with_count_is))]
     #[inline(always)]
@@ -147,7 +162,9 @@ fn content_behind(fate: &Fate, content: u64) -> u64
     ensures { result ≡ content_behind fate.now content }
 {
     match fate {
-        Fate::Active | Fate::Current | Fate::Delayed { .. } => content.saturating_add(1),
+        Fate::Active | Fate::Current | Fate::Delayed { .. } | Fate::Linked { .. } => {
+            content.saturating_add(1)
+        }
         Fate::Destroyed { .. } => content,
     }
 }

@@ -11,5 +11,6 @@ pub mod CapacityLaws
 pub mod RebaseLaws
 pub mod PositionLaws
 pub mod SpelledLaws
-pub mod WrittenLaws
+pub mod TextLaws
+pub mod Changed
 pub mod OutcomeLaws

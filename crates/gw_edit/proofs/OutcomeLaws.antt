@@ -1,9 +1,8 @@
--- What each edit without a text makes of a version, fact by fact, and where it is refused.
-use Rattle.std.proofs.Common.{◌≡◌, ◌≢◌, ◌⊎◌, ℕ, ◌+◌, ◌-◌, ◌<◌, ◌≤◌, ◌==◌, ◌||◌, Bool, true, false, cond, not, List, [], ◌∷◌, ◌++◌, Option, Some, None, Result, Ok, Err, is_some, filter, length, map, take, drop, nat_lt, inl, inr, refl, ap, ap₂, sym, subst, ◌∙◌, arith, append_assoc, true≢false}
-use Rattle.std.proofs.Math.Bool.{or-true}
+-- What each edit makes of a version, fact by fact, and where it is refused.
+use Rattle.std.proofs.Common.{◌≡◌, ◌≢◌, ◌⊎◌, ℕ, ◌+◌, ◌-◌, ◌==◌, Bool, true, false, cond, not, List, [], ◌∷◌, ◌++◌, Option, Some, None, Result, Err, is_some, filter, length, map, take, drop, inl, inr, refl, ap, ap₂, sym, subst, ◌∙◌, arith, true≢false}
 use Rattle.std.proofs.Math.Seq.{take-append_seam, drop-append-add}
-use Rattle.std.proofs.lemmas.Bool.{cases_Bool, eq-eqb, eqb-true, le-ltb, lt-ltb, ne_eqb}
-use Rattle.std.proofs.lemmas.List.{append-nil, drop-map, map-append, take-map}
+use Rattle.std.proofs.lemmas.Bool.{cases_Bool, eq-eqb, eqb-true, ne_eqb}
+use Rattle.std.proofs.lemmas.List.{append-nil}
 use Rattle.std.proofs.lemmas.List.Elements.{All-cons, All-head, All-nil, All-tail}
 use Rattle.gw_meaning.specs.declared.statement.Definition.{Definition}
 use Rattle.gw_meaning.specs.declared.statement.Definition.TheVariants as definitions
@@ -14,63 +13,18 @@ use Rattle.gw_meaning.specs.Listing.{Listing, definition_if, definition_of_body,
 use Rattle.gw_frame.specs.Renamed.{statements_of}
 use Rattle.gw_lines.specs.declared.fault.LineFault.TheVariants as faults
 use Rattle.gw_lines.specs.Printed.{storage_of}
-use Rattle.gw_model.specs.declared.fault.ModelFault.{ModelFault}
-use Rattle.gw_model.specs.declared.fault.ModelFault.TheVariants as models
-use Rattle.gw_model.specs.Faults.{fault_of, is_outside}
-use Rattle.gw_model.specs.Spliced.{inserted, number_in, spliced, with_splice}
+use Rattle.gw_model.specs.Faults.{is_outside}
+use Rattle.gw_model.specs.Spliced.{number_in, spliced, with_splice}
 use Rattle.gw_model.proofs.Apart.{same_bytes}
 use Rattle.gw_touch.specs.Touching.{is_capacity, storage_in}
 use Rattle.gw_edit.specs.declared.fault.EditFault.{EditFault}
-use Rattle.gw_edit.specs.declared.fault.EditFault.TheVariants.{NoSuchPlace, BadStatement, BadModel, NoSuchReplication, ReplicationTwice}
-use Rattle.gw_edit.specs.Applied.{capacity_at, checked, reseeded, unless_faulty, with_seed, without_number}
-use Rattle.gw_edit.specs.Faults.{of_model}
-use Rattle.gw_edit.specs.Outcomes.{ChangesTo, IsDeleted, DeleteMakes, IsStorage, HasNoStorage, FirstStorage, IsReplaced, CapacityMakes, IsReseeded, SeedMakes, IsAdded, ReplicateMakes, IsDropped, DropMakes, HasHorizon, EditsMake}
+use Rattle.gw_edit.specs.declared.fault.EditFault.TheVariants.{NoSuchPlace, BadStatement, NoSuchReplication, ReplicationTwice}
+use Rattle.gw_edit.specs.Applied.{capacity_at, checked, reseeded, with_seed, without_number}
+use Rattle.gw_edit.specs.Outcomes.{IsDeleted, DeleteMakes, IsStorage, HasNoStorage, FirstStorage, IsReplaced, CapacityMakes, IsReseeded, SeedMakes, IsAdded, ReplicateMakes, IsDropped, DropMakes, HasHorizon, EditsMake}
 use Rattle.gw_edit.proofs.CapacityLaws.{is_storage}
+use Rattle.gw_edit.proofs.Changed.{changes_to, inside, outside_below, outside_above, statements_spliced, one_between}
+use Rattle.gw_edit.proofs.TextLaws.{insert_makes, change_makes}
 use Rattle.gw_edit.proofs.Seeds.{seed_gone, seed_left, seed_reseeded}
-
--- ---- a changed version is made, or refused for its fault
-
-bad_model : (f : ModelFault) → f ≢ models.Memory → of_model f ≡ BadModel f
-bad_model models.Memory other = absurd (other refl)
-bad_model f other = refl
-
-none_made : (v : Listing) → fault_of v ≡ None → checked v ≡ Ok v
-unfolding checked
-none_made v h = ap (λ o. unless_faulty o v) h
-
-fault_refused : (v : Listing) (f : ModelFault) → fault_of v ≡ Some f → f ≢ models.Memory → checked v ≡ Err (BadModel f)
-unfolding checked
-fault_refused v f h other = ap (λ o. unless_faulty o v) h ∙ ap (λ (e : EditFault). Err e) (bad_model f other)
-
-changes_to : (facts : Listing → Type 0) (v : Listing) (answer : Result Listing EditFault) → facts v → answer ≡ checked v → ChangesTo facts answer
-changes_to facts v answer holds is = record {
-  version = v;
-  changed = holds;
-  made = λ h. is ∙ none_made v h;
-  refused = λ f h other. is ∙ fault_refused v f h other;
-}
-
--- ---- a number within or outside of 1 to the last one
-
-inside : (last n : ℕ) → 1 ≤ n → n ≤ last → is_outside 1 last n ≡ false
-inside last n least within = ap₂ (λ a b. a || b) (le-ltb n 1 least) (le-ltb last n within)
-
-outside_below : (last n : ℕ) → n < 1 → is_outside 1 last n ≡ true
-outside_below last n low = ap (λ b. b || nat_lt last n) (lt-ltb n 1 low)
-
-outside_above : (last n : ℕ) → last < n → is_outside 1 last n ≡ true
-outside_above last n high = ap (λ b. nat_lt n 1 || b) (lt-ltb last n high) ∙ or-true (nat_lt n 1)
-
--- ---- the statements after a splice
-
-statements_spliced : (lines middle : List Numbered) (i j : ℕ) →
-    statements_of (take i lines ++ middle ++ drop j lines) ≡ take i (statements_of lines) ++ statements_of middle ++ drop j (statements_of lines)
-statements_spliced lines middle i j =
-    map-append (λ (l : Numbered). l.statement) (take i lines ++ middle) (drop j lines)
-    ∙ ap₂ (λ a b. a ++ b)
-    (map-append (λ (l : Numbered). l.statement) (take i lines) middle
-    ∙ ap (λ a. a ++ statements_of middle) (sym (take-map (λ (l : Numbered). l.statement) i lines)))
-    (sym (drop-map (λ (l : Numbered). l.statement) j lines))
 
 -- ---- a statement is deleted
 
@@ -177,8 +131,7 @@ replaced lines front was s behind parts =
     let in_front : take (place - 1) (statements_of lines) ≡ front =
     ap₂ (λ i xs. take i xs) (omega arith) parts ∙ take-append_seam front (was ∷ behind) in
     let back : drop place (statements_of lines) ≡ behind = ap₂ (λ i xs. drop i xs) next parts ∙ drop-append-add front (was ∷ behind) 1 in
-    statements_spliced lines (inserted number (Some s)) (place - 1) place
-    ∙ append_assoc (take (place - 1) (statements_of lines)) (s ∷ []) (drop place (statements_of lines))
+    one_between lines s number (place - 1) place
     ∙ ap₂ (λ a b. a ++ s ∷ b) in_front back
 
 capacity_makes : (t : Listing) (name : List ℕ) (amount : ℕ) → CapacityMakes t name amount
@@ -300,6 +253,8 @@ drop_makes t number = record {
 
 pub edits_make : EditsMake
 edits_make t = record {
+  inserts = insert_makes t;
+  changes = change_makes t;
   deletes = delete_makes t;
   capacities = capacity_makes t;
   seeds = seed_makes t;

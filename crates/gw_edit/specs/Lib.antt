@@ -1,6 +1,5 @@
 pub mod Faults
 pub mod Applied
-pub mod Written
 pub mod Outcomes
 pub mod Rebasing
 pub mod Untouched

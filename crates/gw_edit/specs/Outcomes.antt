@@ -1,12 +1,14 @@
--- What each edit without a text makes of a version, fact by fact, and where it is refused. (Our own.)
-use Rattle.std.specs.Prelude.{◌≡◌, ◌≢◌, ◌⊎◌, ◌-◌, ◌<◌, ◌≤◌, ◌==◌, ℕ, List, [], ◌∷◌, ◌++◌, Some, None, Result, Ok, Err, All, not, length, take, drop, map, filter}
+-- What each edit makes of a version, fact by fact, and where it is refused. (Our own.)
+use Rattle.std.specs.Prelude.{◌≡◌, ◌≢◌, ◌⊎◌, ◌+◌, ◌-◌, ◌<◌, ◌≤◌, ◌==◌, ℕ, List, [], ◌∷◌, ◌++◌, Some, None, Result, Ok, Err, All, not, length, take, drop, map, filter}
 use Rattle.gw_meaning.specs.declared.statement.Body.TheVariants as bodies
 use Rattle.gw_meaning.specs.declared.statement.Definition.TheVariants as definitions
 use Rattle.gw_meaning.specs.declared.statement.Replication.{Replication}
 use Rattle.gw_meaning.specs.declared.statement.Statement.{Statement}
 use Rattle.gw_meaning.specs.Listing.{Listing, seed_at}
 use Rattle.gw_frame.specs.Renamed.{statements_of}
+use Rattle.gw_lines.specs.declared.fault.LineFault.{LineFault}
 use Rattle.gw_lines.specs.declared.fault.LineFault.TheVariants as faults
+use Rattle.gw_lines.specs.Edits.{SpellsEdit, FirstFaultOfEdit}
 use Rattle.gw_lines.specs.Printed.{storage_of}
 use Rattle.gw_model.specs.declared.fault.ModelFault.{ModelFault}
 use Rattle.gw_model.specs.declared.fault.ModelFault.TheVariants as models
@@ -34,6 +36,37 @@ pub record LeavesModel (t u : Listing) : Type 0 where
   pub lines : u.lines ≡ t.lines
   pub horizon : u.horizon ≡ t.horizon
   pub limit : u.limit ≡ t.limit
+
+-- a statement stands in front of those from a place on
+pub record IsInserted (t : Listing) (place : ℕ) (s : Statement) (u : Listing) : Type 0 where
+  pub statements :
+      statements_of u.lines ≡ take (place - 1) (statements_of t.lines) ++ s ∷ drop (place - 1) (statements_of t.lines)
+  pub rest : LeavesRuns t u
+
+-- the text spells the statement, or it has a first fault (which out of memory is never)
+pub record InsertMakes (t : Listing) (place : ℕ) (text : List ℕ) : Type 0 where
+  pub inserts : (s : Statement) → 1 ≤ place → place ≤ length t.lines + 1 → SpellsEdit text s →
+      ChangesTo (IsInserted t place s) (applied t (edits.Insert place text))
+  pub unread : (f : LineFault) → 1 ≤ place → place ≤ length t.lines + 1 → FirstFaultOfEdit text f →
+      f ≢ faults.Memory → applied t (edits.Insert place text) ≡ Err (BadStatement f)
+  pub below : place < 1 → applied t (edits.Insert place text) ≡ Err NoSuchPlace
+  pub above : length t.lines + 1 < place → applied t (edits.Insert place text) ≡ Err NoSuchPlace
+  pub spelled : (u : Listing) → applied t (edits.Insert place text) ≡ Ok u → (s : Statement) × SpellsEdit text s
+
+-- another statement stands in the place of one
+pub record IsChanged (t : Listing) (place : ℕ) (s : Statement) (u : Listing) : Type 0 where
+  pub statements :
+      statements_of u.lines ≡ take (place - 1) (statements_of t.lines) ++ s ∷ drop place (statements_of t.lines)
+  pub rest : LeavesRuns t u
+
+pub record ChangeMakes (t : Listing) (place : ℕ) (text : List ℕ) : Type 0 where
+  pub changes : (s : Statement) → 1 ≤ place → place ≤ length t.lines → SpellsEdit text s →
+      ChangesTo (IsChanged t place s) (applied t (edits.Change place text))
+  pub unread : (f : LineFault) → 1 ≤ place → place ≤ length t.lines → FirstFaultOfEdit text f →
+      f ≢ faults.Memory → applied t (edits.Change place text) ≡ Err (BadStatement f)
+  pub below : place < 1 → applied t (edits.Change place text) ≡ Err NoSuchPlace
+  pub above : length t.lines < place → applied t (edits.Change place text) ≡ Err NoSuchPlace
+  pub spelled : (u : Listing) → applied t (edits.Change place text) ≡ Ok u → (s : Statement) × SpellsEdit text s
 
 -- the statement at a place is deleted
 pub record IsDeleted (t : Listing) (place : ℕ) (u : Listing) : Type 0 where
@@ -122,9 +155,11 @@ pub record HasHorizon (t : Listing) (time : ℕ) (u : Listing) : Type 0 where
   pub replications : u.replications ≡ t.replications
   pub limit : u.limit ≡ t.limit
 
--- what the edits make of a version
+-- what each edit makes of a version
 pub record EachEditMakes (t : Listing) : Type 0 where
+  pub inserts : (place : ℕ) (text : List ℕ) → InsertMakes t place text
   pub deletes : (place : ℕ) → DeleteMakes t place
+  pub changes : (place : ℕ) (text : List ℕ) → ChangeMakes t place text
   pub capacities : (name : List ℕ) (amount : ℕ) → CapacityMakes t name amount
   pub seeds : (number seed : ℕ) → SeedMakes t number seed
   pub replicates : (number seed : ℕ) → ReplicateMakes t number seed

@@ -4,19 +4,10 @@ ghost use Rattle.gw_edit.specs.InPositions.{EditInPositions};
 ghost use Rattle.gw_edit.specs.Outcomes.{EditsMake};
 ghost use Rattle.gw_edit.specs.Spelled.{EditsAreSpelled};
 ghost use Rattle.gw_edit.specs.Untouched.{UntouchedAlike};
-ghost use Rattle.gw_edit.specs.Written.{ChangesAreRefused, ChangesAreSpelled, InsertsAreRefused, InsertsAreSpelled};
 
-/// An insert or a change of a place that is there makes the version with the statement that its text spells, where that
-/// has no fault, and is refused with the first fault of its text, where it spells none.
-pub fn texts_are_spelled()
-    ensures inserts { InsertsAreSpelled }
-    ensures changes { ChangesAreSpelled }
-    ensures inserts_refused { InsertsAreRefused }
-    ensures changes_refused { ChangesAreRefused }
-{}
-
-/// Each of the other edits changes of a version what it names and leaves the rest: the changed version is made where it
-/// has no fault, and refused for its first one, and where there is nothing to change it is refused for that.
+/// Each edit changes of a version what it names and leaves the rest: the changed version is made where it has no fault,
+/// and refused for its first one, and where there is nothing to change it is refused for that. An insert or a change puts
+/// the statement that its text spells, and is refused with the first fault of a text that spells none.
 pub fn edits_make()
     ensures { EditsMake }
 {}

@@ -2,6 +2,7 @@ pub mod Beside
 pub mod ComingLaws
 pub mod Entries
 pub mod Finding
+pub mod Inherited
 pub mod ItemLaws
 pub mod Lookups
 pub mod OwnLaws

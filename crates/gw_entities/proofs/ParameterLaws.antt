@@ -8,7 +8,7 @@ use Rattle.std.proofs.lemmas.Bool.Decides.{nat_tests}
 use Rattle.gw_names.specs.declared.key.Key.{Key}
 use Rattle.gw_names.specs.Keys.{key_eq}
 use Rattle.gw_entities.specs.Tables.{value_of, with_value}
-use Rattle.gw_entities.specs.Owned.{Entry, is_own, own_of, with_own, without_own, AreFrom, AreRising}
+use Rattle.gw_entities.specs.Owned.{Entry, is_own, own_of, all_of, with_own, without_own, AreFrom, AreRising}
 use Rattle.gw_entities.specs.Parameters.{Held, values_at, parameter_at, with_values, assigned, without, with_first, grouped}
 use Rattle.gw_entities.proofs.OwnLaws.{rising_with, rising_without}
 
@@ -255,10 +255,9 @@ values_first q e (h ∷ hs) a o = go (nat_eq e.0 h.0) refl where
 
 -- the entries of a transaction
 abbrev mine : ℕ → List (Entry ℤ) → Values
-mine q [] = []
-mine q (e ∷ es) = cond (nat_eq q e.0) (e.1 ∷ mine q es) (mine q es)
+mine q es = all_of q es
 
-values_grouped : (q : ℕ) (es : List (Entry ℤ)) → AreRising es → values_at (grouped es) q ≡ mine q es
+pub values_grouped : (q : ℕ) (es : List (Entry ℤ)) → AreRising es → values_at (grouped es) q ≡ mine q es
 values_grouped q [] r = refl
 values_grouped q (e ∷ es) r =
     values_first q e (grouped es) (keys_grouped e.0 es r.0) (ordered_grouped es r.1)

@@ -1,6 +1,6 @@
 -- What transactions have of their own: entries by key, in order of the numbers of their transactions, and of each
 -- transaction in order of coming. (Our own.)
-use Rattle.std.specs.Prelude.{◌≡◌, ℕ, suc, ◌≤◌, ◌<◌, Bool, true, ◌&&◌, not, nat_eq, nat_lt, List, [], ◌∷◌, length, take, drop, filter}
+use Rattle.std.specs.Prelude.{◌≡◌, ℕ, suc, ◌≤◌, ◌<◌, Bool, true, ◌&&◌, not, nat_eq, nat_lt, List, [], ◌∷◌, length, take, drop, filter, map}
 use Rattle.std.specs.Prelude.{Option, None, Some, if◌then◌else◌, slice_get, slice_index_or}
 use Rattle.gw_names.specs.declared.key.Key.{Key}
 use Rattle.gw_names.specs.declared.key.Key.TheVariants.{Num}
@@ -35,6 +35,11 @@ module _ {V : Type 0} where
   with_own (e ∷ es) number key value =
       if nat_lt number e.0 then (number, (key, value)) ∷ e ∷ es
       else if is_own number key e then (e.0, (e.1.0, value)) ∷ es else e ∷ with_own es number key value
+
+  -- what a transaction has, in order of coming
+  abbrev pub all_of : ℕ → List (Entry V) → List (Key × V)
+  all_of number [] = []
+  all_of number (e ∷ es) = if nat_eq number e.0 then e.1 ∷ all_of number es else all_of number es
 
   -- without those of a transaction
   abbrev pub without_own : List (Entry V) → ℕ → List (Entry V)
@@ -75,6 +80,10 @@ module _ {V : Type 0} where
   -- how `OwnList` keeps an entry: its key by its place among the keys
   abbrev pub entry_of : List Key → Item V → Entry V
   entry_of keys item = (item.number, (slice_index_or keys item.key (Num 0), item.value))
+
+  -- what such entries say
+  abbrev pub said_by : List Key → List (Item V) → List (Key × V)
+  said_by keys items = map (λ (item : Item V). (entry_of keys item).1) items
 
   abbrev pub AreKnown : ℕ → List (Item V) → Type 0
   AreKnown count [] = Unit {0}

@@ -1,6 +1,6 @@
 -- The parameters of transactions: for each transaction that has some, in order of their numbers, its values by key in
 -- order of first assignment. (Manual. Our own: the order of the transactions.)
-use Rattle.std.specs.Prelude.{ℕ, ℤ, not, nat_eq, nat_lt, List, [], ◌∷◌, Option, filter, if◌then◌else◌, unwrap_or}
+use Rattle.std.specs.Prelude.{ℕ, zero, suc, ◌+◌, ◌-◌, ◌^◌, min, ℤ, not, nat_eq, nat_lt, List, [], ◌∷◌, Option, filter, if◌then◌else◌, unwrap_or}
 use Rattle.std.specs.Map.{lookup}
 use Rattle.gw_names.specs.declared.key.Key.{Key}
 use Rattle.gw_entities.specs.Tables.{value_of, with_value}
@@ -36,6 +36,12 @@ without held number = filter (λ h. not (nat_eq number h.0)) held
 abbrev pub inherited : List (Key × ℤ) → ℕ → Held → Held
 inherited [] number held = held
 inherited (v ∷ vs) number held = inherited vs number (assigned held number v.0 v.1)
+
+-- the same for so many transactions, from one number on
+abbrev pub all_inherited : ℕ → List (Key × ℤ) → ℕ → Held → Held
+all_inherited zero values number held = held
+all_inherited (suc n) values number held =
+    all_inherited n values (min (number + 1) (2 ^ 64 - 1)) (inherited values number held)
 
 -- How `Parameters` keeps them, with a number for each: those of one transaction are put together.
 abbrev pub with_first : Entry ℤ → Held → Held

@@ -1,7 +1,7 @@
 ghost use Rattle.std.specs.Prelude.{◌≡◌, ℕ, suc, ◌<◌, ◌≤◌, ◌+◌, ◌++◌, [], length, take, drop, Some, slice_get};
 ghost use Rattle.std.specs.Prelude.{IfOk, IfErr, OnOk, OnErr, ◌==◌};
 ghost use Rattle.gw_names.specs.declared.key.Key.{Key};
-ghost use Rattle.gw_entities.specs.Owned.{own_of, with_own, without_own, AreRising, IsCut, StandsAt, EndsAt};
+ghost use Rattle.gw_entities.specs.Owned.{own_of, with_own, without_own, all_of, said_by, AreRising, AreKnown, IsCut, StandsAt, EndsAt};
 
 use crate::key_set::KeySet;
 use gw_names::Key;
@@ -73,6 +73,30 @@ impl<V: Copy> OwnList<V> {
         }
     }
 
+    // All that a transaction has, in order of coming.
+    pub fn all(&self, alloc: Global, number: u64) -> Result<Vec<Item<V>>, AllocError>
+        ensures said { IfOk result (λ is. said_by self.now.keys is.items ≡ all_of number self.now.entries) }
+        ensures known { IfOk result (λ is. AreKnown (length self.now.keys) is.items) }
+    {
+        self.all_from(alloc, number, self.first(number))
+    }
+
+    fn all_from(&self, alloc: Global, number: u64, first: usize) -> Result<Vec<Item<V>>, AllocError>
+        requires { IsCut number self.now.entries first }
+        ensures said { IfOk result (λ is. said_by self.now.keys is.items ≡ all_of number self.now.entries) }
+        ensures known { IfOk result (λ is. AreKnown (length self.now.keys) is.items) }
+    {
+        let mut all = Vec::new(alloc);
+        for index in first..self.items.len() {
+            let item = *self.items.at(index);
+            if item.number != number {
+                return Ok(all);
+            }
+            all.push(item)?;
+        }
+        Ok(all)
+    }
+
     // Where that stands by the key at a place, or where it would come.
     fn find(&self, number: u64, key: usize) -> Result<usize, usize>
         requires { key < length self.now.keys }
@@ -136,10 +160,20 @@ impl<V: Copy> OwnList<V> {
         Ok(place)
     }
 
+    // Makes room for so many more by keys that are there.
+    pub fn reserve_known(&mut self, count: usize) -> Result<(), AllocError>
+        ensures room { OnOk result (count ≤ self.new.room) }
+        ensures keys { self.new.keys ≡ self.old.keys }
+        ensures entries { self.new.entries ≡ self.old.entries }
+    {
+        self.items.reserve(count)
+    }
+
     // Sets what a transaction has by the key at a place.
     pub fn put(&mut self, number: u64, key: usize, value: V)
         requires room { 0 < self.old.room }
         requires key { key < length self.old.keys }
+        ensures room { self.old.room ≤ self.new.room + 1 }
         ensures entries { (k : Key) → slice_get self.old.keys key ≡ Some k →
             self.new.entries ≡ with_own self.old.entries number k value }
         ensures keys { self.new.keys ≡ self.old.keys }

@@ -4,9 +4,10 @@ use Rattle.std.proofs.Common.{◌≡◌, ℕ, zero, suc, ◌+◌, ◌≤◌, nat
 use Rattle.std.specs.List.{AllByRecursion}
 use Rattle.std.proofs.lemmas.Bool.{cond_both, not-false, or_parts}
 use Rattle.std.proofs.lemmas.Bool.Decides.{nat_tests}
+use Rattle.std.proofs.Math.Nat.{min-le_right}
 use Rattle.std.proofs.lemmas.List.{length-append}
 use Rattle.gw_nums.specs.Range.{is_negative, magnitude}
-use Rattle.gw_expr.specs.Term.{Term, Label, Fraction, Defined}
+use Rattle.gw_expr.specs.Term.{Term, Label, Fraction, Defined, Order}
 use Rattle.gw_streams.specs.declared.stream.Stream.{Stream}
 use Rattle.gw_meaning.specs.declared.asker.Asker.{Asker}
 use Rattle.gw_meaning.specs.declared.item.Item.{Item}
@@ -30,7 +31,7 @@ use Rattle.gw_meaning.specs.Numbers.{AreNumbered}
 use Rattle.gw_names.specs.declared.key.Key.{Key}
 use Rattle.gw_entities.specs.Comings.{came}
 use Rattle.gw_meaning.specs.Entities.{facility_at, line_at, savevalue_at}
-use Rattle.gw_meaning.specs.Machine.{Machine, raised, live, delay_at}
+use Rattle.gw_meaning.specs.Machine.{Machine, raised, live, delay_at, user_chain_at}
 use Rattle.gw_meaning.specs.Questions.{ask, result_of}
 use Rattle.gw_meaning.specs.Evaluation.{Eval, asks, named, owned, millionths}
 use Rattle.gw_meaning.specs.Step.{for_none, for_one, arrival_at, arrival_in_time, arrival_prog, first_of_generate, first_of, first_arrival, with_arrival, prime_prog, arrivals_prog, first_arrivals_prog, start_prog, command_prog, generate_prog, delay_of, advance_prog, terminate_prog, is_too_many, queue_units, queue_prog, depart_units, depart_prog, seize_or_wait, seize_prog, first_number, is_owner, release_to, release_prog, go_to, lead_to, transfer_prog, priority_prog, block_prog, meet_prog, try_prog, attempt_prog, least_time, within_prog, clock_prog, pick_prog, scan_prog, move_prog, decide, step_prog}
@@ -40,7 +41,7 @@ use Rattle.gw_meaning.specs.declared.auxiliary.Auxiliary.{Auxiliary}
 use Rattle.gw_meaning.specs.declared.auxiliary.Auxiliary.TheVariants as auxiliaries
 use Rattle.gw_meaning.specs.declared.auxiliary.Condition.{Condition}
 use Rattle.gw_entities.specs.Parameters.{parameter_at}
-use Rattle.gw_meaning.specs.Step.{by_sign, assign_with, assign_prog, left_of, loop_back, loop_to, loop_prog, pass_or_wait, holds, test_prog, kind_of_condition, is_open, reads_capacity, gate_at, gate_storage, gate_other, gate_of, gate_prog, logic_prog, savevalue_with, savevalue_prog}
+use Rattle.gw_meaning.specs.Step.{by_sign, assign_with, assign_prog, left_of, loop_back, loop_to, loop_prog, pass_or_wait, holds, test_prog, kind_of_condition, is_open, reads_capacity, gate_at, gate_storage, gate_other, gate_of, gate_prog, logic_prog, savevalue_with, savevalue_prog, split_to, split_count, split_prog, link_prog, unlink_to, unlink_count, leaving_prog, unlink_prog}
 use Rattle.gw_frame.specs.BlockIds.{IsBlockId, ActiveNames, TransactionNames}
 use Rattle.gw_frame.proofs.Generates.{IsBlockIn, generates_there}
 use Rattle.gw_frame.proofs.Labels.{label_there}
@@ -155,7 +156,7 @@ module _ (t : Listing) (seed : ℕ) (s : Machine) where
 
   delay_decided : (n : ℕ) → IsDecidedFate s changes.Nothing (delay_of s n)
   delay_decided zero = tt
-  delay_decided (suc n) = omega arith
+  delay_decided (suc n) = (refl, omega arith)
 
   advance_decides : (q : Asker) (id : ℕ) (mean range : Option Term) → IsBlockId t id → Decides t seed s (IsDecided t s) (advance_prog s q id mean range)
   advance_decides q id mean range named =
@@ -390,6 +391,57 @@ module _ (t : Listing) (seed : ℕ) (s : Machine) where
       (λ key h. keeps_bind (value_there_decides t seed s q value)
       (λ v k. savevalue_with_decides id sign key (savevalue_at s.entities key) v named))
 
+  -- SPLIT
+  split_to_decides : (id count : ℕ) (name : List ℕ) (to : Option ℕ) → label_at t name ≡ to → live s + count ≤ 100000 → IsBlockId t id →
+      Decides t seed s (IsDecided t s) (split_to id count to)
+  split_to_decides id count name None is few named = keeps_ends
+  split_to_decides id count name (Some to) is few named =
+      keeps_gives (named, record { few = few; named = λ numbered. inr (label_there t.lines name to numbered is) }, tt)
+
+  split_count_decides : (id : ℕ) (label : Option Term) (count : ℕ) → live s + count ≤ 100000 → IsBlockId t id →
+      Decides t seed s (IsDecided t s) (split_count id label count)
+  split_count_decides id label zero few named = keeps_gives (named, record { few = few; named = λ numbered. tt }, tt)
+  split_count_decides id (Some (Label name)) (suc n) few named = keeps_asks (items.Named asking.Label name) refl (λ numbered there. tt)
+      (split_to_decides id (suc n) name (label_at t name) refl few named)
+  split_count_decides id (Some term) (suc n) few named = keeps_gives (named, record { few = few; named = λ numbered. tt }, tt)
+  split_count_decides id None (suc n) few named = keeps_gives (named, record { few = few; named = λ numbered. tt }, tt)
+
+  split_decides : (q : Asker) (id : ℕ) (copies label : Option Term) → IsBlockId t id → Decides t seed s (IsDecided t s) (split_prog s q id copies label)
+  split_decides q id copies label named = keeps_bind (value_there_decides t seed s q copies)
+      (λ n h. keeps_stops (is_negative n) _ (keeps_unless (nat_lt 100000 (live s + magnitude n)) _
+      (λ few. split_count_decides id label (magnitude n) (not_over 100000 (live s + magnitude n) few) named)))
+
+  -- LINK
+  link_decides : (q : Asker) (id : ℕ) (entity order : Option Term) → IsBlockId t id → Decides t seed s (IsDecided t s) (link_prog s q id entity order)
+  link_decides q id entity (Some (Order discipline)) named = keeps_bind (entity_decides t seed s q entity) (λ key h. keeps_gives (named, tt, refl))
+  link_decides q id entity (Some term) named = keeps_ends
+  link_decides q id entity None named = keeps_ends
+
+  -- UNLINK
+  unlink_to_decides : (id : ℕ) (key : Key) (count : ℕ) (name : List ℕ) (to : Option ℕ) → label_at t name ≡ to →
+      count ≤ length (user_chain_at s.linked key).members → IsBlockId t id → Decides t seed s (IsDecided t s) (unlink_to id key count to)
+  unlink_to_decides id key count name None is there named = keeps_ends
+  unlink_to_decides id key count name (Some to) is there named =
+      keeps_gives (named, record { there = there; named = λ numbered. inr (label_there t.lines name to numbered is) }, tt)
+
+  unlink_count_decides : (id : ℕ) (key : Key) (label : Option Term) (count : ℕ) → count ≤ length (user_chain_at s.linked key).members → IsBlockId t id →
+      Decides t seed s (IsDecided t s) (unlink_count id key label count)
+  unlink_count_decides id key label zero there named = keeps_gives (named, record { there = there; named = λ numbered. tt }, tt)
+  unlink_count_decides id key (Some (Label name)) (suc n) there named = keeps_asks (items.Named asking.Label name) refl (λ numbered h. tt)
+      (unlink_to_decides id key (suc n) name (label_at t name) refl there named)
+  unlink_count_decides id key (Some term) (suc n) there named = keeps_ends
+  unlink_count_decides id key None (suc n) there named = keeps_ends
+
+  leaving_decides : (q : Asker) (count : Option Term) (there : ℕ) → Decides t seed s (λ n. n ≤ there) (leaving_prog s q count there)
+  leaving_decides q None there = keeps_gives (omega arith)
+  leaving_decides q (Some count) there = keeps_bind (units_decides t seed s q (Some count)) (λ n h. keeps_gives (min-le_right n there))
+
+  unlink_decides : (q : Asker) (id : ℕ) (entity label count : Option Term) → IsBlockId t id →
+      Decides t seed s (IsDecided t s) (unlink_prog s q id entity label count)
+  unlink_decides q id entity label count named = keeps_bind (entity_decides t seed s q entity)
+      (λ key h. keeps_bind (leaving_decides q count (length (user_chain_at s.linked key).members))
+      (λ n there. unlink_count_decides id key label n there named))
+
   block_decides : (x : Transaction) (id : ℕ) (b : Block) (verb : BlockVerb) → s.active ≡ Some x → IsBlockId t id →
       Decides t seed s (IsDecided t s) (block_prog s x id b verb)
   block_decides x id b blocks.Generate is named = generate_decides x id (operand b A) (operand b B) (operand b D) (operand b E) named
@@ -406,9 +458,12 @@ module _ (t : Listing) (seed : ℕ) (s : Machine) where
   block_decides x id b blocks.Gate is named = gate_decides (for_one s x) id b.auxiliary (operand b A) (operand b B) named
   block_decides x id b blocks.Logic is named = logic_decides (for_one s x) id b.auxiliary (operand b A) named
   block_decides x id b blocks.Savevalue is named = savevalue_decides (for_one s x) id b.auxiliary (operand b A) (operand b B) named
+  block_decides x id b blocks.Split is named = split_decides (for_one s x) id (operand b A) (operand b B) named
+  block_decides x id b blocks.Link is named = link_decides (for_one s x) id (operand b A) (operand b B) named
+  block_decides x id b blocks.Unlink is named = unlink_decides (for_one s x) id (operand b A) (operand b B) (operand b C) named
   block_decides x id b blocks.Mark is named = keeps_gives (named, tt, tt)
   block_decides x id b blocks.Priority is named = priority_decides (for_one s x) id (operand b A) named
-  block_decides x id b blocks.Buffer is named = keeps_gives (named, tt, tt)
+  block_decides x id b blocks.Buffer is named = keeps_gives (named, tt, refl)
   block_decides x id b blocks.Assign is named = assign_decides (for_one s x) id b.auxiliary (operand b A) (operand b B) named
   block_decides x id b blocks.Loop is named = loop_decides (for_one s x) id (operand b A) (operand b B) named
   block_decides x id b verb is named = keeps_ends

@@ -1,5 +1,5 @@
 -- Each evaluation reads items that name no ids but those of blocks, and draws with the seed where a stream is set.
-use Rattle.std.proofs.Common.{◌≡◌, ℕ, zero, suc, ◌<◌, nat_le, false, cond, not, ◌&&◌, Bool, true, List, [], ◌∷◌, ◌++◌, Result, Ok, Err, Option, Some, None, ℤ, ◌-◌, pos, inr, refl, append-nil, arith}
+use Rattle.std.proofs.Common.{◌≡◌, ℕ, zero, suc, ◌<◌, nat_le, false, cond, not, ◌&&◌, Bool, true, List, [], ◌∷◌, ◌++◌, length, Result, Ok, Err, Option, Some, None, ℤ, ◌-◌, pos, inr, refl, append-nil, arith}
 use Rattle.std.specs.List.{AllByRecursion}
 use Rattle.std.proofs.lemmas.Bool.Decides.{nat_tests}
 use Rattle.gw_nums.specs.Range.{is_value, is_negative, is_below, magnitude}
@@ -22,7 +22,7 @@ use Rattle.gw_meaning.specs.Listing.{Listing, capacity_at, label_at}
 use Rattle.gw_names.specs.declared.key.Key.{Key}
 use Rattle.gw_meaning.specs.Entities.{facility_at, line_at, switch_at}
 use Rattle.gw_entities.specs.Parameters.{parameter_at}
-use Rattle.gw_meaning.specs.Machine.{Machine, count_at}
+use Rattle.gw_meaning.specs.Machine.{Machine, count_at, user_chain_at}
 use Rattle.gw_meaning.specs.Evaluation.{Eval, number_of_draw, draw, amount, numbered, named, subject_prog, storage_prog, counted, block_count, random_prog, random_part, own_value, value_held, parameter_value, entity_value, storage_value, block_value, owned, one_if, attribute_prog, arithmetic, value_prog, value_there, value_or_zero, entity_prog, units_prog, in_range, spread, sample_within, time_prog, left_prog, modifier_of, time_by, drawn_prog, reply_prog, evaluated, entity_watched, storage_watched, counts_of, counts_watched, watched_prog, watched_by, traced, value_traced, entity_traced}
 use Rattle.gw_frame.proofs.Seeds.{uses_seed, one_drew}
 use Rattle.gw_frame.proofs.Keeps.{ProgKeeps, Keeps, prog_gives, prog_bind, keeps_gives, keeps_ends, keeps_asks, keeps_cond, keeps_stops, keeps_unless, keeps_bind, all_with}
@@ -143,6 +143,8 @@ module _ (t : Listing) (seed : ℕ) (s : Machine) where
   entity_value_decides class.Qz key = amount_decides (line_at s.entities key).zero_entries
   entity_value_decides class.X key = keeps_gives tt
   entity_value_decides class.Ls key = amount_decides (one_if (switch_at s.entities key))
+  entity_value_decides class.Ch key = amount_decides (length (user_chain_at s.linked key).members)
+  entity_value_decides class.Cc key = amount_decides (user_chain_at s.linked key).entries
   entity_value_decides class key = keeps_ends
 
   storage_value_decides : (class : Class) (key : Key) → Decides Whatever (storage_value s class key)
@@ -173,6 +175,8 @@ module _ (t : Listing) (seed : ℕ) (s : Machine) where
   attribute_decides q class.Qz of = keeps_bind (subject_decides of) (λ key h. entity_value_decides class.Qz key)
   attribute_decides q class.X of = keeps_bind (subject_decides of) (λ key h. entity_value_decides class.X key)
   attribute_decides q class.Ls of = keeps_bind (subject_decides of) (λ key h. entity_value_decides class.Ls key)
+  attribute_decides q class.Ch of = keeps_bind (subject_decides of) (λ key h. entity_value_decides class.Ch key)
+  attribute_decides q class.Cc of = keeps_bind (subject_decides of) (λ key h. entity_value_decides class.Cc key)
   attribute_decides q class.S of = storage_decides of _ (storage_value_decides class.S)
   attribute_decides q class.R of = left_decides of
   attribute_decides q class.Sc of = storage_decides of _ (storage_value_decides class.Sc)
@@ -266,6 +270,8 @@ module _ (t : Listing) (seed : ℕ) (s : Machine) where
   watched_decides class.Qz of = entity_watched_decides kinds.Queue of
   watched_decides class.X of = entity_watched_decides kinds.Savevalue of
   watched_decides class.Ls of = entity_watched_decides kinds.Switch of
+  watched_decides class.Ch of = entity_watched_decides kinds.UserChain of
+  watched_decides class.Cc of = entity_watched_decides kinds.UserChain of
   watched_decides class.S of = storage_watched_decides of
   watched_decides class.R of = storage_watched_decides of
   watched_decides class.Sc of = storage_watched_decides of

@@ -25,10 +25,10 @@ use Rattle.gw_meaning.specs.Numbers.{AreNumbered}
 use Rattle.gw_names.specs.declared.key.Key.{Key}
 use Rattle.gw_entities.specs.Records.{Line}
 use Rattle.gw_meaning.specs.Entities.{facility_at, line_at}
-use Rattle.gw_meaning.specs.Machine.{Machine, delay_at}
+use Rattle.gw_meaning.specs.Machine.{Machine, live, delay_at, user_chain_at}
 use Rattle.gw_meaning.specs.Changes.{decided}
 use Rattle.gw_meaning.specs.Step.{is_too_many, first_number, is_owner, least_time}
-use Rattle.gw_frame.specs.BlockIds.{IsBlockId, WatchedNames, ActiveNames, ItemNames}
+use Rattle.gw_frame.specs.BlockIds.{IsBlockId, IsIdIfAny, WatchedNames, ActiveNames, ItemNames}
 use Rattle.gw_names.specs.declared.key.Key.TheVariants as keys
 use Rattle.gw_meaning.specs.Listing.{capacity_at}
 use Rattle.gw_meaning.specs.Entities.{store_at}
@@ -113,16 +113,35 @@ IsDecidedOwn t (own.Transfer to) = AreNumbered t.lines → IsBlockId t to
 IsDecidedOwn t (own.Loop key left to) = AreNumbered t.lines → IsBlockId t to
 IsDecidedOwn t change = Unit {0}
 
+-- where those go whom a block sends away: to a block of the version, or on from their own
+abbrev pub IsSentTo : Listing → Option ℕ → Type 0
+IsSentTo t to = AreNumbered t.lines → IsIdIfAny t to
+
+-- as many copies as may live beside the others
+pub record MayBeCopied (t : Listing) (s : Machine) (count : ℕ) (to : Option ℕ) : Type 0 where
+  pub few : live s + count ≤ 100000
+  pub named : IsSentTo t to
+
+-- no more than are on the user chain
+pub record MayBeUnlinked (t : Listing) (s : Machine) (key : Key) (count : ℕ) (to : Option ℕ) : Type 0 where
+  pub there : count ≤ length (user_chain_at s.linked key).members
+  pub named : IsSentTo t to
+
 abbrev pub IsDecidedChange : Listing → Machine → Change → Type 0
 IsDecidedChange t s (changes.Generate next) = IsComingIfAny t s next
 IsDecidedChange t s (changes.Transaction change) = IsDecidedOwn t change
+IsDecidedChange t s (changes.Split count to) = MayBeCopied t s count to
+IsDecidedChange t s (changes.Unlink key count to) = MayBeUnlinked t s key count to
 IsDecidedChange t s (changes.Entity change) = IsDecidedDeed t s change.0 change.1
 IsDecidedChange t s change = Unit {0}
 
+-- a block that sends its transaction away changes nothing else
 abbrev pub IsDecidedFate : Machine → Change → Fate → Type 0
-IsDecidedFate s change (fates.Delayed until) = s.clock ≤ until
+IsDecidedFate s change fates.Active = Unit {0}
+IsDecidedFate s change fates.Current = change ≡ changes.Nothing
+IsDecidedFate s change (fates.Delayed until) = (change ≡ changes.Nothing) × (s.clock ≤ until)
+IsDecidedFate s change (fates.Linked key discipline) = change ≡ changes.Nothing
 IsDecidedFate s change (fates.Destroyed count) = change ≡ changes.Nothing
-IsDecidedFate s change fate = Unit {0}
 
 -- a facility refuses while it is owned, and a storage so many units that do not fit beside those in use
 abbrev pub IsRefused : Listing → Machine → Key → ℕ → Type 0

@@ -3,6 +3,7 @@ pub mod ReadLaws
 pub mod Follows
 pub mod MovedLists
 pub mod Delays
+pub mod UserChains
 pub mod MovedWaiters
 pub mod MovedChanges
 pub mod MovedValues

@@ -1,10 +1,10 @@
 -- What a moved move does to a moved state is what the move does to the state, moved.
-use Rattle.std.proofs.Common.{◌≡◌, ℕ, List, [], ◌∷◌, ◌++◌, map, Option, Some, None, option_map, refl, ap, ap₂, sym, ◌∙◌}
+use Rattle.std.proofs.Common.{◌≡◌, ℕ, zero, suc, ℤ, List, [], ◌∷◌, ◌++◌, map, Option, Some, None, option_map, refl, ap, ap₂, sym, ◌∙◌}
 use Rattle.std.proofs.lemmas.List.{map-append}
 use Rattle.gw_meaning.specs.declared.transaction.Transaction.{Transaction}
 use Rattle.gw_names.specs.declared.key.Key.{Key}
 use Rattle.gw_entities.specs.Tables.{with_value}
-use Rattle.gw_entities.specs.Parameters.{Held}
+use Rattle.gw_entities.specs.Parameters.{Held, values_at}
 use Rattle.gw_meaning.specs.declared.entity_change.Deed.{Deed}
 use Rattle.gw_meaning.specs.declared.moves.Arrival.{Arrival}
 use Rattle.gw_streams.specs.declared.stream.Stream.{Stream}
@@ -20,11 +20,12 @@ use Rattle.gw_meaning.specs.declared.watched.Watched.{Watched}
 use Rattle.gw_meaning.specs.declared.watched.Watched.TheVariants as watched
 use Rattle.gw_meaning.specs.Watching.{kind_of}
 use Rattle.gw_meaning.specs.Entities.{Entities, touched}
-use Rattle.gw_meaning.specs.Machine.{Machine, raised, delay_at}
-use Rattle.gw_meaning.specs.Changes.{crossed, due, Making, making, made, maybe_made, all_made, making_of, with_making, newcomer, placed, started, arrived, lined_up, own_marked, marked, own_held, held_by, fated, let_in, one_let_in, some_let_in, deed_shares, admitted, changed, entering, bound, refused, watching, picked, advanced, with_active, moved, crossings, written_by, written_where, written, woken, decided}
-use Rattle.gw_frame.specs.Moved.{IsMove, moved_transaction, moved_event, moved_count, moved_watched, moved_waiter, moved_machine}
-use Rattle.gw_frame.proofs.MovedLists.{made_one_moved, crossed_moved, lined_up_moved, all_lined_up_moved, due_moved, later_moved}
+use Rattle.gw_meaning.specs.Machine.{Machine, UserChain, raised, delay_at, user_chain_at}
+use Rattle.gw_meaning.specs.Changes.{crossed, due, Making, making, made, maybe_made, all_made, making_of, with_making, newcomer, placed, started, arrived, lined_up, own_marked, marked, own_held, held_by, linked_to, fated, let_in, one_let_in, some_let_in, deed_shares, admitted, copied, one_copied, all_copied, sent, one_unlinked, some_unlinked, changed, entering, bound, refused, watching, picked, advanced, with_active, moved, crossings, written_by, written_in, written_where, written, woken, decided}
+use Rattle.gw_frame.specs.Moved.{IsMove, moved_transaction, moved_event, moved_count, moved_watched, moved_waiter, moved_linked, moved_machine}
+use Rattle.gw_frame.proofs.MovedLists.{made_one_moved, stood_moved, crossed_moved, lined_up_moved, all_lined_up_moved, due_moved, later_moved}
 use Rattle.gw_frame.proofs.Delays.{delay_at_moved, with_delay_moved}
+use Rattle.gw_frame.proofs.UserChains.{user_chain_moved, linked_to_moved, with_chain_moved, with_members_moved}
 use Rattle.gw_frame.proofs.MovedWaiters.{crossings_moved, woken_moved}
 
 module _ (move : ℕ → ℕ) where
@@ -40,6 +41,8 @@ module _ (move : ℕ → ℕ) where
   abbrev pub moved_change : Change → Change
   moved_change (changes.Generate next) = changes.Generate (option_map moved_arrival next)
   moved_change (changes.Transaction change) = changes.Transaction (moved_own change)
+  moved_change (changes.Split count to) = changes.Split count (option_map move to)
+  moved_change (changes.Unlink key count to) = changes.Unlink key count (option_map move to)
   moved_change change = change
 
   abbrev pub moved_move : Move → Move
@@ -114,6 +117,13 @@ module _ (move : ℕ → ℕ) (is : IsMove move) where
   fated_moved fates.Active x s = refl
   fated_moved fates.Current x s = rw (lined_up_moved move x s.current) refl
   fated_moved (fates.Delayed until) x s = rw (map-append (moved_event move) s.future) refl
+  fated_moved (fates.Linked key discipline) x s =
+      rw (
+        user_chain_moved move s.linked key,
+        linked_to_moved move discipline x (user_chain_at s.linked key),
+        with_chain_moved move s.linked key (linked_to discipline x (user_chain_at s.linked key)),
+      )
+      refl
   fated_moved (fates.Destroyed count) x s = refl
 
   let_in_moved : (x : Transaction) (destination : Option ℕ) (s : Machine) →
@@ -146,8 +156,52 @@ module _ (move : ℕ → ℕ) (is : IsMove move) where
   admitted_moved key deed s =
       rw (delay_at_moved move s.delays key) (some_let_in_moved key (deed_shares deed) [] (delay_at s.delays key) s)
 
+  -- copies
+  one_copied_moved : (to : Option ℕ) (x : Transaction) (values : List (Key × ℤ)) (s : Machine) →
+      one_copied (option_map move to) (moved_transaction move x) values (moved_machine move s) ≡ moved_machine move (one_copied to x values s)
+  one_copied_moved to x values s = rw (lined_up_moved move (copied x s.next to) s.current, stood_moved move is s.counts x.current) refl
+
+  all_copied_moved : (count : ℕ) (to : Option ℕ) (x : Transaction) (values : List (Key × ℤ)) (s : Machine) →
+      all_copied count (option_map move to) (moved_transaction move x) values (moved_machine move s) ≡
+      moved_machine move (all_copied count to x values s)
+  all_copied_moved zero to x values s = refl
+  all_copied_moved (suc n) to x values s =
+      ap (all_copied n (option_map move to) (moved_transaction move x) values) (one_copied_moved to x values s) ∙
+      all_copied_moved n to x values (one_copied to x values s)
+
+  -- those who are unlinked
+  one_unlinked_moved : (key : Key) (to : Option ℕ) (x : Transaction) (others : List Transaction) (s : Machine) →
+      one_unlinked key (option_map move to) (moved_transaction move x) (map (moved_transaction move) others) (moved_machine move s) ≡
+      moved_machine move (one_unlinked key to x others s)
+  one_unlinked_moved key to x others s = rw (lined_up_moved move (sent to x) s.current, with_members_moved move s.linked key others) refl
+
+  some_unlinked_moved : (count : ℕ) (key : Key) (to : Option ℕ) (chain : List Transaction) (s : Machine) →
+      some_unlinked count key (option_map move to) (map (moved_transaction move) chain) (moved_machine move s) ≡
+      moved_machine move (some_unlinked count key to chain s)
+  some_unlinked_moved zero key to chain s = refl
+  some_unlinked_moved (suc n) key to [] s = refl
+  some_unlinked_moved (suc n) key to (x ∷ xs) s =
+      ap (some_unlinked n key (option_map move to) (map (moved_transaction move) xs)) (one_unlinked_moved key to x xs s) ∙
+      some_unlinked_moved n key to xs (one_unlinked key to x xs s)
+
+  split_moved : (o : Option Transaction) (count : ℕ) (to : Option ℕ) (s : Machine) →
+      with_active (option_map (moved_transaction move) o)
+      (λ x. all_copied count (option_map move to) x (values_at s.parameters x.number) (moved_machine move s)) (moved_machine move s) ≡
+      moved_machine move (with_active o (λ x. all_copied count to x (values_at s.parameters x.number) s) s)
+  split_moved None count to s = refl
+  split_moved (Some x) count to s = all_copied_moved count to x (values_at s.parameters x.number) s
+
+  unlink_moved : (key : Key) (count : ℕ) (to : Option ℕ) (s : Machine) →
+      some_unlinked count key (option_map move to) (user_chain_at (map (moved_linked move) s.linked) key).members (moved_machine move s) ≡
+      moved_machine move (some_unlinked count key to (user_chain_at s.linked key).members s)
+  unlink_moved key count to s =
+      ap (λ (c : UserChain). some_unlinked count key (option_map move to) c.members (moved_machine move s)) (user_chain_moved move s.linked key) ∙
+      some_unlinked_moved count key to (user_chain_at s.linked key).members s
+
   changed_moved : (change : Change) (s : Machine) → changed (moved_change move change) (moved_machine move s) ≡ moved_machine move (changed change s)
   changed_moved (changes.Generate next) s = arrived_moved next s
+  changed_moved (changes.Split count to) s = split_moved s.active count to s
+  changed_moved (changes.Unlink key count to) s = unlink_moved key count to s
   changed_moved (changes.Entity change) s = admitted_moved change.0 change.1 s
   changed_moved (changes.Transaction change) s = refl
   changed_moved changes.Nothing s = refl
@@ -219,19 +273,30 @@ module _ (move : ℕ → ℕ) (is : IsMove move) where
       ap (λ ws. watched.Entity (kind_of change.1) change.0 ∷ ws)
       (ap (crossings (deed_shares change.1)) (delay_at_moved move s.delays change.0) ∙
       crossings_moved move (deed_shares change.1) (delay_at s.delays change.0))
+  written_by_moved (changes.Unlink key count to) s = refl
+  written_by_moved (changes.Split count to) s = refl
   written_by_moved (changes.Generate next) s = refl
   written_by_moved (changes.Transaction change) s = refl
   written_by_moved changes.Nothing s = refl
 
-  written_where_moved : (o : Option Transaction) (id : ℕ) (change : Change) (s : Machine) →
-      written_where (option_map (moved_transaction move) o) (move id) (moved_change move change) (moved_machine move s) ≡
-      map (moved_watched move) (written_where o id change s)
-  written_where_moved None id change s = refl
-  written_where_moved (Some x) id change s =
-      ap (λ ws. watched.Counts (move x.current) ∷ watched.Counts (move id) ∷ ws) (written_by_moved change s)
+  written_in_moved : (fate : Fate) → written_in fate ≡ map (moved_watched move) (written_in fate)
+  written_in_moved fates.Active = refl
+  written_in_moved fates.Current = refl
+  written_in_moved (fates.Delayed until) = refl
+  written_in_moved (fates.Linked key discipline) = refl
+  written_in_moved (fates.Destroyed count) = refl
+
+  written_where_moved : (o : Option Transaction) (id : ℕ) (change : Change) (fate : Fate) (s : Machine) →
+      written_where (option_map (moved_transaction move) o) (move id) (moved_change move change) fate (moved_machine move s) ≡
+      map (moved_watched move) (written_where o id change fate s)
+  written_where_moved None id change fate s = refl
+  written_where_moved (Some x) id change fate s =
+      ap (λ ws. watched.Counts (move x.current) ∷ watched.Counts (move id) ∷ ws)
+      (ap₂ (λ ws vs. ws ++ vs) (written_by_moved change s) (written_in_moved fate) ∙
+      sym (map-append (moved_watched move) (written_by change s) (written_in fate)))
 
   written_moved : (s : Machine) (m : Move) → written (moved_machine move s) (moved_move move m) ≡ map (moved_watched move) (written s m)
-  written_moved s (moves.Enter id change fate) = written_where_moved s.active id change s
+  written_moved s (moves.Enter id change fate) = written_where_moved s.active id change fate s
   written_moved s (moves.Start count arrivals) = refl
   written_moved s moves.Command = refl
   written_moved s (moves.Refuse id key units) = refl

@@ -7,7 +7,7 @@ use Rattle.gw_meaning.specs.declared.transaction.Event.{Event}
 use Rattle.gw_meaning.specs.declared.transaction.Count.{Count}
 use Rattle.gw_meaning.specs.declared.moves.Fate.{Fate}
 use Rattle.gw_meaning.specs.Machine.{count_in, count_at, or_no_count, with_count}
-use Rattle.gw_meaning.specs.Changes.{lined_up, all_lined_up, left_at, left, entered, crossed, made_one, is_due, due}
+use Rattle.gw_meaning.specs.Changes.{lined_up, all_lined_up, left_at, left, entered, crossed, made_one, stood, is_due, due}
 use Rattle.gw_frame.specs.Moved.{IsMove, moved_count, moved_transaction, moved_event}
 
 -- of two choices by one test, the moved is the choice of the moved
@@ -56,6 +56,9 @@ module _ (move : ℕ → ℕ) (is : IsMove move) where
 
   pub made_one_moved : (cs : List (ℕ × Count)) (id : ℕ) → made_one (map (moved_count move) cs) (move id) ≡ map (moved_count move) (made_one cs id)
   made_one_moved cs id = rw (count_at_moved cs id) (with_count_moved cs id _)
+
+  pub stood_moved : (cs : List (ℕ × Count)) (id : ℕ) → stood (map (moved_count move) cs) (move id) ≡ map (moved_count move) (stood cs id)
+  stood_moved cs id = rw (count_at_moved cs id) (with_count_moved cs id _)
 
 module _ (move : ℕ → ℕ) where
   pub lined_up_moved : (x : Transaction) (ys : List Transaction) →

@@ -1,8 +1,8 @@
 -- The step from a moved state follows the step from the state: one line for each choice.
-use Rattle.std.proofs.Common.{◌≡◌, ℕ, zero, suc, nat_eq, nat_le, nat_lt, ◌+◌, Bool, true, false, cond, not, ◌&&◌, ◌||◌, List, [], ◌∷◌, ◌++◌, ◌-◌, map, Option, Some, None, is_some, option_map, ℤ, pos, refl, ap, sym, ◌∙◌}
+use Rattle.std.proofs.Common.{◌≡◌, ℕ, zero, suc, nat_eq, nat_le, nat_lt, ◌+◌, Bool, true, false, cond, not, ◌&&◌, ◌||◌, List, [], ◌∷◌, ◌++◌, ◌-◌, map, length, Option, Some, None, is_some, option_map, ℤ, pos, refl, ap, sym, ◌∙◌}
 use Rattle.std.proofs.lemmas.List.{map-append, length-map}
 use Rattle.gw_nums.specs.Range.{is_negative, magnitude}
-use Rattle.gw_expr.specs.Term.{Term, Label, Fraction, Defined}
+use Rattle.gw_expr.specs.Term.{Term, Label, Fraction, Defined, Order}
 use Rattle.gw_meaning.specs.declared.asker.Asker.{Asker}
 use Rattle.gw_meaning.specs.declared.item.Asked.TheVariants as asking
 use Rattle.gw_meaning.specs.declared.item.Item.TheVariants as items
@@ -22,7 +22,7 @@ use Rattle.gw_entities.specs.Comings.{came}
 use Rattle.gw_meaning.specs.Entities.{facility_at, line_at, store_at, savevalue_at}
 use Rattle.gw_meaning.specs.declared.watched.Watched.{Watched}
 use Rattle.gw_meaning.specs.declared.watched.Watched.TheVariants as watched
-use Rattle.gw_meaning.specs.Machine.{Machine, raised, live, number_of_active, count_at, delay_at, waiting}
+use Rattle.gw_meaning.specs.Machine.{Machine, raised, live, number_of_active, count_at, delay_at, waiting, members_of, user_chain_at}
 use Rattle.gw_meaning.specs.Evaluation.{millionths}
 use Rattle.gw_meaning.specs.Step.{for_none, for_one, arrival_at, arrival_in_time, arrival_within, arrival_prog, first_of_generate, first_of, first_arrival, with_arrival, arrivals_prog, first_arrivals_prog, start_prog, command_prog, generate_prog, advance_prog, terminate_prog, is_too_many, queue_units, queue_prog, depart_units, depart_prog, seize_or_wait, seize_prog, first_number, is_owner, release_to, release_prog, beside, in_use, share_of, all_shares, enter_or_wait, enter_storage, enter_prog, shares_prog, leave_for, leave_units, leave_prog, go_to, lead_to, transfer_prog, priority_prog, block_prog, meet_prog, try_prog, attempt_prog, sooner, least_time, within_prog, clock_prog, pick_prog, scan_prog, move_prog, step_prog, run_prog}
 use Rattle.gw_expr.specs.Arithmetic.{applied}
@@ -32,12 +32,13 @@ use Rattle.gw_meaning.specs.declared.auxiliary.Auxiliary.TheVariants as auxiliar
 use Rattle.gw_meaning.specs.declared.auxiliary.Condition.{Condition}
 use Rattle.gw_meaning.specs.declared.auxiliary.Condition.TheVariants as conditions
 use Rattle.gw_entities.specs.Parameters.{parameter_at}
-use Rattle.gw_meaning.specs.Step.{by_sign, assign_with, assign_prog, left_of, loop_back, loop_to, loop_prog, pass_or_wait, holds, test_prog, kind_of_condition, is_open, reads_capacity, gate_at, gate_storage, gate_other, gate_of, gate_prog, logic_prog, savevalue_with, savevalue_prog}
+use Rattle.gw_meaning.specs.Step.{by_sign, assign_with, assign_prog, left_of, loop_back, loop_to, loop_prog, pass_or_wait, holds, test_prog, kind_of_condition, is_open, reads_capacity, gate_at, gate_storage, gate_other, gate_of, gate_prog, logic_prog, savevalue_with, savevalue_prog, split_to, split_count, split_prog, link_prog, unlink_to, unlink_count, leaving_prog, unlink_prog}
 use Rattle.gw_frame.specs.Moved.{IsMove, moved_transaction, moved_event, moved_watched, moved_waiter, moved_machine}
 use Rattle.gw_frame.proofs.Follows.{ProgFollows, prog_gives, prog_bind, Follows, follows_gives, follows_ends, follows_asks, follows_cond, follows_stops, follows_bind}
 use Rattle.gw_frame.proofs.MovedValues.{same, draw_follows, arithmetic_follows, value_follows, value_there_follows, value_or_zero_follows, entity_follows, units_follows, time_follows, value_traced_follows, entity_traced_follows}
 use Rattle.gw_frame.proofs.MovedLists.{count_at_moved, none_moved}
 use Rattle.gw_frame.proofs.Delays.{delay_at_moved, waiting_moved}
+use Rattle.gw_frame.proofs.UserChains.{linked_moved, content_moved}
 use Rattle.gw_frame.proofs.MovedWaiters.{with_watched_moved}
 use Rattle.gw_frame.proofs.MovedChanges.{moved_arrival, moved_move, decided_moved}
 
@@ -55,7 +56,9 @@ module _ (move : ℕ → ℕ) (is : IsMove move) where
       let current = length-map s.current (moved_transaction move) in
       let future = length-map s.future (moved_event move) in
       let retry = length-map s.retry (moved_waiter move) in
-      rw (active_moved s.active, current, future, waiting_moved move s.delays, length-map (waiting s.delays) (moved_transaction move), retry) refl
+      let delays = length-map (waiting s.delays) (moved_transaction move) in
+      let linked = length-map (waiting (members_of s.linked)) (moved_transaction move) in
+      rw (active_moved s.active, current, future, waiting_moved move s.delays, delays, retry, linked_moved move s.linked, linked) refl
 
   least_time_moved : (es : List Event) → least_time (map (moved_event move) es) ≡ least_time es
   least_time_moved [] = refl
@@ -369,6 +372,56 @@ module _ (move : ℕ → ℕ) (is : IsMove move) where
   savevalue_follows s q id sign entity value = follows_bind _ (entity_follows move is s q entity)
       (λ key. follows_bind _ (value_there_follows move is s q value) (λ v. savevalue_with_follows id sign key (savevalue_at s.entities key) v))
 
+  -- SPLIT
+  split_to_follows : (id count : ℕ) (to : Option ℕ) →
+      Follows move (moved_move move) (split_to id count to) (split_to (move id) count (option_map move to))
+  split_to_follows id count None = follows_ends
+  split_to_follows id count (Some to) = follows_gives refl
+
+  split_count_follows : (id : ℕ) (label : Option Term) (count : ℕ) →
+      Follows move (moved_move move) (split_count id label count) (split_count (move id) label count)
+  split_count_follows id label zero = follows_gives refl
+  split_count_follows id (Some (Label name)) (suc n) = follows_asks (items.Named asking.Label name) (split_to_follows id (suc n))
+  split_count_follows id (Some term) (suc n) = follows_gives refl
+  split_count_follows id None (suc n) = follows_gives refl
+
+  split_follows : (s : Machine) (q : Asker) (id : ℕ) (copies label : Option Term) →
+      Follows move (moved_move move) (split_prog s q id copies label) (split_prog (moved_machine move s) q (move id) copies label)
+  split_follows s q id copies label = follows_bind _ (value_there_follows move is s q copies)
+      (λ n. rw (live_moved s) (follows_stops (is_negative n) _
+      (follows_stops (nat_lt 100000 (live s + magnitude n)) _ (split_count_follows id label (magnitude n)))))
+
+  -- LINK
+  link_follows : (s : Machine) (q : Asker) (id : ℕ) (entity order : Option Term) →
+      Follows move (moved_move move) (link_prog s q id entity order) (link_prog (moved_machine move s) q (move id) entity order)
+  link_follows s q id entity (Some (Order discipline)) = follows_bind _ (entity_follows move is s q entity) (λ key. follows_gives refl)
+  link_follows s q id entity (Some term) = follows_ends
+  link_follows s q id entity None = follows_ends
+
+  -- UNLINK
+  unlink_to_follows : (id : ℕ) (key : Key) (count : ℕ) (to : Option ℕ) →
+      Follows move (moved_move move) (unlink_to id key count to) (unlink_to (move id) key count (option_map move to))
+  unlink_to_follows id key count None = follows_ends
+  unlink_to_follows id key count (Some to) = follows_gives refl
+
+  unlink_count_follows : (id : ℕ) (key : Key) (label : Option Term) (count : ℕ) →
+      Follows move (moved_move move) (unlink_count id key label count) (unlink_count (move id) key label count)
+  unlink_count_follows id key label zero = follows_gives refl
+  unlink_count_follows id key (Some (Label name)) (suc n) = follows_asks (items.Named asking.Label name) (unlink_to_follows id key (suc n))
+  unlink_count_follows id key (Some term) (suc n) = follows_ends
+  unlink_count_follows id key None (suc n) = follows_ends
+
+  leaving_follows : (s : Machine) (q : Asker) (count : Option Term) (there : ℕ) →
+      Follows move same (leaving_prog s q count there) (leaving_prog (moved_machine move s) q count there)
+  leaving_follows s q None there = follows_gives refl
+  leaving_follows s q (Some count) there = follows_bind _ (units_follows move is s q (Some count)) (λ n. follows_gives refl)
+
+  unlink_follows : (s : Machine) (q : Asker) (id : ℕ) (entity label count : Option Term) →
+      Follows move (moved_move move) (unlink_prog s q id entity label count) (unlink_prog (moved_machine move s) q (move id) entity label count)
+  unlink_follows s q id entity label count = follows_bind _ (entity_follows move is s q entity)
+      (λ key. rw (content_moved move s.linked key)
+      (follows_bind _ (leaving_follows s q count (length (user_chain_at s.linked key).members)) (λ n. unlink_count_follows id key label n)))
+
   block_follows : (s : Machine) (x : Transaction) (id : ℕ) (b : Block) (verb : BlockVerb) →
       Follows move (moved_move move) (block_prog s x id b verb) (block_prog (moved_machine move s) (moved_transaction move x) (move id) b verb)
   block_follows s x id b blocks.Generate = generate_follows s x id (operand b A) (operand b B) (operand b D) (operand b E)
@@ -385,6 +438,9 @@ module _ (move : ℕ → ℕ) (is : IsMove move) where
   block_follows s x id b blocks.Gate = gate_follows s (for_one s x) id b.auxiliary (operand b A) (operand b B)
   block_follows s x id b blocks.Logic = logic_follows s (for_one s x) id b.auxiliary (operand b A)
   block_follows s x id b blocks.Savevalue = savevalue_follows s (for_one s x) id b.auxiliary (operand b A) (operand b B)
+  block_follows s x id b blocks.Split = split_follows s (for_one s x) id (operand b A) (operand b B)
+  block_follows s x id b blocks.Link = link_follows s (for_one s x) id (operand b A) (operand b B)
+  block_follows s x id b blocks.Unlink = unlink_follows s (for_one s x) id (operand b A) (operand b B) (operand b C)
   block_follows s x id b blocks.Mark = follows_gives refl
   block_follows s x id b blocks.Priority = priority_follows s (for_one s x) id (operand b A)
   block_follows s x id b blocks.Buffer = follows_gives refl

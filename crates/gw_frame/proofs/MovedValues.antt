@@ -1,5 +1,5 @@
 -- The evaluation in a moved state follows the evaluation in the state: none tells an id.
-use Rattle.std.proofs.Common.{ℕ, zero, suc, nat_le, not, ◌&&◌, List, ◌-◌, Result, Ok, Err, Option, Some, None, option_map, ℤ, pos, refl, map, []}
+use Rattle.std.proofs.Common.{ℕ, zero, suc, nat_le, not, ◌&&◌, List, ◌-◌, Result, Ok, Err, Option, Some, None, option_map, ℤ, pos, refl, map, [], length}
 use Rattle.gw_nums.specs.Range.{is_value, is_negative, is_below, magnitude}
 use Rattle.gw_expr.specs.Term.{Term, Named}
 use Rattle.gw_expr.specs.Evaluation.{Question, NumberOf, AttributeOf, PartOf, VariableOf, FunctionOf, Evaluation, Yields, Stops, Wants, value_of, function_of}
@@ -23,11 +23,12 @@ use Rattle.gw_entities.specs.Parameters.{parameter_at}
 use Rattle.gw_meaning.specs.declared.watched.EntityKind.{EntityKind}
 use Rattle.gw_meaning.specs.declared.watched.EntityKind.TheVariants as kinds
 use Rattle.gw_meaning.specs.declared.watched.Watched.{Watched}
-use Rattle.gw_meaning.specs.Machine.{Machine, count_at}
+use Rattle.gw_meaning.specs.Machine.{Machine, count_at, user_chain_at}
 use Rattle.gw_meaning.specs.Evaluation.{Eval, number_of_draw, draw, amount, numbered, named, subject_prog, storage_prog, counted, block_count, random_prog, random_part, own_value, value_held, parameter_value, entity_value, storage_value, block_value, owned, one_if, attribute_prog, arithmetic, value_prog, value_there, value_or_zero, entity_prog, units_prog, in_range, spread, sample_within, time_prog, left_prog, modifier_of, time_by, drawn_prog, reply_prog, evaluated, entity_watched, storage_watched, counts_watched, watched_prog, watched_by, traced, value_traced, entity_traced}
 use Rattle.gw_frame.specs.Moved.{IsMove, moved_watched, moved_machine}
 use Rattle.gw_frame.proofs.Follows.{ProgFollows, prog_gives, prog_asks, prog_bind, Follows, follows_gives, follows_ends, follows_asks, follows_cond, follows_stops, follows_bind}
 use Rattle.gw_frame.proofs.MovedLists.{count_at_moved}
+use Rattle.gw_frame.proofs.UserChains.{content_moved, entries_moved}
 use Rattle.gw_frame.proofs.MovedWaiters.{counts_of_moved, with_all_watched_moved}
 use Rattle.gw_meaning.specs.Watching.{with_all_watched}
 
@@ -123,6 +124,8 @@ module _ (move : ℕ → ℕ) (is : IsMove move) where
   entity_value_follows s class.Qz key = amount_follows (line_at s.entities key).zero_entries
   entity_value_follows s class.X key = follows_gives refl
   entity_value_follows s class.Ls key = amount_follows (one_if (switch_at s.entities key))
+  entity_value_follows s class.Ch key = rw (content_moved move s.linked key) (amount_follows (length (user_chain_at s.linked key).members))
+  entity_value_follows s class.Cc key = rw (entries_moved move s.linked key) (amount_follows (user_chain_at s.linked key).entries)
   entity_value_follows s class key = follows_ends
 
   storage_value_follows : (s : Machine) (class : Class) (key : Key) →
@@ -156,6 +159,8 @@ module _ (move : ℕ → ℕ) (is : IsMove move) where
   attribute_follows s q class.Qz of = follows_bind _ (subject_follows of) (entity_value_follows s class.Qz)
   attribute_follows s q class.X of = follows_bind _ (subject_follows of) (entity_value_follows s class.X)
   attribute_follows s q class.Ls of = follows_bind _ (subject_follows of) (entity_value_follows s class.Ls)
+  attribute_follows s q class.Ch of = follows_bind _ (subject_follows of) (entity_value_follows s class.Ch)
+  attribute_follows s q class.Cc of = follows_bind _ (subject_follows of) (entity_value_follows s class.Cc)
   attribute_follows s q class.S of = storage_follows of _ (storage_value_follows s class.S)
   attribute_follows s q class.R of = left_follows s of
   attribute_follows s q class.Sc of = storage_follows of _ (storage_value_follows s class.Sc)
@@ -250,6 +255,8 @@ module _ (move : ℕ → ℕ) (is : IsMove move) where
   watched_follows class.Qz of = entity_watched_follows kinds.Queue of
   watched_follows class.X of = entity_watched_follows kinds.Savevalue of
   watched_follows class.Ls of = entity_watched_follows kinds.Switch of
+  watched_follows class.Ch of = entity_watched_follows kinds.UserChain of
+  watched_follows class.Cc of = entity_watched_follows kinds.UserChain of
   watched_follows class.S of = storage_watched_follows of
   watched_follows class.R of = storage_watched_follows of
   watched_follows class.Sc of = storage_watched_follows of

@@ -9,6 +9,8 @@ use Rattle.gw_meaning.specs.declared.transaction.Event.{Event}
 use Rattle.gw_meaning.specs.declared.transaction.Count.{Count}
 use Rattle.gw_names.specs.declared.key.Key.{Key}
 use Rattle.gw_entities.specs.Tables.{with_value}
+use Rattle.gw_expr.specs.declared.expr.Discipline.{Discipline}
+use Rattle.gw_expr.specs.declared.expr.Discipline.TheVariants as disciplines
 use Rattle.gw_meaning.specs.declared.moves.Arrival.{Arrival}
 use Rattle.gw_meaning.specs.declared.moves.Change.{Change}
 use Rattle.gw_meaning.specs.declared.moves.Change.TheVariants as changes
@@ -22,14 +24,15 @@ use Rattle.gw_meaning.specs.declared.watched.Watched.{Watched}
 use Rattle.gw_meaning.specs.Watching.{Waiter, transactions_of}
 use Rattle.gw_meaning.specs.Listing.{Listing}
 use Rattle.gw_meaning.specs.Numbers.{AreNumbered}
-use Rattle.gw_meaning.specs.Machine.{Machine, count_in, with_count, delay_at}
-use Rattle.gw_meaning.specs.Changes.{lined_up, all_lined_up, left_at, left, crossed, is_due, due, Making, made, all_made, making_of, with_making, started, placed, own_marked, marked, fated, let_in, bound, refused, watching, moved, written, is_woken, woken}
-use Rattle.gw_frame.specs.BlockIds.{IsBlockId, IsIdIfAny, TransactionNames, ActiveNames, EventNames, DelayNames, WatchedNames, WaiterNames, CountNames, StateNames, ItemNames, StatesNameBlocks, StepsReadBlocks}
+use Rattle.gw_meaning.specs.Machine.{Machine, UserChain, count_in, with_count, delay_at, user_chain_at}
+use Rattle.gw_meaning.specs.Changes.{lined_up, all_lined_up, left_at, left, crossed, is_due, due, Making, made, all_made, making_of, with_making, started, placed, own_marked, marked, linked_to, fated, let_in, copied, sent, bound, refused, watching, moved, written, is_woken, woken}
+use Rattle.gw_frame.specs.BlockIds.{IsBlockId, IsIdIfAny, TransactionNames, ActiveNames, EventNames, DelayNames, LinkedNames, WatchedNames, WaiterNames, CountNames, StateNames, ItemNames, StatesNameBlocks, StepsReadBlocks}
 use Rattle.gw_frame.proofs.Keeps.{all_with}
 use Rattle.gw_frame.proofs.Known.{IsComing, IsDecidedOwn, IsDecidedChange, IsDecided, IsRead}
 use Rattle.gw_frame.proofs.Decided.{step_decides}
-use Rattle.gw_frame.proofs.Moves.{LetsIn, settled, with_active_has, entered_has, picked_has}
+use Rattle.gw_frame.proofs.Moves.{LetsIn, Copies, Unlinks, settled, with_active_has, entered_has, picked_has}
 use Rattle.gw_frame.proofs.Delays.{delay_has, with_delay_has}
+use Rattle.gw_frame.proofs.UserChains.{members_have, with_chain_has}
 use Rattle.gw_frame.proofs.Running.{over_run}
 use Rattle.gw_frame.proofs.ReadLaws.{step_reads, reads_there}
 
@@ -81,6 +84,7 @@ module _ (t : Listing) where
     future = all_with (EventNames t) w.future _ h.future (record { current = inl refl; destination = coming.id }, tt);
     delays = h.delays;
     retry = h.retry;
+    linked = h.linked;
     counts = with_count_names w.counts a.id _ coming.id h.counts;
   }
 
@@ -89,14 +93,73 @@ module _ (t : Listing) where
   all_made_names s [] w v coming h = h
   all_made_names s (a ∷ rest) w v coming h = all_made_names s rest (made a w) v coming.1 (made_names s a w v coming.0 h)
 
+  active_names : (s : Machine) (x : Transaction) → s.active ≡ Some x → StateNames t s → TransactionNames t x
+  active_names s x is h = let here : ActiveNames t (Some x) = subst (λ o. ActiveNames t o) is h.active in here
+
+  -- user chains
+  members_names : (s : Machine) (key : Key) → StateNames t s → AllByRecursion (TransactionNames t) (user_chain_at s.linked key).members
+  members_names s key h = members_have (λ chain. AllByRecursion (TransactionNames t) chain) s.linked key tt h.linked
+
+  with_chain_names : (s : Machine) (key : Key) (c : UserChain) → AllByRecursion (TransactionNames t) c.members → StateNames t s →
+      AllByRecursion (LinkedNames t) (with_value s.linked key c)
+  with_chain_names s key c all h = with_chain_has (λ chain. AllByRecursion (TransactionNames t) chain) s.linked key c all h.linked
+
+  linked_to_names : (discipline : Discipline) (x : Transaction) (c : UserChain) → TransactionNames t x → AllByRecursion (TransactionNames t) c.members →
+      AllByRecursion (TransactionNames t) (linked_to discipline x c).members
+  linked_to_names disciplines.Fifo x c named all = all_with (TransactionNames t) c.members _ all (named, tt)
+  linked_to_names disciplines.Lifo x c named all = (named, all)
+
   -- entering a block
   fated_names : (fate : Fate) (x : Transaction) (s : Machine) → TransactionNames t x → StateNames t s → StateNames t (fated fate x s)
-  fated_names fates.Active x s named h = record { active = named; current = h.current; future = h.future; delays = h.delays; retry = h.retry; counts = h.counts }
+  fated_names fates.Active x s named h = record {
+    active = named;
+    current = h.current;
+    future = h.future;
+    delays = h.delays;
+    retry = h.retry;
+    linked = h.linked;
+    counts = h.counts;
+  }
   fated_names fates.Current x s named h =
-      record { active = tt; current = lined_up_names x s.current named h.current; future = h.future; delays = h.delays; retry = h.retry; counts = h.counts }
+      record {
+        active = tt;
+        current = lined_up_names x s.current named h.current;
+        future = h.future;
+        delays = h.delays;
+        retry = h.retry;
+        linked = h.linked;
+        counts = h.counts;
+      }
   fated_names (fates.Delayed until) x s named h =
-      record { active = tt; current = h.current; future = all_with (EventNames t) s.future _ h.future (named, tt); delays = h.delays; retry = h.retry; counts = h.counts }
-  fated_names (fates.Destroyed count) x s named h = record { active = tt; current = h.current; future = h.future; delays = h.delays; retry = h.retry; counts = h.counts }
+      record {
+        active = tt;
+        current = h.current;
+        future = all_with (EventNames t) s.future _ h.future (named, tt);
+        delays = h.delays;
+        retry = h.retry;
+        linked = h.linked;
+        counts = h.counts;
+      }
+  fated_names (fates.Linked key discipline) x s named h =
+      let all = linked_to_names discipline x (user_chain_at s.linked key) named (members_names s key h) in
+      record {
+        active = tt;
+        current = h.current;
+        future = h.future;
+        delays = h.delays;
+        retry = h.retry;
+        linked = with_chain_names s key _ all h;
+        counts = h.counts;
+      }
+  fated_names (fates.Destroyed count) x s named h = record {
+    active = tt;
+    current = h.current;
+    future = h.future;
+    delays = h.delays;
+    retry = h.retry;
+    linked = h.linked;
+    counts = h.counts;
+  }
 
   own_names : (x : Transaction) (id clock : ℕ) (change : TransactionChange) → AreNumbered t.lines → IsDecidedOwn t change → IsBlockId t id →
       TransactionNames t (own_marked change clock (placed x id))
@@ -110,6 +173,8 @@ module _ (t : Listing) where
       TransactionNames t (marked change s.clock (placed x id))
   marked_names s x id (changes.Generate next) numbered coming named = record { current = named; destination = tt }
   marked_names s x id (changes.Transaction change) numbered coming named = own_names x id s.clock change numbered coming named
+  marked_names s x id (changes.Split count to) numbered coming named = record { current = named; destination = tt }
+  marked_names s x id (changes.Unlink key count to) numbered coming named = record { current = named; destination = tt }
   marked_names s x id (changes.Entity change) numbered coming named = record { current = named; destination = tt }
   marked_names s x id changes.Nothing numbered coming named = record { current = named; destination = tt }
 
@@ -117,7 +182,15 @@ module _ (t : Listing) where
       TransactionNames t (marked change s.clock (placed x id)) → StateNames t (settled s x id change fate)
   settled_names s x id change fate h moving named there =
       let counts = with_count_names (left s.counts x.current) id _ named (left_names s.counts x.current moving.current h.counts) in
-      fated_names fate _ _ there (record { active = h.active; current = h.current; future = h.future; delays = h.delays; retry = h.retry; counts = counts })
+      fated_names fate _ _ there (record {
+        active = h.active;
+        current = h.current;
+        future = h.future;
+        delays = h.delays;
+        retry = h.retry;
+        linked = h.linked;
+        counts = counts;
+      })
 
   crossed_names : (cs : List (ℕ × Count)) (from to : ℕ) → IsBlockId t from → IsBlockId t to → AllByRecursion (CountNames t) cs →
       AllByRecursion (CountNames t) (crossed fates.Active cs from to)
@@ -126,13 +199,22 @@ module _ (t : Listing) where
   let_in_names : (x : Transaction) (destination : Option ℕ) (s : Machine) → TransactionNames t x → IsIdIfAny t destination → StateNames t s →
       StateNames t (let_in x destination s)
   let_in_names x None s waits to h =
-      record { active = h.active; current = lined_up_names x s.current waits h.current; future = h.future; delays = h.delays; retry = h.retry; counts = h.counts }
+      record {
+        active = h.active;
+        current = lined_up_names x s.current waits h.current;
+        future = h.future;
+        delays = h.delays;
+        retry = h.retry;
+        linked = h.linked;
+        counts = h.counts;
+      }
   let_in_names x (Some id) s waits to h = record {
     active = h.active;
     current = lined_up_names (placed x id) s.current (record { current = to; destination = tt }) h.current;
     future = h.future;
     delays = h.delays;
     retry = h.retry;
+    linked = h.linked;
     counts = crossed_names s.counts x.current id waits.current to h.counts;
   }
 
@@ -152,7 +234,41 @@ module _ (t : Listing) where
   lets_names w key x passed xs is h =
       let all = part_names passed x xs (subst (λ chain. AllByRecursion (TransactionNames t) chain) is (delay_names w key h)) in
       let_in_names x x.destination (record w { delays = with_value w.delays key (passed ++ xs) }) all.0 all.0.destination
-      (record { active = h.active; current = h.current; future = h.future; delays = with_delay_names w key (passed ++ xs) all.1 h; retry = h.retry; counts = h.counts })
+      (record {
+        active = h.active;
+        current = h.current;
+        future = h.future;
+        delays = with_delay_names w key (passed ++ xs) all.1 h;
+        retry = h.retry;
+        linked = h.linked;
+        counts = h.counts;
+      })
+
+  copies_names : AreNumbered t.lines → (s : Machine) → Copies t s (StateNames t)
+  copies_names numbered s w to x values copying h =
+      let parent = active_names w x copying.active h in
+      record {
+        active = h.active;
+        current = lined_up_names (copied x w.next to) w.current (record { current = parent.current; destination = copying.named numbered }) h.current;
+        future = h.future;
+        delays = h.delays;
+        retry = h.retry;
+        linked = h.linked;
+        counts = with_count_names w.counts x.current _ parent.current h.counts;
+      }
+
+  unlinks_names : AreNumbered t.lines → Unlinks t (StateNames t)
+  unlinks_names numbered w key to x xs named is h =
+      let all = subst (λ chain. AllByRecursion (TransactionNames t) chain) is (members_names w key h) in
+      record {
+        active = h.active;
+        current = lined_up_names (sent to x) w.current (record { current = all.0.current; destination = named numbered }) h.current;
+        future = h.future;
+        delays = h.delays;
+        retry = h.retry;
+        linked = with_chain_names w key _ all.1 h;
+        counts = h.counts;
+      }
 
   refused_names : (s : Machine) (x : Transaction) (id : ℕ) (key : Key) (units : ℕ) → StateNames t s → TransactionNames t x → IsBlockId t id →
       StateNames t (refused s x id key units)
@@ -163,6 +279,7 @@ module _ (t : Listing) where
     delays = with_delay_names s key _
         (lined_up_names (bound x id units) (delay_at s.delays key) (record { current = named.current; destination = there }) (delay_names s key h)) h;
     retry = h.retry;
+    linked = h.linked;
     counts = h.counts;
   }
 
@@ -174,6 +291,7 @@ module _ (t : Listing) where
     future = h.future;
     delays = h.delays;
     retry = all_with (WaiterNames t) s.retry _ h.retry (record { transaction = named; read = all }, tt);
+    linked = h.linked;
     counts = h.counts;
   }
 
@@ -196,44 +314,65 @@ module _ (t : Listing) where
         future = h.future;
         delays = h.delays;
         retry = filter_names (WaiterNames t) (λ w. not (is_woken list w)) s.retry h.retry;
+        linked = h.linked;
         counts = h.counts;
       }
-
-  active_names : (s : Machine) (x : Transaction) → s.active ≡ Some x → StateNames t s → TransactionNames t x
-  active_names s x is h = let here : ActiveNames t (Some x) = subst (λ o. ActiveNames t o) is h.active in here
 
   -- moves
   moved_names : (s : Machine) (m : Move) → AreNumbered t.lines → IsDecided t s m → StateNames t s → StateNames t (moved s m)
   moved_names s (moves.Start count arrivals) numbered decided h = all_made_names s arrivals (making_of s) (started count s) decided.coming
-      (record { active = h.active; current = h.current; future = h.future; delays = h.delays; retry = h.retry; counts = h.counts })
-  moved_names s moves.Command numbered decided h = record { active = h.active; current = h.current; future = h.future; delays = h.delays; retry = h.retry; counts = h.counts }
+      (record { active = h.active; current = h.current; future = h.future; delays = h.delays; retry = h.retry; linked = h.linked; counts = h.counts })
+  moved_names s moves.Command numbered decided h = record {
+    active = h.active;
+    current = h.current;
+    future = h.future;
+    delays = h.delays;
+    retry = h.retry;
+    linked = h.linked;
+    counts = h.counts;
+  }
   moved_names s (moves.Enter id change fate) numbered decided h =
       entered_has (StateNames t) (StateNames t) t s id change fate decided.1 h
       (λ x is. settled_names s x id change fate h (active_names s x is h) decided.0 (marked_names s x id change numbered decided.1 decided.0))
-      (λ v. record { nothing = λ k. k; one = λ a coming k. made_names s a (making_of v) v coming k; lets = lets_names })
+      (λ v. record {
+        nothing = λ k. k;
+        one = λ a coming k. made_names s a (making_of v) v coming k;
+        lets = lets_names;
+        copies = copies_names numbered s;
+        unlinks = unlinks_names numbered;
+      })
   moved_names s (moves.Refuse id key units) numbered decided h =
       with_active_has (StateNames t) s.active (λ x. refused s x id key units) s h (λ x is. refused_names s x id key units h (active_names s x is h) decided.0)
   moved_names s (moves.Watch read) numbered decided h =
       with_active_has (StateNames t) s.active (λ x. watching s x read) s h (λ x is. watching_names s x read h (active_names s x is h) (decided numbered))
   moved_names s moves.Pick numbered decided h = picked_has (StateNames t) s s.current h
       (λ x xs is. (let all : AllByRecursion (TransactionNames t) (x ∷ xs) = subst (λ chain. AllByRecursion (TransactionNames t) chain) is h.current in
-      record { active = all.0; current = all.1; future = h.future; delays = h.delays; retry = h.retry; counts = h.counts }))
+      record { active = all.0; current = all.1; future = h.future; delays = h.delays; retry = h.retry; linked = h.linked; counts = h.counts }))
   moved_names s (moves.Clock time) numbered decided h = record {
     active = h.active;
     current = all_lined_up_names (due time s.future) s.current (due_names time s.future h.future) h.current;
     future = later_names time s.future h.future;
     delays = h.delays;
     retry = h.retry;
+    linked = h.linked;
     counts = h.counts;
   }
 
 -- each state of a run, with what its step reads
 pub run_names : StatesNameBlocks
 run_names t seed n s numbered =
-    over_run t seed (λ n s. StateNames t s) (record { active = tt; current = tt; future = tt; delays = tt; retry = tt; counts = tt })
+    over_run t seed (λ n s. StateNames t s) (record { active = tt; current = tt; future = tt; delays = tt; retry = tt; linked = tt; counts = tt })
     (λ n s m streams there decided h.
     let next = woken_names t (written s m) (moved s m) (moved_names t s m numbered decided h) in
-    record { active = next.active; current = next.current; future = next.future; delays = next.delays; retry = next.retry; counts = next.counts })
+    record {
+      active = next.active;
+      current = next.current;
+      future = next.future;
+      delays = next.delays;
+      retry = next.retry;
+      linked = next.linked;
+      counts = next.counts;
+    })
     n s
 
 all_read : (t : Listing) (s : Machine) (is : List Item) → ((i : Item) → IsRead t s i → ItemNames t i) → AllByRecursion (IsRead t s) is →

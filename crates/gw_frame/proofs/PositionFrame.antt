@@ -9,11 +9,11 @@ use Rattle.gw_meaning.specs.declared.watched.Watched.{Watched}
 use Rattle.gw_meaning.specs.declared.watched.Watched.TheVariants as watched
 use Rattle.gw_meaning.specs.Watching.{Waiter}
 use Rattle.gw_meaning.specs.Listing.{Listing}
-use Rattle.gw_meaning.specs.Machine.{Machine}
+use Rattle.gw_meaning.specs.Machine.{Machine, UserChain}
 use Rattle.gw_meaning.specs.Step.{step, run}
 use Rattle.gw_meaning.specs.Reads.{reads}
-use Rattle.gw_frame.specs.Moved.{moved_item, moved_transaction, moved_event, moved_delay, moved_watched, moved_waiter, moved_count, moved_machine}
-use Rattle.gw_frame.specs.BlockIds.{IsBlockId, IsIdIfAny, TransactionNames, ActiveNames, EventNames, DelayNames, WatchedNames, WaiterNames, CountNames, StateNames, ItemNames}
+use Rattle.gw_frame.specs.Moved.{moved_item, moved_transaction, moved_event, moved_delay, moved_watched, moved_waiter, moved_linked, moved_count, moved_machine}
+use Rattle.gw_frame.specs.BlockIds.{IsBlockId, IsIdIfAny, TransactionNames, ActiveNames, EventNames, DelayNames, LinkedNames, WatchedNames, WaiterNames, CountNames, StateNames, ItemNames}
 use Rattle.gw_frame.specs.Positions.{position_of, shifted, FrameInPositions}
 use Rattle.gw_frame.proofs.ReadLaws.{unseen_reads}
 use Rattle.gw_frame.proofs.Running.{last_step}
@@ -63,9 +63,13 @@ module _ (t u : Listing) (f g h : ℕ → ℕ) (same : (p : ℕ) → IsBlockId t
       (moved_transaction h) transaction_same d.1 k l)) s.delays there.delays also.delays in
       let retry = list_same (WaiterNames t) (WaiterNames u) (moved_waiter f) (moved_waiter g) (moved_waiter h) waiter_same
       s.retry there.retry also.retry in
+      let linked = list_same (LinkedNames t) (LinkedNames u) (moved_linked f) (moved_linked g) (moved_linked h)
+      (λ c k l. ap (λ xs. let d : UserChain = record { entries = c.1.entries; members = xs } in (c.0, d))
+      (list_same (TransactionNames t) (TransactionNames u) (moved_transaction f) (moved_transaction g) (moved_transaction h) transaction_same
+      c.1.members k l)) s.linked there.linked also.linked in
       let counts = list_same (CountNames t) (CountNames u) (moved_count f) (moved_count g) (moved_count h) (λ c k l. ap (λ p. (p, c.1)) (same c.0 k l))
       s.counts there.counts also.counts in
-      rw (active, current, future, delays, retry, counts) refl
+      rw (active, current, future, delays, retry, linked, counts) refl
 
   item_same : (i : Item) → ItemNames t i → ItemNames u i → moved_item f i ≡ moved_item h (moved_item g i)
   item_same (items.Block p) there also = ap (λ q. items.Block q) (same p there also)

@@ -14,7 +14,7 @@ use Rattle.gw_meaning.specs.declared.watched.Watched.TheVariants as watched
 use Rattle.gw_meaning.specs.Listing.{Listing, block_at}
 use Rattle.gw_meaning.specs.Watching.{Waiter}
 use Rattle.gw_meaning.specs.Numbers.{AreNumbered}
-use Rattle.gw_meaning.specs.Machine.{Machine}
+use Rattle.gw_meaning.specs.Machine.{Machine, UserChain}
 use Rattle.gw_meaning.specs.Step.{step, run}
 use Rattle.gw_meaning.specs.Reads.{reads}
 
@@ -22,8 +22,8 @@ use Rattle.gw_meaning.specs.Reads.{reads}
 abbrev pub IsBlockId : Listing → ℕ → Type 0
 IsBlockId t id = (id ≡ 0) ⊎ ((block : Block) × (block_at t id ≡ Some block))
 
--- what names no other id: an id that there may be, a transaction, an event, a delay chain, what is watched, who waits for
--- a change of it, and a count
+-- what names no other id: an id that there may be, a transaction, an event, a delay chain, a user chain, what is watched,
+-- who waits for a change of it, and a count
 abbrev pub IsIdIfAny : Listing → Option ℕ → Type 0
 IsIdIfAny t None = Unit {0}
 IsIdIfAny t (Some id) = IsBlockId t id
@@ -41,6 +41,9 @@ EventNames t e = TransactionNames t e.transaction
 
 abbrev pub DelayNames : Listing → Key × List Transaction → Type 0
 DelayNames t d = AllByRecursion (TransactionNames t) d.1
+
+abbrev pub LinkedNames : Listing → Key × UserChain → Type 0
+LinkedNames t c = AllByRecursion (TransactionNames t) c.1.members
 
 abbrev pub WatchedNames : Listing → Watched → Type 0
 WatchedNames t (watched.Entity kind key) = Unit {0}
@@ -60,6 +63,7 @@ pub record StateNames (t : Listing) (s : Machine) : Type 0 where
   pub future : AllByRecursion (EventNames t) s.future
   pub delays : AllByRecursion (DelayNames t) s.delays
   pub retry : AllByRecursion (WaiterNames t) s.retry
+  pub linked : AllByRecursion (LinkedNames t) s.linked
   pub counts : AllByRecursion (CountNames t) s.counts
 
 -- an item: those of a block name its id, and no other does

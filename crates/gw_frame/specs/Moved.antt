@@ -13,7 +13,7 @@ use Rattle.gw_meaning.specs.declared.watched.Watched.{Watched}
 use Rattle.gw_meaning.specs.declared.watched.Watched.TheVariants as watched
 use Rattle.gw_meaning.specs.Listing.{Listing}
 use Rattle.gw_meaning.specs.Watching.{Waiter}
-use Rattle.gw_meaning.specs.Machine.{Machine}
+use Rattle.gw_meaning.specs.Machine.{Machine, UserChain}
 use Rattle.gw_meaning.specs.Questions.{Answer, ask}
 
 -- a way to number ids anew: 0, which is no block, stays, and no two ids become one
@@ -45,6 +45,12 @@ module _ (move : ℕ → ℕ) where
   abbrev pub moved_delay : Key × List Transaction → Key × List Transaction
   moved_delay d = (d.0, map moved_transaction d.1)
 
+  abbrev pub moved_chain : UserChain → UserChain
+  moved_chain c = record { entries = c.entries; members = map moved_transaction c.members }
+
+  abbrev pub moved_linked : Key × UserChain → Key × UserChain
+  moved_linked c = (c.0, moved_chain c.1)
+
   abbrev pub moved_watched : Watched → Watched
   moved_watched (watched.Entity kind key) = watched.Entity kind key
   moved_watched (watched.Counts id) = watched.Counts (move id)
@@ -64,6 +70,7 @@ module _ (move : ℕ → ℕ) where
             map moved_event s.future;
         delays = map moved_delay s.delays;
         retry = map moved_waiter s.retry;
+        linked = map moved_linked s.linked;
         counts = map moved_count s.counts;
       }
 

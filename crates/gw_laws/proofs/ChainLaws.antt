@@ -1,6 +1,6 @@
 -- The current chain, move by move and over a run: in order of priority, and first in first out within. The delay chains, too,
 -- are in order.
-use Rattle.std.proofs.Common.{◌≡◌, ℕ, ◌+◌, ◌≤◌, ℤ, nat_eq, Bool, true, false, List, [], ◌∷◌, ◌++◌, Some, Ok, refl, sym, ap, ap₂, subst, ◌∙◌, append-nil, append_assoc, arith, inl, inr, filter, not}
+use Rattle.std.proofs.Common.{◌≡◌, ℕ, ◌+◌, ◌-◌, ◌^◌, ◌<◌, ◌≤◌, ℤ, Option, nat_eq, Bool, true, false, List, [], ◌∷◌, ◌++◌, Some, Ok, refl, sym, ap, ap₂, subst, ◌∙◌, append-nil, append_assoc, arith, inl, inr, filter}
 use Rattle.std.specs.List.{AllByRecursion}
 use Rattle.std.specs.Ordering.{int_eq}
 use Rattle.std.proofs.lemmas.Bool.{cases_Bool, eq-eqb, false≢true, or_parts}
@@ -9,7 +9,6 @@ use Rattle.std.proofs.lemmas.List.Elements.{All-from_recursion}
 use Rattle.std.proofs.lemmas.List.Folds.{list_any-append}
 use Rattle.gw_nums.specs.Range.{is_below}
 use Rattle.gw_names.specs.declared.key.Key.{Key}
-use Rattle.gw_entities.specs.Tables.{with_value}
 use Rattle.gw_meaning.specs.declared.transaction.Transaction.{Transaction}
 use Rattle.gw_meaning.specs.declared.moves.Change.{Change}
 use Rattle.gw_meaning.specs.declared.moves.Fate.{Fate}
@@ -17,8 +16,8 @@ use Rattle.gw_meaning.specs.declared.moves.Fate.TheVariants as fates
 use Rattle.gw_meaning.specs.declared.moves.Move.{Move}
 use Rattle.gw_meaning.specs.declared.moves.Move.TheVariants as moves
 use Rattle.gw_meaning.specs.Listing.{Listing}
-use Rattle.gw_meaning.specs.Machine.{Machine, delay_at, waiting}
-use Rattle.gw_meaning.specs.Changes.{lined_up, all_lined_up, placed, marked, one_let_in, bound, refused, due, moved, watching, written, is_woken, woken}
+use Rattle.gw_meaning.specs.Machine.{Machine, delay_at, user_chain_at}
+use Rattle.gw_meaning.specs.Changes.{lined_up, all_lined_up, making_of, placed, marked, one_let_in, copied, one_copied, sent, one_unlinked, bound, refused, due, moved, watching, written, is_woken, woken}
 use Rattle.gw_meaning.specs.Step.{run}
 use Rattle.gw_meaning.proofs.Programs.{run_on}
 use Rattle.gw_meaning.proofs.Chains.{IsOrdered, AreNotAbove, in_order, ordered_lined, ordered_all_lined, below_one_way}
@@ -28,12 +27,13 @@ use Rattle.gw_laws.specs.Chain.{ChainIsInOrder, ChainIsFirstInFirstOut, IsFirstI
 use Rattle.gw_frame.proofs.Decided.{step_decides}
 use Rattle.gw_frame.proofs.Known.{IsDecided}
 use Rattle.gw_frame.proofs.Keeps.{all_with}
-use Rattle.gw_frame.proofs.Moves.{marked_same, settled, settled_is, current_behind, with_active_has, entered_has, picked_has}
+use Rattle.gw_frame.proofs.Moves.{settled, settled_is, current_behind, with_active_has, entered_has, picked_has}
 use Rattle.gw_frame.proofs.Running.{over_run}
 use Rattle.gw_laws.proofs.Entries.{Each, at_has, with_has}
-use Rattle.gw_laws.proofs.Waiting.{let_in_as, let_in_number, let_in_is, all_without}
-use Rattle.gw_laws.proofs.Crowd.{one, active_crowd, many, many_lined, many_without, waiting_with, future_parts, many_all_lined, waiters_parts}
-use Rattle.gw_laws.proofs.NumberLaws.{has_number, IsNumbered, all_numbered}
+use Rattle.gw_laws.proofs.Waiting.{let_in_as, let_in_is, all_without}
+use Rattle.gw_laws.proofs.Crowd.{one, many, many_lined, future_parts, many_all_lined, woken_crowd}
+use Rattle.gw_laws.proofs.NumberLaws.{has_number, IsNumbered, same_numbered, made_numbered, settled_numbered, lets_numbered, copied_numbered, unlinked_numbered, all_numbered}
+use Rattle.gw_laws.proofs.Room.{all_within}
 use Rattle.gw_laws.proofs.Waking.{unwoken}
 
 -- the current chain and each delay chain are in order of priority
@@ -82,7 +82,13 @@ moved_ordered t s (moves.Start count arrivals) decided h = record { current = h.
 moved_ordered t s moves.Command decided h = record { current = h.current; delays = h.delays }
 moved_ordered t s (moves.Enter id change fate) decided h =
     entered_has AreChained AreChained t s id change fate decided.1 h (λ x is. settled_ordered s x id change fate h)
-    (λ v. record { nothing = λ k. k; one = λ a coming k. record { current = k.current; delays = k.delays }; lets = lets_ordered })
+    (λ v. record {
+      nothing = λ k. k;
+      one = λ a coming k. record { current = k.current; delays = k.delays };
+      lets = lets_ordered;
+      copies = λ w to x values copying k. record { current = ordered_lined (copied x w.next to) w.current k.current; delays = k.delays };
+      unlinks = λ w key to x xs named is k. record { current = ordered_lined (sent to x) w.current k.current; delays = k.delays };
+    })
 moved_ordered t s (moves.Refuse id key units) decided h =
     with_active_has AreChained s.active (λ x. refused s x id key units) s h (λ x is. refused_ordered s x id key units h)
 moved_ordered t s (moves.Watch read) decided h =
@@ -219,13 +225,13 @@ module _ (priority : ℤ) where
       rw (lined_numbers x ys order)
       (joined (numbers_of priority ys) (numbers_of priority (x ∷ [])) (come_new ys (x ∷ []) (λ k. let all = once k in omega arith)))
 
-  -- others stand behind those who stood there, and of each number at most one stands on the current chain or waits
+  -- others stand behind those who stood there, each with a number of his own
   record StandBehind (s w : Machine) : Type 0 where
     order : IsOrdered w.current
     come : List ℕ
     numbers : numbers_of priority w.current ≡ numbers_of priority s.current ++ come
     new : AllByRecursion (λ k. is_in (numbers_of priority s.current) k ≡ false) come
-    apart : (k : ℕ) → many (has_number k) w.current + many (has_number k) (waiting w.delays) + many (has_number k) (transactions_of w.retry) ≤ 1
+    numbered : IsNumbered w
 
   behind_turn : (s w : Machine) → StandBehind s w → TakesTurns s w
   behind_turn s w h =
@@ -238,86 +244,69 @@ module _ (priority : ℤ) where
       let parts = or_parts (is_in ks k) (is_in js k) (sym (list_any-append (λ other. nat_eq other k) ks js) ∙ all.0) in
       (parts.0, not_in_front ks js more all.1)
 
-  stood : (s v : Machine) → IsNumbered s → IsOrdered s.current → v.current ≡ s.current → v.delays ≡ s.delays → v.retry ≡ s.retry → StandBehind s v
-  stood s v h order same chains waits = record {
+  stood : (s v : Machine) → IsNumbered v → IsOrdered s.current → v.current ≡ s.current → StandBehind s v
+  stood s v numbered order same = record {
     order = subst IsOrdered (sym same) order;
     come = [];
     numbers = ap (numbers_of priority) same ∙ sym (append-nil (numbers_of priority s.current));
     new = tt;
-    apart = λ k. let once = h.apart k in rw (same, chains, waits) (omega arith);
+    numbered = numbered;
   }
 
-  -- the active one behind its equals, who is not there yet
-  lined_behind : (s v : Machine) (x y : Transaction) → s.active ≡ Some x → y.number ≡ x.number → IsNumbered s → IsOrdered s.current →
-      v.current ≡ lined_up y s.current → v.delays ≡ s.delays → v.retry ≡ s.retry → StandBehind s v
-  lined_behind s v x y is named h order same chains waits =
-      let number : (k : ℕ) → one (has_number k y) ≡ one (has_number k x) = λ k. ap (λ n. one (nat_eq n k)) named in
-      record {
-        order = subst IsOrdered (sym same) (ordered_lined y s.current order);
-        come = numbers_of priority (y ∷ []);
-        numbers = ap (numbers_of priority) same ∙ lined_numbers y s.current order;
-        new = come_new s.current (y ∷ [])
-            (λ k. let all = active_crowd (has_number k) s x is in let n = number k in let once = h.apart k in omega arith);
-        apart = λ k.
-            let all = active_crowd (has_number k) s x is in
-            let n = number k in
-            let once = h.apart k in
-            let lined = many_lined (has_number k) y s.current in
-            rw (same, chains, waits) (omega arith);
-      }
-
-  settled_behind : (s : Machine) (x : Transaction) (id : ℕ) (change : Change) (fate : Fate) → s.active ≡ Some x → IsNumbered s → IsOrdered s.current →
-      StandBehind s (settled s x id change fate)
-  settled_behind s x id change fates.Current is h order =
-      let y = marked change s.clock (placed x id) in
-      let same = settled_is s x id change fates.Current in
-      lined_behind s (settled s x id change fates.Current) x y is (marked_same change s.clock (placed x id)).0 h order same.current same.delays same.retry
-  settled_behind s x id change fate is h order =
-      let same = settled_is s x id change fate in stood s (settled s x id change fate) h order same.current same.delays same.retry
-
-  lets_behind : (s w : Machine) (key : Key) (x : Transaction) (passed xs : List Transaction) → delay_at w.delays key ≡ passed ++ x ∷ xs →
-      StandBehind s w → StandBehind s (one_let_in key x (passed ++ xs) w)
-  lets_behind s w key x passed xs is h =
-      let y = let_in_as x x.destination in
-      let same = let_in_is key x (passed ++ xs) w in
-      let number : (k : ℕ) → one (has_number k y) ≡ one (has_number k x) = λ k. ap (λ n. one (nat_eq n k)) (let_in_number x x.destination) in
-      let chain : (k : ℕ) → many (has_number k) (delay_at w.delays key) ≡ one (has_number k x) + many (has_number k) (passed ++ xs) =
-      λ k. ap (many (has_number k)) is ∙ many_without (has_number k) passed x xs in
-      let parts : (k : ℕ) → many (has_number k) (waiting (with_value w.delays key (passed ++ xs))) + many (has_number k) (delay_at w.delays key)
-      ≡ many (has_number k) (waiting w.delays) + many (has_number k) (passed ++ xs) =
-      λ k. waiting_with (has_number k) w.delays key (passed ++ xs) in
+  -- one more comes, who is not there yet
+  comes_behind : (s w v : Machine) (y : Transaction) → v.current ≡ lined_up y w.current → IsNumbered v → StandBehind s w → StandBehind s v
+  comes_behind s w v y same numbered h =
       let new : AllByRecursion (λ k. is_in (numbers_of priority w.current) k ≡ false) (numbers_of priority (y ∷ [])) =
-      come_new w.current (y ∷ [])
-      (λ k. let once = h.apart k in let n = number k in let c = chain k in let p = parts k in omega arith) in
+      come_new w.current (y ∷ []) (λ k.
+      let lined = ap (many (has_number k)) same ∙ many_lined (has_number k) y w.current in
+      let once = numbered.apart k in
+      omega arith) in
       let Q : List ℕ → Type 0 = λ ks. AllByRecursion (λ k. is_in ks k ≡ false) (numbers_of priority (y ∷ [])) in
       record {
-        order = subst IsOrdered (sym same.current) (ordered_lined y w.current h.order);
+        order = subst IsOrdered (sym same) (ordered_lined y w.current h.order);
         come = h.come ++ numbers_of priority (y ∷ []);
         numbers =
-            ap (numbers_of priority) same.current
+            ap (numbers_of priority) same
             ∙ (lined_numbers y w.current h.order
             ∙ (ap (λ ks. ks ++ numbers_of priority (y ∷ [])) h.numbers
             ∙ append_assoc (numbers_of priority s.current) h.come (numbers_of priority (y ∷ []))));
         new =
             all_with (λ k. is_in (numbers_of priority s.current) k ≡ false) h.come (numbers_of priority (y ∷ [])) h.new
             (not_in_front (numbers_of priority s.current) h.come (numbers_of priority (y ∷ [])) (subst Q h.numbers new));
-        apart = λ k.
-            let once = h.apart k in
-            let n = number k in
-            let c = chain k in
-            let p = parts k in
-            let lined = many_lined (has_number k) y w.current in
-            rw (same.current, same.delays, same.retry) (omega arith);
+        numbered = numbered;
       }
+
+  settled_behind : (s : Machine) (x : Transaction) (id : ℕ) (change : Change) (fate : Fate) → s.active ≡ Some x → IsNumbered s → IsOrdered s.current →
+      StandBehind s (settled s x id change fate)
+  settled_behind s x id change fates.Current is h order =
+      comes_behind s s (settled s x id change fates.Current) (marked change s.clock (placed x id)) (settled_is s x id change fates.Current).current
+      (settled_numbered s x id change fates.Current is h) (stood s s h order refl)
+  settled_behind s x id change fate is h order =
+      stood s (settled s x id change fate) (settled_numbered s x id change fate is h) order (settled_is s x id change fate).current
+
+  lets_behind : (s w : Machine) (key : Key) (x : Transaction) (passed xs : List Transaction) → delay_at w.delays key ≡ passed ++ x ∷ xs →
+      StandBehind s w → StandBehind s (one_let_in key x (passed ++ xs) w)
+  lets_behind s w key x passed xs is h =
+      comes_behind s w (one_let_in key x (passed ++ xs) w) (let_in_as x x.destination) (let_in_is key x (passed ++ xs) w).current
+      (lets_numbered w key x passed xs is h.numbered) h
+
+  copied_behind : (s w : Machine) (to : Option ℕ) (x : Transaction) (values : List (Key × ℤ)) → w.next < 2 ^ 64 - 1 → StandBehind s w →
+      StandBehind s (one_copied to x values w)
+  copied_behind s w to x values room h =
+      comes_behind s w (one_copied to x values w) (copied x w.next to) refl (copied_numbered to x values w room h.numbered) h
+
+  unlinked_behind : (s w : Machine) (key : Key) (to : Option ℕ) (x : Transaction) (xs : List Transaction) →
+      (user_chain_at w.linked key).members ≡ x ∷ xs → StandBehind s w → StandBehind s (one_unlinked key to x xs w)
+  unlinked_behind s w key to x xs is h =
+      comes_behind s w (one_unlinked key to x xs w) (sent to x) refl (unlinked_numbered w key to x xs is h.numbered) h
 
   -- those who wake stand behind, too
   woken_behind : (list : List Watched) (s w : Machine) → StandBehind s w → StandBehind s (woken list w)
   woken_behind list s w h =
       let xs = transactions_of (filter (is_woken list) w.retry) in
-      let parts : (k : ℕ) → many (has_number k) xs + many (has_number k) (transactions_of (filter (λ v. not (is_woken list v)) w.retry))
-      ≡ many (has_number k) (transactions_of w.retry) = λ k. waiters_parts (has_number k) (is_woken list) w.retry in
+      let numbered = same_numbered w (woken list w) refl (λ k. let same = woken_crowd (has_number k) list w in omega arith) h.numbered in
       let new : AllByRecursion (λ k. is_in (numbers_of priority w.current) k ≡ false) (numbers_of priority xs) =
-      come_new w.current xs (λ k. let once = h.apart k in let p = parts k in omega arith) in
+      come_new w.current xs (λ k. let lined = many_all_lined (has_number k) xs w.current in let once = numbered.apart k in omega arith) in
       let Q : List ℕ → Type 0 = λ ks. AllByRecursion (λ k. is_in ks k ≡ false) (numbers_of priority xs) in
       record {
         order = ordered_all_lined xs w.current h.order;
@@ -329,11 +318,7 @@ module _ (priority : ℤ) where
         new =
             all_with (λ k. is_in (numbers_of priority s.current) k ≡ false) h.come (numbers_of priority xs) h.new
             (not_in_front (numbers_of priority s.current) h.come (numbers_of priority xs) (subst Q h.numbers new));
-        apart = λ k.
-            let once = h.apart k in
-            let p = parts k in
-            let lined = many_all_lined (has_number k) xs w.current in
-            omega arith;
+        numbered = numbered;
       }
 
   -- behind a move those stand who wake
@@ -343,31 +328,40 @@ module _ (priority : ℤ) where
   none_turn : (s v : Machine) → TakesTurns s v → TakesTurns s (woken [] v)
   none_turn s v h = unwoken (TakesTurns s) v h
 
-  decided_turn : (t : Listing) (s : Machine) (m : Move) → IsDecided t s m → IsNumbered s → IsOrdered s.current → DecidedTurn s m
-  decided_turn t s (moves.Start count arrivals) decided h order = none_turn s (moved s (moves.Start count arrivals)) (same_turn s)
-  decided_turn t s moves.Command decided h order = none_turn s (moved s moves.Command) (same_turn s)
-  decided_turn t s (moves.Enter id change fate) decided h order =
+  decided_turn : (t : Listing) (s : Machine) (m : Move) → s.next + 100000 < 2 ^ 64 - 1 → IsDecided t s m → IsNumbered s → IsOrdered s.current →
+      DecidedTurn s m
+  decided_turn t s (moves.Start count arrivals) room decided h order = none_turn s (moved s (moves.Start count arrivals)) (same_turn s)
+  decided_turn t s moves.Command room decided h order = none_turn s (moved s moves.Command) (same_turn s)
+  decided_turn t s (moves.Enter id change fate) room decided h order =
       let m = moves.Enter id change fate in
       behind_turn s (woken (written s m) (moved s m))
       (woken_behind (written s m) s (moved s m)
-      (entered_has (StandBehind s) (StandBehind s) t s id change fate decided.1 (stood s s h order refl refl refl)
-      (λ x is. settled_behind s x id change fate is h order)
+      (entered_has (λ v. (v.next ≡ s.next) × StandBehind s v) (StandBehind s) t s id change fate decided.1 (stood s s h order refl)
+      (λ x is. ((settled_is s x id change fate).next, settled_behind s x id change fate is h order))
       (λ v. record {
-        nothing = λ k. k;
-        one = λ a coming k. record { order = k.order; come = k.come; numbers = k.numbers; new = k.new; apart = k.apart };
+        nothing = λ k. k.1;
+        one = λ a coming k. record {
+          order = k.1.order;
+          come = k.1.come;
+          numbers = k.1.numbers;
+          new = k.1.new;
+          numbered = made_numbered a (making_of v) v (omega (arith, room, k.0)) k.1.numbered;
+        };
         lets = lets_behind s;
+        copies = λ w to x values copying k. copied_behind s w to x values (omega (arith, room, copying.below)) k;
+        unlinks = λ w key to x xs named is k. unlinked_behind s w key to x xs is k;
       })))
-  decided_turn t s (moves.Refuse id key units) decided h order =
+  decided_turn t s (moves.Refuse id key units) room decided h order =
       none_turn s (moved s (moves.Refuse id key units))
       (with_active_has (TakesTurns s) s.active (λ x. refused s x id key units) s (same_turn s) (λ x is. same_turn s))
-  decided_turn t s (moves.Watch read) decided h order =
+  decided_turn t s (moves.Watch read) room decided h order =
       none_turn s (moved s (moves.Watch read))
       (with_active_has (TakesTurns s) s.active (λ x. watching s x read) s (same_turn s) (λ x is. same_turn s))
-  decided_turn t s moves.Pick decided h order =
+  decided_turn t s moves.Pick room decided h order =
       none_turn s (moved s moves.Pick)
       (picked_has (TakesTurns s) s s.current (same_turn s)
       (λ x xs is. rw is (picked_turn x xs)))
-  decided_turn t s (moves.Clock time) decided h order =
+  decided_turn t s (moves.Clock time) room decided h order =
       none_turn s (moved s (moves.Clock time))
       (rw (all_lined_numbers (due time s.future) s.current order)
       (joined (numbers_of priority s.current) (numbers_of priority (due time s.future))
@@ -377,4 +371,6 @@ pub chain_is_first_in_first_out : ChainIsFirstInFirstOut
 chain_is_first_in_first_out t seed n s v well within there is priority =
     let after = ((step_decides t seed s).runs v (sym (run_on t seed n s there) ∙ is)).0 in
     let P : Machine → Type 0 = λ w. IsFirstInFirstOut (numbers_of priority s.current) (numbers_of priority w.current) in
-    subst P (sym after.is) (decided_turn priority t s after.move after.is_decided (all_numbered t seed well n s there within) (all_ordered t seed n s there))
+    let room = all_within t seed n s well within there in
+    subst P (sym after.is) (decided_turn priority t s after.move (omega (arith, room.next, within, well.greatest_limit)) after.is_decided
+    (all_numbered t seed well n s there within) (all_ordered t seed n s there))

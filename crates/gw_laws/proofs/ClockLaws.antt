@@ -81,7 +81,8 @@ all_made_ahead t s (a ∷ rest) w coming h =
 fated_ahead : (change : Change) (fate : Fate) (x : Transaction) (s : Machine) → IsDecidedFate s change fate → AreAhead s.clock s.future → AreAhead s.clock (fated fate x s).future
 fated_ahead change fates.Active x s decided h = h
 fated_ahead change fates.Current x s decided h = h
-fated_ahead change (fates.Delayed until) x s decided h = all_with (λ (e : Event). s.clock ≤ e.time) s.future _ h (decided, tt)
+fated_ahead change (fates.Delayed until) x s decided h = all_with (λ (e : Event). s.clock ≤ e.time) s.future _ h (decided.1, tt)
+fated_ahead change (fates.Linked key discipline) x s decided h = h
 fated_ahead change (fates.Destroyed count) x s decided h = h
 
 -- each move
@@ -96,6 +97,8 @@ moved_goes_on t s (moves.Enter id change fate) decided h =
       nothing = λ k. k;
       one = λ a coming k. (k.0, all_with (λ (e : Event). s.clock ≤ e.time) v.future _ k.1 (coming.ahead, tt));
       lets = λ w key x passed xs is k. (let same = let_in_is key x (passed ++ xs) w in rw (same.clock, same.future) k);
+      copies = λ w to x values copying k. k;
+      unlinks = λ w key to x xs named is k. k;
     }) in
     rw whole.0 (omega arith, (h.0, whole.1))
 moved_goes_on t s (moves.Refuse id key units) decided h =

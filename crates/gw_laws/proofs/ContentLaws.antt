@@ -1,5 +1,5 @@
 -- Each block's content is the number of the transactions that stand in it, move by move and over a run.
-use Rattle.std.proofs.Common.{◌≡◌, ℕ, ◌+◌, ◌-◌, ◌<◌, ◌≤◌, ◌^◌, nat_eq, Bool, true, false, List, [], ◌∷◌, ◌++◌, Option, Some, None, Ok, refl, ap, sym, ◌∙◌, arith}
+use Rattle.std.proofs.Common.{◌≡◌, ℕ, ℤ, ◌+◌, ◌-◌, ◌<◌, ◌≤◌, ◌^◌, nat_eq, Bool, true, false, List, [], ◌∷◌, ◌++◌, Option, Some, None, Ok, refl, ap, sym, ◌∙◌, arith}
 use Rattle.std.proofs.lemmas.Bool.{ne_eqb}
 use Rattle.gw_names.specs.declared.key.Key.{Key}
 use Rattle.gw_meaning.specs.declared.transaction.Transaction.{Transaction}
@@ -10,8 +10,8 @@ use Rattle.gw_meaning.specs.declared.moves.Fate.TheVariants as fates
 use Rattle.gw_meaning.specs.declared.moves.Move.{Move}
 use Rattle.gw_meaning.specs.declared.moves.Move.TheVariants as moves
 use Rattle.gw_meaning.specs.Listing.{Listing}
-use Rattle.gw_meaning.specs.Machine.{Machine, delay_at}
-use Rattle.gw_meaning.specs.Changes.{Making, made, all_made, making_of, with_making, newcomer, placed, started, let_in, refused, moved, watching, written}
+use Rattle.gw_meaning.specs.Machine.{Machine, delay_at, user_chain_at}
+use Rattle.gw_meaning.specs.Changes.{Making, made, all_made, making_of, with_making, newcomer, placed, started, let_in, one_copied, one_unlinked, refused, moved, watching, written}
 use Rattle.gw_meaning.specs.Step.{run}
 use Rattle.gw_model.specs.Well.{Well}
 use Rattle.gw_laws.specs.Living.{living}
@@ -19,9 +19,9 @@ use Rattle.gw_laws.specs.Contents.{ContentsAreCounts}
 use Rattle.gw_frame.proofs.Known.{IsDecided}
 use Rattle.gw_frame.proofs.Moves.{settled, settled_is, marked_same, with_active_has, entered_has, picked_has}
 use Rattle.gw_frame.proofs.Running.{over_run}
-use Rattle.gw_laws.proofs.Waiting.{leaving}
-use Rattle.gw_laws.proofs.Counts.{content, content_crossed, content_made}
-use Rattle.gw_laws.proofs.Crowd.{one, remains, many, others, crowd, many_living, many_is, active_crowd, future_push, settled_crowd, settled_fewer, refused_crowd, leaving_crowd, let_in_crowd, lets_crowd, picked_crowd, advanced_crowd, watching_crowd, woken_crowd}
+use Rattle.gw_laws.proofs.Waiting.{leaving, let_in_is}
+use Rattle.gw_laws.proofs.Counts.{content, content_crossed, content_made, content_stood}
+use Rattle.gw_laws.proofs.Crowd.{one, remains, many, others, crowd, many_living, many_is, active_crowd, future_push, settled_crowd, settled_fewer, refused_crowd, leaving_crowd, let_in_crowd, lets_crowd, copied_crowd, unlinked_crowd, picked_crowd, advanced_crowd, watching_crowd, woken_crowd}
 use Rattle.gw_laws.proofs.Room.{anyone, all_within}
 
 abbrev pub stands_in : ℕ → Transaction → Bool
@@ -36,7 +36,7 @@ many_fewer test [] = omega arith
 many_fewer test (x ∷ xs) =
     let rest = many_fewer test xs in elim (test x) as (λ b. one b + many test xs ≤ 1 + many anyone xs) [ true ↦ omega arith | false ↦ omega arith ]
 
-crowd_fewer : (test : Transaction → Bool) (s : Machine) → crowd test s ≤ crowd anyone s
+pub crowd_fewer : (test : Transaction → Bool) (s : Machine) → crowd test s ≤ crowd anyone s
 crowd_fewer test s =
     let fewer = many_fewer test (living s) in
     let here = many_living test s in
@@ -86,45 +86,78 @@ lets_counted w key x passed xs (Some id) is room h p some =
     let whole = content_crossed fates.Active w.counts x.current id p (crowd (stands_in p) (leaving w key (passed ++ xs))) (omega arith) (omega arith) in
     omega arith
 
+-- a copy stands where the one stands of which it is a copy
+copied_counted : (to : Option ℕ) (x : Transaction) (values : List (Key × ℤ)) (w : Machine) → crowd anyone w < 2 ^ 64 - 1 → IsCounted w →
+    IsCounted (one_copied to x values w)
+copied_counted to x values w room h p some =
+    let more = copied_crowd (stands_in p) to x values w in
+    let fewer = crowd_fewer (stands_in p) w in
+    let was = h p some in
+    let whole = content_stood w.counts x.current p (omega arith) in
+    omega arith
+
+-- whoever is unlinked stays in his block
+unlinked_counted : (w : Machine) (key : Key) (to : Option ℕ) (x : Transaction) (xs : List Transaction) → (user_chain_at w.linked key).members ≡ x ∷ xs →
+    IsCounted w → IsCounted (one_unlinked key to x xs w)
+unlinked_counted w key to x xs is h p some = h p some ∙ sym (unlinked_crowd (stands_in p) w key to x xs is refl)
+
 -- each move
-moved_counted : (t : Listing) (s : Machine) (m : Move) → crowd anyone s + 1 < 2 ^ 64 - 1 → IsDecided t s m → IsCounted s → IsCounted (moved s m)
-moved_counted t s (moves.Start count arrivals) room decided h = all_made_counted arrivals (making_of s) (started count s) h
-moved_counted t s moves.Command room decided h = h
-moved_counted t s (moves.Enter id change fate) room decided h =
-    let P : Machine → Type 0 = λ v. (crowd anyone v ≤ crowd anyone s) × IsCounted v in
-    let Q : Machine → Type 0 = λ v. (crowd anyone v ≤ crowd anyone s + 1) × IsCounted v in
+moved_counted : (t : Listing) (s : Machine) (m : Move) → s.next + 100000 < 2 ^ 64 - 1 → crowd anyone s < s.next → IsDecided t s m → IsCounted s →
+    IsCounted (moved s m)
+moved_counted t s (moves.Start count arrivals) room few decided h = all_made_counted arrivals (making_of s) (started count s) h
+moved_counted t s moves.Command room few decided h = h
+moved_counted t s (moves.Enter id change fate) room few decided h =
+    let P : Machine → Type 0 = λ v. (v.next ≡ s.next) × (crowd anyone v < v.next) × IsCounted v in
+    let Q : Machine → Type 0 = λ v. (v.next ≤ s.next + 100000) × (crowd anyone v < v.next) × IsCounted v in
     let whole =
-    entered_has P Q t s id change fate decided.1 (omega arith, h)
-    (λ x is. (settled_fewer anyone s x id change fate is refl, settled_counted s x id change fate (omega arith) is h))
+    entered_has P Q t s id change fate decided.1 (omega arith, few, h)
+    (λ x is.
+    let next = (settled_is s x id change fate).next in
+    let fewer = settled_fewer anyone s x id change fate is refl in
+    (next, omega (arith, next, fewer, few), settled_counted s x id change fate (omega (arith, room, few)) is h))
     (λ v. record {
-      nothing = λ k. (omega (arith, k.0), k.1);
+      nothing = λ k. (omega (arith, k.0), k.1, k.2);
       one = λ a coming k. (
-        let push = future_push anyone v.future (newcomer v.next a) in omega (arith, push, k.0),
-        made_counted a (making_of v) v k.1,
+        omega (arith, k.0),
+        let push = future_push anyone v.future (newcomer v.next a) in omega (arith, push, room, k.0, k.1),
+        made_counted a (making_of v) v k.2,
       );
-      lets = λ w key x passed xs is k. (
-        let same = lets_crowd anyone w key x passed xs is refl in omega (arith, same, k.0),
-        lets_counted w key x passed xs x.destination is (omega (arith, room, k.0)) k.1,
+      lets = λ w key x passed xs is k.
+          let same = lets_crowd anyone w key x passed xs is refl in
+          let next = (let_in_is key x (passed ++ xs) w).next in (
+            omega (arith, next, k.0),
+            omega (arith, next, same, k.1),
+            lets_counted w key x passed xs x.destination is (omega (arith, room, k.0, k.1)) k.2,
+          );
+      copies = λ w to x values copying k. (
+        omega (arith, copying.below),
+        let more = copied_crowd anyone to x values w in omega (arith, more, room, copying.below, k.1),
+        copied_counted to x values w (omega (arith, room, k.0, k.1)) k.2,
+      );
+      unlinks = λ w key to x xs named is k. (
+        k.0,
+        let same = unlinked_crowd anyone w key to x xs is refl in omega (arith, same, k.1),
+        unlinked_counted w key to x xs is k.2,
       );
     }) in
-    whole.1
-moved_counted t s (moves.Refuse id key units) room decided h =
+    whole.2
+moved_counted t s (moves.Refuse id key units) room few decided h =
     with_active_has IsCounted s.active (λ x. refused s x id key units) s h
     (λ x is p some. h p some ∙ sym (refused_crowd (stands_in p) s x id key units is refl))
-moved_counted t s (moves.Watch read) room decided h =
+moved_counted t s (moves.Watch read) room few decided h =
     with_active_has IsCounted s.active (λ x. watching s x read) s h
     (λ x is p some. h p some ∙ sym (watching_crowd (stands_in p) s x read is))
-moved_counted t s moves.Pick room decided h =
+moved_counted t s moves.Pick room few decided h =
     picked_has IsCounted s s.current h (λ x xs is p some. h p some ∙ sym (picked_crowd (stands_in p) s x xs decided is))
-moved_counted t s (moves.Clock time) room decided h = λ p some. h p some ∙ sym (advanced_crowd (stands_in p) s time)
+moved_counted t s (moves.Clock time) room few decided h = λ p some. h p some ∙ sym (advanced_crowd (stands_in p) s time)
 
 -- over a run
-all_counted : (t : Listing) (seed : ℕ) → Well t → (n : ℕ) (s : Machine) → run t seed n ≡ Ok s → n ≤ t.limit → IsCounted s
+pub all_counted : (t : Listing) (seed : ℕ) → Well t → (n : ℕ) (s : Machine) → run t seed n ≡ Ok s → n ≤ t.limit → IsCounted s
 all_counted t seed well =
     over_run t seed (λ n s. n ≤ t.limit → IsCounted s) (λ within p some. refl)
     (λ n s m streams there decided h within.
-    let room = all_within t seed n s well there in
-    let k = moved_counted t s m (omega (arith, room.crowd, well.greatest_limit)) decided (h (omega arith)) in
+    let room = all_within t seed n s well (omega (arith, within)) there in
+    let k = moved_counted t s m (omega (arith, room.next, within, well.greatest_limit)) room.crowd decided (h (omega arith)) in
     λ p some. k p some ∙ sym (woken_crowd (stands_in p) (written s m) (moved s m)))
 
 pub contents_are_counts : ContentsAreCounts

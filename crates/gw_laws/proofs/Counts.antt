@@ -5,7 +5,7 @@ use Rattle.gw_meaning.specs.declared.transaction.Count.{Count}
 use Rattle.gw_meaning.specs.declared.moves.Fate.{Fate}
 use Rattle.gw_meaning.specs.declared.moves.Fate.TheVariants as fates
 use Rattle.gw_meaning.specs.Machine.{count_in, count_at, or_no_count, with_count, raised}
-use Rattle.gw_meaning.specs.Changes.{left_at, left, content_behind, entered, crossed, made_one}
+use Rattle.gw_meaning.specs.Changes.{left_at, left, content_behind, entered, crossed, made_one, stood}
 use Rattle.gw_laws.proofs.Crowd.{one, remains, remains_less}
 
 -- the count that was set, and the others
@@ -61,6 +61,7 @@ behind_is : (fate : Fate) (n : ℕ) → n < 2 ^ 64 - 1 → content_behind fate n
 behind_is fates.Active n room = omega arith
 behind_is fates.Current n room = omega arith
 behind_is (fates.Delayed until) n room = omega arith
+behind_is (fates.Linked key discipline) n room = omega arith
 behind_is (fates.Destroyed count) n room = omega arith
 
 content_entered : (fate : Fate) (cs : List (ℕ × Count)) (q p : ℕ) → content cs p < 2 ^ 64 - 1 →
@@ -89,6 +90,49 @@ content_crossed fate cs from to p rest is room =
 pub content_made : (cs : List (ℕ × Count)) (q p : ℕ) → content (made_one cs q) p ≡ content cs p
 content_made cs q p = content_same cs q p _ refl
 
+-- one more stands in a block
+pub content_stood : (cs : List (ℕ × Count)) (q p : ℕ) → content cs p < 2 ^ 64 - 1 → content (stood cs q) p ≡ content cs p + one (nat_eq q p)
+content_stood cs q p room =
+    let new : Count = record (count_at cs q) { content = raised (content cs q) } in
+    elim (cases_eq q p) [
+      | inl here ↦
+          let fits : content cs q < 2 ^ 64 - 1 = rw here room in
+          rw (eq-eqb q p here) (rw (← here) (content_here cs q new ∙ behind_is fates.Active (content cs q) fits))
+      | inr apart ↦
+          let same = content_there cs q p new apart in
+          rw (ne_eqb q p apart) (omega arith)
+    ]
+
+-- the entries of a block, where one leaves another for it, and where one more stands in it
+set_entries : (cs : List (ℕ × Count)) (q p : ℕ) (c : Count) → c.entries ≡ (count_at cs q).entries →
+    (count_at (with_count cs q c) p).entries ≡ (count_at cs p).entries
+set_entries cs q p c same =
+    elim (cases_eq q p) [
+      | inl here ↦ rw (← here) (ap (λ o. (or_no_count o).entries) (set_here cs q c) ∙ same)
+      | inr apart ↦ ap (λ o. (or_no_count o).entries) (set_there cs q p c apart)
+    ]
+
+entries_left_at : (o : Option Count) (cs : List (ℕ × Count)) (q p : ℕ) → count_in cs q ≡ o →
+    (count_at (left_at o cs q) p).entries ≡ (count_at cs p).entries
+entries_left_at None cs q p is = refl
+entries_left_at (Some c) cs q p is = set_entries cs q p (record c { content = c.content - 1 }) (sym (ap (λ o. (or_no_count o).entries) is))
+
+entries_left : (cs : List (ℕ × Count)) (q p : ℕ) → (count_at (left cs q) p).entries ≡ (count_at cs p).entries
+entries_left cs q p = entries_left_at (count_in cs q) cs q p refl
+
+pub entries_crossed_here : (fate : Fate) (cs : List (ℕ × Count)) (from to : ℕ) →
+    (count_at (crossed fate cs from to) to).entries ≡ raised (count_at cs to).entries
+entries_crossed_here fate cs from to =
+    ap (λ o. (or_no_count o).entries) (set_here (left cs from) to _) ∙ ap raised (entries_left cs from to)
+
+pub entries_crossed_there : (fate : Fate) (cs : List (ℕ × Count)) (from to p : ℕ) → (to ≡ p → ⊥) →
+    (count_at (crossed fate cs from to) p).entries ≡ (count_at cs p).entries
+entries_crossed_there fate cs from to p apart =
+    ap (λ o. (or_no_count o).entries) (set_there (left cs from) to p _ apart) ∙ entries_left cs from p
+
+pub entries_stood : (cs : List (ℕ × Count)) (q p : ℕ) → (count_at (stood cs q) p).entries ≡ (count_at cs p).entries
+entries_stood cs q p = set_entries cs q p _ refl
+
 -- ---- the entries and the content of a block
 
 abbrev pub tally : List (ℕ × Count) → ℕ → ℕ × ℕ
@@ -106,6 +150,11 @@ tally_elsewhere fate cs from to p left_apart apart =
     ∙ count_there (count_in cs from) cs from p (λ same. differs p from (sym same) left_apart)) where
       differs : (a b : ℕ) → a ≡ b → nat_eq a b ≡ false → ⊥
       differs a b same apart = false≢true (sym apart ∙ eq-eqb a b same)
+
+pub tally_stood : (cs : List (ℕ × Count)) (q p : ℕ) → nat_eq p q ≡ false → tally (stood cs q) p ≡ tally cs p
+tally_stood cs q p apart =
+    ap (λ o. ((or_no_count o).entries, (or_no_count o).content))
+    (set_there cs q p _ (λ same. false≢true (sym apart ∙ eq-eqb p q (sym same))))
 
 pub tally_made : (cs : List (ℕ × Count)) (q p : ℕ) → tally (made_one cs q) p ≡ tally cs p
 tally_made cs q p =

@@ -1,5 +1,5 @@
 -- How many of the living transactions pass a test: what a move does to the chains, it does not do to their number.
-use Rattle.std.proofs.Common.{◌≡◌, ℕ, zero, suc, ◌+◌, Bool, true, false, cond, not, ◌≤◌, List, [], ◌∷◌, ◌++◌, map, filter, Option, Some, None, unwrap_or, refl, ap, ◌∙◌, inl, inr, arith}
+use Rattle.std.proofs.Common.{◌≡◌, ℕ, ℤ, zero, suc, ◌+◌, Bool, true, false, cond, not, ◌≤◌, List, [], ◌∷◌, ◌++◌, map, filter, Option, Some, None, unwrap_or, refl, ap, ◌∙◌, inl, inr, arith}
 use Rattle.std.specs.Prelude.{Contains, option_to_list, count_by}
 use Rattle.std.proofs.lemmas.Bool.{cond_both, cases_Bool}
 use Rattle.std.proofs.lemmas.List.Recursion.{is_count_by}
@@ -12,11 +12,14 @@ use Rattle.gw_meaning.specs.declared.transaction.Event.{Event}
 use Rattle.gw_meaning.specs.declared.moves.Change.{Change}
 use Rattle.gw_meaning.specs.declared.moves.Fate.{Fate}
 use Rattle.gw_meaning.specs.declared.moves.Fate.TheVariants as fates
-use Rattle.gw_meaning.specs.Machine.{Machine, delay_at, waiting}
-use Rattle.gw_meaning.specs.Changes.{lined_up, all_lined_up, is_due, due, placed, marked, fated, let_in, one_let_in, bound, refused, picked, advanced, watching, is_woken, woken}
+use Rattle.gw_expr.specs.declared.expr.Discipline.{Discipline}
+use Rattle.gw_expr.specs.declared.expr.Discipline.TheVariants as disciplines
+use Rattle.gw_meaning.specs.Machine.{Machine, UserChain, delay_at, waiting, members_of, user_chain_at}
+use Rattle.gw_meaning.specs.Changes.{lined_up, all_lined_up, is_due, due, placed, marked, joined, linked_to, fated, let_in, one_let_in, copied, one_copied, sent, one_unlinked, with_members, bound, refused, picked, advanced, watching, is_woken, woken}
 use Rattle.gw_meaning.specs.declared.watched.Watched.{Watched}
 use Rattle.gw_meaning.specs.Watching.{Waiter, transactions_of}
 use Rattle.gw_frame.proofs.Moves.{settled}
+use Rattle.gw_frame.proofs.UserChains.{members_at, members_with}
 use Rattle.gw_laws.specs.Living.{living}
 use Rattle.gw_laws.proofs.Waiting.{leaving, let_in_as}
 
@@ -33,6 +36,7 @@ pub remains_less : (fate : Fate) (n : ℕ) → remains fate n ≤ n
 remains_less fates.Active n = omega arith
 remains_less fates.Current n = omega arith
 remains_less (fates.Delayed until) n = omega arith
+remains_less (fates.Linked key discipline) n = omega arith
 remains_less (fates.Destroyed count) n = omega arith
 
 module _ (test : Transaction → Bool) where
@@ -53,7 +57,8 @@ module _ (test : Transaction → Bool) where
 
   -- of all the living but the active one, and of all
   abbrev pub others : Machine → ℕ
-  others s = many s.current + future_many s.future + many (waiting s.delays) + many (transactions_of s.retry)
+  others s =
+      many s.current + future_many s.future + many (waiting s.delays) + many (transactions_of s.retry) + many (waiting (members_of s.linked))
 
   abbrev pub crowd : Machine → ℕ
   crowd s = active_many s.active + others s
@@ -86,11 +91,13 @@ module _ (test : Transaction → Bool) where
   pub many_living : (s : Machine) → many (living s) ≡ crowd s
   many_living s =
       let events = map (λ (e : Event). e.transaction) s.future in
-      let wait = waiting s.delays ++ transactions_of s.retry in
+      let change = transactions_of s.retry ++ waiting (members_of s.linked) in
+      let wait = waiting s.delays ++ change in
       let whole = many_append (option_to_list s.active) (s.current ++ (events ++ wait)) in
       let chains = many_append s.current (events ++ wait) in
       let behind = many_append events wait in
-      let last = many_append (waiting s.delays) (transactions_of s.retry) in
+      let delayed = many_append (waiting s.delays) change in
+      let last = many_append (transactions_of s.retry) (waiting (members_of s.linked)) in
       let one' = many_active s.active in
       let future = many_future s.future in
       omega arith
@@ -152,6 +159,46 @@ module _ (test : Transaction → Bool) where
         let before = many_append d.1 (waiting ds) in
         let after = many_append d.1 (waiting (with_value ds key xs)) in
         omega arith
+
+  -- those who are linked, with another user chain in the place of one
+  pub linked_with : (cs : List (Key × UserChain)) (key : Key) (c : UserChain) →
+      many (waiting (members_of (with_value cs key c))) + many (user_chain_at cs key).members ≡ many (waiting (members_of cs)) + many c.members
+  linked_with cs key c =
+      let chains = waiting_with (members_of cs) key c.members in
+      let all = ap (λ ds. many (waiting ds)) (members_with cs key c) in
+      let was = ap many (members_at cs key) in
+      omega arith
+
+  many_joined : (discipline : Discipline) (x : Transaction) (xs : List Transaction) → many (joined discipline x xs) ≡ one (test x) + many xs
+  many_joined disciplines.Fifo x xs = let push = many_append xs (x ∷ []) in omega arith
+  many_joined disciplines.Lifo x xs = refl
+
+  -- one more copy is one more
+  pub copied_crowd : (to : Option ℕ) (x : Transaction) (values : List (Key × ℤ)) (s : Machine) →
+      crowd (one_copied to x values s) ≡ one (test (copied x s.next to)) + crowd s
+  copied_crowd to x values s = let more = many_lined (copied x s.next to) s.current in omega arith
+
+  -- whoever is unlinked leaves a user chain for the current one
+  pub less_linked : (s : Machine) (key : Key) (x : Transaction) (xs : List Transaction) → (user_chain_at s.linked key).members ≡ x ∷ xs →
+      many (waiting (members_of (with_members s.linked key xs))) + one (test x) ≡ many (waiting (members_of s.linked))
+  less_linked s key x xs is =
+      let chains = linked_with s.linked key (record { entries = (user_chain_at s.linked key).entries; members = xs }) in
+      let chain = ap many is in
+      omega arith
+
+  pub sent_crowd : (s : Machine) (key : Key) (to : Option ℕ) (x : Transaction) (xs : List Transaction) → (user_chain_at s.linked key).members ≡ x ∷ xs →
+      crowd (one_unlinked key to x xs s) + one (test x) ≡ crowd s + one (test (sent to x))
+  sent_crowd s key to x xs is =
+      let more = many_lined (sent to x) s.current in
+      let less = less_linked s key x xs is in
+      omega arith
+
+  pub unlinked_crowd : (s : Machine) (key : Key) (to : Option ℕ) (x : Transaction) (xs : List Transaction) →
+      (user_chain_at s.linked key).members ≡ x ∷ xs → test (sent to x) ≡ test x → crowd (one_unlinked key to x xs s) ≡ crowd s
+  unlinked_crowd s key to x xs is same =
+      let whole = sent_crowd s key to x xs is in
+      let one' = ap one same in
+      omega arith
 
   -- so does refusing the active one, who waits from then on
   pub refused_crowd : (s : Machine) (x : Transaction) (id : ℕ) (key : Key) (units : ℕ) → s.active ≡ Some x → test (bound x id units) ≡ test x →
@@ -219,11 +266,29 @@ module _ (test : Transaction → Bool) where
   fated_crowd fates.Active x s = omega arith
   fated_crowd fates.Current x s = let more = many_lined x s.current in omega arith
   fated_crowd (fates.Delayed until) x s = let push = future_push s.future (record { time = until; transaction = x }) in omega arith
+  fated_crowd (fates.Linked key discipline) x s =
+      let chains = linked_with s.linked key (linked_to discipline x (user_chain_at s.linked key)) in
+      let more = many_joined discipline x (user_chain_at s.linked key).members in
+      omega arith
   fated_crowd (fates.Destroyed count) x s = omega arith
 
   pub settled_crowd : (s : Machine) (x : Transaction) (id : ℕ) (change : Change) (fate : Fate) → crowd (settled s x id change fate) ≡
       remains fate (one (test (marked change s.clock (placed x id)))) + others s
   settled_crowd s x id change fate = fated_crowd fate (marked change s.clock (placed x id)) _
+
+  -- whoever is linked comes onto a user chain
+  pub settled_linked : (s : Machine) (x : Transaction) (id : ℕ) (change : Change) (fate : Fate) →
+      many (waiting (members_of (settled s x id change fate).linked)) ≤
+      one (test (marked change s.clock (placed x id))) + many (waiting (members_of s.linked))
+  settled_linked s x id change fates.Active = omega arith
+  settled_linked s x id change fates.Current = omega arith
+  settled_linked s x id change (fates.Delayed until) = omega arith
+  settled_linked s x id change (fates.Linked key discipline) =
+      let y = marked change s.clock (placed x id) in
+      let chains = linked_with s.linked key (linked_to discipline y (user_chain_at s.linked key)) in
+      let more = many_joined discipline y (user_chain_at s.linked key).members in
+      omega arith
+  settled_linked s x id change (fates.Destroyed count) = omega arith
 
   pub settled_fewer : (s : Machine) (x : Transaction) (id : ℕ) (change : Change) (fate : Fate) → s.active ≡ Some x →
       test (marked change s.clock (placed x id)) ≡ test x → crowd (settled s x id change fate) ≤ crowd s

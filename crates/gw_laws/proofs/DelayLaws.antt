@@ -126,7 +126,13 @@ moved_bound t s (moves.Start count arrivals) decided h = h
 moved_bound t s moves.Command decided h = h
 moved_bound t s (moves.Enter id change fate) decided h =
     entered_has AllAreBound AllAreBound t s id change fate decided.1 h (λ x is. rw (settled_is s x id change fate).delays h)
-    (λ v. record { nothing = λ k. k; one = λ a coming k. k; lets = lets_bound })
+    (λ v. record {
+      nothing = λ k. k;
+      one = λ a coming k. k;
+      lets = lets_bound;
+      copies = λ w to x values copying k. k;
+      unlinks = λ w key to x xs named is k. k;
+    })
 moved_bound t s (moves.Refuse id key units) decided h =
     with_active_has AllAreBound s.active (λ x. refused s x id key units) s h (λ x is. refused_bound s x id key units h)
 moved_bound t s (moves.Watch read) decided h = with_active_has AllAreBound s.active (λ x. watching s x read) s h (λ x is. h)

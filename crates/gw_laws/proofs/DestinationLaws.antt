@@ -1,8 +1,8 @@
 -- The active transaction enters the block to which it goes, waits to enter it, or waits as it came; those on the current, the
 -- future and the retry chain stay in their blocks.
-use Rattle.std.proofs.Common.{◌≡◌, ℕ, zero, suc, ◌-◌, ◌<◌, ◌^◌, nat_eq, Bool, true, false, not, ◌&&◌, ◌||◌, List, [], ◌∷◌, ◌++◌, map, Option, Some, None, refl, ap, sym, subst, ◌∙◌, arith, inl, inr, ◌⊎◌}
+use Rattle.std.proofs.Common.{◌≡◌, ℕ, ℤ, zero, suc, ◌-◌, ◌<◌, ◌^◌, nat_eq, Bool, true, false, not, ◌&&◌, ◌||◌, List, [], ◌∷◌, ◌++◌, map, Option, Some, None, refl, ap, sym, subst, ◌∙◌, arith, inl, inr, ◌⊎◌}
 use Rattle.std.specs.Prelude.{Contains, option_to_list}
-use Rattle.std.proofs.lemmas.Bool.{cases_Bool, cases_lt, eq-eqb, eqb-true, ne_eqb, and_parts, and_from, and_left, or_left, or_right}
+use Rattle.std.proofs.lemmas.Bool.{cases_Bool, cases_lt, false≢true, eq-eqb, eqb-true, ne_eqb, and_parts, and_from, and_left, or_left, or_right}
 use Rattle.gw_names.specs.declared.key.Key.{Key}
 use Rattle.gw_entities.specs.Tables.{with_value}
 use Rattle.gw_meaning.specs.declared.transaction.Transaction.{Transaction}
@@ -16,8 +16,8 @@ use Rattle.gw_meaning.specs.declared.moves.Fate.TheVariants as fates
 use Rattle.gw_meaning.specs.declared.moves.Move.{Move}
 use Rattle.gw_meaning.specs.declared.moves.Move.TheVariants as moves
 use Rattle.gw_meaning.specs.Listing.{Listing, command_at}
-use Rattle.gw_meaning.specs.Machine.{Machine, raised, delay_at, waiting}
-use Rattle.gw_meaning.specs.Changes.{Making, lined_up, made, all_made, started, making_of, with_making, newcomer, placed, marked, fated, let_in, one_let_in, entering, bound, refused, with_active, moved, watching, written, woken, decided}
+use Rattle.gw_meaning.specs.Machine.{Machine, raised, delay_at, waiting, members_of, user_chain_at}
+use Rattle.gw_meaning.specs.Changes.{Making, lined_up, made, all_made, started, making_of, with_making, newcomer, placed, marked, fated, let_in, one_let_in, copied, one_copied, sent, one_unlinked, entering, bound, refused, with_active, moved, watching, written, woken, decided}
 use Rattle.gw_meaning.proofs.Programs.{run_on}
 use Rattle.gw_meaning.specs.declared.watched.Watched.{Watched}
 use Rattle.gw_meaning.specs.Watching.{Waiter, transactions_of}
@@ -27,11 +27,11 @@ use Rattle.gw_frame.proofs.Known.{IsDecided}
 use Rattle.gw_laws.specs.Living.{living}
 use Rattle.gw_laws.specs.Destinations.{goes_to, WentWhereItGoes, GoesToItsDestination, on_chains, OthersStayInTheirBlocks, WaitsAsItCame}
 use Rattle.gw_laws.proofs.Waiting.{leaving, let_in_as, let_in_number, let_in_is}
-use Rattle.gw_laws.proofs.Crowd.{one, many, others, crowd, active_many, active_crowd, many_active, many_has, many_append, many_future, many_living, many_lined, many_without, future_push, waiting_with, lets_crowd, remains_less, settled_crowd, settled_fewer, refused_crowd, picked_crowd, advanced_crowd, watching_crowd, woken_crowd}
+use Rattle.gw_laws.proofs.Crowd.{one, many, others, crowd, active_many, active_crowd, many_active, many_has, many_append, many_future, many_living, many_lined, many_without, future_push, waiting_with, less_linked, sent_crowd, lets_crowd, copied_crowd, remains_less, settled_crowd, settled_linked, settled_fewer, refused_crowd, picked_crowd, advanced_crowd, watching_crowd, woken_crowd}
 use Rattle.gw_laws.proofs.NumberLaws.{has_number, IsNumbered, all_numbered}
 use Rattle.gw_laws.proofs.Room.{all_within}
 use Rattle.gw_laws.proofs.OwnValueLaws.{many_parts}
-use Rattle.gw_laws.proofs.Tried.{IsScan, IsCommand, IsNext, no_start, no_command, Makes, changed_keeps, over_moves, IsBehind, step_is_next}
+use Rattle.gw_laws.proofs.Tried.{IsScan, IsCommand, IsNext, no_start, no_command, Makes, AllKeep, changed_keeps, over_moves, IsBehind, step_is_next}
 use Rattle.gw_laws.proofs.Attempts.{IsAt}
 use Rattle.gw_laws.proofs.Waking.{nobody_wakes}
 use Rattle.gw_laws.proofs.GateLaws.{transaction_there}
@@ -46,6 +46,7 @@ fated_idle : (fate : Fate) (x : Transaction) (v : Machine) (n : ℕ) → v.remai
 fated_idle fates.Active x v n busy = λ none. absurd (omega (arith, busy, none))
 fated_idle fates.Current x v n busy = λ none. refl
 fated_idle (fates.Delayed until) x v n busy = λ none. refl
+fated_idle (fates.Linked key discipline) x v n busy = λ none. refl
 fated_idle (fates.Destroyed count) x v n busy = λ none. refl
 
 lets_idle : LetsIn Idle
@@ -67,7 +68,8 @@ module _ (t : Listing) where
   scan_idle s moves.Command n busy next h = absurd (no_command t s.active next)
   scan_idle s (moves.Enter id change fate) n busy next h =
       with_active_has Idle s.active (λ x. entering s x id change fate) s h
-      (λ x is. changed_keeps Idle change (settled s x id change fate) (λ a w k. k) lets_idle
+      (λ x is. changed_keeps Idle change (settled s x id change fate)
+      (record { makes = λ a w k. k; lets = lets_idle; copies = λ w to y values k. k; unlinks = λ w key to y ys there k. k })
       (fated_idle fate (marked change s.clock (placed x id)) _ n busy))
   scan_idle s (moves.Refuse id key units) n busy next h = with_active_has Idle s.active (λ x. refused s x id key units) s h (λ x is none. refl)
   scan_idle s (moves.Watch read) n busy next h = with_active_has Idle s.active (λ x. watching s x read) s h (λ x is none. refl)
@@ -103,10 +105,14 @@ module _ (k : ℕ) (low : k < 2 ^ 64 - 1) (test : Transaction → Bool) (none_ot
         | inr other ↦ let no_more : one (test y) ≡ 0 = ap one (none_other y other) in omega (arith, no_more, rest)
       ]
 
-  -- the number was given, nobody with it waits, and nobody passes
+-- whoever does not pass the last test does not pass the other one, wherever it is sent
+module _ (k : ℕ) (low : k < 2 ^ 64 - 1) (test : Transaction → Bool) (none_other : (y : Transaction) → has_number k y ≡ false → test y ≡ false)
+    (unsent : Transaction → Bool) (none_sent : (y : Transaction) (to : Option ℕ) → unsent y ≡ false → test (sent to y) ≡ false) where
+  -- the number was given, nobody with it waits, nobody passes, and nobody on a user chain would pass
   record IsClear (w : Machine) : Type 0 where
     given : k < w.next
     none_waits : many (has_number k) (waiting w.delays) ≡ 0
+    none_linked : many unsent (waiting (members_of w.linked)) ≡ 0
     none_passes : crowd test w ≡ 0
 
   makes_clear : Makes IsClear
@@ -118,6 +124,7 @@ module _ (k : ℕ) (low : k < 2 ^ 64 - 1) (test : Transaction → Bool) (none_ot
       record {
         given = let given = h.given in omega (arith, given, low);
         none_waits = h.none_waits;
+        none_linked = h.none_linked;
         none_passes = let none = h.none_passes in omega arith;
       }
 
@@ -142,14 +149,50 @@ module _ (k : ℕ) (low : k < 2 ^ 64 - 1) (test : Transaction → Bool) (none_ot
       record {
         given = let given = h.given in let next = after.next in omega (arith, given, next);
         none_waits = omega arith;
+        none_linked = ap (λ cs. many unsent (waiting (members_of cs))) after.linked ∙ h.none_linked;
         none_passes = let passes = h.none_passes in omega (arith, same, passes);
       }
+
+  copies_clear : (w : Machine) (to : Option ℕ) (y : Transaction) (values : List (Key × ℤ)) → IsClear w → IsClear (one_copied to y values w)
+  copies_clear w to y values h =
+      let z = copied y w.next to in
+      let other : has_number k z ≡ false = ne_eqb w.next k (λ same. (let given = h.given in omega arith)) in
+      let no_more : one (test z) ≡ 0 = ap one (none_other z other) in
+      let more = copied_crowd test to y values w in
+      record {
+        given = let given = h.given in omega (arith, given, low);
+        none_waits = h.none_waits;
+        none_linked = h.none_linked;
+        none_passes = let none = h.none_passes in omega arith;
+      }
+
+  unlinks_clear : (w : Machine) (key : Key) (to : Option ℕ) (y : Transaction) (ys : List Transaction) →
+      (user_chain_at w.linked key).members ≡ y ∷ ys → IsClear w → IsClear (one_unlinked key to y ys w)
+  unlinks_clear w key to y ys is h =
+      let linked = h.none_linked in
+      let less = less_linked unsent w key y ys is in
+      let none_there : one (unsent y) ≡ 0 = omega arith in
+      let no : unsent y ≡ false = elim (cases_Bool (unsent y)) [
+        | inl yes' ↦ absurd (let some : one (unsent y) ≡ 1 = ap one yes' in omega arith)
+        | inr not' ↦ not'
+      ] in
+      let no_more : one (test (sent to y)) ≡ 0 = ap one (none_sent y to no) in
+      let whole = sent_crowd test w key to y ys is in
+      record {
+        given = h.given;
+        none_waits = h.none_waits;
+        none_linked = omega arith;
+        none_passes = let none = h.none_passes in omega arith;
+      }
+
+  all_clear : AllKeep IsClear
+  all_clear = record { makes = makes_clear; lets = lets_clear; copies = copies_clear; unlinks = unlinks_clear }
 
   woken_clear : (list : List Watched) (w : Machine) → IsClear w → IsClear (woken list w)
   woken_clear list w h =
       let same = woken_crowd test list w in
       let none = h.none_passes in
-      record { given = h.given; none_waits = h.none_waits; none_passes = omega (arith, same, none) }
+      record { given = h.given; none_waits = h.none_waits; none_linked = h.none_linked; none_passes = omega (arith, same, none) }
 
 -- ---- the one that was active
 
@@ -209,10 +252,28 @@ module _ (s : Machine) (x : Transaction) (id : ℕ) (active : s.active ≡ Some 
       let future = none_in x.number low stray stray_other events (omega arith) in
       let wait = none_in x.number low stray stray_other (waiting s.delays) (omega arith) in
       let retry = none_in x.number low stray stray_other (transactions_of s.retry) (omega arith) in
+      let linked = none_in x.number low stray stray_other (waiting (members_of s.linked)) (omega arith) in
       omega arith
 
+  -- one with its number that is in another block: wherever it is sent, it is right where it is in this one
+  abbrev elsewhere : Transaction → Bool
+  elsewhere y = has y && not (nat_eq y.current id)
+
+  elsewhere_other : (y : Transaction) → has y ≡ false → elsewhere y ≡ false
+  elsewhere_other y other = and_left (has y) (not (nat_eq y.current id)) other
+
+  sent_right : (y : Transaction) (to : Option ℕ) → elsewhere y ≡ false → stray (sent to y) ≡ false
+  sent_right y to none =
+      elim (cases_Bool (nat_eq y.current id)) [
+        | inl here ↦ there_right (sent to y) (eqb-true y.current id here)
+        | inr other ↦ elim (cases_Bool (has y)) [
+          | inl is ↦ absurd (false≢true (sym none ∙ and_from (has y) (not (nat_eq y.current id)) is (ap not other)))
+          | inr not' ↦ stray_other (sent to y) not'
+        ]
+      ]
+
   abbrev IsRight : Machine → Type 0
-  IsRight w = IsClear x.number low stray stray_other w
+  IsRight w = IsClear x.number low stray stray_other elsewhere sent_right w
 
   settled_right : (change : Change) (fate : Fate) → IsRight (settled s x id change fate)
   settled_right change fate =
@@ -224,21 +285,26 @@ module _ (s : Machine) (x : Transaction) (id : ℕ) (active : s.active ≡ Some 
       let none = none_stray in
       let waits = no_other in
       let chains : many has (waiting (settled s x id change fate).delays) ≡ many has (waiting s.delays) = ap (λ ds. many has (waiting ds)) same.delays in
+      let here : one (elsewhere y) ≡ 0 =
+      ap one (kept (has y) (nat_eq y.current id) (eq-eqb y.current id (marked_same change s.clock (placed x id)).1)) in
+      let linked = settled_linked elsewhere s x id change fate in
+      let others_linked = none_in x.number low elsewhere elsewhere_other (waiting (members_of s.linked)) (omega arith) in
       record {
         given = let given = is_given s x active h in let next = same.next in omega (arith, given, next);
         none_waits = omega arith;
+        none_linked = omega arith;
         none_passes = omega arith;
       }
 
   entered_right : (change : Change) (fate : Fate) → crowd stray (entering s x id change fate) ≡ 0
   entered_right change fate =
-      (changed_keeps IsRight change (settled s x id change fate) (makes_clear x.number low stray stray_other) (lets_clear x.number low stray stray_other)
+      (changed_keeps IsRight change (settled s x id change fate) (all_clear x.number low stray stray_other elsewhere sent_right)
       (settled_right change fate)).none_passes
 
   -- behind an entry it waits on no delay chain
   pub entered_waits_not : (change : Change) (fate : Fate) → many has (waiting (entering s x id change fate).delays) ≡ 0
   entered_waits_not change fate =
-      (changed_keeps IsRight change (settled s x id change fate) (makes_clear x.number low stray stray_other) (lets_clear x.number low stray stray_other)
+      (changed_keeps IsRight change (settled s x id change fate) (all_clear x.number low stray stray_other elsewhere sent_right)
       (settled_right change fate)).none_waits
 
   refused_right : (key : Key) (units : ℕ) → crowd stray (refused s x id key units) ≡ 0
@@ -329,8 +395,11 @@ module _ (x : Transaction) (low : x.number < 2 ^ 64 - 1) where
   changed_other : (y : Transaction) → has_number x.number y ≡ false → changed_one y ≡ false
   changed_other y other = and_left (has_number x.number y) (not (is_same y)) other
 
+  changed_sent : (y : Transaction) (to : Option ℕ) → has_number x.number y ≡ false → changed_one (sent to y) ≡ false
+  changed_sent y to other = changed_other (sent to y) other
+
   abbrev NoneChanged : Machine → Type 0
-  NoneChanged w = IsClear x.number low changed_one changed_other w
+  NoneChanged w = IsClear x.number low changed_one changed_other (has_number x.number) changed_sent w
 
   is_itself : same_one x ≡ true
   is_itself =
@@ -359,11 +428,14 @@ module _ (x : Transaction) (low : x.number < 2 ^ 64 - 1) where
       let active_some = many_active changed_one s.active in
       let active = none_in x.number low changed_one changed_other (option_to_list s.active) (omega arith) in
       let none_waits : many has (waiting s.delays) ≡ 0 = omega arith in
-      let waits = none_in x.number low changed_one changed_other (waiting s.delays) none_waits in (
+      let waits = none_in x.number low changed_one changed_other (waiting s.delays) none_waits in
+      let none_linked : many has (waiting (members_of s.linked)) ≡ 0 = omega arith in
+      let linked = none_in x.number low changed_one changed_other (waiting (members_of s.linked)) none_linked in (
         none_active,
         record {
           given = given;
           none_waits = none_waits;
+          none_linked = none_linked;
           none_passes = omega arith;
         },
       )
@@ -386,9 +458,12 @@ module _ (x : Transaction) (low : x.number < 2 ^ 64 - 1) where
       let same = settled_is s y id change fate in
       let chains : many (has_number x.number) (waiting (settled s y id change fate).delays) ≡ many (has_number x.number) (waiting s.delays) =
       ap (λ ds. many (has_number x.number) (waiting ds)) same.delays in
+      let no_more : one (has_number x.number z) ≡ 0 = ap one still in
+      let linked = settled_linked (has_number x.number) s y id change fate in
       record {
         given = let given = h.given in let next = same.next in omega (arith, given, next);
         none_waits = let none = h.none_waits in omega (arith, chains, none);
+        none_linked = let none = h.none_linked in omega (arith, no_more, linked, none);
         none_passes = let none = h.none_passes in omega (arith, fewer, none);
       }
 
@@ -404,23 +479,31 @@ module _ (x : Transaction) (low : x.number < 2 ^ 64 - 1) where
       record {
         given = h.given;
         none_waits = omega arith;
+        none_linked = h.none_linked;
         none_passes = let none = h.none_passes in omega (arith, same, none);
       }
 
   all_made_same : (arrivals : List Arrival) (w : Making) (s : Machine) → NoneChanged (with_making w s) → NoneChanged (with_making (all_made arrivals w) s)
   all_made_same [] w s h = h
-  all_made_same (a ∷ rest) w s h = all_made_same rest (made a w) s (makes_clear x.number low changed_one changed_other a (with_making w s) h)
+  all_made_same (a ∷ rest) w s h =
+      all_made_same rest (made a w) s
+      (makes_clear x.number low changed_one changed_other (has_number x.number) changed_sent a (with_making w s) h)
 
   moved_same : (t : Listing) (s : Machine) (m : Move) → IsDecided t s m → OthersAreActive s → NoneChanged s → NoneChanged (moved s m)
   moved_same t s (moves.Start count arrivals) decided others h =
-      all_made_same arrivals (making_of s) (started count s) (record { given = h.given; none_waits = h.none_waits; none_passes = h.none_passes })
-  moved_same t s moves.Command decided others h = record { given = h.given; none_waits = h.none_waits; none_passes = h.none_passes }
+      all_made_same arrivals (making_of s) (started count s)
+      (record { given = h.given; none_waits = h.none_waits; none_linked = h.none_linked; none_passes = h.none_passes })
+  moved_same t s moves.Command decided others h =
+      record { given = h.given; none_waits = h.none_waits; none_linked = h.none_linked; none_passes = h.none_passes }
   moved_same t s (moves.Enter id change fate) decided others h =
+      let keep : AllKeep NoneChanged = all_clear x.number low changed_one changed_other (has_number x.number) changed_sent in
       entered_has NoneChanged NoneChanged t s id change fate decided.1 h (λ y is. settled_same s y id change fate others is h)
       (λ v. record {
         nothing = λ k. k;
-        one = λ a coming k. makes_clear x.number low changed_one changed_other a v k;
-        lets = lets_clear x.number low changed_one changed_other;
+        one = λ a coming k. keep.makes a v k;
+        lets = keep.lets;
+        copies = λ w to y values copying k. keep.copies w to y values k;
+        unlinks = λ w key to y ys named is k. keep.unlinks w key to y ys is k;
       })
   moved_same t s (moves.Refuse id key units) decided others h =
       with_active_has NoneChanged s.active (λ y. refused s y id key units) s h (λ y is. refused_same s y id key units others is h)
@@ -429,17 +512,17 @@ module _ (x : Transaction) (low : x.number < 2 ^ 64 - 1) where
       (λ y is.
       let same = watching_crowd changed_one s y read is in
       let none = h.none_passes in
-      record { given = h.given; none_waits = h.none_waits; none_passes = omega (arith, same, none) })
+      record { given = h.given; none_waits = h.none_waits; none_linked = h.none_linked; none_passes = omega (arith, same, none) })
   moved_same t s moves.Pick decided others h =
       picked_has NoneChanged s s.current h
       (λ y ys is.
       let same = picked_crowd changed_one s y ys decided is in
       let none = h.none_passes in
-      record { given = h.given; none_waits = h.none_waits; none_passes = omega (arith, same, none) })
+      record { given = h.given; none_waits = h.none_waits; none_linked = h.none_linked; none_passes = omega (arith, same, none) })
   moved_same t s (moves.Clock time) decided others h =
       let same = advanced_crowd changed_one s time in
       let none = h.none_passes in
-      record { given = h.given; none_waits = h.none_waits; none_passes = omega (arith, same, none) }
+      record { given = h.given; none_waits = h.none_waits; none_linked = h.none_linked; none_passes = omega (arith, same, none) }
 
   -- what that says of whoever has its number
   stayed : (v : Machine) (y : Transaction) → crowd changed_one v ≡ 0 → Contains (living v) y → y.number ≡ x.number →
@@ -470,20 +553,22 @@ none_changed s x active h low =
     let future = none_in x.number low test other events (omega arith) in
     let wait = none_in x.number low test other (waiting s.delays) (omega arith) in
     let retry = none_in x.number low test other (transactions_of s.retry) (omega arith) in
+    let linked = none_in x.number low test other (waiting (members_of s.linked)) (omega arith) in
     omega arith
 
 pub others_stay_in_their_blocks : OthersStayInTheirBlocks
 others_stay_in_their_blocks t seed n s v well within there is x y stands lives' same =
     let after = ((step_decides t seed s).runs v (sym (run_on t seed n s there) ∙ is)).0 in
     let h = all_numbered t seed well n s there within in
-    let room = all_within t seed n s well there in
+    let room = all_within t seed n s well within there in
     let given = on_chains_low s x h stands in
     let low : x.number < 2 ^ 64 - 1 = omega (arith, given, room.next, well.greatest_limit, within) in
     let before = before_step x low s h stands given in
     let moved' = moved_same x low t s after.move after.is_decided before.0 before.1 in
     let test = changed_one x low in
-    let none = (woken_clear x.number low test (changed_other x low) (written s after.move) (moved s after.move) moved').none_passes in
-    let now : crowd test v ≡ 0 = ap (crowd test) after.is ∙ none in
+    let clear =
+    woken_clear x.number low test (changed_other x low) (has_number x.number) (changed_sent x low) (written s after.move) (moved s after.move) moved' in
+    let now : crowd test v ≡ 0 = ap (crowd test) after.is ∙ clear.none_passes in
     stayed x low v y now lives' same
 
 -- ---- the one that was active, wherever it is now
@@ -512,7 +597,7 @@ goes_to_its_destination t seed n s v well within there is_run x y active lives' 
     let behind = step_is_next t seed s v (sym (run_on t seed n s there) ∙ is_run) in
     let idle : Idle s = over_moves t seed Idle (λ none. refl) (λ u m streams next h. moved_idle t u m next h) n s there in
     let h = all_numbered t seed well n s there within in
-    let room = all_within t seed n s well there in
+    let room = all_within t seed n s well within there in
     go behind idle h (omega (arith, room.next, well.greatest_limit, within)) s.remaining refl behind.is_next
   where
     -- where it enters its block, or is bound for it

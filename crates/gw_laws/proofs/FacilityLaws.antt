@@ -100,6 +100,8 @@ module _ (steps : ℕ) where
   touched_used s changes.Nothing number all = again s.clock s.entities.facilities all
   touched_used s (changes.Generate next) number all = again s.clock s.entities.facilities all
   touched_used s (changes.Transaction change) number all = again s.clock s.entities.facilities all
+  touched_used s (changes.Split count to) number all = again s.clock s.entities.facilities all
+  touched_used s (changes.Unlink key count to) number all = again s.clock s.entities.facilities all
 
   -- each move
   moved_used : (t : Listing) (s : Machine) (m : Move) → IsDecided t s m → s.clock ≤ (moved s m).clock → Used s → UsedAgain (moved s m)
@@ -112,6 +114,8 @@ module _ (steps : ℕ) where
         nothing = λ k. k;
         one = λ a coming k. k;
         lets = λ w key x passed xs is k. (let same = let_in_is key x (passed ++ xs) w in rw (same.clock, same.entities) k);
+        copies = λ w to x values copying k. k;
+        unlinks = λ w key to x xs named is k. k;
       })
   moved_used t s (moves.Refuse id key units) decided on all =
       with_active_has UsedAgain s.active (λ x. refused s x id key units) s (again s.clock s.entities.facilities all)

@@ -131,6 +131,7 @@ module _ (s : Machine) (h : IsNumbered s) where
       let same : y.number ≡ x.number = (marked_same change s.clock (placed x id)).0 in
       one_came s.future (record { time = until; transaction = y })
       (ap (is_in (numbers_coming s.future)) same ∙ number_active x is) none_came
+  settled_came x id change (fates.Linked key discipline) is = none_came
   settled_came x id change (fates.Destroyed count) is = none_came
 
   moved_came : (t : Listing) (m : Move) → s.next + length t.lines < 2 ^ 64 - 1 → IsDecided t s m → Keeps (moved s m).future
@@ -146,6 +147,8 @@ module _ (s : Machine) (h : IsNumbered s) where
         nothing = λ k. k.1;
         one = λ a coming k. one_came v.future (newcomer v.next a) (number_new v.next (omega (arith, k.0))) k.1;
         lets = λ w key x passed xs is k. subst (Came s) (sym (let_in_is key x (passed ++ xs) w).future) k;
+        copies = λ w to x values copying k. k;
+        unlinks = λ w key to x xs named is k. k;
       }))
   moved_came t (moves.Refuse id key units) room decided =
       with_active_has (λ v. Keeps v.future) s.active (λ x. refused s x id key units) s (all_stay (numbers_coming s.future))
@@ -163,7 +166,7 @@ pub future_keeps_its_order : FutureKeepsItsOrder
 future_keeps_its_order t seed n s v well within there is =
     let after = ((step_decides t seed s).runs v (sym (run_on t seed n s there) ∙ is)).0 in
     let h = all_numbered t seed well n s there within in
-    let room = all_within t seed n s well there in
+    let room = all_within t seed n s well within there in
     subst (λ (w : Machine). Keeps s h w.future) (sym after.is)
     (moved_came s h t after.move (omega (arith, room.next, well.greatest_limit, well.statements, within)) after.is_decided)
 
@@ -197,6 +200,7 @@ module _ (e : Event) where
   settled_there s x id change fates.Active h = h
   settled_there s x id change fates.Current h = h
   settled_there s x id change (fates.Delayed until) h = Contains-append_left s.future _ e h
+  settled_there s x id change (fates.Linked key discipline) h = h
   settled_there s x id change (fates.Destroyed count) h = h
 
   moved_there : (t : Listing) (s : Machine) (m : Move) → IsDecided t s m → IsThere s → StaysOrIsDue (moved s m)
@@ -208,6 +212,8 @@ module _ (e : Event) where
         nothing = λ k. k;
         one = λ a coming k. Contains-append_left v.future (newcomer v.next a ∷ []) e k;
         lets = λ w key x passed xs is k. subst (λ es. Contains es e) (sym (let_in_is key x (passed ++ xs) w).future) k;
+        copies = λ w to x values copying k. k;
+        unlinks = λ w key to x xs named is k. k;
       }))
   moved_there t s (moves.Refuse id key units) decided h =
       inl (with_active_has IsThere s.active (λ x. refused s x id key units) s h (λ x is. h))

@@ -1,9 +1,9 @@
 -- Nobody waits at a GATE whose condition holds: what a refused attempt read it waits for, and what is not written stays. And whoever
 -- waits so is at a TEST or a GATE without a label.
-use Rattle.std.proofs.Common.{◌≡◌, ℤ, pos, ℕ, zero, suc, Bool, true, false, cond, not, ◌||◌, List, [], ◌∷◌, ◌++◌, filter, Option, Some, None, is_some, nat_eq, nat_le, unwrap_or, Ok, refl, sym, ap, subst, ◌∙◌, inl, inr}
+use Rattle.std.proofs.Common.{◌≡◌, ◌⊎◌, ℤ, pos, ℕ, zero, suc, Bool, true, false, cond, not, ◌||◌, List, [], ◌∷◌, ◌++◌, filter, Option, Some, None, is_some, nat_eq, nat_le, unwrap_or, Ok, refl, sym, ap, subst, ◌∙◌, inl, inr}
 use Rattle.std.specs.Prelude.{Contains}
 use Rattle.std.specs.List.{AllByRecursion, list_any}
-use Rattle.std.proofs.lemmas.Bool.{cases_Bool, or_parts, or_left, or_right, eqb-true}
+use Rattle.std.proofs.lemmas.Bool.{cases_Bool, false≢true, or_parts, or_left, or_right, eqb-true}
 use Rattle.std.proofs.lemmas.List.Folds.{list_any-append}
 use Rattle.gw_nums.specs.Range.{is_below, magnitude}
 use Rattle.gw_names.specs.declared.key.Key.{Key}
@@ -15,7 +15,7 @@ use Rattle.gw_entities.specs.Tables.{value_of, with_value}
 use Rattle.gw_entities.proofs.Finding.{value_of-with_value}
 use Rattle.gw_entities.proofs.ComingLaws.{key_same}
 use Rattle.gw_expr.specs.declared.atom.Atom.TheVariants as atoms
-use Rattle.gw_expr.specs.Term.{Term, Value, Computed, Named, Label, Fraction, Defined}
+use Rattle.gw_expr.specs.Term.{Term, Value, Computed, Named, Label, Fraction, Defined, Order}
 use Rattle.gw_expr.specs.Evaluation as operands
 use Rattle.gw_expr.specs.declared.stop.Stop.TheVariants.{Range}
 use Rattle.gw_streams.specs.declared.stream.Stream.{Stream}
@@ -34,6 +34,7 @@ use Rattle.gw_meaning.specs.declared.entity_change.Deed.TheVariants as deeds
 use Rattle.gw_meaning.specs.declared.moves.Change.{Change}
 use Rattle.gw_meaning.specs.declared.moves.Change.TheVariants as changes
 use Rattle.gw_meaning.specs.declared.moves.Fate.{Fate}
+use Rattle.gw_meaning.specs.declared.moves.Fate.TheVariants as fates
 use Rattle.gw_meaning.specs.declared.moves.Move.{Move}
 use Rattle.gw_meaning.specs.declared.moves.Move.TheVariants as moves
 use Rattle.gw_meaning.specs.declared.watched.EntityKind.{EntityKind}
@@ -45,22 +46,23 @@ use Rattle.gw_meaning.specs.Statements.{A, B, operand}
 use Rattle.gw_meaning.specs.Listing.{Listing, block_at, after_at, command_at, number_at, capacity_at, or_next}
 use Rattle.gw_meaning.specs.Entities.{Entities, facility_at, line_at, store_at, savevalue_at, switch_at, done, touched, later}
 use Rattle.gw_meaning.specs.Watching.{Waiter, same_watched, is_watched, with_watched, kind_of, transactions_of}
-use Rattle.gw_meaning.specs.Machine.{Machine, raised, zero_state}
+use Rattle.gw_meaning.specs.Machine.{Machine, UserChain, raised, user_chain_at, zero_state}
 use Rattle.gw_meaning.specs.Questions.{result_of}
 use Rattle.gw_meaning.specs.Evaluation.{Eval, gives, stops_if, numbered, named, entity_prog, entity_traced}
 use Rattle.gw_entities.specs.Records.{Ownership, never_owned, no_line, Store, never_used}
-use Rattle.gw_meaning.specs.Changes.{entering, refused, watching, with_active, moved, written_where, written, is_woken, decided}
+use Rattle.gw_meaning.specs.Changes.{placed, marked, changed, written_by, written_in, entering, refused, watching, with_active, moved, written_where, written, is_woken, decided}
 use Rattle.gw_meaning.specs.Step.{for_one, is_open, kind_of_condition, reads_capacity, pass_or_wait, lead_to, go_to, gate_at, gate_storage, gate_other, gate_of, gate_prog, block_prog, meet_prog, try_prog, attempt_prog, scan_prog, move_prog, decide, run}
-use Rattle.gw_frame.proofs.Moves.{settled, settled_is, with_active_has, picked_has}
+use Rattle.gw_frame.proofs.Moves.{settled, settled_is, linked_behind, split_is, with_active_has, picked_has}
 use Rattle.gw_frame.proofs.Running.{last_step}
 use Rattle.gw_laws.specs.Destinations.{goes_to, IsTestOrGate, IsAtATestOrAGate}
 use Rattle.gw_laws.specs.Waiters.{named_key, key_written, capacity_of, NobodyWaitsAtAnOpenGate, WhoWaitsIsAtATestOrAGate}
 use Rattle.gw_laws.proofs.Waiting.{let_in_is}
+use Rattle.gw_laws.proofs.Linking.{chain_there, admitted_chain, unlinked_there}
 use Rattle.gw_laws.proofs.EndLaws.{went_on}
 use Rattle.gw_laws.proofs.Tried.{Comes, comes_gives, comes_ends, comes_asks, comes_bind, comes_then, comes_more, comes_any, IsOfNobody, IsCommand, command_next, pick_next, changed_keeps}
 use Rattle.gw_laws.proofs.Entries.{at_with}
 use Rattle.gw_laws.proofs.Trying.{gives_so}
-use Rattle.gw_laws.proofs.Attempts.{IsAtOr, WaitsAtVerb, WaitsAtBlock, meet_waits}
+use Rattle.gw_laws.proofs.Attempts.{IsAtOr, WaitsAtVerb, WaitsAtBlock, LinksAtBlock, meet_waits}
 use Rattle.gw_laws.proofs.WaiterLaws.{stands_of, all_stands, who_comes, waits_on, retry_decided}
 
 -- ---- what is watched is told apart
@@ -71,7 +73,8 @@ kind_same kinds.Queue kinds.Queue p q h = ap (λ n. watched.Entity kinds.Queue n
 kind_same kinds.Storage kinds.Storage p q h = ap (λ n. watched.Entity kinds.Storage n) (key_same p q h)
 kind_same kinds.Savevalue kinds.Savevalue p q h = ap (λ n. watched.Entity kinds.Savevalue n) (key_same p q h)
 kind_same kinds.Switch kinds.Switch p q h = ap (λ n. watched.Entity kinds.Switch n) (key_same p q h)
-kind_same k l p q h = absurd cc
+kind_same kinds.UserChain kinds.UserChain p q h = ap (λ n. watched.Entity kinds.UserChain n) (key_same p q h)
+kind_same k l p q h = absurd (false≢true h)
 
 pub watched_same : (v w : Watched) → same_watched v w ≡ true → v ≡ w
 watched_same (watched.Entity k p) (watched.Entity l q) h = kind_same k l p q h
@@ -99,26 +102,36 @@ unread_unwritten list (r ∷ rs) w unread has =
 
 -- ---- what is not written stays
 
-abbrev pub SameEntity : EntityKind → Key → Entities → Entities → Type 0
-SameEntity kinds.Facility key e f = facility_at f key ≡ facility_at e key
-SameEntity kinds.Queue key e f = line_at f key ≡ line_at e key
-SameEntity kinds.Storage key e f = store_at f key ≡ store_at e key
-SameEntity kinds.Savevalue key e f = savevalue_at f key ≡ savevalue_at e key
-SameEntity kinds.Switch key e f = switch_at f key ≡ switch_at e key
+-- the entities of a state, and its user chains
+abbrev pub Kept : Type 0
+Kept = Entities × List (Key × UserChain)
 
-entity_itself : (kind : EntityKind) (key : Key) (e : Entities) → SameEntity kind key e e
+abbrev pub kept_of : Machine → Kept
+kept_of s = (s.entities, s.linked)
+
+abbrev pub SameEntity : EntityKind → Key → Kept → Kept → Type 0
+SameEntity kinds.Facility key e f = facility_at f.0 key ≡ facility_at e.0 key
+SameEntity kinds.Queue key e f = line_at f.0 key ≡ line_at e.0 key
+SameEntity kinds.Storage key e f = store_at f.0 key ≡ store_at e.0 key
+SameEntity kinds.Savevalue key e f = savevalue_at f.0 key ≡ savevalue_at e.0 key
+SameEntity kinds.Switch key e f = switch_at f.0 key ≡ switch_at e.0 key
+SameEntity kinds.UserChain key e f = user_chain_at f.1 key ≡ user_chain_at e.1 key
+
+entity_itself : (kind : EntityKind) (key : Key) (e : Kept) → SameEntity kind key e e
 entity_itself kinds.Facility key e = refl
 entity_itself kinds.Queue key e = refl
 entity_itself kinds.Storage key e = refl
 entity_itself kinds.Savevalue key e = refl
 entity_itself kinds.Switch key e = refl
+entity_itself kinds.UserChain key e = refl
 
-later_same : (kind : EntityKind) (key : Key) (before now : ℕ) (e : Entities) → SameEntity kind key e (later before now e)
+later_same : (kind : EntityKind) (key : Key) (before now : ℕ) (e : Kept) → SameEntity kind key e (later before now e.0, e.1)
 later_same kinds.Facility key before now e = refl
 later_same kinds.Queue key before now e = refl
 later_same kinds.Storage key before now e = refl
 later_same kinds.Savevalue key before now e = refl
 later_same kinds.Switch key before now e = refl
+later_same kinds.UserChain key before now e = refl
 
 -- the value of another key
 other_stays : {V : Type 0} (none : V) (es : List (Key × V)) (other : Key) (v : V) (key : Key) → key_eq key other ≡ false →
@@ -126,60 +139,122 @@ other_stays : {V : Type 0} (none : V) (es : List (Key × V)) (other : Key) (v : 
 other_stays none es other v key apart = at_with none es other v key ∙ ap (λ b. cond b v (unwrap_or (value_of es key) none)) apart
 
 -- a deed changes the entity of its kind with the key
-done_same : (kind : EntityKind) (key other : Key) (deed : Deed) (clock number : ℕ) (e : Entities) →
-    same_watched (watched.Entity kind key) (watched.Entity (kind_of deed) other) ≡ false → SameEntity kind key e (done other deed clock number e)
-done_same kinds.Facility key other (deeds.Facility deed) clock number e apart = other_stays never_owned e.facilities other _ key apart
+done_same : (kind : EntityKind) (key other : Key) (deed : Deed) (clock number : ℕ) (e : Kept) →
+    same_watched (watched.Entity kind key) (watched.Entity (kind_of deed) other) ≡ false → SameEntity kind key e (done other deed clock number e.0, e.1)
+done_same kinds.Facility key other (deeds.Facility deed) clock number e apart = other_stays never_owned e.0.facilities other _ key apart
 done_same kinds.Facility key other deed clock number e apart = refl
-done_same kinds.Queue key other (deeds.Queue deed) clock number e apart = other_stays no_line e.queues other _ key apart
+done_same kinds.Queue key other (deeds.Queue deed) clock number e apart = other_stays no_line e.0.queues other _ key apart
 done_same kinds.Queue key other deed clock number e apart = refl
-done_same kinds.Storage key other (deeds.Storage deed) clock number e apart = other_stays never_used e.storages other _ key apart
+done_same kinds.Storage key other (deeds.Storage deed) clock number e apart = other_stays never_used e.0.storages other _ key apart
 done_same kinds.Storage key other deed clock number e apart = refl
 done_same kinds.Savevalue key other (deeds.Savevalue to) clock number e apart =
-    value_of-with_value e.savevalues other to key ∙ ap (λ b. cond b (Some to) (value_of e.savevalues key)) apart
+    value_of-with_value e.0.savevalues other to key ∙ ap (λ b. cond b (Some to) (value_of e.0.savevalues key)) apart
 done_same kinds.Savevalue key other deed clock number e apart = refl
-done_same kinds.Switch key other (deeds.Switch set) clock number e apart = other_stays false e.switches other set key apart
+done_same kinds.Switch key other (deeds.Switch set) clock number e apart = other_stays false e.0.switches other set key apart
 done_same kinds.Switch key other deed clock number e apart = refl
+done_same kinds.UserChain key other deed clock number e apart = refl
 
 entering_entities : (s : Machine) (x : Transaction) (id : ℕ) (change : Change) (fate : Fate) →
     (entering s x id change fate).entities ≡ touched change s.clock x.number s.entities
 entering_entities s x id change fate =
     let e = touched change s.clock x.number s.entities in
-    changed_keeps (λ v. v.entities ≡ e) change (settled s x id change fate) (λ a w k. k)
-    (λ w key y passed ys is k. (let_in_is key y (passed ++ ys) w).entities ∙ k) (settled_is s x id change fate).entities
+    changed_keeps (λ v. v.entities ≡ e) change (settled s x id change fate)
+    (record {
+      makes = λ a w k. k;
+      lets = λ w key y passed ys is k. (let_in_is key y (passed ++ ys) w).entities ∙ k;
+      copies = λ w to y values k. k;
+      unlinks = λ w key to y ys is k. k;
+    })
+    (settled_is s x id change fate).entities
 
-touched_same : (s : Machine) (x : Transaction) (id : ℕ) (change : Change) (kind : EntityKind) (key : Key) →
-    is_watched (written_where (Some x) id change s) (watched.Entity kind key) ≡ false →
-    SameEntity kind key s.entities (touched change s.clock x.number s.entities)
-touched_same s x id (changes.Entity change) kind key unwritten =
+touched_same : (s : Machine) (x : Transaction) (change : Change) (kind : EntityKind) (key : Key) →
+    is_watched (written_by change s) (watched.Entity kind key) ≡ false →
+    SameEntity kind key (kept_of s) (touched change s.clock x.number s.entities, s.linked)
+touched_same s x (changes.Entity change) kind key unwritten =
     let parts = or_parts (same_watched (watched.Entity kind key) (watched.Entity (kind_of change.1) change.0)) _ unwritten in
-    done_same kind key change.0 change.1 s.clock x.number s.entities parts.0
-touched_same s x id (changes.Generate next) kind key unwritten = entity_itself kind key s.entities
-touched_same s x id (changes.Transaction change) kind key unwritten = entity_itself kind key s.entities
-touched_same s x id changes.Nothing kind key unwritten = entity_itself kind key s.entities
+    done_same kind key change.0 change.1 s.clock x.number (kept_of s) parts.0
+touched_same s x (changes.Generate next) kind key unwritten = entity_itself kind key (kept_of s)
+touched_same s x (changes.Transaction change) kind key unwritten = entity_itself kind key (kept_of s)
+touched_same s x (changes.Split count to) kind key unwritten = entity_itself kind key (kept_of s)
+touched_same s x (changes.Unlink chain count to) kind key unwritten = entity_itself kind key (kept_of s)
+touched_same s x changes.Nothing kind key unwritten = entity_itself kind key (kept_of s)
+
+-- a user chain that is not written stays
+fated_chain : (fate : Fate) (x : Transaction) (cs : List (Key × UserChain)) (key : Key) →
+    is_watched (written_in fate) (watched.Entity kinds.UserChain key) ≡ false → user_chain_at (linked_behind fate x cs) key ≡ user_chain_at cs key
+fated_chain fates.Active x cs key unwritten = refl
+fated_chain fates.Current x cs key unwritten = refl
+fated_chain (fates.Delayed until) x cs key unwritten = refl
+fated_chain (fates.Linked chain discipline) x cs key unwritten =
+    let parts = or_parts (same_watched (watched.Entity kinds.UserChain key) (watched.Entity kinds.UserChain chain)) false unwritten in
+    chain_there cs key chain _ parts.0
+fated_chain (fates.Destroyed count) x cs key unwritten = refl
+
+changed_chain : (s v : Machine) (change : Change) (key : Key) → is_watched (written_by change s) (watched.Entity kinds.UserChain key) ≡ false →
+    user_chain_at (changed change v).linked key ≡ user_chain_at v.linked key
+changed_chain s v (changes.Generate next) key unwritten = refl
+changed_chain s v (changes.Transaction change) key unwritten = refl
+changed_chain s v (changes.Split count to) key unwritten = ap (λ cs. user_chain_at cs key) (split_is v count to).linked
+changed_chain s v (changes.Unlink chain count to) key unwritten =
+    let parts = or_parts (same_watched (watched.Entity kinds.UserChain key) (watched.Entity kinds.UserChain chain)) false unwritten in
+    unlinked_there count chain to v key parts.0
+changed_chain s v (changes.Entity change) key unwritten = admitted_chain change.0 change.1 v key
+changed_chain s v changes.Nothing key unwritten = refl
+
+entered_chain : (s : Machine) (x : Transaction) (id : ℕ) (change : Change) (fate : Fate) (key : Key) →
+    is_watched (written_by change s) (watched.Entity kinds.UserChain key) ≡ false →
+    is_watched (written_in fate) (watched.Entity kinds.UserChain key) ≡ false →
+    user_chain_at (entering s x id change fate).linked key ≡ user_chain_at s.linked key
+entered_chain s x id change fate key by_change by_fate =
+    changed_chain s (settled s x id change fate) change key by_change
+    ∙ (ap (λ cs. user_chain_at cs key) (settled_is s x id change fate).linked
+    ∙ fated_chain fate (marked change s.clock (placed x id)) s.linked key by_fate)
+
+-- what is known of the entities and of the user chains, put together
+both_same : (kind : EntityKind) (key : Key) (e : Kept) (f : Entities) (cs : List (Key × UserChain)) → SameEntity kind key e (f, e.1) →
+    (kind ≡ kinds.UserChain → user_chain_at cs key ≡ user_chain_at e.1 key) → SameEntity kind key e (f, cs)
+both_same kinds.Facility key e f cs same chain = same
+both_same kinds.Queue key e f cs same chain = same
+both_same kinds.Storage key e f cs same chain = same
+both_same kinds.Savevalue key e f cs same chain = same
+both_same kinds.Switch key e f cs same chain = same
+both_same kinds.UserChain key e f cs same chain = chain refl
+
+entered_same : (s : Machine) (x : Transaction) (id : ℕ) (change : Change) (fate : Fate) (kind : EntityKind) (key : Key) →
+    is_watched (written_where (Some x) id change fate s) (watched.Entity kind key) ≡ false →
+    SameEntity kind key (kept_of s) (kept_of (entering s x id change fate))
+entered_same s x id change fate kind key unwritten =
+    let parts = or_parts (is_watched (written_by change s) (watched.Entity kind key)) (is_watched (written_in fate) (watched.Entity kind key))
+    (sym (list_any-append (same_watched (watched.Entity kind key)) (written_by change s) (written_in fate)) ∙ unwritten) in
+    both_same kind key (kept_of s) (entering s x id change fate).entities (entering s x id change fate).linked
+    (subst (λ e. SameEntity kind key (kept_of s) (e, s.linked)) (sym (entering_entities s x id change fate)) (touched_same s x change kind key parts.0))
+    (λ is. entered_chain s x id change fate key
+    (subst (λ k. is_watched (written_by change s) (watched.Entity k key) ≡ false) is parts.0)
+    (subst (λ k. is_watched (written_in fate) (watched.Entity k key) ≡ false) is parts.1))
 
 pub moved_entity : (s : Machine) (m : Move) (kind : EntityKind) (key : Key) → is_watched (written s m) (watched.Entity kind key) ≡ false →
-    SameEntity kind key s.entities (moved s m).entities
-moved_entity s (moves.Start count arrivals) kind key unwritten = entity_itself kind key s.entities
-moved_entity s moves.Command kind key unwritten = entity_itself kind key s.entities
+    SameEntity kind key (kept_of s) (kept_of (moved s m))
+moved_entity s (moves.Start count arrivals) kind key unwritten = entity_itself kind key (kept_of s)
+moved_entity s moves.Command kind key unwritten = entity_itself kind key (kept_of s)
 moved_entity s (moves.Enter id change fate) kind key unwritten = go s.active unwritten where
-  go : (o : Option Transaction) → is_watched (written_where o id change s) (watched.Entity kind key) ≡ false →
-      SameEntity kind key s.entities (with_active o (λ x. entering s x id change fate) s).entities
-  go None is = entity_itself kind key s.entities
-  go (Some x) is = subst (SameEntity kind key s.entities) (sym (entering_entities s x id change fate)) (touched_same s x id change kind key is)
+  go : (o : Option Transaction) → is_watched (written_where o id change fate s) (watched.Entity kind key) ≡ false →
+      SameEntity kind key (kept_of s) (kept_of (with_active o (λ x. entering s x id change fate) s))
+  go None is = entity_itself kind key (kept_of s)
+  go (Some x) is = entered_same s x id change fate kind key is
 moved_entity s (moves.Refuse id key' units) kind key unwritten =
-    let itself = entity_itself kind key s.entities in
-    with_active_has (λ v. SameEntity kind key s.entities v.entities) s.active (λ x. refused s x id key' units) s itself (λ x is. itself)
+    let itself = entity_itself kind key (kept_of s) in
+    with_active_has (λ v. SameEntity kind key (kept_of s) (kept_of v)) s.active (λ x. refused s x id key' units) s itself (λ x is. itself)
 moved_entity s (moves.Watch read) kind key unwritten =
-    let itself = entity_itself kind key s.entities in
-    with_active_has (λ v. SameEntity kind key s.entities v.entities) s.active (λ x. watching s x read) s itself (λ x is. itself)
+    let itself = entity_itself kind key (kept_of s) in
+    with_active_has (λ v. SameEntity kind key (kept_of s) (kept_of v)) s.active (λ x. watching s x read) s itself (λ x is. itself)
 moved_entity s moves.Pick kind key unwritten =
-    let itself = entity_itself kind key s.entities in
-    picked_has (λ v. SameEntity kind key s.entities v.entities) s s.current itself (λ x xs is. itself)
-moved_entity s (moves.Clock time) kind key unwritten = later_same kind key s.clock time s.entities
+    let itself = entity_itself kind key (kept_of s) in
+    picked_has (λ v. SameEntity kind key (kept_of s) (kept_of v)) s s.current itself (λ x xs is. itself)
+moved_entity s (moves.Clock time) kind key unwritten = later_same kind key s.clock time (kept_of s)
 
 -- ---- a condition
 
-open_same : (s u : Machine) (condition : Condition) (key : Key) (capacity : ℕ) → SameEntity (kind_of_condition condition) key s.entities u.entities →
+open_same : (s u : Machine) (condition : Condition) (key : Key) (capacity : ℕ) → SameEntity (kind_of_condition condition) key (kept_of s) (kept_of u) →
     is_open u condition key capacity ≡ is_open s condition key capacity
 open_same s u conditions.InUse key capacity h = ap (λ (f : Ownership). is_some f.owner) h
 open_same s u conditions.NotInUse key capacity h = ap (λ (f : Ownership). not (is_some f.owner)) h
@@ -212,51 +287,71 @@ abbrev pub IfWatches : (List Watched → Type 0) → Move → Type 0
 IfWatches P (moves.Watch read) = P read
 IfWatches P m = Unit {0}
 
-of_nobody : (P : List Watched → Type 0) (m : Move) → IsOfNobody m → IfWatches P m
-of_nobody P (moves.Watch read) h = absurd h
-of_nobody P m h = tt
+-- no attempt of a transaction
+abbrev pub IsNoAttempt : Move → Type 0
+IsNoAttempt (moves.Enter id change fate) = ⊥
+IsNoAttempt (moves.Refuse id key units) = ⊥
+IsNoAttempt (moves.Watch read) = ⊥
+IsNoAttempt m = Unit {0}
 
-of_command : (P : List Watched → Type 0) (c : Option Command) (m : Move) → IsCommand c m → IfWatches P m
-of_command P None (moves.Watch read) h = absurd h
-of_command P (Some (commands.Start count)) (moves.Watch read) h = absurd h
-of_command P (Some (commands.Rmult values)) (moves.Watch read) h = absurd h
-of_command P c m h = tt
+of_nobody : (m : Move) → IsOfNobody m → IsNoAttempt m
+of_nobody moves.Pick h = tt
+of_nobody (moves.Clock time) h = tt
+of_nobody m h = absurd h
+
+of_command : (c : Option Command) (m : Move) → IsCommand c m → IsNoAttempt m
+of_command (Some (commands.Start count)) (moves.Start n arrivals) h = tt
+of_command (Some (commands.Rmult values)) moves.Command h = tt
+of_command c m h = absurd h
 
 module _ (t : Listing) (seed : ℕ) (s : Machine) where
-  pub record IsRefusedAt (read : List Watched) : Type 0 where
+  -- a block is tried, and this comes of it
+  pub record IsTriedAt (m : Move) : Type 0 where
     pub x : Transaction
     pub active : s.active ≡ Some x
     pub id : ℕ
     pub goes : goes_to t x ≡ Some id
     pub before : List Stream
     pub after : List Stream
-    pub tries : result_of t seed (meet_prog s x id (block_at t id) before) ≡ Ok (moves.Watch read, after)
+    pub tries : result_of t seed (meet_prog s x id (block_at t id) before) ≡ Ok (m, after)
 
-  try_refused : (x : Transaction) (to : Option ℕ) → s.active ≡ Some x → goes_to t x ≡ to → Comes t seed (IfWatches IsRefusedAt) (try_prog s x to)
-  try_refused x None active goes = comes_ends
-  try_refused x (Some id) active goes = comes_asks (items.Block id) (record { from = λ streams r is. by_move r.0 streams r.1 is }) where
-    by_move : (m : Move) (before after : List Stream) → result_of t seed (meet_prog s x id (block_at t id) before) ≡ Ok (m, after) → IfWatches IsRefusedAt m
-    by_move (moves.Watch read) before after is =
-        record { x = x; active = active; id = id; goes = goes; before = before; after = after; tries = is }
-    by_move m before after is = tt
+  abbrev pub IsRefusedAt : List Watched → Type 0
+  IsRefusedAt read = IsTriedAt (moves.Watch read)
 
-  attempt_refused : (x : Transaction) (destination : Option ℕ) → s.active ≡ Some x → x.destination ≡ destination →
-      Comes t seed (IfWatches IsRefusedAt) (attempt_prog s x destination)
-  attempt_refused x None active is =
-      comes_asks (items.After x.current) (try_refused x (after_at t x.current) active (ap (λ o. or_next o (after_at t x.current)) is))
-  attempt_refused x (Some id) active is = try_refused x (Some id) active (ap (λ o. or_next o (after_at t x.current)) is)
+  abbrev IsTriedOr : Move → Type 0
+  IsTriedOr m = IsTriedAt m ⊎ IsNoAttempt m
 
-  scan_refused : (o : Option Transaction) → s.active ≡ o → Comes t seed (IfWatches IsRefusedAt) (scan_prog s o)
-  scan_refused None is = comes_more (of_nobody IsRefusedAt) (pick_next t seed s s.current)
-  scan_refused (Some x) is = attempt_refused x x.destination is refl
+  try_tried : (x : Transaction) (to : Option ℕ) → s.active ≡ Some x → goes_to t x ≡ to → Comes t seed IsTriedOr (try_prog s x to)
+  try_tried x None active goes = comes_ends
+  try_tried x (Some id) active goes = comes_asks (items.Block id) (record {
+    from = λ streams r is. inl (record { x = x; active = active; id = id; goes = goes; before = streams; after = r.1; tries = is });
+  })
 
-  move_refused : (remaining : ℕ) → Comes t seed (IfWatches IsRefusedAt) (move_prog s remaining)
-  move_refused zero = comes_asks (items.Cmd (raised s.commands))
-      (comes_more (of_command IsRefusedAt (command_at t (raised s.commands))) (command_next t seed s (command_at t (raised s.commands))))
-  move_refused (suc n) = scan_refused s.active refl
+  attempt_tried : (x : Transaction) (destination : Option ℕ) → s.active ≡ Some x → x.destination ≡ destination →
+      Comes t seed IsTriedOr (attempt_prog s x destination)
+  attempt_tried x None active is =
+      comes_asks (items.After x.current) (try_tried x (after_at t x.current) active (ap (λ o. or_next o (after_at t x.current)) is))
+  attempt_tried x (Some id) active is = try_tried x (Some id) active (ap (λ o. or_next o (after_at t x.current)) is)
+
+  scan_tried : (o : Option Transaction) → s.active ≡ o → Comes t seed IsTriedOr (scan_prog s o)
+  scan_tried None is = comes_more (λ m h. inr (of_nobody m h)) (pick_next t seed s s.current)
+  scan_tried (Some x) is = attempt_tried x x.destination is refl
+
+  move_tried : (remaining : ℕ) → Comes t seed IsTriedOr (move_prog s remaining)
+  move_tried zero = comes_asks (items.Cmd (raised s.commands))
+      (comes_more (λ m h. inr (of_command (command_at t (raised s.commands)) m h)) (command_next t seed s (command_at t (raised s.commands))))
+  move_tried (suc n) = scan_tried s.active refl
+
+  -- what is decided comes of a block that is tried, or is no attempt
+  pub tried_at : (d : Move × List Stream) → result_of t seed (decide s) ≡ Ok d → IsTriedAt d.0 ⊎ IsNoAttempt d.0
+  tried_at d is = (move_tried s.remaining).from s.streams d is
 
   pub refused_at : (d : Move × List Stream) → result_of t seed (decide s) ≡ Ok d → IfWatches IsRefusedAt d.0
-  refused_at d is = (move_refused s.remaining).from s.streams d is
+  refused_at d is = go d.0 (tried_at d is) where
+    go : (m : Move) → IsTriedAt m ⊎ IsNoAttempt m → IfWatches IsRefusedAt m
+    go (moves.Watch read) (inl tried) = tried
+    go (moves.Watch read) (inr none) = absurd none
+    go m h = tt
 
   -- ---- at a GATE
 
@@ -346,6 +441,7 @@ module _ (t : Listing) (seed : ℕ) (s : Machine) where
   entity_named q (Some (Value (atoms.Attribute class of))) apart = unnamed (Some (Value (atoms.Attribute class of))) refl
   entity_named q (Some (Computed ts)) apart = unnamed (Some (Computed ts)) refl
   entity_named q (Some (Label name)) apart = unnamed (Some (Label name)) refl
+  entity_named q (Some (Order discipline)) apart = unnamed (Some (Order discipline)) refl
   entity_named q (Some (Fraction part)) apart = unnamed (Some (Fraction part)) refl
   entity_named q (Some (Defined name)) apart = absurd (apart name refl)
 
@@ -365,6 +461,7 @@ module _ (t : Listing) (seed : ℕ) (s : Machine) where
   gate_of_shut q id condition (Some (Computed ts)) label = gate_other_shut q id condition (Some (Computed ts)) label (λ name is. cc)
   gate_of_shut q id condition (Some (Named name)) label = gate_other_shut q id condition (Some (Named name)) label (λ name is. cc)
   gate_of_shut q id condition (Some (Label name)) label = gate_other_shut q id condition (Some (Label name)) label (λ name is. cc)
+  gate_of_shut q id condition (Some (Order discipline)) label = gate_other_shut q id condition (Some (Order discipline)) label (λ name is. cc)
   gate_of_shut q id condition (Some (Fraction part)) label = gate_other_shut q id condition (Some (Fraction part)) label (λ name is. cc)
   gate_of_shut q id condition (Some (Defined name)) label = gate_storage_shut id condition label name (reads_capacity condition) refl
 
@@ -464,7 +561,8 @@ refused_there : (t : Listing) (seed : ℕ) (s : Machine) (read : List Watched) (
 refused_there t seed s read r = go (block_at t r.id) refl waits where
   waits : WaitsAtBlock (block_at t r.id)
   waits =
-      gives_so t seed (λ (d : Move × List Stream). IsAtOr (WaitsAtBlock (block_at t r.id)) r.id d.0) (meet_prog s r.x r.id (block_at t r.id) r.before)
+      gives_so t seed (λ (d : Move × List Stream). IsAtOr (WaitsAtBlock (block_at t r.id)) (LinksAtBlock (block_at t r.id)) r.id d.0)
+      (meet_prog s r.x r.id (block_at t r.id) r.before)
       (moves.Watch read, r.after) ((meet_waits s r.x r.id (block_at t r.id)).from r.before) r.tries
 
   go : (o : Option Block) → block_at t r.id ≡ o → WaitsAtBlock o → IsAtATestOrAGate t r.x

@@ -92,6 +92,8 @@ module _ (q : Key) where
         nothing = λ h. h;
         one = λ a coming h. h;
         lets = λ w key x passed xs is h. subst (Passes s) (sym (let_in_is key x (passed ++ xs) w).entities) h;
+        copies = λ w to x values copying h. h;
+        unlinks = λ w key to x xs named is h. h;
       })
   moved_passes t s (moves.Refuse id key units) decided =
       with_active_has (λ v. Passes s v.entities) s.active (λ x. refused s x id key units) s (inl refl) (λ x is. inl refl)

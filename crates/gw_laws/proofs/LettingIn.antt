@@ -16,7 +16,7 @@ use Rattle.gw_meaning.specs.Entities.{done}
 use Rattle.gw_meaning.specs.Machine.{Machine, delay_at}
 use Rattle.gw_meaning.specs.Changes.{one_let_in, some_let_in, admitted, entering}
 use Rattle.gw_frame.proofs.Known.{IsDecidedChange, IsDecidedDeed}
-use Rattle.gw_frame.proofs.Moves.{settled, settled_is}
+use Rattle.gw_frame.proofs.Moves.{settled, settled_is, split_is, unlink_is}
 use Rattle.gw_laws.specs.Delays.{is_storage}
 use Rattle.gw_laws.proofs.Entries.{at_with}
 use Rattle.gw_laws.proofs.Waiting.{let_in_is}
@@ -79,6 +79,14 @@ entering_has R t s x id (changes.Generate next) fate decided stays does =
 entering_has R t s x id (changes.Transaction change) fate decided stays does =
     let same = settled_is s x id (changes.Transaction change) fate in
     stays (entering s x id (changes.Transaction change) fate) same.delays same.entities
+entering_has R t s x id (changes.Split count to) fate decided stays does =
+    let same = settled_is s x id (changes.Split count to) fate in
+    let after = split_is (settled s x id (changes.Split count to) fate) count to in
+    stays (entering s x id (changes.Split count to) fate) (after.delays ∙ same.delays) (after.entities ∙ same.entities)
+entering_has R t s x id (changes.Unlink key count to) fate decided stays does =
+    let same = settled_is s x id (changes.Unlink key count to) fate in
+    let after = unlink_is (settled s x id (changes.Unlink key count to) fate) key count to in
+    stays (entering s x id (changes.Unlink key count to) fate) (after.delays ∙ same.delays) (after.entities ∙ same.entities)
 entering_has R t s x id changes.Nothing fate decided stays does =
     let same = settled_is s x id changes.Nothing fate in
     stays (entering s x id changes.Nothing fate) same.delays same.entities

@@ -35,6 +35,10 @@ pub mod TestLaws
 pub mod VerbLaws
 pub mod ItemLaws
 pub mod WaiterLaws
+pub mod Linking
 pub mod GateLaws
+pub mod UserChainLaws
+pub mod CopyLaws
+pub mod InheritLaws
 pub mod WaitingTests
 pub mod WakingLaws

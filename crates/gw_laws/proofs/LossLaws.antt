@@ -15,7 +15,7 @@ use Rattle.gw_laws.specs.Numbering.{OnlyTheActiveGoes, lives}
 use Rattle.gw_frame.proofs.Decided.{step_decides}
 use Rattle.gw_frame.proofs.Known.{IsDecided}
 use Rattle.gw_frame.proofs.Moves.{with_active_has, entered_has, picked_has}
-use Rattle.gw_laws.proofs.Crowd.{one, crowd, active_crowd, many_living, future_push, settled_crowd, refused_crowd, picked_crowd, advanced_crowd, watching_crowd, woken_crowd}
+use Rattle.gw_laws.proofs.Crowd.{one, crowd, active_crowd, many_living, future_push, settled_crowd, refused_crowd, copied_crowd, unlinked_crowd, picked_crowd, advanced_crowd, watching_crowd, woken_crowd}
 use Rattle.gw_laws.proofs.NumberLaws.{has_number, lets_same, not_alive, alive}
 
 module _ (k : ℕ) where
@@ -55,6 +55,11 @@ module _ (k : ℕ) where
         one = λ a coming g. elim g [ inl here ↦ inl (made_lives a (making_of v) v here) | inr was ↦ inr was ];
         lets = λ w key x passed xs is g.
             (let same = lets_same k w key x passed xs is in elim g [ inl here ↦ inl (omega (arith, same, here)) | inr was ↦ inr was ]);
+        copies = λ w to x values copying g.
+            (let more = copied_crowd (has_number k) to x values w in elim g [ inl here ↦ inl (omega (arith, more, here)) | inr was ↦ inr was ]);
+        unlinks = λ w key to x xs named is g.
+            (let same = unlinked_crowd (has_number k) w key to x xs is refl in
+            elim g [ inl here ↦ inl (omega (arith, same, here)) | inr was ↦ inr was ]);
       })
   moved_lives t s (moves.Refuse id key units) decided h =
       with_active_has (LivesOn s) s.active (λ x. refused s x id key units) s (inl h)

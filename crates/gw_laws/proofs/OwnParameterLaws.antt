@@ -1,11 +1,11 @@
 -- In a step no parameters change but those of the active transaction.
-use Rattle.std.proofs.Common.{◌≡◌, ◌≢◌, ℕ, ◌-◌, ◌^◌, ◌<◌, List, nat_eq, nat_lt, false, cond, [], ◌∷◌, ◌++◌, ◌⊎◌, Some, unwrap_or, refl, ap, sym, subst, ◌∙◌, inl, inr, arith}
+use Rattle.std.proofs.Common.{◌≡◌, ◌≢◌, ℕ, ◌+◌, ◌-◌, ◌^◌, ◌<◌, List, nat_eq, nat_lt, false, cond, [], ◌∷◌, ◌++◌, ◌⊎◌, Option, Some, unwrap_or, refl, ap, sym, subst, ◌∙◌, inl, inr, arith}
 use Rattle.std.specs.Map.{lookup}
 use Rattle.std.proofs.lemmas.Bool.Decides.{nat_tests}
 use Rattle.std.proofs.lemmas.Bool.{cases_Bool, cases_eq, cases_lt, eq-eqb, ne_eqb, eqb-true, false≢true}
 use Rattle.gw_names.specs.declared.key.Key.{Key}
 use Rattle.gw_entities.specs.Tables.{with_value}
-use Rattle.gw_entities.specs.Parameters.{Held, values_at, with_values, without}
+use Rattle.gw_entities.specs.Parameters.{Held, values_at, with_values, assigned, inherited, without}
 use Rattle.gw_meaning.specs.declared.transaction.Transaction.{Transaction}
 use Rattle.gw_meaning.specs.declared.moves.Change.{Change}
 use Rattle.gw_meaning.specs.declared.moves.Change.TheVariants as changes
@@ -16,19 +16,19 @@ use Rattle.gw_meaning.specs.declared.moves.Fate.TheVariants as fates
 use Rattle.gw_meaning.specs.declared.moves.Move.{Move}
 use Rattle.gw_meaning.specs.declared.moves.Move.TheVariants as moves
 use Rattle.gw_meaning.specs.Listing.{Listing}
-use Rattle.gw_meaning.specs.Machine.{Machine, delay_at}
-use Rattle.gw_meaning.specs.Changes.{own_held, held_by, making_of, placed, marked, one_let_in, refused, moved, watching, written, woken}
+use Rattle.gw_meaning.specs.Machine.{Machine, delay_at, user_chain_at}
+use Rattle.gw_meaning.specs.Changes.{own_held, held_by, making_of, placed, marked, one_let_in, one_copied, one_unlinked, refused, moved, watching, written, woken}
 use Rattle.gw_meaning.proofs.Programs.{run_on}
 use Rattle.gw_meaning.specs.declared.watched.Watched.{Watched}
 use Rattle.gw_laws.specs.Living.{IsActive}
 use Rattle.gw_laws.specs.Parameters.{ParametersAreOnesOwn, SetsAtMostOne, OneParameterIsSet}
 use Rattle.gw_frame.proofs.Decided.{step_decides}
 use Rattle.gw_frame.proofs.Known.{IsDecided}
-use Rattle.gw_frame.proofs.Moves.{settled, settled_is, marked_same, with_active_has, entered_has, picked_has}
+use Rattle.gw_frame.proofs.Moves.{IsCopying, settled, settled_is, marked_same, with_active_has, entered_has, picked_has}
 use Rattle.gw_laws.specs.Living.{living}
 use Rattle.gw_laws.proofs.Crowd.{one, active_crowd, settled_crowd, many_living}
-use Rattle.gw_laws.proofs.NumberLaws.{has_number, IsNumbered, of_number, IsGone, made_gone, lets_gone, alive, all_numbered, woken_gone}
-use Rattle.gw_laws.proofs.Room.{all_within}
+use Rattle.gw_laws.proofs.NumberLaws.{has_number, IsNumbered, of_number, IsGone, made_gone, lets_gone, copied_gone, unlinked_gone, alive, all_numbered, woken_gone}
+use Rattle.gw_laws.proofs.Room.{all_within, all_low}
 use Rattle.gw_laws.proofs.Waiting.{leaving}
 use Rattle.gw_laws.proofs.ParameterLaws.{Values, let_in_parameters}
 
@@ -70,9 +70,22 @@ change_elsewhere : (k n : ℕ) (change : Change) (held : Held) → nat_eq k n �
 change_elsewhere k n (changes.Transaction change) held apart = own_elsewhere k n change held apart
 change_elsewhere k n change held apart = refl
 
+pub inherited_elsewhere : (k n : ℕ) (values : Values) (held : Held) → nat_eq k n ≡ false →
+    lookup (nat_eq k) (inherited values n held) ≡ lookup (nat_eq k) held
+inherited_elsewhere k n [] held apart = refl
+inherited_elsewhere k n (v ∷ vs) held apart =
+    inherited_elsewhere k n vs (assigned held n v.0 v.1) apart ∙ set_elsewhere k n held (with_value (values_at held n) v.0 v.1) apart
+
 -- ---- moves
 
 module _ (k : ℕ) where
+  -- a copy has a number that was not given before the step
+  copied_elsewhere : (t : Listing) (s w : Machine) (to : Option ℕ) (x : Transaction) (values : Values) → s.next < 2 ^ 64 → k < s.next →
+      IsCopying t s w to x → values_at (one_copied to x values w).parameters k ≡ values_at w.parameters k
+  copied_elsewhere t s w to x values low given copying =
+      let above = copying.above low in
+      ap (λ o. unwrap_or o []) (inherited_elsewhere k w.next values w.parameters (ne_eqb k w.next (λ same. omega (arith, given, above, same))))
+
   -- its parameters stay, or it was active
   abbrev pub KeepsParameters : Machine → Machine → Type 0
   KeepsParameters s v = (values_at v.parameters k ≡ values_at s.parameters k) ⊎ IsActive s k
@@ -88,8 +101,8 @@ module _ (k : ℕ) where
       ∙ change_elsewhere k x.number change s.parameters not_his
   settled_elsewhere s x id change fate other = change_elsewhere k x.number change s.parameters (ne_eqb k x.number (λ is. other (sym is)))
 
-  pub moved_elsewhere : (t : Listing) (s : Machine) (m : Move) → IsDecided t s m → KeepsParameters s (moved s m)
-  moved_elsewhere t s (moves.Enter id change fate) decided =
+  pub moved_elsewhere : (t : Listing) (s : Machine) (m : Move) → s.next < 2 ^ 64 → k < s.next → IsDecided t s m → KeepsParameters s (moved s m)
+  moved_elsewhere t s (moves.Enter id change fate) low given decided =
       entered_has (KeepsParameters s) (KeepsParameters s) t s id change fate decided.1 (inl refl)
       (λ x is.
       elim (cases_eq x.number k) [
@@ -103,22 +116,27 @@ module _ (k : ℕ) where
           | inl same ↦ inl (ap (λ held. values_at held k) (let_in_parameters x x.destination (leaving w key (passed ++ xs))) ∙ same)
           | inr was ↦ inr was
         ];
+        copies = λ w to x values copying g. elim g [
+          | inl same ↦ inl (copied_elsewhere t s w to x values low given copying ∙ same)
+          | inr was ↦ inr was
+        ];
+        unlinks = λ w key to x xs named is g. g;
       })
-  moved_elsewhere t s (moves.Refuse id key units) decided =
+  moved_elsewhere t s (moves.Refuse id key units) low given decided =
       with_active_has (KeepsParameters s) s.active (λ x. refused s x id key units) s (inl refl) (λ x is. inl refl)
-  moved_elsewhere t s (moves.Watch read) decided =
+  moved_elsewhere t s (moves.Watch read) low given decided =
       with_active_has (KeepsParameters s) s.active (λ x. watching s x read) s (inl refl) (λ x is. inl refl)
-  moved_elsewhere t s moves.Pick decided = picked_has (KeepsParameters s) s s.current (inl refl) (λ x xs is. inl refl)
-  moved_elsewhere t s m decided = inl refl
+  moved_elsewhere t s moves.Pick low given decided = picked_has (KeepsParameters s) s s.current (inl refl) (λ x xs is. inl refl)
+  moved_elsewhere t s m low given decided = inl refl
 
 pub parameters_are_ones_own : ParametersAreOnesOwn
-parameters_are_ones_own t seed n s v there is k =
+parameters_are_ones_own t seed n s v there is k given =
     let after = ((step_decides t seed s).runs v (sym (run_on t seed n s there) ∙ is)).0 in
-    subst (KeepsParameters k s) (sym after.is) (moved_elsewhere k t s after.move after.is_decided)
+    subst (KeepsParameters k s) (sym after.is) (moved_elsewhere k t s after.move (all_low t seed n s there) given after.is_decided)
 
 -- ---- of one transaction, one parameter is set at most
 
-set_here : (n : ℕ) (held : Held) (values : Values) → lookup (nat_eq n) (with_values held n values) ≡ Some values
+pub set_here : (n : ℕ) (held : Held) (values : Values) → lookup (nat_eq n) (with_values held n values) ≡ Some values
 set_here n [] values = let here = eq-eqb n n refl in rw here refl
 set_here n (h ∷ hs) values =
     elim (cases_Bool (nat_eq n h.0)) [
@@ -181,8 +199,21 @@ module _ (k : ℕ) where
       (sym (let_in_parameters x x.destination (leaving w key (passed ++ xs)))) sets)
   lets_sets s w key x passed xs is (inr gone) = inr (lets_gone k (has_number k) (of_number k) w key x passed xs is gone)
 
-  moved_sets : (t : Listing) (s : Machine) (m : Move) → s.next < 2 ^ 64 - 1 → IsDecided t s m → IsNumbered s → SetsOne s (moved s m)
-  moved_sets t s (moves.Enter id change fate) room decided h =
+  copied_sets : (t : Listing) (s w : Machine) (to : Option ℕ) (x : Transaction) (values : Values) → s.next + 100000 < 2 ^ 64 - 1 → k < s.next →
+      IsCopying t s w to x → SetsOne s w → SetsOne s (one_copied to x values w)
+  copied_sets t s w to x values room given copying (inl sets) =
+      inl (subst (SetsAtMostOne (values_at s.parameters k)) (sym (copied_elsewhere k t s w to x values (omega (arith, room)) given copying)) sets)
+  copied_sets t s w to x values room given copying (inr gone) =
+      inr (copied_gone k (has_number k) (of_number k) to x values w (omega (arith, room, copying.below)) gone)
+
+  unlinked_sets : (s w : Machine) (key : Key) (to : Option ℕ) (x : Transaction) (xs : List Transaction) →
+      (user_chain_at w.linked key).members ≡ x ∷ xs → SetsOne s w → SetsOne s (one_unlinked key to x xs w)
+  unlinked_sets s w key to x xs is (inl sets) = inl sets
+  unlinked_sets s w key to x xs is (inr gone) = inr (unlinked_gone k (has_number k) (of_number k) w key to x xs is gone)
+
+  moved_sets : (t : Listing) (s : Machine) (m : Move) → s.next + 100000 < 2 ^ 64 - 1 → k < s.next → IsDecided t s m → IsNumbered s →
+      SetsOne s (moved s m)
+  moved_sets t s (moves.Enter id change fate) room given decided h =
       entered_has (λ v. (v.next ≡ s.next) × SetsOne s v) (SetsOne s) t s id change fate decided.1 (inl (inl refl))
       (λ x is. ((settled_is s x id change fate).next, settled_sets s x id change fate is h))
       (λ v. record {
@@ -192,25 +223,28 @@ module _ (k : ℕ) where
           | inr gone ↦ inr (made_gone k (has_number k) (of_number k) a (making_of v) v (omega (arith, room, g.0)) gone)
         ];
         lets = lets_sets s;
+        copies = λ w to x values copying g. copied_sets t s w to x values room given copying g;
+        unlinks = λ w key to x xs named is g. unlinked_sets s w key to x xs is g;
       })
-  moved_sets t s (moves.Refuse id key units) room decided h =
+  moved_sets t s (moves.Refuse id key units) room given decided h =
       with_active_has (SetsOne s) s.active (λ x. refused s x id key units) s (inl (inl refl)) (λ x is. inl (inl refl))
-  moved_sets t s (moves.Watch read) room decided h =
+  moved_sets t s (moves.Watch read) room given decided h =
       with_active_has (SetsOne s) s.active (λ x. watching s x read) s (inl (inl refl)) (λ x is. inl (inl refl))
-  moved_sets t s moves.Pick room decided h = picked_has (SetsOne s) s s.current (inl (inl refl)) (λ x xs is. inl (inl refl))
-  moved_sets t s m room decided h = inl (inl refl)
+  moved_sets t s moves.Pick room given decided h = picked_has (SetsOne s) s s.current (inl (inl refl)) (λ x xs is. inl (inl refl))
+  moved_sets t s m room given decided h = inl (inl refl)
 
   woken_sets : (list : List Watched) (s v : Machine) → SetsOne s v → SetsOne s (woken list v)
   woken_sets list s v (inl sets) = inl sets
   woken_sets list s v (inr gone) = inr (woken_gone k (has_number k) (of_number k) list v gone)
 
 pub one_parameter_is_set : OneParameterIsSet
-one_parameter_is_set t seed n s v well within there is k lives' =
+one_parameter_is_set t seed n s v well within there is k given lives' =
     let after = ((step_decides t seed s).runs v (sym (run_on t seed n s there) ∙ is)).0 in
-    let room = all_within t seed n s well there in
+    let room = all_within t seed n s well within there in
     let sets =
     woken_sets k (written s after.move) s (moved s after.move)
-    (moved_sets k t s after.move (omega (arith, room.next, well.greatest_limit)) after.is_decided (all_numbered t seed well n s there within)) in
+    (moved_sets k t s after.move (omega (arith, room.next, within, well.greatest_limit)) given after.is_decided
+    (all_numbered t seed well n s there within)) in
     elim (subst (SetsOne k s) (sym after.is) sets) [
       | inl one' ↦ one'
       | inr gone ↦ absurd (let no = alive k (living v) (many_living (has_number k) v ∙ gone.1) in false≢true (sym no ∙ lives'))

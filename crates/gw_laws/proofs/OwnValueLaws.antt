@@ -42,7 +42,12 @@ module _ (x : Transaction) where
   other_one y = has_number x.number y && not (alike y)
 
   of_other : IsOf x.number other_one
-  of_other = record { no_other = λ y other. and_left (has_number x.number y) (not (alike y)) other; stands = λ y id. refl; waits = λ y id units. refl }
+  of_other = record {
+    no_other = λ y other. and_left (has_number x.number y) (not (alike y)) other;
+    stands = λ y id. refl;
+    waits = λ y id units. refl;
+    goes = λ y to. refl;
+  }
 
   -- it is itself
   is_same : same_one x ≡ true
@@ -116,11 +121,12 @@ pub priorities_are_ones_own : PrioritiesAreOnesOwn
 priorities_are_ones_own t seed n s v well within there is x y lived lives' same =
     let after = ((step_decides t seed s).runs v (sym (run_on t seed n s there) ∙ is)).0 in
     let h = all_numbered t seed well n s there within in
-    let room = all_within t seed n s well there in
+    let room = all_within t seed n s well within there in
     elim (beside_or_active x s) [
       | inl beside ↦
           let gone =
-          moved_gone x.number (other_one x) (of_other x) t s after.move (omega (arith, room.next, well.greatest_limit, well.statements)) after.is_decided
+          moved_gone x.number (other_one x) (of_other x) t s after.move
+          (omega (arith, room.next, within, well.greatest_limit, well.statements)) after.is_decided
           (stays_other x s beside) (is_given x s h lived, none_other x s h lived) in
           let none : crowd (other_one x) v ≡ 0 = ap (crowd (other_one x)) after.is
           ∙ (woken_crowd (other_one x) (written s after.move) (moved s after.move) ∙ gone.1) in

@@ -195,6 +195,8 @@ settled_free t s x id change fate decided h =
     go (changes.Entity change) decided q facility free = done_free t s change.0 change.1 x.number decided h q facility free
     go (changes.Generate next) decided q facility free = h q facility free
     go (changes.Transaction change) decided q facility free = h q facility free
+    go (changes.Split count to) decided q facility free = h q facility free
+    go (changes.Unlink key count to) decided q facility free = h q facility free
     go changes.Nothing decided q facility free = h q facility free
 
 nobody_there : (passed : List Transaction) (x : Transaction) (xs : List Transaction) → [] ≡ passed ++ x ∷ xs → ⊥
@@ -237,7 +239,13 @@ moved_free t s (moves.Start count arrivals) decided h = h
 moved_free t s moves.Command decided h = h
 moved_free t s (moves.Enter id change fate) decided h =
     entered_has NobodyWaits NobodyWaits t s id change fate decided.1 h (λ x is. settled_free t s x id change fate decided.1 h)
-    (λ v. record { nothing = λ k. k; one = λ a coming k. k; lets = lets_free })
+    (λ v. record {
+      nothing = λ k. k;
+      one = λ a coming k. k;
+      lets = lets_free;
+      copies = λ w to x values copying k. k;
+      unlinks = λ w key to x xs named is k. k;
+    })
 moved_free t s (moves.Refuse id key units) decided h =
     with_active_has NobodyWaits s.active (λ x. refused s x id key units) s h (λ x is. refused_free t s x id key units decided.1 h)
 moved_free t s (moves.Watch read) decided h = with_active_has NobodyWaits s.active (λ x. watching s x read) s h (λ x is. h)

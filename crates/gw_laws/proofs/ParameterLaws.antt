@@ -5,7 +5,7 @@ use Rattle.std.proofs.lemmas.Bool.{cases_Bool, eq-eqb, eqb-true}
 use Rattle.std.proofs.lemmas.Bool.Decides.{nat_tests}
 use Rattle.gw_names.specs.declared.key.Key.{Key}
 use Rattle.gw_entities.specs.Tables.{with_value}
-use Rattle.gw_entities.specs.Parameters.{Held, values_at, with_values, without}
+use Rattle.gw_entities.specs.Parameters.{Held, values_at, with_values, assigned, inherited, without}
 use Rattle.gw_meaning.specs.declared.transaction.Transaction.{Transaction}
 use Rattle.gw_meaning.specs.declared.moves.Arrival.{Arrival}
 use Rattle.gw_meaning.specs.declared.moves.Change.{Change}
@@ -17,13 +17,13 @@ use Rattle.gw_meaning.specs.declared.moves.Move.{Move}
 use Rattle.gw_meaning.specs.declared.moves.Move.TheVariants as moves
 use Rattle.gw_meaning.specs.Listing.{Listing}
 use Rattle.gw_meaning.specs.Machine.{Machine}
-use Rattle.gw_meaning.specs.Changes.{Making, made, all_made, picked, making_of, with_making, placed, marked, held_by, started, let_in, one_let_in, refused, moved, watching, written, woken}
+use Rattle.gw_meaning.specs.Changes.{Making, made, all_made, picked, making_of, with_making, placed, marked, held_by, started, let_in, one_let_in, copied, one_copied, one_unlinked, refused, moved, watching, written, woken}
 use Rattle.gw_meaning.specs.Step.{run}
 use Rattle.gw_laws.specs.Parameters.{ParametersAreOfTheLiving}
 use Rattle.gw_frame.proofs.Known.{IsDecided}
 use Rattle.gw_frame.proofs.Moves.{settled, marked_same, with_active_has, entered_has, picked_has}
 use Rattle.gw_frame.proofs.Running.{over_run}
-use Rattle.gw_laws.proofs.Crowd.{one, remains, active_crowd, settled_crowd, refused_crowd, picked_crowd, advanced_crowd, watching_crowd, woken_crowd}
+use Rattle.gw_laws.proofs.Crowd.{one, remains, active_crowd, settled_crowd, refused_crowd, copied_crowd, unlinked_crowd, picked_crowd, advanced_crowd, watching_crowd, woken_crowd}
 use Rattle.gw_laws.proofs.NumberLaws.{has_number, lets_same}
 use Rattle.gw_laws.proofs.Waiting.{leaving}
 use Rattle.gw_laws.proofs.LossLaws.{Lives, made_lives, all_made_lives, lives_here}
@@ -86,8 +86,18 @@ change_has k n (changes.Transaction own.Mark) held some = inr some
 change_has k n (changes.Transaction (own.Priority to)) held some = inr some
 change_has k n (changes.Transaction (own.Transfer to)) held some = inr some
 change_has k n (changes.Generate next) held some = inr some
+change_has k n (changes.Split count to) held some = inr some
+change_has k n (changes.Unlink key count to) held some = inr some
 change_has k n (changes.Entity change) held some = inr some
 change_has k n changes.Nothing held some = inr some
+
+inherited_has : (k n : ℕ) (values : Values) (held : Held) → 1 ≤ times k (inherited values n held) → (k ≡ n) ⊎ (1 ≤ times k held)
+inherited_has k n [] held some = inr some
+inherited_has k n (v ∷ vs) held some =
+    elim (inherited_has k n vs (assigned held n v.0 v.1) some) [
+      | inl same ↦ inl same
+      | inr before ↦ set_has k n held (with_value (values_at held n) v.0 v.1) before
+    ]
 
 -- ---- moves
 
@@ -133,6 +143,7 @@ module _ (s : Machine) (x : Transaction) (id : ℕ) (change : Change) (is : s.ac
   settled_kept fates.Active = stays_kept fates.Active refl (λ n. refl)
   settled_kept fates.Current = stays_kept fates.Current refl (λ n. refl)
   settled_kept (fates.Delayed until) = stays_kept (fates.Delayed until) refl (λ n. refl)
+  settled_kept (fates.Linked key discipline) = stays_kept (fates.Linked key discipline) refl (λ n. refl)
   settled_kept (fates.Destroyed count) =
       let held = held_by change x.number s.parameters in
       record {
@@ -158,6 +169,17 @@ pub let_in_parameters : (x : Transaction) (to : Option ℕ) (s : Machine) → (l
 let_in_parameters x None s = refl
 let_in_parameters x (Some id) s = refl
 
+-- a copy lives
+copied_kept : (to : Option ℕ) (x : Transaction) (values : Values) (w : Machine) → AreKept w → AreKept (one_copied to x values w)
+copied_kept to x values w h = record {
+  alive = λ k some.
+      let more = copied_crowd (has_number k) to x values w in
+      elim (inherited_has k w.next values w.parameters some) [
+        | inl same ↦ let is : one (has_number k (copied x w.next to)) ≡ 1 = ap one (eq-eqb w.next k (sym same)) in omega arith
+        | inr before ↦ let lived = h.alive k before in omega arith
+      ];
+}
+
 all_made_parameters : (arrivals : List Arrival) (w : Making) (s : Machine) → (with_making (all_made arrivals w) s).parameters ≡ s.parameters
 all_made_parameters arrivals w s = refl
 
@@ -174,6 +196,10 @@ moved_kept t s (moves.Enter id change fate) decided h =
       lets = λ w key x passed xs is g.
           same_kept w (one_let_in key x (passed ++ xs) w) (let_in_parameters x x.destination (leaving w key (passed ++ xs)))
           (λ k lived. let same = lets_same k w key x passed xs is in omega arith) g;
+      copies = λ w to x values copying g. copied_kept to x values w g;
+      unlinks = λ w key to x xs named is g.
+          same_kept w (one_unlinked key to x xs w) refl
+          (λ k lived. let same = unlinked_crowd (has_number k) w key to x xs is refl in omega arith) g;
     })
 moved_kept t s (moves.Refuse id key units) decided h =
     with_active_has AreKept s.active (λ x. refused s x id key units) s h

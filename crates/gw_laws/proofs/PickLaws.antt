@@ -21,7 +21,7 @@ use Rattle.gw_meaning.specs.Changes.{deed_shares, some_let_in, one_let_in, admit
 use Rattle.gw_meaning.specs.Questions.{result_of}
 use Rattle.gw_meaning.specs.Step.{start_prog, command_prog, least_time, within_prog, clock_prog, pick_prog, scan_prog, move_prog, step}
 use Rattle.gw_meaning.proofs.Programs.{run_on}
-use Rattle.gw_frame.proofs.Moves.{settled, settled_is}
+use Rattle.gw_frame.proofs.Moves.{settled, settled_is, split_is, unlink_is}
 use Rattle.gw_laws.specs.Chain.{TheFirstIsPicked}
 use Rattle.gw_laws.specs.Clock.{IsLeast, ClockMovesOnlyWhenItMust, ClockMovesWhenItMust}
 use Rattle.gw_laws.proofs.Waiting.{let_in_is}
@@ -48,6 +48,8 @@ changed_clock : (change : Change) (s : Machine) → (changed change s).clock ≡
 changed_clock (changes.Generate next) s = refl
 changed_clock (changes.Entity change) s = admitted_clock change.0 change.1 s
 changed_clock (changes.Transaction change) s = refl
+changed_clock (changes.Split count to) s = (split_is s count to).clock
+changed_clock (changes.Unlink key count to) s = (unlink_is s key count to).clock
 changed_clock changes.Nothing s = refl
 
 entering_clock : (s : Machine) (x : Transaction) (id : ℕ) (change : Change) (fate : Fate) → (entering s x id change fate).clock ≡ s.clock

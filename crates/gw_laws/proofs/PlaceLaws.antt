@@ -1,5 +1,5 @@
 -- Each living transaction stands in one place, and in no other.
-use Rattle.std.proofs.Common.{◌≡◌, ℕ, ◌+◌, ◌≤◌, Bool, true, false, cond, List, [], ◌∷◌, ◌++◌, map, Some, None, unwrap_or, refl, sym, ap, subst, ◌∙◌, inl, inr, arith}
+use Rattle.std.proofs.Common.{◌≡◌, ℕ, ◌+◌, ◌≤◌, Bool, true, false, cond, List, [], ◌∷◌, ◌++◌, map, Some, unwrap_or, refl, sym, ap, subst, ◌∙◌, inl, inr, arith}
 use Rattle.std.specs.Prelude.{Contains, option_to_list}
 use Rattle.std.proofs.lemmas.Bool.{cases_Bool, eq-eqb}
 use Rattle.std.proofs.lemmas.List.Elements.{Contains-append_cases}
@@ -8,19 +8,23 @@ use Rattle.gw_names.specs.Keys.{key_eq}
 use Rattle.gw_entities.specs.Tables.{value_of, with_value}
 use Rattle.gw_entities.proofs.ComingLaws.{key_same}
 use Rattle.gw_entities.proofs.TableLaws.{key_eq_equiv}
-use Rattle.gw_entities.proofs.Finding.{value_of-with_value}
 use Rattle.gw_meaning.specs.declared.transaction.Transaction.{Transaction}
 use Rattle.gw_meaning.specs.declared.transaction.Event.{Event}
+use Rattle.gw_meaning.specs.declared.moves.Change.{Change}
+use Rattle.gw_meaning.specs.declared.moves.Fate.{Fate}
+use Rattle.gw_meaning.specs.declared.moves.Fate.TheVariants as fates
 use Rattle.gw_meaning.specs.declared.moves.Move.{Move}
 use Rattle.gw_meaning.specs.declared.moves.Move.TheVariants as moves
 use Rattle.gw_meaning.specs.Listing.{Listing}
-use Rattle.gw_meaning.specs.Machine.{Machine, delay_at, waiting}
+use Rattle.gw_meaning.specs.Machine.{Machine, UserChain, delay_at, waiting, members_of, user_chain_at}
 use Rattle.gw_meaning.specs.Changes.{refused, moved, watching}
 use Rattle.gw_meaning.specs.Watching.{transactions_of}
 use Rattle.gw_frame.proofs.Known.{IsDecided}
-use Rattle.gw_frame.proofs.Moves.{settled_is, with_active_has, entered_has, picked_has}
+use Rattle.gw_frame.proofs.Moves.{settled, with_active_has, entered_has, picked_has}
+use Rattle.gw_frame.proofs.UserChains.{members_at, members_with}
 use Rattle.gw_frame.proofs.Running.{over_run}
-use Rattle.gw_laws.specs.Places.{Place, Active, OnCurrent, OnFuture, OnDelay, OnRetry, who_stands, EachHasAPlace, EachHasOnePlace}
+use Rattle.gw_laws.specs.Places.{Place, Active, OnCurrent, OnFuture, OnDelay, OnRetry, OnUserChain, who_stands, EachHasAPlace, EachHasOnePlace}
+use Rattle.gw_laws.proofs.Entries.{AreOnce, with_once}
 use Rattle.gw_laws.proofs.Waiting.{let_in_is}
 use Rattle.gw_laws.proofs.Crowd.{many, many_has, many_append, active_many, many_active, future_many, many_future, crowd}
 use Rattle.gw_laws.proofs.NumberLaws.{has_number, all_numbered}
@@ -39,6 +43,7 @@ module _ (test : Transaction → Bool) where
   share s OnFuture = future_many test s.future
   share s (OnDelay key) = many test (delay_at s.delays key)
   share s OnRetry = many test (transactions_of s.retry)
+  share s (OnUserChain key) = many test (user_chain_at s.linked key).members
 
   share_is : (s : Machine) (p : Place) → many test (who_stands s p) ≡ share s p
   share_is s Active = many_active test s.active
@@ -46,6 +51,7 @@ module _ (test : Transaction → Bool) where
   share_is s OnFuture = many_future test s.future
   share_is s (OnDelay key) = refl
   share_is s OnRetry = refl
+  share_is s (OnUserChain key) = refl
 
   -- those on one delay chain, and on two of them, are among those who wait
   delay_share : (ds : List (Key × List Transaction)) (key : Key) → many test (delay_at ds key) ≤ many test (waiting ds)
@@ -74,28 +80,47 @@ module _ (test : Transaction → Bool) where
       go false f true g first second rest = let both = many_append test d.1 (waiting ds) in omega arith
       go false f false g first second rest = let both = many_append test d.1 (waiting ds) in omega arith
 
+  -- the same of user chains
+  chain_share : (cs : List (Key × UserChain)) (key : Key) → many test (user_chain_at cs key).members ≤ many test (waiting (members_of cs))
+  chain_share cs key =
+      let chain = ap (many test) (members_at cs key) in
+      let some = delay_share (members_of cs) key in
+      omega arith
+
+  two_chains : (cs : List (Key × UserChain)) (key other : Key) → key_eq key other ≡ false →
+      many test (user_chain_at cs key).members + many test (user_chain_at cs other).members ≤ many test (waiting (members_of cs))
+  two_chains cs key other apart =
+      let chain = ap (many test) (members_at cs key) in
+      let second = ap (many test) (members_at cs other) in
+      let some = two_shares (members_of cs) key other apart in
+      omega arith
+
   -- where at most one passes, the place of one who passes is the only one
   one_place : (s : Machine) (p q : Place) → crowd test s ≤ 1 → 1 ≤ share s p → 1 ≤ share s q → p ≡ q
   one_place s Active Active once here there = refl
   one_place s Active OnCurrent once here there = absurd (omega (arith, once, here, there))
   one_place s Active OnFuture once here there = absurd (omega (arith, once, here, there))
-  one_place s Active (OnDelay key) once here there = absurd (let some = delay_share s.delays key in omega (arith, once, here, there, some))
   one_place s Active OnRetry once here there = absurd (omega (arith, once, here, there))
+  one_place s Active (OnDelay key) once here there = absurd (let some = delay_share s.delays key in omega (arith, once, here, there, some))
+  one_place s Active (OnUserChain key) once here there = absurd (let some = chain_share s.linked key in omega (arith, once, here, there, some))
   one_place s OnCurrent Active once here there = absurd (omega (arith, once, here, there))
   one_place s OnCurrent OnCurrent once here there = refl
   one_place s OnCurrent OnFuture once here there = absurd (omega (arith, once, here, there))
-  one_place s OnCurrent (OnDelay key) once here there = absurd (let some = delay_share s.delays key in omega (arith, once, here, there, some))
   one_place s OnCurrent OnRetry once here there = absurd (omega (arith, once, here, there))
+  one_place s OnCurrent (OnDelay key) once here there = absurd (let some = delay_share s.delays key in omega (arith, once, here, there, some))
+  one_place s OnCurrent (OnUserChain key) once here there = absurd (let some = chain_share s.linked key in omega (arith, once, here, there, some))
   one_place s OnFuture Active once here there = absurd (omega (arith, once, here, there))
   one_place s OnFuture OnCurrent once here there = absurd (omega (arith, once, here, there))
   one_place s OnFuture OnFuture once here there = refl
-  one_place s OnFuture (OnDelay key) once here there = absurd (let some = delay_share s.delays key in omega (arith, once, here, there, some))
   one_place s OnFuture OnRetry once here there = absurd (omega (arith, once, here, there))
+  one_place s OnFuture (OnDelay key) once here there = absurd (let some = delay_share s.delays key in omega (arith, once, here, there, some))
+  one_place s OnFuture (OnUserChain key) once here there = absurd (let some = chain_share s.linked key in omega (arith, once, here, there, some))
   one_place s OnRetry Active once here there = absurd (omega (arith, once, here, there))
   one_place s OnRetry OnCurrent once here there = absurd (omega (arith, once, here, there))
   one_place s OnRetry OnFuture once here there = absurd (omega (arith, once, here, there))
-  one_place s OnRetry (OnDelay key) once here there = absurd (let some = delay_share s.delays key in omega (arith, once, here, there, some))
   one_place s OnRetry OnRetry once here there = refl
+  one_place s OnRetry (OnDelay key) once here there = absurd (let some = delay_share s.delays key in omega (arith, once, here, there, some))
+  one_place s OnRetry (OnUserChain key) once here there = absurd (let some = chain_share s.linked key in omega (arith, once, here, there, some))
   one_place s (OnDelay key) Active once here there = absurd (let some = delay_share s.delays key in omega (arith, once, here, there, some))
   one_place s (OnDelay key) OnCurrent once here there = absurd (let some = delay_share s.delays key in omega (arith, once, here, there, some))
   one_place s (OnDelay key) OnFuture once here there = absurd (let some = delay_share s.delays key in omega (arith, once, here, there, some))
@@ -104,6 +129,19 @@ module _ (test : Transaction → Bool) where
       elim (cases_Bool (key_eq key other)) [
         | inl is ↦ ap (λ k. OnDelay k) (key_same key other is)
         | inr apart ↦ absurd (let some = two_shares s.delays key other apart in omega (arith, once, here, there, some))
+      ]
+  one_place s (OnDelay key) (OnUserChain other) once here there =
+      absurd (let some = delay_share s.delays key in let more = chain_share s.linked other in omega (arith, once, here, there, some, more))
+  one_place s (OnUserChain key) Active once here there = absurd (let some = chain_share s.linked key in omega (arith, once, here, there, some))
+  one_place s (OnUserChain key) OnCurrent once here there = absurd (let some = chain_share s.linked key in omega (arith, once, here, there, some))
+  one_place s (OnUserChain key) OnFuture once here there = absurd (let some = chain_share s.linked key in omega (arith, once, here, there, some))
+  one_place s (OnUserChain key) OnRetry once here there = absurd (let some = chain_share s.linked key in omega (arith, once, here, there, some))
+  one_place s (OnUserChain key) (OnDelay other) once here there =
+      absurd (let some = chain_share s.linked key in let more = delay_share s.delays other in omega (arith, once, here, there, some, more))
+  one_place s (OnUserChain key) (OnUserChain other) once here there =
+      elim (cases_Bool (key_eq key other)) [
+        | inl is ↦ ap (λ k. OnUserChain k) (key_same key other is)
+        | inr apart ↦ absurd (let some = two_chains s.linked key other apart in omega (arith, once, here, there, some))
       ]
 
 pub each_has_one_place : EachHasOnePlace
@@ -116,39 +154,38 @@ each_has_one_place t seed n s well within is p q x y here there same =
     let other_share = share_is (has_number k) s q in
     one_place (has_number k) s p q once (omega arith) (omega arith)
 
--- ---- in some place: no key has two delay chains
+-- ---- in some place: no key has two delay chains, and none two user chains
 
-abbrev AreOnce : List (Key × List Transaction) → Type 0
-AreOnce [] = Unit {0}
-AreOnce (d ∷ ds) = (value_of ds d.0 ≡ None) × AreOnce ds
+chain_once : (cs : List (Key × UserChain)) (key : Key) (c : UserChain) → AreOnce (members_of cs) → AreOnce (members_of (with_value cs key c))
+chain_once cs key c all = rw (members_with cs key c) (with_once (members_of cs) key c.members all)
 
-with_once : (ds : List (Key × List Transaction)) (key : Key) (xs : List Transaction) → AreOnce ds → AreOnce (with_value ds key xs)
-with_once [] key xs all = (refl, tt)
-with_once (d ∷ ds) key xs all = go (key_eq key d.0) refl (with_once ds key xs all.1) where
-  go : (b : Bool) → key_eq key d.0 ≡ b → AreOnce (with_value ds key xs) → AreOnce (cond b ((d.0, xs) ∷ ds) (d ∷ with_value ds key xs))
-  go true is rest = all
-  go false other rest = (
-    value_of-with_value ds key xs d.0 ∙ (ap (λ b. cond b (Some xs) (value_of ds d.0)) (key_eq_equiv.symm d.0 key ∙ other) ∙ all.0),
-    rest,
-  )
+abbrev ChainsAreOnce : Machine → Type 0
+ChainsAreOnce s = AreOnce s.delays × AreOnce (members_of s.linked)
 
-abbrev DelaysAreOnce : Machine → Type 0
-DelaysAreOnce s = AreOnce s.delays
+settled_once : (s : Machine) (x : Transaction) (id : ℕ) (change : Change) (fate : Fate) → ChainsAreOnce s → ChainsAreOnce (settled s x id change fate)
+settled_once s x id change fates.Active h = h
+settled_once s x id change fates.Current h = h
+settled_once s x id change (fates.Delayed until) h = h
+settled_once s x id change (fates.Linked key discipline) h = (h.0, chain_once s.linked key _ h.1)
+settled_once s x id change (fates.Destroyed count) h = h
 
-moved_once : (t : Listing) (s : Machine) (m : Move) → IsDecided t s m → DelaysAreOnce s → DelaysAreOnce (moved s m)
+moved_once : (t : Listing) (s : Machine) (m : Move) → IsDecided t s m → ChainsAreOnce s → ChainsAreOnce (moved s m)
 moved_once t s (moves.Start count arrivals) decided h = h
 moved_once t s moves.Command decided h = h
 moved_once t s (moves.Enter id change fate) decided h =
-    entered_has DelaysAreOnce DelaysAreOnce t s id change fate decided.1 h (λ x is. rw (settled_is s x id change fate).delays h)
+    entered_has ChainsAreOnce ChainsAreOnce t s id change fate decided.1 h (λ x is. settled_once s x id change fate h)
     (λ v. record {
       nothing = λ k. k;
       one = λ a coming k. k;
-      lets = λ w key x passed xs is k. rw (let_in_is key x (passed ++ xs) w).delays (with_once w.delays key (passed ++ xs) k);
+      lets = λ w key x passed xs is k.
+          (let same = let_in_is key x (passed ++ xs) w in rw (same.delays, same.linked) (with_once w.delays key (passed ++ xs) k.0, k.1));
+      copies = λ w to x values copying k. k;
+      unlinks = λ w key to x xs named is k. (k.0, chain_once w.linked key _ k.1);
     })
 moved_once t s (moves.Refuse id key units) decided h =
-    with_active_has DelaysAreOnce s.active (λ x. refused s x id key units) s h (λ x is. with_once s.delays key _ h)
-moved_once t s (moves.Watch read) decided h = with_active_has DelaysAreOnce s.active (λ x. watching s x read) s h (λ x is. h)
-moved_once t s moves.Pick decided h = picked_has DelaysAreOnce s s.current h (λ x xs is. h)
+    with_active_has ChainsAreOnce s.active (λ x. refused s x id key units) s h (λ x is. (with_once s.delays key _ h.0, h.1))
+moved_once t s (moves.Watch read) decided h = with_active_has ChainsAreOnce s.active (λ x. watching s x read) s h (λ x is. h)
+moved_once t s moves.Pick decided h = picked_has ChainsAreOnce s s.current h (λ x xs is. h)
 moved_once t s (moves.Clock time) decided h = h
 
 -- whoever waits stands on the delay chain of some key
@@ -170,19 +207,25 @@ who_waits (d ∷ ds) x all there =
           | inr other ↦ (key, rw other stands)
         ]
 
-some_place : (s : Machine) (x : Transaction) → DelaysAreOnce s → Contains (living s) x → (p : Place) × Contains (who_stands s p) x
+some_place : (s : Machine) (x : Transaction) → ChainsAreOnce s → Contains (living s) x → (p : Place) × Contains (who_stands s p) x
 some_place s x once there =
     let events = map (λ (e : Event). e.transaction) s.future in
-    let wait = waiting s.delays ++ transactions_of s.retry in
+    let change = transactions_of s.retry ++ waiting (members_of s.linked) in
+    let wait = waiting s.delays ++ change in
     elim (Contains-append_cases (option_to_list s.active) (s.current ++ (events ++ wait)) x there) [
       | inl here ↦ (Active, here)
       | inr behind ↦ elim (Contains-append_cases s.current (events ++ wait) x behind) [
         | inl here ↦ (OnCurrent, here)
         | inr further ↦ elim (Contains-append_cases events wait x further) [
           | inl here ↦ (OnFuture, here)
-          | inr waits ↦ elim (Contains-append_cases (waiting s.delays) (transactions_of s.retry) x waits) [
-            | inl delayed ↦ let chain = who_waits s.delays x once delayed in (OnDelay chain.0, chain.1)
-            | inr last ↦ (OnRetry, last)
+          | inr waits ↦ elim (Contains-append_cases (waiting s.delays) change x waits) [
+            | inl delayed ↦ let chain = who_waits s.delays x once.0 delayed in (OnDelay chain.0, chain.1)
+            | inr last ↦ elim (Contains-append_cases (transactions_of s.retry) (waiting (members_of s.linked)) x last) [
+              | inl retries ↦ (OnRetry, retries)
+              | inr linked ↦
+                  let chain = who_waits (members_of s.linked) x once.1 linked in
+                  (OnUserChain chain.0, subst (λ xs. Contains xs x) (members_at s.linked chain.0) chain.1)
+            ]
           ]
         ]
       ]
@@ -190,4 +233,4 @@ some_place s x once there =
 
 pub each_has_a_place : EachHasAPlace
 each_has_a_place t seed n s is x there =
-    some_place s x (over_run t seed (λ n v. DelaysAreOnce v) tt (λ n v m streams at decided h. moved_once t v m decided h) n s is) there
+    some_place s x (over_run t seed (λ n v. ChainsAreOnce v) (tt, tt) (λ n v m streams at decided h. moved_once t v m decided h) n s is) there

@@ -101,6 +101,8 @@ moved_within t s (moves.Enter id change fate) decided on all =
       nothing = λ k. k;
       one = λ a coming k. k;
       lets = λ w key x passed xs is k. (let same = let_in_is key x (passed ++ xs) w in rw (same.clock, same.entities) k);
+      copies = λ w to x values copying k. k;
+      unlinks = λ w key to x xs named is k. k;
     })
 moved_within t s (moves.Refuse id key units) decided on all =
     with_active_has (λ v. AreWithin v.clock v.entities.queues) s.active (λ x. refused s x id key units) s all (λ x is. all)

@@ -138,6 +138,7 @@ module _ (t : Listing) (well : Well t) where
   fated_done fates.Active x v some h = h
   fated_done fates.Current x v some h = h
   fated_done (fates.Delayed until) x v some h = h
+  fated_done (fates.Linked key discipline) x v some h = h
   fated_done (fates.Destroyed count) x v some h =
       elim (cases_Bool (nat_lt count v.remaining)) [
         | inl less ↦ rw less (record {
@@ -171,7 +172,9 @@ module _ (t : Listing) (well : Well t) where
   entered_done : (s : Machine) (id : ℕ) (change : Change) (fate : Fate) → under_way s.remaining ≡ 1 → Done s → Done (moved s (moves.Enter id change fate))
   entered_done s id change fate some h =
       with_active_has Done s.active (λ x. entering s x id change fate) s h
-      (λ x is. changed_keeps Done change (settled s x id change fate) (λ a w k. k) lets_done (fated_done fate (marked change s.clock (placed x id)) _ some h))
+      (λ x is. changed_keeps Done change (settled s x id change fate)
+      (record { makes = λ a w k. k; lets = lets_done; copies = λ w to y values k. k; unlinks = λ w key to y ys there k. k })
+      (fated_done fate (marked change s.clock (placed x id)) _ some h))
 
   scan_done : (s : Machine) (m : Move) → under_way s.remaining ≡ 1 → IsScan t s.active m → Done s → Done (moved s m)
   scan_done s (moves.Start count arrivals) some next h = absurd (no_start t s.active count arrivals next)

@@ -13,7 +13,7 @@ use Rattle.gw_meaning.specs.declared.moves.Move.{Move}
 use Rattle.gw_meaning.specs.declared.moves.Move.TheVariants as moves
 use Rattle.gw_meaning.specs.Listing.{Listing}
 use Rattle.gw_meaning.specs.Machine.{Machine, delay_at}
-use Rattle.gw_meaning.specs.Changes.{lined_up, one_let_in, placed, bound, refused, picked, moved, watching, written, woken, is_woken}
+use Rattle.gw_meaning.specs.Changes.{lined_up, one_let_in, copied, one_copied, sent, one_unlinked, placed, bound, refused, picked, moved, watching, written, woken, is_woken}
 use Rattle.gw_meaning.proofs.Programs.{run_on}
 use Rattle.gw_meaning.proofs.Chains.{IsOrdered}
 use Rattle.gw_meaning.specs.declared.watched.Watched.{Watched}
@@ -183,6 +183,8 @@ module _ (priority : ℤ) where
           nothing = λ k. k;
           one = λ a coming k. record { stays = k.stays; numbers = k.numbers; apart = k.apart };
           lets = lets_wait s;
+          copies = λ w to x values copying k. record { stays = k.stays; numbers = k.numbers; apart = k.apart };
+          unlinks = λ w key to x xs named is k. record { stays = k.stays; numbers = k.numbers; apart = k.apart };
         }))
     moved_places t s (moves.Refuse id key units) decided h order =
         with_active_has (KeepsPlaces s) s.active (λ x. refused s x id key units) s (same_places s s refl)
@@ -255,13 +257,25 @@ module _ (q : Key) (x : Transaction) (way : IsBound x) where
       inl (set_has R (λ zs h. h) s.delays q key (lined_up (bound y id units) (delay_at s.delays key))
       (lined_keeps (bound y id units) (delay_at s.delays key) x) there)
 
+  -- where another one lines up
+  lined_stay : (y : Transaction) (w v : Machine) → v.delays ≡ w.delays → v.current ≡ lined_up y w.current → WaitsOrIsIn w → WaitsOrIsIn v
+  lined_stay y w v delays current (inl there) = inl (subst (λ ds. Contains (delay_at ds q) x) (sym delays) there)
+  lined_stay y w v delays current (inr in') =
+      inr (in'.0, in'.1, subst (λ ys. Contains ys (placed x in'.0)) (sym current) (lined_keeps y w.current (placed x in'.0) in'.2))
+
   moved_stay : (t : Listing) (s : Machine) (m : Move) → IsDecided t s m → Contains (delay_at s.delays q) x → WaitsOrIsIn (moved s m)
   moved_stay t s (moves.Start count arrivals) decided there = inl there
   moved_stay t s moves.Command decided there = inl there
   moved_stay t s (moves.Enter id change fate) decided there =
       entered_has WaitsOrIsIn WaitsOrIsIn t s id change fate decided.1 (inl there)
       (λ y is. inl (subst (λ ds. Contains (delay_at ds q) x) (sym (settled_is s y id change fate).delays) there))
-      (λ v. record { nothing = λ k. k; one = λ a coming k. k; lets = lets_stay })
+      (λ v. record {
+        nothing = λ k. k;
+        one = λ a coming k. k;
+        lets = lets_stay;
+        copies = λ w to y values copying k. lined_stay (copied y w.next to) w (one_copied to y values w) refl refl k;
+        unlinks = λ w key to y ys named is k. lined_stay (sent to y) w (one_unlinked key to y ys w) refl refl k;
+      })
   moved_stay t s (moves.Refuse id key units) decided there =
       with_active_has WaitsOrIsIn s.active (λ y. refused s y id key units) s (inl there) (λ y is. refused_stay s y id key units there)
   moved_stay t s (moves.Watch read) decided there =

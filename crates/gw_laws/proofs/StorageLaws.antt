@@ -177,6 +177,8 @@ touched_kept : (t : Listing) (s : Machine) (change : Change) (number : ℕ) → 
 touched_kept t s (changes.Entity change) number decided all = done_kept t s change.0 change.1 number decided all
 touched_kept t s (changes.Generate next) number decided all = all
 touched_kept t s (changes.Transaction change) number decided all = all
+touched_kept t s (changes.Split count to) number decided all = all
+touched_kept t s (changes.Unlink key count to) number decided all = all
 touched_kept t s changes.Nothing number decided all = all
 
 -- a later clock
@@ -212,6 +214,8 @@ moved_kept t s (moves.Enter id change fate) decided on all =
       nothing = λ k. k;
       one = λ a coming k. k;
       lets = λ w key x passed xs is k. (let same = let_in_is key x (passed ++ xs) w in rw (same.clock, same.entities) k);
+      copies = λ w to x values copying k. k;
+      unlinks = λ w key to x xs named is k. k;
     })
 moved_kept t s (moves.Refuse id key units) decided on all =
     with_active_has (Kept t) s.active (λ x. refused s x id key units) s all (λ x is. all)

@@ -1,9 +1,10 @@
 -- Which move a step is: where no START is under way the next command's, and else one of the scan, in which the active
 -- transaction tries the block to which it goes.
-use Rattle.std.proofs.Common.{◌≡◌, ℕ, zero, suc, Bool, true, false, List, [], ◌∷◌, Option, Some, None, Result, Ok, Err, refl, sym, subst, ◌∙◌}
+use Rattle.std.proofs.Common.{◌≡◌, ℕ, ℤ, zero, suc, Bool, true, false, List, [], ◌∷◌, Option, Some, None, Result, Ok, Err, refl, sym, subst, ◌∙◌}
 use Rattle.gw_streams.specs.declared.stream.Stream.{Stream}
 use Rattle.gw_streams.specs.Draws.{all_set}
 use Rattle.gw_names.specs.declared.key.Key.{Key}
+use Rattle.gw_entities.specs.Parameters.{values_at}
 use Rattle.gw_meaning.specs.declared.entity_change.Deed.{Deed}
 use Rattle.gw_meaning.specs.declared.moves.Arrival.{Arrival}
 use Rattle.gw_meaning.specs.declared.moves.Change.{Change}
@@ -18,13 +19,13 @@ use Rattle.gw_meaning.specs.declared.statement.Command.{Command}
 use Rattle.gw_meaning.specs.declared.statement.Command.TheVariants as commands
 use Rattle.gw_meaning.specs.declared.transaction.Transaction.{Transaction}
 use Rattle.gw_meaning.specs.Listing.{Listing, block_at, after_at, command_at, or_next}
-use Rattle.gw_meaning.specs.Machine.{Machine, raised, delay_at, zero_state}
-use Rattle.gw_meaning.specs.Changes.{deed_shares, making_of, with_making, made, admitted, changed, decided}
+use Rattle.gw_meaning.specs.Machine.{Machine, raised, delay_at, user_chain_at, zero_state}
+use Rattle.gw_meaning.specs.Changes.{deed_shares, making_of, with_making, made, admitted, one_copied, all_copied, one_unlinked, with_active, changed, decided}
 use Rattle.gw_meaning.specs.Questions.{Answer, ask, Gives, result_of}
 use Rattle.gw_meaning.specs.Evaluation.{Eval, gives, ends_with, asks, ◌~>◌}
 use Rattle.gw_meaning.specs.Step.{first_arrivals_prog, start_prog, command_prog, meet_prog, try_prog, attempt_prog, within_prog, clock_prog, pick_prog, scan_prog, move_prog, least_time, decide, step, run}
 use Rattle.gw_meaning.proofs.Programs.{bind_gives, bind_ends}
-use Rattle.gw_frame.proofs.Moves.{LetsIn, some_have}
+use Rattle.gw_frame.proofs.Moves.{LetsIn, some_have, all_copied_keep, some_unlinked_keep}
 use Rattle.gw_frame.proofs.Running.{last_step}
 use Rattle.gw_laws.specs.Destinations.{goes_to}
 use Rattle.gw_laws.proofs.Trying.{gives_so}
@@ -168,19 +169,34 @@ module _ (t : Listing) (seed : ℕ) (s : Machine) where
     go (Err end) there =
         absurd (let whole : Err end ≡ Ok v = sym (bind_ends t seed (decide s) (λ e. Gives (decided s e.0 e.1)) end there).0 ∙ is in cc)
 
--- what a change brings: one more transaction, or those who are let in
+-- one more transaction
 abbrev pub Makes : (Machine → Type 0) → Type 0
 Makes Q = (a : Arrival) (w : Machine) → Q w → Q (with_making (made a (making_of w)) w)
+
+-- what a change brings keeps Q: one more transaction that is made, one that is let in, a copy, and one that is unlinked
+pub record AllKeep (Q : Machine → Type 0) : Type 0 where
+  pub makes : Makes Q
+  pub lets : LetsIn Q
+  pub copies : (w : Machine) (to : Option ℕ) (x : Transaction) (values : List (Key × ℤ)) → Q w → Q (one_copied to x values w)
+  pub unlinks : (w : Machine) (key : Key) (to : Option ℕ) (x : Transaction) (xs : List Transaction) → (user_chain_at w.linked key).members ≡ x ∷ xs →
+      Q w → Q (one_unlinked key to x xs w)
 
 admitted_keeps : (Q : Machine → Type 0) (key : Key) (deed : Deed) (v : Machine) → LetsIn Q → Q v → Q (admitted key deed v)
 admitted_keeps Q key deed v lets h = some_have Q key (deed_shares deed) [] (delay_at v.delays key) v refl lets h
 
-pub changed_keeps : (Q : Machine → Type 0) (change : Change) (v : Machine) → Makes Q → LetsIn Q → Q v → Q (changed change v)
-changed_keeps Q (changes.Generate None) v makes lets h = h
-changed_keeps Q (changes.Generate (Some a)) v makes lets h = makes a v h
-changed_keeps Q (changes.Entity change) v makes lets h = admitted_keeps Q change.0 change.1 v lets h
-changed_keeps Q (changes.Transaction change) v makes lets h = h
-changed_keeps Q changes.Nothing v makes lets h = h
+pub changed_keeps : (Q : Machine → Type 0) (change : Change) (v : Machine) → AllKeep Q → Q v → Q (changed change v)
+changed_keeps Q (changes.Generate None) v keep h = h
+changed_keeps Q (changes.Generate (Some a)) v keep h = keep.makes a v h
+changed_keeps Q (changes.Split count to) v keep h = go v.active where
+  go : (o : Option Transaction) → Q (with_active o (λ x. all_copied count to x (values_at v.parameters x.number) v) v)
+  go None = h
+  go (Some x) =
+      all_copied_keep (λ n w. Q w) to x (values_at v.parameters x.number) (λ n w k. keep.copies w to x (values_at v.parameters x.number) k) count v h
+changed_keeps Q (changes.Unlink key count to) v keep h =
+    some_unlinked_keep Q key to (λ w x xs is k. keep.unlinks w key to x xs is k) count (user_chain_at v.linked key).members v refl h
+changed_keeps Q (changes.Entity change) v keep h = admitted_keeps Q change.0 change.1 v keep.lets h
+changed_keeps Q (changes.Transaction change) v keep h = h
+changed_keeps Q changes.Nothing v keep h = h
 
 -- what the start has and each next move keeps, each run from zero has
 pub over_moves : (t : Listing) (seed : ℕ) (P : Machine → Type 0) → P zero_state →

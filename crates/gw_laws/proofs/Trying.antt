@@ -178,6 +178,8 @@ module _ (s : Machine) where
   entity_value_tries class.Qz key = amount_tries _
   entity_value_tries class.X key = tries_gives tt
   entity_value_tries class.Ls key = amount_tries _
+  entity_value_tries class.Ch key = amount_tries _
+  entity_value_tries class.Cc key = amount_tries _
   entity_value_tries of key = tries_ends
 
   of_entity : (class : Class) (of : Subject) → TriesAny (subject_prog of ~> (λ key. entity_value s class key))
@@ -230,6 +232,8 @@ module _ (s : Machine) where
   attribute_tries q class.Qz of = of_entity class.Qz of
   attribute_tries q class.X of = of_entity class.X of
   attribute_tries q class.Ls of = of_entity class.Ls of
+  attribute_tries q class.Ch of = of_entity class.Ch of
+  attribute_tries q class.Cc of = of_entity class.Cc of
   attribute_tries q class.S of = of_storage class.S of
   attribute_tries q class.R of = left_tries of
   attribute_tries q class.Sc of = of_storage class.Sc of
@@ -297,6 +301,8 @@ module _ (s : Machine) where
   watched_tries class.Qz of = tries_bind (subject_tries of) (λ key. tries_gives tt)
   watched_tries class.X of = tries_bind (subject_tries of) (λ key. tries_gives tt)
   watched_tries class.Ls of = tries_bind (subject_tries of) (λ key. tries_gives tt)
+  watched_tries class.Ch of = tries_bind (subject_tries of) (λ key. tries_gives tt)
+  watched_tries class.Cc of = tries_bind (subject_tries of) (λ key. tries_gives tt)
   watched_tries class.S of = storage_watched_tries of
   watched_tries class.R of = storage_watched_tries of
   watched_tries class.Sc of = storage_watched_tries of

@@ -42,6 +42,8 @@ decided_first t s (moves.Enter id change fate) x decided none =
       nothing = λ no. absurd no;
       one = λ a coming no. absurd no;
       lets = λ w key y passed ys is still. (let_in_is key y (passed ++ ys) w).active ∙ still;
+      copies = λ w to y values copying still. still;
+      unlinks = λ w key to y ys named is still. still;
     }) in
     (let m = moves.Enter id change fate in none_is x s (woken (written s m) (moved s m)) nobody)
 decided_first t s (moves.Refuse id key units) x decided none =
@@ -101,6 +103,8 @@ decided_come t s (moves.Enter id change fate) decided order =
       nothing = λ same. same;
       one = λ a coming same. same;
       lets = λ w key x passed xs is same. (let_in_is key x (passed ++ xs) w).clock ∙ same;
+      copies = λ w to x values copying same. same;
+      unlinks = λ w key to x xs named is same. same;
     }) in
     (let m = moves.Enter id change fate in stands s (woken (written s m) (moved s m)) still)
 decided_come t s (moves.Refuse id key units) decided order =

@@ -3,7 +3,8 @@ use Rattle.std.proofs.Common.{◌≡◌, List, [], ◌∷◌, Option, Some, Ok, 
 use Rattle.gw_names.specs.declared.verb.BlockVerb.{BlockVerb}
 use Rattle.gw_names.specs.declared.verb.BlockVerb.TheVariants as blocks
 use Rattle.gw_names.specs.declared.key.Key.TheVariants as keys
-use Rattle.gw_expr.specs.Term.{Term, Value, Named, Defined}
+use Rattle.gw_expr.specs.declared.expr.Discipline.TheVariants as disciplines
+use Rattle.gw_expr.specs.Term.{Term, Value, Named, Defined, Order}
 use Rattle.gw_expr.specs.Evaluation.{value_of, value_by, value_of_atom}
 use Rattle.gw_expr.specs.declared.atom.Atom.TheVariants as atoms
 use Rattle.gw_entities.specs.Records.{never_owned, seized, queued, no_line, never_used, entered}
@@ -50,6 +51,10 @@ version = record {
 
 abbrev one : Option Term
 one = Some (Value (atoms.Constant (pos 1)))
+
+-- the order of a user chain
+abbrev first_in : Option Term
+first_in = Some (Order disciplines.Fifo)
 
 -- a state in which it owns that facility and has that parameter, and a unit is in that queue and in that storage
 abbrev busy : Machine
@@ -104,6 +109,9 @@ each_verb_is_evaluated blocks.Test beside given forms is = entered_by auxiliarie
 each_verb_is_evaluated blocks.Gate beside given forms is = entered_by (auxiliaries.Gate conditions.InUse) (line ∷ []) refl
 each_verb_is_evaluated blocks.Logic beside given forms is = entered_by (auxiliaries.Logic switchings.Set) (line ∷ []) refl
 each_verb_is_evaluated blocks.Savevalue beside given forms is = entered_with (line ∷ one ∷ []) refl
+each_verb_is_evaluated blocks.Split beside given forms is = entered_with (one ∷ []) refl
+each_verb_is_evaluated blocks.Link beside given forms is = entered_with (line ∷ first_in ∷ []) refl
+each_verb_is_evaluated blocks.Unlink beside given forms is = entered_with (line ∷ []) refl
 each_verb_is_evaluated blocks.Mark beside given forms is = entered_with [] refl
 each_verb_is_evaluated blocks.Priority beside given forms is = entered_with (one ∷ []) refl
 each_verb_is_evaluated blocks.Buffer beside given forms is = entered_with [] refl

@@ -182,8 +182,14 @@ who_comes m o = []
 
 entering_retry : (s : Machine) (x : Transaction) (id : ℕ) (change : Change) (fate : Fate) → (entering s x id change fate).retry ≡ s.retry
 entering_retry s x id change fate =
-    changed_keeps (λ v. v.retry ≡ s.retry) change (settled s x id change fate) (λ a w k. k)
-    (λ w key y passed ys is k. (let_in_is key y (passed ++ ys) w).retry ∙ k) (settled_is s x id change fate).retry
+    changed_keeps (λ v. v.retry ≡ s.retry) change (settled s x id change fate)
+    (record {
+      makes = λ a w k. k;
+      lets = λ w key y passed ys is k. (let_in_is key y (passed ++ ys) w).retry ∙ k;
+      copies = λ w to y values k. k;
+      unlinks = λ w key to y ys is k. k;
+    })
+    (settled_is s x id change fate).retry
 
 -- behind those who were there
 pub retry_behind : (s : Machine) (m : Move) → (moved s m).retry ≡ s.retry ++ who_comes m s.active

@@ -32,14 +32,35 @@ pub record AfterLettingIn (y : Transaction) (key : Key) (others : List Transacti
   pub future : v.future ≡ s.future
   pub delays : v.delays ≡ with_value s.delays key others
   pub retry : v.retry ≡ s.retry
+  pub linked : v.linked ≡ s.linked
   pub entities : v.entities ≡ s.entities
 
 pub let_in_is : (key : Key) (x : Transaction) (others : List Transaction) (s : Machine) →
     AfterLettingIn (let_in_as x x.destination) key others s (one_let_in key x others s)
 let_in_is key x others s = go x.destination where
   go : (to : Option ℕ) → AfterLettingIn (let_in_as x to) key others s (let_in x to (leaving s key others))
-  go None = record { clock = refl; next = refl; active = refl; current = refl; future = refl; delays = refl; retry = refl; entities = refl }
-  go (Some id) = record { clock = refl; next = refl; active = refl; current = refl; future = refl; delays = refl; retry = refl; entities = refl }
+  go None = record {
+    clock = refl;
+    next = refl;
+    active = refl;
+    current = refl;
+    future = refl;
+    delays = refl;
+    retry = refl;
+    linked = refl;
+    entities = refl;
+  }
+  go (Some id) = record {
+    clock = refl;
+    next = refl;
+    active = refl;
+    current = refl;
+    future = refl;
+    delays = refl;
+    retry = refl;
+    linked = refl;
+    entities = refl;
+  }
 
 -- what holds of each of a chain, holds of each of those who go on waiting
 pub all_without : (P : Transaction → Type 0) (passed : List Transaction) (x : Transaction) (xs : List Transaction) →

@@ -1,8 +1,8 @@
 -- Nobody waits at a TEST that holds: what its attempt read and nobody wrote since replies as it did.
-use Rattle.std.proofs.Common.{◌≡◌, ℤ, pos, ℕ, ◌-◌, ◌≤◌, Bool, true, false, cond, not, nat_eq, ◌||◌, List, [], ◌∷◌, ◌++◌, Option, Some, None, unwrap_or, Result, Ok, Err, refl, sym, ap, ap₂, subst, ◌∙◌, inl, inr, arith}
+use Rattle.std.proofs.Common.{◌≡◌, ℤ, pos, ℕ, ◌-◌, ◌^◌, ◌<◌, ◌≤◌, length, Bool, true, false, cond, not, nat_eq, ◌||◌, List, [], ◌∷◌, ◌++◌, Option, Some, None, unwrap_or, Result, Ok, Err, refl, sym, ap, ap₂, subst, ◌∙◌, inl, inr, arith}
 use Rattle.std.specs.Prelude.{Contains}
 use Rattle.std.specs.List.{AllByRecursion}
-use Rattle.std.proofs.lemmas.Bool.{or_parts, or_left, eq-eqb}
+use Rattle.std.proofs.lemmas.Bool.{cases_lt, or_parts, or_left, eq-eqb}
 use Rattle.std.proofs.lemmas.List.Folds.{list_any-append}
 use Rattle.gw_nums.specs.Range.{is_value, is_below}
 use Rattle.gw_names.specs.declared.class.Class.{Class}
@@ -12,7 +12,7 @@ use Rattle.gw_names.specs.declared.key.Key.TheVariants as keys
 use Rattle.gw_names.specs.declared.verb.BlockVerb.TheVariants as blocks
 use Rattle.gw_entities.specs.Records.{Ownership, Line, Store}
 use Rattle.gw_entities.specs.Tables.{value_of, with_value}
-use Rattle.gw_entities.specs.Parameters.{parameter_at}
+use Rattle.gw_entities.specs.Parameters.{parameter_at, values_at}
 use Rattle.gw_expr.specs.declared.stop.Stop.{Stop}
 use Rattle.gw_expr.specs.declared.stop.Stop.TheVariants.{Range, NoParameter}
 use Rattle.gw_expr.specs.declared.attribute.Subject.{Subject}
@@ -46,16 +46,17 @@ use Rattle.gw_meaning.specs.Statements.{A, B, C, operand}
 use Rattle.gw_meaning.specs.Listing.{Listing, block_at, label_at, number_at, capacity_at}
 use Rattle.gw_meaning.specs.Entities.{facility_at, line_at, store_at, savevalue_at, switch_at}
 use Rattle.gw_meaning.specs.Watching.{Waiter, same_watched, is_watched, with_watched, with_all_watched, transactions_of}
-use Rattle.gw_meaning.specs.Machine.{Machine, count_at, delay_at}
+use Rattle.gw_meaning.specs.Machine.{Machine, UserChain, count_at, delay_at, user_chain_at}
 use Rattle.gw_meaning.specs.Questions.{Answer, ask, result_of}
 use Rattle.gw_meaning.specs.Evaluation.{Eval, gives, ends_with, asks, ◌~>◌, stops_if, in_range, amount, numbered, named, subject_prog, storage_prog, units_left, left_prog, counted, block_count, owned, one_if, value_held, parameter_value, value_there, entity_value, attribute_prog, reply_prog, evaluated, entity_watched, storage_watched, counts_of, counts_watched, watched_prog, watched_by, traced, value_traced}
-use Rattle.gw_meaning.specs.Changes.{Making, made, maybe_made, all_made, making_of, deed_shares, let_in, one_let_in, some_let_in, changed, entering, refused, watching, with_active, moved, crossing, crossings, written_by, written_where, written, is_woken, decided}
+use Rattle.gw_meaning.specs.Changes.{placed, all_copied, written_in, Making, made, maybe_made, all_made, making_of, deed_shares, let_in, one_let_in, some_let_in, changed, entering, refused, watching, with_active, moved, crossing, crossings, written_by, written_where, written, is_woken, decided}
 use Rattle.gw_meaning.specs.Step.{for_one, holds, test_prog, block_prog, meet_prog, run}
 use Rattle.gw_meaning.proofs.Traces as alone
 use Rattle.gw_meaning.proofs.Programs.{bind_gives, bind_ends}
-use Rattle.gw_frame.proofs.Moves.{settled, settled_is, with_active_has, picked_has}
+use Rattle.gw_frame.proofs.Moves.{settled, settled_is, marked_same, still_active, all_copied_keep, unlink_is, with_active_has, picked_has}
 use Rattle.gw_laws.specs.Waiters.{is_lasting, IsLasting, ComesTo, ReadsWhatLasts, NobodyWaitsAtATestThatHolds, value_alone, TellingChangesNothing}
-use Rattle.gw_laws.proofs.Counts.{tally, tally_elsewhere, tally_made}
+use Rattle.gw_laws.proofs.Counts.{tally, tally_elsewhere, tally_made, tally_stood}
+use Rattle.gw_laws.proofs.Room.{all_low}
 use Rattle.gw_frame.proofs.Decided.{is_decided}
 use Rattle.gw_frame.proofs.Known.{IsDecided}
 use Rattle.gw_model.specs.Well.{Well}
@@ -65,7 +66,7 @@ use Rattle.gw_laws.proofs.Crowd.{one, many_has, active_crowd}
 use Rattle.gw_laws.proofs.NumberLaws.{has_number, IsNumbered, all_numbered}
 use Rattle.gw_laws.proofs.OwnParameterLaws.{moved_elsewhere}
 use Rattle.gw_laws.proofs.WaiterLaws.{Stands, stands_of, contains_of, stands_transactions, all_stands, who_comes}
-use Rattle.gw_laws.proofs.GateLaws.{SameEntity, moved_entity, with_has, unread_unwritten, IsRefusedAt, refused_at, IfWatches, passes_or, one_of, over_decided, all_wait_on}
+use Rattle.gw_laws.proofs.GateLaws.{kept_of, SameEntity, moved_entity, with_has, unread_unwritten, IsRefusedAt, refused_at, IfWatches, passes_or, one_of, over_decided, all_wait_on}
 
 module _ (t : Listing) (seed : ℕ) where
   -- ---- what an evaluation of two parts comes to
@@ -159,6 +160,8 @@ module _ (t : Listing) (seed : ℕ) where
   steady_watched class.Qz of = steady_watched_entity kinds.Queue of
   steady_watched class.X of = steady_watched_entity kinds.Savevalue of
   steady_watched class.Ls of = steady_watched_entity kinds.Switch of
+  steady_watched class.Ch of = steady_watched_entity kinds.UserChain of
+  steady_watched class.Cc of = steady_watched_entity kinds.UserChain of
   steady_watched class.S of = steady_storage of
   steady_watched class.R of = steady_storage of
   steady_watched class.Sc of = steady_storage of
@@ -188,6 +191,8 @@ module _ (t : Listing) (seed : ℕ) where
     steady_of_entity class.Qz key = steady_range (pos (line_at s.entities key).zero_entries)
     steady_of_entity class.X key = steady_gives (unwrap_or (savevalue_at s.entities key) (pos 0))
     steady_of_entity class.Ls key = steady_range (pos (one_if (switch_at s.entities key)))
+    steady_of_entity class.Ch key = steady_range (pos (length (user_chain_at s.linked key).members))
+    steady_of_entity class.Cc key = steady_range (pos (user_chain_at s.linked key).entries)
     steady_of_entity class key = steady_ends (ends.Error Range)
 
     steady_entity : (class : Class) (of : Subject) → IsSteady (subject_prog of ~> (λ key. entity_value s class key))
@@ -231,6 +236,7 @@ module _ (t : Listing) (seed : ℕ) where
     steady_attribute class.W of is = steady_block (λ c. c.content) of
     steady_attribute class.X of is = steady_entity class.X of
     steady_attribute class.Ls of is = steady_entity class.Ls of
+    steady_attribute class.Ch of is = steady_entity class.Ch of
     steady_attribute class.P of is =
         steady_bind (subject_prog of) (λ key. parameter_value s q key) (steady_subject of)
         (λ key. steady_stops (not q.is_transaction) NoParameter _ (steady_held (parameter_at s.parameters q.number key)))
@@ -329,7 +335,7 @@ module _ (t : Listing) (seed : ℕ) where
 
   -- what is on a list of what was read stays, and what a transaction has of its own
   record Stays (s u : Machine) (read : List Watched) (x : Transaction) : Type 0 where
-    entity : (kind : EntityKind) (key : Key) → is_watched read (watched.Entity kind key) ≡ true → SameEntity kind key s.entities u.entities
+    entity : (kind : EntityKind) (key : Key) → is_watched read (watched.Entity kind key) ≡ true → SameEntity kind key (kept_of s) (kept_of u)
     counts : (id : ℕ) → is_watched read (watched.Counts id) ≡ true → tally u.counts id ≡ tally s.counts id
     own : (key : Key) → parameter_at u.parameters x.number key ≡ parameter_at s.parameters x.number key
 
@@ -349,7 +355,7 @@ module _ (t : Listing) (seed : ℕ) where
 
   module _ (s u : Machine) (read : List Watched) (x : Transaction) (stays : Stays s u read x) where
     entity_replies : (kind : EntityKind) (f g : Key → Eval ℤ) (of : Subject) (more : List Watched) (reply : ℤ) → Comes (entity_watched kind of) more →
-        AllIn read more → ((key : Key) → SameEntity kind key s.entities u.entities → f key ≡ g key) → Comes (subject_prog of ~> f) reply →
+        AllIn read more → ((key : Key) → SameEntity kind key (kept_of s) (kept_of u) → f key ≡ g key) → Comes (subject_prog of ~> f) reply →
         Comes (subject_prog of ~> g) reply
     entity_replies kind f g of more reply reads all same is =
         let found = entity_read kind of more reads in
@@ -434,6 +440,9 @@ module _ (t : Listing) (seed : ℕ) where
     attribute_replies class.Ls of more reply lasting reads all is =
         entity_replies kinds.Switch (entity_value s class.Ls) (entity_value u class.Ls) of more reply reads all
         (λ key same. ap (λ b. amount (one_if b)) (sym same)) is
+    attribute_replies class.Ch of more reply lasting reads all is =
+        entity_replies kinds.UserChain (entity_value s class.Ch) (entity_value u class.Ch) of more reply reads all
+        (λ key same. ap (λ (c : UserChain). amount (length c.members)) (sym same)) is
     attribute_replies class.P of more reply lasting reads all is =
         let parts = bind_parts (subject_prog of) (λ key. parameter_value s (for_one s x) key) [] (reply, []) (is []) in
         let key = parts.0.0 in
@@ -492,30 +501,45 @@ module _ (p : ℕ) where
   all_made_tally [] w = refl
   all_made_tally (a ∷ rest) w = all_made_tally rest (made a w) ∙ tally_made w.counts a.id p
 
-  changed_tally : (s v : Machine) (change : Change) → v.delays ≡ s.delays → IsUnwritten (written_by change s) →
-      tally (changed change v).counts p ≡ tally v.counts p
-  changed_tally s v (changes.Generate next) same is = maybe_made_tally next (making_of v)
-  changed_tally s v (changes.Entity change) same is =
+  copied_tally : (count : ℕ) (to : Option ℕ) (x : Transaction) (values : List (Key × ℤ)) (v : Machine) → nat_eq p x.current ≡ false →
+      tally (all_copied count to x values v).counts p ≡ tally v.counts p
+  copied_tally count to x values v apart =
+      all_copied_keep (λ n w. tally w.counts p ≡ tally v.counts p) to x values (λ n w same. tally_stood w.counts x.current p apart ∙ same) count v refl
+
+  changed_tally : (s v : Machine) (change : Change) → v.delays ≡ s.delays → ((y : Transaction) → v.active ≡ Some y → nat_eq p y.current ≡ false) →
+      IsUnwritten (written_by change s) → tally (changed change v).counts p ≡ tally v.counts p
+  changed_tally s v (changes.Generate next) same apart is = maybe_made_tally next (making_of v)
+  changed_tally s v (changes.Split count to) same apart is = go v.active refl where
+    go : (o : Option Transaction) → v.active ≡ o →
+        tally (with_active o (λ x. all_copied count to x (values_at v.parameters x.number) v) v).counts p ≡ tally v.counts p
+    go None none = refl
+    go (Some x) active = copied_tally count to x (values_at v.parameters x.number) v (apart x active)
+  changed_tally s v (changes.Unlink key count to) same apart is = ap (λ cs. tally cs p) (unlink_is v key count to).counts
+  changed_tally s v (changes.Entity change) same apart is =
       let chain = ap (λ ds. delay_at ds change.0) same in
       some_tally change.0 (deed_shares change.1) [] (delay_at v.delays change.0) v
       (subst (λ xs. IsUnwritten (crossings (deed_shares change.1) xs)) (sym chain) is)
-  changed_tally s v (changes.Transaction change) same is = refl
-  changed_tally s v changes.Nothing same is = refl
+  changed_tally s v (changes.Transaction change) same apart is = refl
+  changed_tally s v changes.Nothing same apart is = refl
 
-  entering_tally : (s : Machine) (x : Transaction) (id : ℕ) (change : Change) (fate : Fate) → IsUnwritten (written_where (Some x) id change s) →
+  entering_tally : (s : Machine) (x : Transaction) (id : ℕ) (change : Change) (fate : Fate) → IsUnwritten (written_where (Some x) id change fate s) →
       tally (entering s x id change fate).counts p ≡ tally s.counts p
   entering_tally s x id change fate is =
       let same = settled_is s x id change fate in
       let first = or_parts (nat_eq p x.current) _ is in
       let second = or_parts (nat_eq p id) _ first.1 in
-      changed_tally s (settled s x id change fate) change same.delays second.1
+      let by_change = or_parts (is_watched (written_by change s) (watched.Counts p)) (is_watched (written_in fate) (watched.Counts p))
+      (sym (list_any-append (same_watched (watched.Counts p)) (written_by change s) (written_in fate)) ∙ second.1) in
+      changed_tally s (settled s x id change fate) change same.delays
+      (λ y active. ap (λ (z : Transaction). nat_eq p z.current) (still_active s x id change fate y active)
+      ∙ (ap (nat_eq p) (marked_same change s.clock (placed x id)).1 ∙ second.0)) by_change.0
       ∙ (ap (λ cs. tally cs p) same.counts ∙ tally_elsewhere fate s.counts x.current id p first.0 second.0)
 
   moved_tally : (s : Machine) (m : Move) → IsUnwritten (written s m) → tally (moved s m).counts p ≡ tally s.counts p
   moved_tally s (moves.Start count arrivals) is = all_made_tally arrivals (making_of s)
   moved_tally s moves.Command is = refl
   moved_tally s (moves.Enter id change fate) is = go s.active is where
-    go : (o : Option Transaction) → IsUnwritten (written_where o id change s) →
+    go : (o : Option Transaction) → IsUnwritten (written_where o id change fate s) →
         tally (with_active o (λ x. entering s x id change fate) s).counts p ≡ tally s.counts p
     go None h = refl
     go (Some x) h = entering_tally s x id change fate h
@@ -593,8 +617,21 @@ abbrev OwnStays : Machine → Move → Waiter → Type 0
 OwnStays s m w = (key : Key) →
     parameter_at (moved s m).parameters w.transaction.number key ≡ parameter_at s.parameters w.transaction.number key
 
-waiting_own : (t : Listing) (s : Machine) (m : Move) (w : Waiter) → IsDecided t s m → IsNumbered s → Contains s.retry w → OwnStays s m w
-waiting_own t s m w decided' numbered waits key = elim (moved_elsewhere w.transaction.number t s m decided') [
+was_given : (s : Machine) (w : Waiter) → IsNumbered s → Contains s.retry w → w.transaction.number < s.next
+was_given s w h waits =
+    elim (cases_lt w.transaction.number s.next) [
+      | inl below ↦ below
+      | inr above ↦ absurd (
+          let k = w.transaction.number in
+          let there = many_has (has_number k) (transactions_of s.retry) w.transaction
+          (contains_of (transactions_of s.retry) w.transaction (stands_transactions s.retry w (stands_of s.retry w waits))) (eq-eqb k k refl) in
+          let none = h.given k above in
+          omega arith)
+    ]
+
+waiting_own : (t : Listing) (s : Machine) (m : Move) (w : Waiter) → s.next < 2 ^ 64 → IsDecided t s m → IsNumbered s → Contains s.retry w →
+    OwnStays s m w
+waiting_own t s m w low decided' numbered waits key = elim (moved_elsewhere w.transaction.number t s m low (was_given s w numbered waits) decided') [
   | inl same ↦ ap (λ values. value_of values key) same
   | inr active ↦ absurd (not_active s w numbered waits active)
 ]
@@ -640,7 +677,7 @@ tests_fail t seed well =
     let early : n ≤ t.limit = omega (arith, within) in
     let numbered = all_numbered t seed well n s there early in
     let own : (w : Waiter) → Stands s.retry w → OwnStays s d.0 w =
-    λ w stands. waiting_own t s d.0 w (is_decided t seed s d goes) numbered (contains_of s.retry w stands) in
+    λ w stands. waiting_own t s d.0 w (all_low t seed n s there) (is_decided t seed s d goes) numbered (contains_of s.retry w stands) in
     all_wait_on (Tested t seed s d.0) (AtTest t seed (decided s d.0 d.1)) s d.0 d.1
     (each_tested (AtTest t seed s) (OwnStays s d.0) s.retry own (all early))
     (coming_tested t seed s d.0 (refused_at t seed s d goes)) (test_stays t seed s d.0 d.1))

@@ -9,6 +9,7 @@ use Rattle.gw_meaning.specs.declared.transaction.Transaction.{Transaction}
 use Rattle.gw_meaning.specs.declared.moves.Change.{Change}
 use Rattle.gw_meaning.specs.declared.moves.Change.TheVariants as changes
 use Rattle.gw_meaning.specs.declared.moves.Fate.{Fate}
+use Rattle.gw_meaning.specs.declared.moves.Fate.TheVariants as fates
 use Rattle.gw_meaning.specs.declared.moves.Move.{Move}
 use Rattle.gw_meaning.specs.declared.moves.Move.TheVariants as moves
 use Rattle.gw_meaning.specs.declared.watched.Watched.{Watched}
@@ -18,7 +19,7 @@ use Rattle.gw_meaning.specs.Listing.{Listing}
 use Rattle.gw_meaning.specs.Machine.{Machine, delay_at, waiting}
 use Rattle.gw_meaning.specs.Questions.{result_of}
 use Rattle.gw_meaning.specs.Step.{decide, step}
-use Rattle.gw_meaning.specs.Changes.{placed, deed_shares, one_let_in, some_let_in, entering, with_active, moved, crossing, crossings, written_by, written_where, written, is_woken, woken, decided}
+use Rattle.gw_meaning.specs.Changes.{placed, deed_shares, one_let_in, some_let_in, entering, with_active, moved, crossing, crossings, written_by, written_in, written_where, written, is_woken, woken, decided}
 use Rattle.gw_frame.proofs.Moves.{settled, settled_is}
 use Rattle.gw_laws.specs.Waiters.{NobodyWakesWhereNoneIsActive, HasToWait, NobodyWakesWhereTheActiveHasToWait, IsEntry, NobodyWakesUnlessABlockIsEntered, IsLeftOrEntered, LeavesForItsBlock, IsChangedBy, IsChanged, WhoWakesReadWhatChanged}
 use Rattle.gw_laws.proofs.Waiting.{let_in_as, let_in_is, lined_keeps, lined_has}
@@ -43,7 +44,7 @@ no_entry s (moves.Enter id change fate) apart = absurd (apart tt)
 no_entry s m apart = refl
 
 none_writes : (s : Machine) (m : Move) → s.active ≡ None → written s m ≡ []
-none_writes s (moves.Enter id change fate) none = ap (λ o. written_where o id change s) none
+none_writes s (moves.Enter id change fate) none = ap (λ o. written_where o id change fate s) none
 none_writes s m none = refl
 
 none_comes : (m : Move) → who_comes m None ≡ []
@@ -94,7 +95,7 @@ nobody_wakes_where_the_active_has_to_wait t seed n s v well within there is x ac
     let went = went_on t seed s v (sym (run_on t seed n s there) ∙ is) in
     let m = went.0.0 in
     let h = all_numbered t seed well n s there within in
-    let room = all_within t seed n s well there in
+    let room = all_within t seed n s well within there in
     let given = is_given s x active h in
     let low : x.number < 2 ^ 64 - 1 = omega (arith, given, room.next, well.greatest_limit, within) in
     let behind = subst (λ u. HasToWait u x) went.2 waits in (
@@ -181,14 +182,18 @@ module _ (s : Machine) (x : Transaction) (id : ℕ) (fate : Fate) (active : s.ac
   abbrev StandsBehind : Change → Machine → Type 0
   StandsBehind change v = (z : Transaction) → Contains (entering s x id change fate).current z → Contains v.current z
 
-  counts_of_active : (change : Change) (v : Machine) (block : ℕ) → IsLeftOrEntered x id block → IsChangedBy s v id change (watched.Counts block)
+  counts_of_active : (change : Change) (v : Machine) (block : ℕ) → IsLeftOrEntered x id block → IsChangedBy s v id change fate (watched.Counts block)
   counts_of_active change v block is = inl (x, active, is)
 
-  by_change : (change : Change) (v : Machine) (r : Watched) → StandsBehind change v → Stands (written_by change s) r → IsChangedBy s v id change r
+  by_change : (change : Change) (v : Machine) (r : Watched) → StandsBehind change v → Stands (written_by change s) r → IsChangedBy s v id change fate r
   by_change (changes.Generate next) v r behind there = absurd there
   by_change (changes.Transaction change) v r behind there = absurd there
   by_change changes.Nothing v r behind there = absurd there
-  by_change (changes.Entity change) v r behind (inl same) = subst (IsChangedBy s v id (changes.Entity change)) same (refl, refl)
+  by_change (changes.Split count to) v r behind there = absurd there
+  by_change (changes.Unlink key count to) v r behind (inl same) =
+      subst (IsChangedBy s v id (changes.Unlink key count to) fate) same (inl (refl, refl))
+  by_change (changes.Unlink key count to) v r behind (inr there) = absurd there
+  by_change (changes.Entity change) v r behind (inl same) = subst (IsChangedBy s v id (changes.Entity change) fate) same (inl (refl, refl))
   by_change (changes.Entity change) v r behind (inr there) = by_counts lets.counts where
     settles : Machine
     settles = settled s x id (changes.Entity change) fate
@@ -202,19 +207,27 @@ module _ (s : Machine) (x : Transaction) (id : ℕ) (fate : Fate) (active : s.ac
         (crossed_by change.0 (deed_shares change.1) [] (delay_at settles.delays change.0) settles r
         (subst (λ xs. Stands (crossings (deed_shares change.1) xs) r) (sym chain) there))
 
-    crosses : (block : ℕ) → IsLeftOrEntered lets.x lets.to block → IsChangedBy s v id (changes.Entity change) (watched.Counts block)
+    crosses : (block : ℕ) → IsLeftOrEntered lets.x lets.to block → IsChangedBy s v id (changes.Entity change) fate (watched.Counts block)
     crosses block is =
         let way : LeavesForItsBlock s v lets.x = (change.0, contains_of (delay_at s.delays change.0) lets.x lets.waited, (lets.to, lets.goes, behind (placed lets.x lets.to) lets.stands)) in
         inr (lets.x, way, is)
 
-    by_counts : (watched.Counts lets.x.current ≡ r) ⊎ (watched.Counts lets.to ≡ r) → IsChangedBy s v id (changes.Entity change) r
-    by_counts (inl same) = subst (IsChangedBy s v id (changes.Entity change)) same (crosses lets.x.current (inl refl))
-    by_counts (inr same) = subst (IsChangedBy s v id (changes.Entity change)) same (crosses lets.to (inr refl))
+    by_counts : (watched.Counts lets.x.current ≡ r) ⊎ (watched.Counts lets.to ≡ r) → IsChangedBy s v id (changes.Entity change) fate r
+    by_counts (inl same) = subst (IsChangedBy s v id (changes.Entity change) fate) same (crosses lets.x.current (inl refl))
+    by_counts (inr same) = subst (IsChangedBy s v id (changes.Entity change) fate) same (crosses lets.to (inr refl))
 
-  by_entry : (change : Change) (v : Machine) (r : Watched) → StandsBehind change v → Stands (written_where (Some x) id change s) r → IsChangedBy s v id change r
-  by_entry change v r behind (inl same) = subst (IsChangedBy s v id change) same (counts_of_active change v x.current (inl refl))
-  by_entry change v r behind (inr (inl same)) = subst (IsChangedBy s v id change) same (counts_of_active change v id (inr refl))
-  by_entry change v r behind (inr (inr there)) = by_change change v r behind there
+  by_entry : (change : Change) (v : Machine) (r : Watched) → StandsBehind change v → Stands (written_where (Some x) id change fate s) r →
+      IsChangedBy s v id change fate r
+  by_entry change v r behind (inl same) = subst (IsChangedBy s v id change fate) same (counts_of_active change v x.current (inl refl))
+  by_entry change v r behind (inr (inl same)) = subst (IsChangedBy s v id change fate) same (counts_of_active change v id (inr refl))
+  by_entry change v r behind (inr (inr there)) = elim (stands_either (written_by change s) (written_in fate) r there) [
+    | inl by_block ↦ by_change change v r behind by_block
+    | inr by_fate ↦ go fate by_fate
+  ] where
+    go : (f : Fate) → Stands (written_in f) r → IsChangedBy s v id change f r
+    go (fates.Linked key discipline) (inl same) = subst (IsChangedBy s v id change (fates.Linked key discipline)) same (inr (refl, refl))
+    go (fates.Linked key discipline) (inr none) = absurd none
+    go f none = absurd none
 
 written_is_changed : (s : Machine) (m : Move) (streams : List Stream) (r : Watched) → Stands (written s m) r → IsChanged s (decided s m streams) m r
 written_is_changed s (moves.Enter id change fate) streams r there = go s.active refl there where
@@ -224,7 +237,7 @@ written_is_changed s (moves.Enter id change fate) streams r there = go s.active 
   wakes : List Transaction
   wakes = transactions_of (filter (is_woken (written s (moves.Enter id change fate))) (moved s (moves.Enter id change fate)).retry)
 
-  go : (o : Option Transaction) → s.active ≡ o → Stands (written_where o id change s) r → IsChangedBy s v id change r
+  go : (o : Option Transaction) → s.active ≡ o → Stands (written_where o id change fate s) r → IsChangedBy s v id change fate r
   go None none none_there = absurd none_there
   go (Some x) active is =
       let same : moved s (moves.Enter id change fate) ≡ entering s x id change fate = ap (λ o. with_active o (λ y. entering s y id change fate) s) active in

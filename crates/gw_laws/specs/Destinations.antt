@@ -49,7 +49,7 @@ abbrev pub on_chains : Machine → List Transaction
 on_chains s = s.current ++ (map (λ (e : Event). e.transaction) s.future ++ transactions_of s.retry)
 
 -- in a step each of these stays in its block, with its destination (whoever waits on a delay chain goes on waiting, or
--- is let in where he was to go: Delays)
+-- is let in where he was to go: Delays; whoever is on a user chain stays on it, or is sent to a block: UserChains)
 abbrev pub OthersStayInTheirBlocks : Type 0
 OthersStayInTheirBlocks =
     (t : Listing) (seed n : ℕ) (s v : Machine) → Well t → n ≤ t.limit →

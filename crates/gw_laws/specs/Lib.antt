@@ -2,6 +2,8 @@ pub mod Living
 pub mod Places
 pub mod Destinations
 pub mod Waiters
+pub mod UserChains
+pub mod Copies
 pub mod Chain
 pub mod Delays
 pub mod Numbering

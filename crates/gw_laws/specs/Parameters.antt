@@ -1,5 +1,5 @@
 -- The parameters of transactions over every run from zero. (Manual: a parameter is a transaction's own.)
-use Rattle.std.specs.Prelude.{◌≡◌, ℕ, suc, ◌≤◌, ℤ, ◌==◌, ◌⊎◌, Bool, true, List, Ok}
+use Rattle.std.specs.Prelude.{◌≡◌, ℕ, suc, ◌≤◌, ◌<◌, ℤ, ◌==◌, ◌⊎◌, Bool, true, List, Ok}
 use Rattle.std.specs.List.{list_any}
 use Rattle.gw_names.specs.declared.key.Key.{Key}
 use Rattle.gw_entities.specs.Tables.{with_value}
@@ -21,21 +21,23 @@ ParametersAreOfTheLiving =
     (t : Listing) (seed n : ℕ) (s : Machine) → run t seed n ≡ Ok s →
     (number : ℕ) → has_parameters s number ≡ true → lives s number ≡ true
 
--- in a step no parameters change but those of the active transaction: those that are kept under any other number are
--- the same, none more, none fewer and none with another value
+-- in a step no parameters change but those of the active transaction: those that are kept under any other number that
+-- was given before it are the same, none more, none fewer and none with another value (a copy that the step makes has
+-- those of the active transaction: Copies)
 abbrev pub ParametersAreOnesOwn : Type 0
 ParametersAreOnesOwn =
     (t : Listing) (seed n : ℕ) (s v : Machine) → run t seed n ≡ Ok s → run t seed (suc n) ≡ Ok v →
-    (number : ℕ) → (values_at v.parameters number ≡ values_at s.parameters number) ⊎ IsActive s number
+    (number : ℕ) → number < s.next → (values_at v.parameters number ≡ values_at s.parameters number) ⊎ IsActive s number
 
 -- the parameters of one transaction: all stay, or one of them is set, and the others stay
 abbrev pub SetsAtMostOne : List (Key × ℤ) → List (Key × ℤ) → Type 0
 SetsAtMostOne before after = (after ≡ before) ⊎ ((key : Key) × (value : ℤ) × (after ≡ with_value before key value))
 
--- in a step one parameter is set at most, of whoever lives behind it. (Within the step limit, since numbers tell
--- transactions apart there.)
+-- in a step one parameter is set at most, of whoever was there before and lives behind it. (Within the step limit, since
+-- numbers tell transactions apart there.)
 abbrev pub OneParameterIsSet : Type 0
 OneParameterIsSet =
     (t : Listing) (seed n : ℕ) (s v : Machine) → Well t → n ≤ t.limit →
     run t seed n ≡ Ok s → run t seed (suc n) ≡ Ok v →
-    (number : ℕ) → lives v number ≡ true → SetsAtMostOne (values_at s.parameters number) (values_at v.parameters number)
+    (number : ℕ) → number < s.next → lives v number ≡ true →
+    SetsAtMostOne (values_at s.parameters number) (values_at v.parameters number)

@@ -18,12 +18,15 @@ use Rattle.gw_meaning.specs.declared.statement.Block.{Block}
 use Rattle.gw_meaning.specs.declared.transaction.Transaction.{Transaction}
 use Rattle.gw_meaning.specs.declared.moves.Change.{Change}
 use Rattle.gw_meaning.specs.declared.moves.Change.TheVariants as changes
+use Rattle.gw_meaning.specs.declared.moves.Fate.{Fate}
+use Rattle.gw_meaning.specs.declared.moves.Fate.TheVariants as fates
 use Rattle.gw_meaning.specs.declared.moves.Move.{Move}
 use Rattle.gw_meaning.specs.declared.moves.Move.TheVariants as moves
 use Rattle.gw_meaning.specs.declared.asker.Asker.{Asker}
 use Rattle.gw_meaning.specs.declared.item.End.{End}
 use Rattle.gw_meaning.specs.declared.item.Item.{Item}
 use Rattle.gw_meaning.specs.declared.watched.EntityKind.{EntityKind}
+use Rattle.gw_meaning.specs.declared.watched.EntityKind.TheVariants as kinds
 use Rattle.gw_meaning.specs.declared.watched.Watched.{Watched}
 use Rattle.gw_meaning.specs.declared.watched.Watched.TheVariants as watched
 use Rattle.gw_meaning.specs.Statements.{A, B, operand}
@@ -127,18 +130,24 @@ IsCrossed s v id block =
     ((x : Transaction) × (s.active ≡ Some x) × IsLeftOrEntered x id block)
     ⊎ ((x : Transaction) × (way : LeavesForItsBlock s v x) × IsLeftOrEntered x way.2.0 block)
 
--- the entity that a block changes
+-- the entity that a block changes, and the user chain from which it takes transactions
 abbrev pub IsEntityOf : Change → EntityKind → Key → Type 0
+IsEntityOf (changes.Unlink chain count to) kind key = (kind ≡ kinds.UserChain) × (key ≡ chain)
 IsEntityOf (changes.Entity change) kind key = (kind ≡ kind_of change.1) × (key ≡ change.0)
 IsEntityOf change kind key = ⊥
 
+-- the user chain to which it links its transaction
+abbrev pub IsLinkedTo : Fate → EntityKind → Key → Type 0
+IsLinkedTo (fates.Linked chain discipline) kind key = (kind ≡ kinds.UserChain) × (key ≡ chain)
+IsLinkedTo fate kind key = ⊥
+
 -- what an entry changes
-abbrev pub IsChangedBy : Machine → Machine → ℕ → Change → Watched → Type 0
-IsChangedBy s v id change (watched.Counts block) = IsCrossed s v id block
-IsChangedBy s v id change (watched.Entity kind key) = IsEntityOf change kind key
+abbrev pub IsChangedBy : Machine → Machine → ℕ → Change → Fate → Watched → Type 0
+IsChangedBy s v id change fate (watched.Counts block) = IsCrossed s v id block
+IsChangedBy s v id change fate (watched.Entity kind key) = IsEntityOf change kind key ⊎ IsLinkedTo fate kind key
 
 abbrev pub IsChanged : Machine → Machine → Move → Watched → Type 0
-IsChanged s v (moves.Enter id change fate) w = IsChangedBy s v id change w
+IsChanged s v (moves.Enter id change fate) w = IsChangedBy s v id change fate w
 IsChanged s v move w = ⊥
 
 -- whoever wakes read something that the entry of a block changed
@@ -174,10 +183,10 @@ NobodyWaitsAtAnOpenGate =
     b.auxiliary ≡ auxiliaries.Gate condition → key_written t (operand b A) ≡ Some key →
     is_open s condition key (capacity_of t key) ≡ false
 
--- what stays as it is until a block writes it: owners, contents, counts, savevalues and switches, and what a
--- transaction that waits has of its own. (A RESET would set counts of entries to 0 and greatest contents to what is
--- there, and wake nobody. None is read so far; once it is, the law below needs the premise that the version has none,
--- or these are left out.)
+-- what stays as it is until a block writes it: owners, contents, counts, savevalues and switches, who is on a user
+-- chain, and what a transaction that waits has of its own. (A RESET would set counts of entries to 0 and greatest
+-- contents to what is there, and wake nobody. None is read so far; once it is, the law below needs the premise that the
+-- version has none, or these are left out. The entries of a user chain are left out already.)
 abbrev pub is_lasting : Class → Bool
 is_lasting class.F = true
 is_lasting class.Fc = true
@@ -193,6 +202,7 @@ is_lasting class.N = true
 is_lasting class.W = true
 is_lasting class.X = true
 is_lasting class.Ls = true
+is_lasting class.Ch = true
 is_lasting class.P = true
 is_lasting class.Pr = true
 is_lasting class.Xn1 = true

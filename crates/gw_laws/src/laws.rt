@@ -5,6 +5,8 @@ ghost use Rattle.gw_laws.specs.Chain.{FutureKeepsItsOrder, NobodyLeavesBeforeHis
 ghost use Rattle.gw_laws.specs.Clock.{ClockNeverGoesBack, ClockStaysWithin, NothingIsOverdue};
 ghost use Rattle.gw_laws.specs.Clock.{ClockMovesOnlyWhenItMust, ClockMovesWhenItMust};
 ghost use Rattle.gw_laws.specs.Contents.{ContentsAreCounts};
+ghost use Rattle.gw_laws.specs.Copies.{TheParentStaysActive, EachCopyHasANumber, CopiesAreAlike, CopiesInherit};
+ghost use Rattle.gw_laws.specs.Copies.{CopiesLineUpInOrder, CopiesAreNoEntries, CopiesStandInTheBlock};
 ghost use Rattle.gw_laws.specs.Delays.{DelaysAreInOrder, DelaysAreFirstInFirstOut, WhoWaitsKeepsHisPlace};
 ghost use Rattle.gw_laws.specs.Delays.{WhoWaitsIsBound, WhoLeavesIsLetIn, FirstTakesOver, NobodyWaitsAtAFreeFacility};
 ghost use Rattle.gw_laws.specs.Destinations.{GoesToItsDestination, OthersStayInTheirBlocks};
@@ -21,6 +23,8 @@ ghost use Rattle.gw_laws.specs.Queues.{QueuesAreWithin};
 ghost use Rattle.gw_laws.specs.Starts.{StartsAreDoneInOrder, NoMoreStartsThanThereAre};
 ghost use Rattle.gw_laws.specs.Storages.{StoragesAreWithin, NobodyWaitsAtRoom};
 ghost use Rattle.gw_laws.specs.Tests.{EachIsAnOperator, HoldsAsItSays};
+ghost use Rattle.gw_laws.specs.UserChains.{UserChainsChangeByLinkAndUnlink, FewerByUnlinkAlone, WhoLeavesIsUnlinked};
+ghost use Rattle.gw_laws.specs.UserChains.{UserChainsAreFirstInFirstOut};
 ghost use Rattle.gw_laws.specs.Verbs.{EachVerbIsEvaluated};
 ghost use Rattle.gw_laws.specs.Waiters.{WaitersKeepTheirOrder, WokenInOrder, WokenByWhatIsWritten};
 ghost use Rattle.gw_laws.specs.Waiters.{WhoWaitsIsAtATestOrAGate};
@@ -68,10 +72,36 @@ pub fn waiters_wake_in_order()
     ensures there { WhoWaitsIsAtATestOrAGate }
 {}
 
+/// In a step a user chain stays as it is, an UNLINK of it takes some from its front, or a LINK to it brings the one who
+/// was active, to the back by FIFO and to the front by LIFO, and counts him. So where fewer are on it, the step was an UNLINK of it. Whoever leaves it is
+/// on the current chain then, sent to the block of that UNLINK. Where each LINK of the version has the order FIFO, each
+/// user chain is first in, first out.
+pub fn user_chains_in_order()
+    ensures served { UserChainsChangeByLinkAndUnlink }
+    ensures fewer { FewerByUnlinkAlone }
+    ensures leaves { WhoLeavesIsUnlinked }
+    ensures turn { UserChainsAreFirstInFirstOut }
+{}
+
+/// A transaction that enters a SPLIT stays active, and stands in its block. Each copy has a number of its own, in their
+/// order: so many are given as copies are made. It has the priority, the mark time, the block and the parameters of that
+/// transaction, and goes to the block of the SPLIT's label, or on from its own. The copies stand on the current chain in
+/// the order of their numbers, behind all of their priority. A copy stands in its block and is no entry of it.
+pub fn copies_are_made()
+    ensures parent { TheParentStaysActive }
+    ensures numbers { EachCopyHasANumber }
+    ensures alike { CopiesAreAlike }
+    ensures parameters { CopiesInherit }
+    ensures order { CopiesLineUpInOrder }
+    ensures entries { CopiesAreNoEntries }
+    ensures content { CopiesStandInTheBlock }
+{}
+
 /// The clock, a pick, a command and a refused attempt wake nobody. Where no transaction is active, where the active one
 /// has to wait, and wherever no block is entered, all who waited wait on, in their order, and behind them at most the one
 /// who was active. Whoever wakes where a block is entered read something that changed: the counts of a block that is left
-/// or entered, by the active transaction or by one that is let in, or the entity that the block names.
+/// or entered, by the active transaction or by one that is let in, the entity that the block names, or the user chain to
+/// which it links or from which it unlinks.
 pub fn nobody_wakes_for_nothing()
     ensures idle { NobodyWakesWhereNoneIsActive }
     ensures refused { NobodyWakesWhereTheActiveHasToWait }
@@ -81,7 +111,7 @@ pub fn nobody_wakes_for_nothing()
 
 /// Nobody waits at a GATE whose condition holds of the entity that its operand names. Nobody waits at a TEST whose
 /// relation holds, where its values read nothing but what stays until a block writes it: F, FC, Q, QC, QM, QZ, S, R, SC,
-/// SM, N, W, X and LS, and the parameters, the priority and the number of who waits.
+/// SM, N, W, X, LS and CH, and the parameters, the priority and the number of who waits.
 pub fn nobody_waits_for_what_holds()
     ensures gate { NobodyWaitsAtAnOpenGate }
     ensures test { NobodyWaitsAtATestThatHolds }
@@ -107,8 +137,8 @@ pub fn parameters_are_of_the_living()
     ensures { ParametersAreOfTheLiving }
 {}
 
-/// Only the active transaction's parameters, priority and mark time change in a step, and at most one of its
-/// parameters.
+/// Of those who were there before a step, only the active transaction's parameters, priority and mark time change in it,
+/// and at most one of its parameters.
 pub fn each_keeps_his_own()
     ensures parameters { ParametersAreOnesOwn }
     ensures one { OneParameterIsSet }
@@ -116,7 +146,7 @@ pub fn each_keeps_his_own()
 {}
 
 /// Each transaction stands in exactly one place: it is active, on the current chain, on the future chain, on the delay
-/// chain of one facility or storage, or on the retry chain.
+/// chain of one facility or storage, on the retry chain, or on one user chain.
 pub fn each_has_one_place()
     ensures some { EachHasAPlace }
     ensures one { EachHasOnePlace }

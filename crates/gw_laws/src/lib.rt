@@ -6,7 +6,8 @@
 //! change keep their order, and nobody wakes where no block is entered. No two transactions have one number, none is
 //! given twice, and each stands in exactly one place. A block's content is the number of the transactions that stand in
 //! it. The clock never goes back, stays within the horizon, and moves on only when it must. A run ends only for the
-//! reason that its end says. No facility has more captures than steps were made. No count of a queue passes its limit.
+//! reason that its end says. Whoever leaves a user chain is unlinked from its front. A copy is as its parent is but for
+//! its number. No facility has more captures than steps were made. No count of a queue passes its limit.
 //! No storage has more units in use than its capacity. Parameters are kept of living transactions alone. A
 //! transaction's parameters, priority and mark time change only in steps in which it is active. Nobody but its owner
 //! gives a facility back. STARTs are done in order, and each is counted once. The future chain is in the order of
@@ -17,10 +18,11 @@
 mod laws;
 
 pub use laws::{
-    chain_in_order, clock_goes_on, contents_are_counts, delays_in_order, each_has_one_place,
-    each_keeps_his_own, each_verb_is_evaluated, facilities_are_used, facilities_have_owners,
-    goes_where_it_is_sent, items_are_told_apart, nobody_waits_for_what_holds,
-    nobody_wakes_for_nothing, numbers_apart, parameters_are_of_the_living, queues_are_within,
-    runs_end, starts_are_counted, storages_are_within, telling_changes_nothing,
-    tests_hold_as_they_say, waiters_wake_in_order,
+    chain_in_order, clock_goes_on, contents_are_counts, copies_are_made, delays_in_order,
+    each_has_one_place, each_keeps_his_own, each_verb_is_evaluated, facilities_are_used,
+    facilities_have_owners, goes_where_it_is_sent, items_are_told_apart,
+    nobody_waits_for_what_holds, nobody_wakes_for_nothing, numbers_apart,
+    parameters_are_of_the_living, queues_are_within, runs_end, starts_are_counted,
+    storages_are_within, telling_changes_nothing, tests_hold_as_they_say, user_chains_in_order,
+    waiters_wake_in_order,
 };

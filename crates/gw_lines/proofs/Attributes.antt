@@ -77,8 +77,8 @@ behind class.N rest = record { read = λ of e. rw e refl; barred = λ h. rw h re
 behind class.W rest = record { read = λ of e. rw e refl; barred = λ h. rw h refl; value = refl; number = refl }
 behind class.X rest = record { read = λ of e. savevalue_read rest of e; barred = λ h. rw h (or_right _ true refl); value = refl; number = refl }
 behind class.Ls rest = record { read = λ of e. rw e refl; barred = λ h. rw h refl; value = refl; number = refl }
-behind class.Ch rest = record { read = λ of e. absurd cc; barred = λ h. rw h refl; value = refl; number = refl }
-behind class.Cc rest = record { read = λ of e. absurd cc; barred = λ h. rw h refl; value = refl; number = refl }
+behind class.Ch rest = record { read = λ of e. rw e refl; barred = λ h. rw h refl; value = refl; number = refl }
+behind class.Cc rest = record { read = λ of e. rw e refl; barred = λ h. rw h refl; value = refl; number = refl }
 behind class.Tc rest = record { read = λ of e. absurd cc; barred = λ h. rw h refl; value = refl; number = refl }
 behind class.Rn rest = record { read = λ of e. rw e refl; barred = λ h. rw h refl; value = refl; number = refl }
 behind class.V rest = record { read = λ of e. rw e refl; barred = λ h. rw h refl; value = refl; number = refl }

@@ -1,10 +1,12 @@
 -- The operands of forms, as data: what lists of parts that spell them come down to.
 use Rattle.std.proofs.Common.{◌≡◌, ℕ, ◌&&◌, Bool, true, false, List, [], ◌∷◌, Option, Some, None, refl, ◌∙◌, ◌⊎◌, inl, inr}
-use Rattle.std.specs.Prelude.{ℤ, map, option_map, pos}
+use Rattle.std.specs.Prelude.{ℤ, map, option_map, pos, unwrap_or}
 use Rattle.std.proofs.lemmas.Bool.{and_parts}
 use Rattle.gw_expr.specs.declared.atom.Atom.TheVariants as atoms
 use Rattle.gw_expr.specs.Expressions.{postfix}
-use Rattle.gw_expr.specs.Term.{Term, Value, Computed, Defined, Fraction, Label, Named}
+use Rattle.gw_expr.specs.declared.expr.Discipline.{Discipline}
+use Rattle.gw_expr.specs.declared.expr.Discipline.TheVariants as disciplines
+use Rattle.gw_expr.specs.Term.{Term, Value, Computed, Defined, Fraction, Label, Named, Order}
 use Rattle.gw_expr.specs.declared.function.FunctionType.{FunctionType}
 use Rattle.gw_expr.specs.declared.function.FunctionType.TheVariants as types
 use Rattle.gw_lines.specs.declared.form.Kind.{Kind}
@@ -16,7 +18,7 @@ use Rattle.gw_lines.specs.declared.operand.Operand.{Operand}
 use Rattle.gw_lines.specs.declared.operand.Operand.TheVariants as operands
 use Rattle.gw_lines.specs.Forms.{value, whole}
 use Rattle.gw_lines.specs.Parts.{part_of, is_missing}
-use Rattle.gw_lines.specs.Spelling.{SpellsOperand, absent, a_value, a_constant, named_value, attribute_value, computed_value, a_whole, a_key, named_entity, numbered_entity, attribute_entity, computed_entity, a_fraction, a_label, a_definition, an_expression, continuous, discrete, SpellsAll, no_form, stands, unwritten}
+use Rattle.gw_lines.specs.Spelling.{SpellsOperand, absent, a_value, a_constant, named_value, attribute_value, computed_value, a_whole, a_key, named_entity, numbered_entity, attribute_entity, computed_entity, a_fraction, a_label, a_definition, an_expression, continuous, discrete, first_in_first_out, last_in_first_out, unbounded, a_bound, SpellsAll, no_form, stands, unwritten}
 
 abbrev pub Data : Kind → Type 0
 Data kinds.Value = Term
@@ -29,6 +31,8 @@ Data kinds.Label = Term
 Data kinds.Defined = Term
 Data kinds.Expression = Term
 Data kinds.Points = FunctionType × ℕ
+Data kinds.Order = Term
+Data kinds.Bound = Option Term
 
 abbrev pub data_operand : (kind : Kind) → Data kind → Option Operand
 data_operand kinds.Value t = Some (operands.Value t)
@@ -41,6 +45,8 @@ data_operand kinds.Label t = Some (operands.Value t)
 data_operand kinds.Defined t = Some (operands.Value t)
 data_operand kinds.Expression t = Some (operands.Value t)
 data_operand kinds.Points (type, n) = Some (operands.Points type n)
+data_operand kinds.Order t = Some (operands.Value t)
+data_operand kinds.Bound d = value d
 
 abbrev pub Field : Presence → Kind → Type 0
 Field presences.Required kind = Data kind
@@ -58,6 +64,8 @@ maybe kinds.Label d = value d
 maybe kinds.Defined d = value d
 maybe kinds.Expression d = value d
 maybe kinds.Points d = option_map (λ (p : FunctionType × ℕ). operands.Points p.0 p.1) d
+maybe kinds.Order d = value d
+maybe kinds.Bound d = value (unwrap_or d None)
 
 maybe_some : (kind : Kind) (d : Data kind) → maybe kind (Some d) ≡ data_operand kind d
 maybe_some kinds.Value d = refl
@@ -70,6 +78,8 @@ maybe_some kinds.Label d = refl
 maybe_some kinds.Defined d = refl
 maybe_some kinds.Expression d = refl
 maybe_some kinds.Points (type, n) = refl
+maybe_some kinds.Order d = refl
+maybe_some kinds.Bound d = refl
 
 maybe_none : (kind : Kind) → maybe kind None ≡ None
 maybe_none kinds.Value = refl
@@ -82,6 +92,8 @@ maybe_none kinds.Label = refl
 maybe_none kinds.Defined = refl
 maybe_none kinds.Expression = refl
 maybe_none kinds.Points = refl
+maybe_none kinds.Order = refl
+maybe_none kinds.Bound = refl
 
 abbrev pub field_operand : (presence : Presence) (kind : Kind) → Field presence kind → Option Operand
 field_operand presences.Required kind d = data_operand kind d
@@ -108,6 +120,13 @@ data_of (a_definition text name e) = inl (Defined name, refl)
 data_of (an_expression text e s) = inl (Computed (postfix e), refl)
 data_of (continuous digits n h from) = inl ((types.Continuous, n), refl)
 data_of (discrete digits n h from) = inl ((types.Discrete, n), refl)
+data_of first_in_first_out = inl (Order disciplines.Fifo, refl)
+data_of last_in_first_out = inl (Order disciplines.Lifo, refl)
+data_of unbounded = inl (None, refl)
+data_of (a_bound text o other s) = elim (data_of s) [
+  | inl d ↦ inl (Some d.0, d.1)
+  | inr none ↦ inr none
+]
 
 maybe_field : (kind : Kind) {P : Type 0} {o : Option Operand}
     → ((d : Data kind) × (data_operand kind d ≡ o)) ⊎ (P × (None ≡ o))
@@ -187,6 +206,8 @@ is_value kinds.Fraction = true
 is_value kinds.Label = true
 is_value kinds.Defined = true
 is_value kinds.Expression = true
+is_value kinds.Order = true
+is_value kinds.Bound = true
 is_value kind = false
 
 one_value : {kind : Kind} {text : List ℕ} {o : Option Operand} → is_value kind ≡ true → SpellsOperand kind text o
@@ -209,6 +230,10 @@ one_value w (a_definition text name e) = (Some (Defined name), refl)
 one_value w (an_expression text e s) = (Some (Computed (postfix e)), refl)
 one_value w (continuous digits n h from) = absurd cc
 one_value w (discrete digits n h from) = absurd cc
+one_value w first_in_first_out = (Some (Order disciplines.Fifo), refl)
+one_value w last_in_first_out = (Some (Order disciplines.Lifo), refl)
+one_value w unbounded = (None, refl)
+one_value w (a_bound text o other s) = one_value refl s
 
 pub values : {forms : List Form} {parts : List (List ℕ)} {os : List (Option Operand)} → are_all is_value forms ≡ true
     → SpellsAll forms parts os → (values : List (Option Term)) × (map value values ≡ os)
@@ -238,6 +263,10 @@ one_whole w (a_definition text name e) = absurd cc
 one_whole w (an_expression text e s) = absurd cc
 one_whole w (continuous digits n h from) = absurd cc
 one_whole w (discrete digits n h from) = absurd cc
+one_whole w first_in_first_out = absurd cc
+one_whole w last_in_first_out = absurd cc
+one_whole w unbounded = absurd cc
+one_whole w (a_bound text o other s) = absurd cc
 
 pub wholes : {forms : List Form} {parts : List (List ℕ)} {os : List (Option Operand)} → are_all is_whole forms ≡ true
     → SpellsAll forms parts os → (values : List (Option ℕ)) × (map whole values ≡ os)

@@ -1,13 +1,14 @@
 -- Operands by their forms: each list of parts spells operands or has a first fault, and what it spells, or its fault, is what
 -- reading gives.
-use Rattle.std.proofs.Common.{◌≡◌, ℕ, ◌+◌, ◌≤◌, ◌<◌, ◌==◌, true, false, List, [], ◌∷◌, ◌++◌, length, Option, Some, None, Ok, Err, refl, sym, ap, subst, ◌∙◌, ◌⊎◌, inl, inr, arith}
+use Rattle.std.proofs.Common.{◌≡◌, ◌≢◌, ℕ, ◌+◌, ◌≤◌, ◌<◌, ◌==◌, true, false, List, [], ◌∷◌, ◌++◌, length, Option, Some, None, Ok, Err, refl, sym, ap, subst, ◌∙◌, ◌⊎◌, inl, inr, arith}
 use Rattle.std.specs.Prelude.{option_map, codes}
 use Rattle.std.specs.Str.{bytes_eq}
 use Rattle.std.proofs.lemmas.Bool.{cases_Bool, eqb-true}
 use Rattle.std.proofs.lemmas.Slice.Eq.{bytes_eq-Decides}
 use Rattle.gw_names.specs.Names.{name_of}
 use Rattle.gw_expr.specs.declared.atom.Atom.TheVariants as atoms
-use Rattle.gw_expr.specs.Term.{Term, Defined, Fraction, Label}
+use Rattle.gw_expr.specs.declared.expr.Discipline.TheVariants as disciplines
+use Rattle.gw_expr.specs.Term.{Term, Defined, Fraction, Label, Order}
 use Rattle.gw_expr.specs.declared.function.FunctionType.{FunctionType}
 use Rattle.gw_expr.specs.declared.function.FunctionType.TheVariants as types
 use Rattle.gw_lines.specs.declared.fault.LineFault.{LineFault}
@@ -21,9 +22,9 @@ use Rattle.gw_lines.specs.declared.operand.Operand.{Operand}
 use Rattle.gw_lines.specs.declared.operand.Operand.TheVariants as operands
 use Rattle.gw_lines.specs.Numbers.{number_of, from_one, fraction_of}
 use Rattle.gw_lines.specs.Forms.{is_listed}
-use Rattle.gw_lines.specs.Operands.{label_of, defined_of, or_points, points_in, as_value, operand_in, listed_here, each_of, missing_of, has_more, operands_of}
+use Rattle.gw_lines.specs.Operands.{label_of, defined_of, order_of, or_points, points_in, as_value, operand_in, listed_here, each_of, missing_of, has_more, operands_of}
 use Rattle.gw_lines.specs.Parts.{goes_on, part_of, others_of, is_missing}
-use Rattle.gw_lines.specs.Spelling.{Number, SpellsOperand, absent, a_value, a_constant, named_value, attribute_value, computed_value, a_whole, a_key, named_entity, numbered_entity, attribute_entity, computed_entity, a_fraction, a_label, a_definition, an_expression, continuous, discrete, SpellsAll, no_form, stands, unwritten}
+use Rattle.gw_lines.specs.Spelling.{Number, SpellsOperand, absent, a_value, a_constant, named_value, attribute_value, computed_value, a_whole, a_key, named_entity, numbered_entity, attribute_entity, computed_entity, a_fraction, a_label, a_definition, an_expression, continuous, discrete, first_in_first_out, last_in_first_out, unbounded, a_bound, SpellsAll, no_form, stands, unwritten}
 use Rattle.gw_lines.specs.Faulty.{Lawful, FirstBad, bad_here, bad_later, AllLawful, FirstMissing, missing_here, missing_later, FaultOfAll, bad_operand, extra_operand, missing_operand}
 use Rattle.gw_lines.proofs.Results.{some, some_is}
 use Rattle.gw_lines.proofs.Digits.{number_found, number_again, mapped, from_one_found, from_one_again}
@@ -45,11 +46,25 @@ whole_is most text o e =
 abbrev none : Option Operand
 none = None
 
-key_is : (text : List ℕ) (o : Option Operand) → bytes_eq text (codes "NP") ≡ true → some none ≡ Some o
-    → SpellsOperand kinds.Quiet text o
-key_is text o h e =
-    subst (λ (t : List ℕ). SpellsOperand kinds.Quiet t o) (sym ((bytes_eq-Decides text (codes "NP")).0 h))
-    (subst (λ (x : Option Operand). SpellsOperand kinds.Quiet (codes "NP") x) (some_is none o e) a_key)
+-- a key word
+key_is : (kind : Kind) (word : List ℕ) (said : Option Operand) → SpellsOperand kind word said
+    → (text : List ℕ) (o : Option Operand) → bytes_eq text word ≡ true → some said ≡ Some o → SpellsOperand kind text o
+key_is kind word said spells text o h e =
+    subst (λ (t : List ℕ). SpellsOperand kind t o) (sym ((bytes_eq-Decides text word).0 h))
+    (subst (λ (x : Option Operand). SpellsOperand kind word x) (some_is said o e) spells)
+
+order_is : (text : List ℕ) (o : Option Operand) → as_value (order_of text) ≡ Some o → SpellsOperand kinds.Order text o
+order_is text o e =
+    elim (cases_Bool (bytes_eq text (codes "FIFO"))) [
+      | inl first ↦ key_is kinds.Order (codes "FIFO") _ first_in_first_out text o first (rw first at e)
+      | inr other ↦ elim (cases_Bool (bytes_eq text (codes "LIFO"))) [
+        | inl last ↦ key_is kinds.Order (codes "LIFO") _ last_in_first_out text o last (rw (other, last) at e)
+        | inr neither ↦ absurd (let f = rw (other, neither) at e in cc)
+      ]
+    ]
+
+other_than : (text word : List ℕ) → bytes_eq text word ≡ false → text ≢ word
+other_than text word fails same = let holds = (bytes_eq-Decides text word).1 same in cc
 
 fraction_is : (text : List ℕ) (o : Option Operand)
     → as_value (option_map (λ (n : ℕ). Fraction n) (fraction_of 1000000 text)) ≡ Some o → SpellsOperand kinds.Fraction text o
@@ -104,7 +119,7 @@ operand_found kinds.Constant (b ∷ bs) o e = constant_is (b ∷ bs) o e
 operand_found (kinds.Whole most) (b ∷ bs) o e = whole_is most (b ∷ bs) o e
 operand_found kinds.Quiet (b ∷ bs) o e =
     elim (cases_Bool (bytes_eq (b ∷ bs) (codes "NP"))) [
-      | inl holds ↦ key_is (b ∷ bs) o holds (rw holds at e)
+      | inl holds ↦ key_is kinds.Quiet (codes "NP") none a_key (b ∷ bs) o holds (rw holds at e)
       | inr fails ↦ absurd (let f = rw fails at e in cc)
     ]
 operand_found kinds.Entity (b ∷ bs) o e = entity_is (b ∷ bs) o e
@@ -113,6 +128,12 @@ operand_found kinds.Label (b ∷ bs) o e = label_is (b ∷ bs) o e
 operand_found kinds.Defined (b ∷ bs) o e = defined_is (b ∷ bs) o e
 operand_found kinds.Expression (b ∷ bs) o e = expression_is (b ∷ bs) o e
 operand_found kinds.Points (b ∷ bs) o e = points_are b bs o e
+operand_found kinds.Order (b ∷ bs) o e = order_is (b ∷ bs) o e
+operand_found kinds.Bound (b ∷ bs) o e =
+    elim (cases_Bool (bytes_eq (b ∷ bs) (codes "ALL"))) [
+      | inl holds ↦ key_is kinds.Bound (codes "ALL") none unbounded (b ∷ bs) o holds (rw holds at e)
+      | inr fails ↦ a_bound (b ∷ bs) o (other_than (b ∷ bs) (codes "ALL") fails) (value_is (b ∷ bs) o (rw fails at e))
+    ]
 
 whole_in_again : (most : ℕ) (text : List ℕ) (n : ℕ) → number_of most text ≡ Some n → 1 ≤ n
     → operand_in (kinds.Whole most) text ≡ Some (Some (operands.Whole n))
@@ -134,6 +155,16 @@ defined_in_again : (text name : List ℕ) → name_of text ≡ Some name
 defined_in_again [] name e = absurd (no_name name e)
 defined_in_again (b ∷ bs) name e = rw e refl
 
+-- a value in the place of `ALL`
+bound_again : (text : List ℕ) (o : Option Operand) → text ≢ codes "ALL" → operand_in kinds.Value text ≡ Some o
+    → operand_in kinds.Bound text ≡ Some o
+bound_again [] o other e = e
+bound_again (b ∷ bs) o other e =
+    elim (cases_Bool (bytes_eq (b ∷ bs) (codes "ALL"))) [
+      | inl holds ↦ absurd (other ((bytes_eq-Decides (b ∷ bs) (codes "ALL")).0 holds))
+      | inr fails ↦ rw fails e
+    ]
+
 operand_again : {kind : Kind} {text : List ℕ} {o : Option Operand} → SpellsOperand kind text o
     → operand_in kind text ≡ Some o
 operand_again (absent kind) = refl
@@ -154,6 +185,10 @@ operand_again (a_definition text name e) = defined_in_again text name e
 operand_again (an_expression text e s) = expression_again text e s
 operand_again (continuous digits n h from) = rw (number_again 1000 digits n h, from_one_again n from) refl
 operand_again (discrete digits n h from) = rw (number_again 1000 digits n h, from_one_again n from) refl
+operand_again first_in_first_out = refl
+operand_again last_in_first_out = refl
+operand_again unbounded = refl
+operand_again (a_bound text o other s) = bound_again text o other (operand_again s)
 
 -- ---- one part
 

@@ -84,6 +84,14 @@ another_label = record { kind = kinds.Label; presence = presences.Optional }
 abbrev pub a_definition : Form
 a_definition = record { kind = kinds.Defined; presence = presences.Required }
 
+-- a queue discipline
+abbrev pub an_order : Form
+an_order = record { kind = kinds.Order; presence = presences.Required }
+
+-- how many at most, or nothing
+abbrev pub a_bound : Form
+a_bound = record { kind = kinds.Bound; presence = presences.Optional }
+
 -- a TRANSFER goes to a label, or, with a fraction before it, to one of two, the first of which may be absent
 abbrev pub forms_of_transfer : Bool → List Form
 forms_of_transfer false = a_chance ∷ a_label ∷ []
@@ -122,6 +130,9 @@ forms_of_block blocks.Assign beside given = Some (an_entity ∷ one_value ∷ []
 forms_of_block blocks.Loop beside given = Some (an_entity ∷ a_label ∷ [])
 forms_of_block blocks.Logic beside given = Some (an_entity ∷ [])
 forms_of_block blocks.Savevalue beside given = Some (an_entity ∷ one_value ∷ [])
+forms_of_block blocks.Split beside given = Some (one_value ∷ another_label ∷ [])
+forms_of_block blocks.Link beside given = Some (an_entity ∷ an_order ∷ [])
+forms_of_block blocks.Unlink beside given = Some (an_entity ∷ a_label ∷ a_bound ∷ [])
 forms_of_block verb beside given = None
 
 abbrev pub forms_of_definition : DefinitionVerb → Option (List Form)

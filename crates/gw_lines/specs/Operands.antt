@@ -5,7 +5,8 @@ use Rattle.std.specs.Str.{bytes_eq}
 use Rattle.gw_names.specs.Names.{name_of}
 use Rattle.gw_expr.specs.declared.atom.Atom.{Atom}
 use Rattle.gw_expr.specs.declared.atom.Atom.TheVariants as atoms
-use Rattle.gw_expr.specs.Term.{Term, Value, Defined, Fraction, Label, Named}
+use Rattle.gw_expr.specs.declared.expr.Discipline.TheVariants as disciplines
+use Rattle.gw_expr.specs.Term.{Term, Value, Defined, Fraction, Label, Named, Order}
 use Rattle.gw_expr.specs.declared.function.FunctionType.{FunctionType}
 use Rattle.gw_expr.specs.declared.function.FunctionType.TheVariants as types
 use Rattle.gw_lines.specs.declared.fault.LineFault.{LineFault}
@@ -58,6 +59,13 @@ label_of text = option_map (λ name. Label name) (name_of text)
 abbrev pub defined_of : List ℕ → Option Term
 defined_of text = option_map (λ name. Defined name) (name_of text)
 
+-- the queue discipline that a text is
+abbrev pub order_of : List ℕ → Option Term
+order_of text =
+    if bytes_eq text (codes "FIFO")
+    then Some (Order disciplines.Fifo)
+    else if bytes_eq text (codes "LIFO") then Some (Order disciplines.Lifo) else None
+
 -- the type of a FUNCTION that a letter is
 abbrev pub type_of : ℕ → Option FunctionType
 type_of b = if b == 67 then Some types.Continuous else if b == 68 then Some types.Discrete else None
@@ -74,7 +82,7 @@ points_in (b ∷ bs) = or_points (type_of b) (from_one (number_of 1000 bs))
 abbrev pub as_value : Option Term → Option (Option Operand)
 as_value value = option_map (λ t. Some (operands.Value t)) value
 
--- what a text that is not empty is, if it is lawful: `NP` says nothing
+-- what a text that is not empty is, if it is lawful: `NP` says nothing, nor does `ALL`, which bounds nothing
 abbrev pub given_in : Kind → List ℕ → Option (Option Operand)
 given_in kinds.Value text = as_value (given_value text)
 given_in kinds.Constant text = as_value (atomic (constant_of text))
@@ -86,6 +94,8 @@ given_in kinds.Label text = as_value (label_of text)
 given_in kinds.Defined text = as_value (defined_of text)
 given_in kinds.Expression text = as_value (bare_of text)
 given_in kinds.Points text = points_in text
+given_in kinds.Order text = as_value (order_of text)
+given_in kinds.Bound text = if bytes_eq text (codes "ALL") then Some None else as_value (given_value text)
 
 -- what a text is, if it is lawful
 abbrev pub operand_in : Kind → List ℕ → Option (Option Operand)

@@ -14,6 +14,7 @@ use Rattle.gw_expr.specs.declared.atom.Atom.TheVariants as atoms
 use Rattle.gw_expr.specs.declared.token.Operator.{Operator}
 use Rattle.gw_expr.specs.declared.token.Operator.TheVariants as operators
 use Rattle.gw_expr.specs.Expressions.{Expression, Single, Opposite, Both, postfix}
+use Rattle.gw_expr.specs.declared.expr.Discipline.TheVariants as disciplines
 use Rattle.gw_expr.specs.Term as terms
 use Rattle.gw_expr.specs.declared.function.FunctionType.TheVariants as types
 use Rattle.gw_meaning.specs.declared.auxiliary.Auxiliary.{Auxiliary}
@@ -129,7 +130,8 @@ pub data SpellsExpression : Rank → ℕ → List ℕ → Expression → Type 0 
       → SpellsExpression Sum room left e → Adds b o → SpellsExpression Product room right f
       → SpellsExpression Sum room (left ++ b ∷ right) (Both o e f)
 
--- a text of a kind, and the operand that it says: none where it is empty, nor for the key word that has no effect
+-- a text of a kind, and the operand that it says: none where it is empty, nor for a key word that has no effect. A key
+-- word is one in its place alone, and no name there.
 pub data SpellsOperand : Kind → List ℕ → Option Operand → Type 0 where
   absent : (kind : Kind) → SpellsOperand kind [] None
   a_value : (text : List ℕ) (z : ℤ) → Value text z
@@ -165,6 +167,11 @@ pub data SpellsOperand : Kind → List ℕ → Option Operand → Type 0 where
       → SpellsOperand kinds.Points (67 ∷ digits) (Some (operands.Points types.Continuous n))
   discrete : (digits : List ℕ) (n : ℕ) → Number 1000 digits n → 1 ≤ n
       → SpellsOperand kinds.Points (68 ∷ digits) (Some (operands.Points types.Discrete n))
+  first_in_first_out : SpellsOperand kinds.Order (codes "FIFO") (Some (operands.Value (terms.Order disciplines.Fifo)))
+  last_in_first_out : SpellsOperand kinds.Order (codes "LIFO") (Some (operands.Value (terms.Order disciplines.Lifo)))
+  unbounded : SpellsOperand kinds.Bound (codes "ALL") None
+  a_bound : (text : List ℕ) (o : Option Operand) → text ≢ codes "ALL" → SpellsOperand kinds.Value text o
+      → SpellsOperand kinds.Bound text o
 
 -- the parts of a list spell the operands of its forms: each is listed, or a written one behind the last part is not
 pub data SpellsAll : List Form → List (List ℕ) → List (Option Operand) → Type 0 where

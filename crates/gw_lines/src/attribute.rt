@@ -78,10 +78,12 @@ fn scope_of(class: Class) -> Scope
         | Class::Qz
         | Class::X
         | Class::Ls
+        | Class::Ch
+        | Class::Cc
         | Class::V => Scope::Entity,
         Class::N | Class::W => Scope::Block,
         Class::Rn => Scope::Stream,
-        Class::Ch | Class::Cc | Class::Tc => Scope::Later,
+        Class::Tc => Scope::Later,
     }
 }
 

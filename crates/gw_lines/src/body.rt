@@ -240,6 +240,6 @@ fn constant_of(value: &Expr) -> Option<Val>
     match value.node() {
         Node::Value(Atom::Constant(value)) => Some(*value),
         Node::Value(_) | Node::Computed(_) | Node::Named(_) => None,
-        Node::Label(_) | Node::Fraction(_) | Node::Defined(_) => None,
+        Node::Label(_) | Node::Fraction(_) | Node::Defined(_) | Node::Order(_) => None,
     }
 }

@@ -29,6 +29,10 @@ pub enum Kind {
     Expression,
     /// A FUNCTION's type and its number of points: `C` or `D`, and a whole number from 1 to 1,000.
     Points,
+    /// A queue discipline: the key word `FIFO` or `LIFO`.
+    Order,
+    /// How many at most: a value, or the key word `ALL`, which sets no bound.
+    Bound,
 }
 
 /// Whether an operand may be absent.
@@ -78,6 +82,9 @@ fn forms_of_block(verb: BlockVerb, beside: Auxiliary, given: bool) -> Option<&'s
         BlockVerb::Priority => Some(&[ONE_VALUE]),
         BlockVerb::Assign | BlockVerb::Savevalue => Some(&[ENTITY, ONE_VALUE]),
         BlockVerb::Loop => Some(&[ENTITY, LABEL]),
+        BlockVerb::Split => Some(&[ONE_VALUE, ANOTHER_LABEL]),
+        BlockVerb::Link => Some(&[ENTITY, ORDER]),
+        BlockVerb::Unlink => Some(&[ENTITY, LABEL, BOUND]),
         _ => None,
     }
 }
@@ -214,6 +221,16 @@ const ANOTHER_LABEL: Form = Form {
 const DEFINED: Form = Form {
     kind: Kind::Defined,
     presence: Presence::Required,
+};
+
+const ORDER: Form = Form {
+    kind: Kind::Order,
+    presence: Presence::Required,
+};
+
+const BOUND: Form = Form {
+    kind: Kind::Bound,
+    presence: Presence::Optional,
 };
 
 /// Whether the operands lack one, though none of them is required: a GENERATE has a mean or a limit.

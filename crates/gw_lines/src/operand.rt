@@ -1,12 +1,12 @@
 ghost use Rattle.std.specs.Prelude.{◌≡◌, IfOk};
-ghost use Rattle.gw_lines.specs.Operands.{operand_in, given_in, as_value, atomic, given_value, or_term, entity_of, numbered, label_of, defined_of, type_of, points_in};
+ghost use Rattle.gw_lines.specs.Operands.{operand_in, given_in, as_value, atomic, given_value, or_term, entity_of, numbered, label_of, defined_of, type_of, points_in, order_of};
 ghost use Rattle.gw_lines.specs.Expressions.{computed_of};
 
 use crate::atom::{atom_of, constant, or_attribute};
 use crate::expression::{read_bare, read_expression};
 use crate::form::Kind;
 use crate::number::{LIMIT, fraction, from_one};
-use gw_expr::{Atom, Expr, FunctionType};
+use gw_expr::{Atom, Discipline, Expr, FunctionType};
 use gw_names::Name;
 use gw_nums::Val;
 use std::alloc::{AllocError, Global};
@@ -63,6 +63,27 @@ fn given(alloc: Global, kind: Kind, text: &[u8]) -> Result<Option<Option<Operand
         Kind::Defined => Ok(as_value(defined(alloc, text)?)),
         Kind::Expression => Ok(as_value(read_bare(alloc, text)?)),
         Kind::Points => Ok(points_in(text)),
+        Kind::Order => Ok(as_value(order(text))),
+        Kind::Bound => {
+            if text == b"ALL".as_slice() {
+                Ok(Some(None))
+            } else {
+                Ok(as_value(given_value(alloc, text)?))
+            }
+        }
+    }
+}
+
+// The queue discipline that a text is.
+fn order(text: &[u8]) -> Option<Expr>
+    ensures { result ≡ order_of text.now }
+{
+    if text == b"FIFO".as_slice() {
+        Some(Expr::order(Discipline::Fifo))
+    } else if text == b"LIFO".as_slice() {
+        Some(Expr::order(Discipline::Lifo))
+    } else {
+        None
     }
 }
 

@@ -3,7 +3,7 @@ use Rattle.std.proofs.Common.{◌≡◌, ℕ, zero, suc, List, [], ◌∷◌, re
 use Rattle.std.specs.Prelude.{ℤ, get_or}
 use Rattle.std.specs.List.{list_any, slice_get}
 use Rattle.std.proofs.lemmas.Option.{get_or_from_slice_get}
-use Rattle.gw_expr.specs.Term.{Term, Value, Computed, Named, Defined, Label, Fraction, HasAtom, holds_of_atom, holds_of_token}
+use Rattle.gw_expr.specs.Term.{Term, Value, Computed, Named, Defined, Label, Fraction, Order, HasAtom, holds_of_atom, holds_of_token}
 use Rattle.gw_expr.specs.declared.atom.Atom.{Atom}
 use Rattle.gw_expr.specs.declared.atom.Atom.TheVariants as atoms
 use Rattle.gw_expr.specs.declared.token.Token.{Token}
@@ -22,7 +22,7 @@ use Rattle.gw_model.specs.Faults.{is_of_block, is_of_storage, is_of_definition, 
 use Rattle.gw_model.proofs.Apart.{none_of, none_from}
 
 -- the labels of these lines
-abbrev known : List Numbered → List ℕ → Bool
+abbrev pub known : List Numbered → List ℕ → Bool
 known lines name = is_some (labelled_in name lines)
 
 -- an operand that is there stands in the list
@@ -36,7 +36,7 @@ there_is None h = absurd cc
 there_is (Some n) h = (n, refl)
 
 -- what a scan of operands finds: a test that holds in no statement holds of no operand, and the other way round
-no_operand : (test : Term → Bool) (lines : List Numbered) → list_any (holds_in test) lines ≡ false → (i place : ℕ) (line : Numbered)
+pub no_operand : (test : Term → Bool) (lines : List Numbered) → list_any (holds_in test) lines ≡ false → (i place : ℕ) (line : Numbered)
     (term : Term) → slice_get lines i ≡ Some line → operand_of line place ≡ Some term → test term ≡ false
 no_operand test lines h i place line term e o =
     let here : holds_in test line ≡ false = none_of (holds_in test) lines h i line e in
@@ -59,7 +59,7 @@ in_no_line test lines f =
     none_from (holds_in test) lines (λ i line e. in_no_list test (operands_of line) (λ place term o. f i place line term e o))
 
 -- what a scan of the values of an operand finds: where a test of operands is one of their values, and fails, it fails of each value
-no_atom : (test : Term → Bool) (p : Atom → Bool) → ((a : Atom) → test (Value a) ≡ p a) → ((ts : List Token) → test (Computed ts) ≡
+pub no_atom : (test : Term → Bool) (p : Atom → Bool) → ((a : Atom) → test (Value a) ≡ p a) → ((ts : List Token) → test (Computed ts) ≡
     list_any (holds_of_token p) ts) → (term : Term) (atom : Atom) → test term ≡ false → HasAtom term atom → p atom ≡ false
 no_atom test p one many (Value a) atom h has = ap p (sym has) ∙ (sym (one a) ∙ h)
 no_atom test p one many (Computed ts) atom h (i, has) = none_of (holds_of_token p) ts (sym (many ts) ∙ h) i (tokens.Value atom) has
@@ -67,6 +67,7 @@ no_atom test p one many (Named name) atom h has = absurd has
 no_atom test p one many (Label name) atom h has = absurd has
 no_atom test p one many (Fraction n) atom h has = absurd has
 no_atom test p one many (Defined name) atom h has = absurd has
+no_atom test p one many (Order discipline) atom h has = absurd has
 
 in_no_token : (p : Atom → Bool) (ts : List Token) (i : ℕ) (token : Token) → slice_get ts i ≡ Some token →
     ((atom : Atom) → HasAtom (Computed ts) atom → p atom ≡ false) → holds_of_token p token ≡ false
@@ -81,6 +82,7 @@ in_no_atom p (Named name) f = refl
 in_no_atom p (Label name) f = refl
 in_no_atom p (Fraction n) f = refl
 in_no_atom p (Defined name) f = refl
+in_no_atom p (Order discipline) f = refl
 
 -- each label that an operand names is that of a block
 abbrev pub LabelsThere : List Numbered → Type 0
@@ -138,7 +140,7 @@ labels_known lines f g = in_no_line (is_unknown_label (known lines)) lines go wh
   go i place line term e o = refl
 
 -- the definitions of these lines
-abbrev definition : List Numbered → List ℕ → Option Definition
+abbrev pub definition : List Numbered → List ℕ → Option Definition
 definition lines name = defined_in name lines
 
 -- each definition that an operand names is a storage's, and each name that stands for a number has an EQU

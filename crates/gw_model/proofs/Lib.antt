@@ -6,5 +6,6 @@ pub mod Wellness
 pub mod Making
 pub mod Apart
 pub mod Known
+pub mod FirstFaults
 pub mod Answering
 pub mod Slots

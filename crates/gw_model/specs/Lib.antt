@@ -2,6 +2,7 @@ pub mod Listed
 pub mod Spliced
 pub mod Faults
 pub mod Well
+pub mod FirstFaults
 pub mod Made
 pub mod ByName
 pub mod Tables

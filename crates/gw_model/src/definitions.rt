@@ -92,7 +92,7 @@ fn is_undefined(definitions: &BTreeMap<Name, Definition>, expr: &Expr) -> bool
         Node::Defined(name) => is_no_storage(definitions, name.name()),
         Node::Value(atom) => has_no_value(definitions, atom),
         Node::Computed(tokens) => any_lacks_a_value(definitions, tokens),
-        Node::Named(_) | Node::Label(_) | Node::Fraction(_) => false,
+        Node::Named(_) | Node::Label(_) | Node::Fraction(_) | Node::Order(_) => false,
     }
 }
 
@@ -156,7 +156,7 @@ fn is_equ_named(definitions: &BTreeMap<Name, Definition>, expr: &Expr) -> bool
         Node::Defined(name) => is_equ(definitions, name.name()),
         Node::Value(atom) => is_of_equ(definitions, atom),
         Node::Computed(tokens) => any_is_of_equ(definitions, tokens),
-        Node::Named(_) | Node::Label(_) | Node::Fraction(_) => false,
+        Node::Named(_) | Node::Label(_) | Node::Fraction(_) | Node::Order(_) => false,
     }
 }
 

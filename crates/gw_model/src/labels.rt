@@ -67,7 +67,7 @@ fn is_unknown(labels: &BTreeMap<Name, StatementId>, expr: &Expr) -> bool
         Node::Label(name) => labels.get(name).is_none(),
         Node::Value(atom) => counts_unknown(labels, atom),
         Node::Computed(tokens) => any_unknown(labels, tokens),
-        Node::Named(_) | Node::Fraction(_) | Node::Defined(_) => false,
+        Node::Named(_) | Node::Fraction(_) | Node::Defined(_) | Node::Order(_) => false,
     }
 }
 

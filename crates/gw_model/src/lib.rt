@@ -6,6 +6,7 @@ mod by_name;
 mod definitions;
 mod fault;
 mod labels;
+mod laws;
 mod limits;
 mod lines;
 mod lists;
@@ -18,4 +19,5 @@ mod tables;
 mod version;
 
 pub use fault::ModelFault;
+pub use laws::first_faults_are_found;
 pub use version::Version;

@@ -15,5 +15,5 @@ pub use active::Active;
 pub use clocks::Clocks;
 pub use entities::Entities;
 pub use letting_in::{admit, reserve_to_admit};
-pub use making::{make, make_all};
+pub use making::{copy_all, make, make_all};
 pub use progress::Progress;

@@ -1,9 +1,10 @@
 // The making of transactions.
-ghost use Rattle.std.specs.Prelude.{◌≡◌, ◌+◌, ◌<◌, ◌≤◌, length, All};
+ghost use Rattle.std.specs.Prelude.{◌≡◌, ◌+◌, ◌<◌, ◌≤◌, [], length, All};
 ghost use Rattle.gw_meaning.specs.declared.moves.Arrival.{Arrival};
-ghost use Rattle.gw_meaning.specs.Changes.{making, made, all_made};
+ghost use Rattle.gw_meaning.specs.Changes.{making, made, all_made, all_copied};
+ghost use Rattle.gw_meaning.specs.Machine.{Machine};
 
-use gw_chains::{Counts, FutureChain};
+use gw_chains::{Counts, FutureChain, PriorityChain};
 use gw_meaning::{Arrival, Destination, Event, StatementId, Transaction};
 use gw_nums::Time;
 
@@ -42,5 +43,34 @@ pub fn make_all(next: &mut u64, future: &mut FutureChain, counts: &mut Counts, a
 {
     for arrival in arrivals {
         make(next, future, counts, *arrival);
+    }
+}
+
+/// Makes so many copies of a transaction, with numbers from the next one on. They stand in its block and go to the current
+/// chain, one by one, each on its way to this block or on from its own where none is set. Their parameters stand apart.
+pub fn copy_all(
+    next: &mut u64,
+    current: &mut PriorityChain,
+    counts: &mut Counts,
+    x: &Transaction,
+    count: u64,
+    to: Destination,
+)
+    requires current { count ≤ current.old.room }
+    requires counts { x.now.current < counts.old.limit }
+    ensures copied { (s : Machine) →
+        record s { next = next.new; current = current.new.items; counts = counts.new.entries } ≡
+        all_copied count to x.now []
+        (record s { next = next.old; current = current.old.items; counts = counts.old.entries }) }
+    ensures room { current.old.room ≤ current.new.room + count }
+{
+    for _copy in 0..count {
+        current.line_up(Transaction {
+            number: *next,
+            destination: to,
+            ..*x
+        });
+        counts.stand(x.current);
+        *next = next.saturating_add(1);
     }
 }

@@ -110,7 +110,7 @@ fn add_term(names: &mut IndexSet<Key>, expr: &Expr) -> Result<(), AllocError>
         Node::Named(name) => add_name(names, name.name()),
         Node::Label(name) => add_name(names, name),
         Node::Defined(name) => add_name(names, name.name()),
-        Node::Fraction(_) => Ok(()),
+        Node::Fraction(_) | Node::Order(_) => Ok(()),
     }
 }
 

@@ -31,22 +31,11 @@ clock_is_next s [] none = refl
 clock_is_next s (x ∷ xs) none = absurd (omega (arith, none))
 
 alone : (s : Machine) (change : Change) (fate : Fate) → IsDecidedFate s change fate → IsAlone change fate
-alone s (changes.Entity change) (fates.Destroyed count) h = absurd cc
-alone s (changes.Transaction change) (fates.Destroyed count) h = absurd cc
-alone s changes.Nothing (fates.Destroyed count) h = tt
-alone s (changes.Generate next) (fates.Destroyed count) h = tt
-alone s (changes.Entity change) fates.Active h = tt
-alone s (changes.Entity change) fates.Current h = tt
-alone s (changes.Entity change) (fates.Delayed until) h = tt
-alone s (changes.Transaction change) fates.Active h = tt
-alone s (changes.Transaction change) fates.Current h = tt
-alone s (changes.Transaction change) (fates.Delayed until) h = tt
-alone s changes.Nothing fates.Active h = tt
-alone s changes.Nothing fates.Current h = tt
-alone s changes.Nothing (fates.Delayed until) h = tt
-alone s (changes.Generate next) fates.Active h = tt
-alone s (changes.Generate next) fates.Current h = tt
-alone s (changes.Generate next) (fates.Delayed until) h = tt
+alone s change fates.Active h = tt
+alone s change fates.Current h = h
+alone s change (fates.Delayed until) h = h.0
+alone s change (fates.Linked key discipline) h = h
+alone s change (fates.Destroyed count) h = h
 
 made : (t : Listing) (s : Machine) (m : Move) → IsDecided t s m → IsMade s m
 made t s (moves.Start count arrivals) h = tt

@@ -1,4 +1,5 @@
 pub mod Crossing
+pub mod Counting
 pub mod Deciding
 pub mod Tracing
 pub mod StepLaws

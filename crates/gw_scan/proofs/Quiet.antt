@@ -5,6 +5,7 @@ use Rattle.gw_meaning.specs.declared.watched.Watched.{Watched}
 use Rattle.gw_meaning.specs.Watching.{Waiter, is_watched}
 use Rattle.gw_meaning.specs.Machine.{Machine}
 use Rattle.gw_meaning.specs.declared.moves.Change.{Change}
+use Rattle.gw_meaning.specs.declared.moves.Fate.{Fate}
 use Rattle.gw_meaning.specs.declared.transaction.Transaction.{Transaction}
 use Rattle.gw_meaning.specs.Changes.{is_woken, woke, woken, with_active, written_where}
 
@@ -29,7 +30,7 @@ unwoken P list s none h = subst P (sym (ap (λ ws. woken ws s) none ∙ nobody_w
 
 -- where no transaction is active nothing is written
 pub nobody_enters :
-    (s : Machine) (active : Option Transaction) (id : ℕ) (change : Change) (f : Transaction → Machine) → active ≡ None →
-    s ≡ woken (written_where active id change s) (with_active active f s)
-nobody_enters s active id change f none =
-    subst (λ a. s ≡ woken (written_where a id change s) (with_active a f s)) (sym none) (sym (nobody_wakes s))
+    (s : Machine) (active : Option Transaction) (id : ℕ) (change : Change) (fate : Fate) (f : Transaction → Machine) → active ≡ None →
+    s ≡ woken (written_where active id change fate s) (with_active active f s)
+nobody_enters s active id change fate f none =
+    subst (λ a. s ≡ woken (written_where a id change fate s) (with_active a f s)) (sym none) (sym (nobody_wakes s))

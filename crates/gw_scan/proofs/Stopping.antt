@@ -137,6 +137,8 @@ entity_stops s class.Qm key = amount_stops _
 entity_stops s class.Qz key = amount_stops _
 entity_stops s class.X key = stopping_gives _
 entity_stops s class.Ls key = amount_stops _
+entity_stops s class.Ch key = amount_stops _
+entity_stops s class.Cc key = amount_stops _
 entity_stops s of key = stopping_ends Range
 
 entities_stop : (s : Machine) (class : Class) (of : Subject) → Stopping (subject_prog of ~> (λ key. entity_value s class key))
@@ -189,6 +191,8 @@ attribute_stops s q class.Qm of = entities_stop s class.Qm of
 attribute_stops s q class.Qz of = entities_stop s class.Qz of
 attribute_stops s q class.X of = entities_stop s class.X of
 attribute_stops s q class.Ls of = entities_stop s class.Ls of
+attribute_stops s q class.Ch of = entities_stop s class.Ch of
+attribute_stops s q class.Cc of = entities_stop s class.Cc of
 attribute_stops s q class.S of = storages_stop s class.S of
 attribute_stops s q class.R of = left_stops s of
 attribute_stops s q class.Sc of = storages_stop s class.Sc of
@@ -222,6 +226,8 @@ watched_stops class.Qm of = entity_watched_stops kinds.Queue of
 watched_stops class.Qz of = entity_watched_stops kinds.Queue of
 watched_stops class.X of = entity_watched_stops kinds.Savevalue of
 watched_stops class.Ls of = entity_watched_stops kinds.Switch of
+watched_stops class.Ch of = entity_watched_stops kinds.UserChain of
+watched_stops class.Cc of = entity_watched_stops kinds.UserChain of
 watched_stops class.S of = storage_watched_stops of
 watched_stops class.R of = storage_watched_stops of
 watched_stops class.Sc of = storage_watched_stops of

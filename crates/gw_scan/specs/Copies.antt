@@ -12,6 +12,7 @@ pub record ChainsOf (s : Machine) (chains : Chains) : Type 0 where
   pub future : chains.future.items ≡ s.future
   pub delays : delays_of chains.delays ≡ s.delays
   pub retry : chains.retry.waiters ≡ s.retry
+  pub linked : chains.linked ≡ s.linked
 
 -- the counts, the entities and the parameters are those of the state
 pub record KeptOf (s : Machine) (kept : Kept) : Type 0 where

@@ -1,5 +1,5 @@
 // The next transaction of a GENERATE, and the first ones of all.
-ghost use Rattle.std.specs.Prelude.{◌≡◌, [], OnOk, option_copied, true, nat_le};
+ghost use Rattle.std.specs.Prelude.{◌≡◌, ◌-◌, ◌^◌, [], OnOk, min, option_copied, true, nat_le};
 ghost use Rattle.gw_meaning.specs.Machine.{live, count_at};
 ghost use Rattle.gw_meaning.specs.Step.{arrival_prog, arrival_in_time, arrival_at, first_of, first_arrival, prime_prog, arrivals_prog, with_arrival};
 ghost use Rattle.gw_asking.specs.Deciding.{Decides, Comes};
@@ -20,10 +20,18 @@ impl State {
     fn is_full(&self) -> bool
         ensures { result ≡ nat_le 100000 (live self.now) }
     {
+        self.living() >= LIVE_LIMIT
+    }
+
+    // How many live, as far as a number of 64 bits goes.
+    pub(crate) fn living(&self) -> usize
+        ensures { result ≡ min (live self.now) (2 ^ 64 - 1) }
+    {
         let active = if self.active.is_some() { 1 } else { 0 };
         let moving = active + self.current.len() + self.future.len();
         let waiting = self.delays.count().saturating_add(self.retry.len());
-        moving.saturating_add(waiting) >= LIVE_LIMIT
+        let linked = self.linked.count();
+        moving.saturating_add(waiting).saturating_add(linked)
     }
 
     // The next transaction of the GENERATE at `id`: its limit, then its time, then its priority.

@@ -51,6 +51,7 @@ impl State {
             Class::Q | Class::Qc => self.of_entity(case, notes, class, of),
             Class::Qm | Class::Qz => self.of_entity(case, notes, class, of),
             Class::X | Class::Ls => self.of_entity(case, notes, class, of),
+            Class::Ch | Class::Cc => self.of_entity(case, notes, class, of),
             Class::S | Class::Sc | Class::Sm => self.of_storage(class, of),
             Class::R => self.left(case, notes, of),
             Class::N | Class::W => self.of_block(case, notes, class, of),
@@ -105,7 +106,7 @@ impl State {
         self.parameter(asker, &key)
     }
 
-    // Of a facility, a queue, a savevalue or a switch.
+    // Of a facility, a queue, a savevalue, a switch or a user chain.
     #[inline(never)]
     fn of_entity(
         &self,
@@ -133,6 +134,8 @@ impl State {
             Class::Qz => amount(self.entities.queue(key).zero_entries()),
             Class::X => Ok(self.entities.savevalue(key).unwrap_or(Val::ZERO)),
             Class::Ls => amount(u64::from(self.entities.is_set(key))),
+            Class::Ch => amount(self.linked.len(key) as u64),
+            Class::Cc => amount(self.linked.entries(key)),
             _ => Err(Halt::RANGE),
         }
     }
@@ -260,7 +263,7 @@ fn owned(owner: Option<u64>) -> u64
     }
 }
 
-// The facility, the queue, the savevalue, the switch or the parameter that an attribute is of.
+// The facility, the queue, the savevalue, the switch, the user chain or the parameter that an attribute is of.
 pub fn subject(case: Case, notes: &mut Notes, of: &Subject) -> Result<Key, Halt>
     ensures { Decides case.entry.version.now case.entry.seed (subject_prog of.now) result notes.old notes.new }
 {

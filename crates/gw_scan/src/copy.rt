@@ -4,7 +4,7 @@ ghost use Rattle.std.specs.Prelude.{◌≡◌, IfOk};
 ghost use Rattle.gw_scan.specs.Copies.{ChainsOf, KeptOf};
 
 use crate::state::State;
-use gw_chains::{Counts, DelayChains, FutureChain, PriorityChain};
+use gw_chains::{Counts, DelayChains, FutureChain, PriorityChain, UserChains};
 use gw_entities::Parameters;
 use gw_parts::Entities;
 use gw_retry::Retry;
@@ -17,6 +17,7 @@ pub struct Chains {
     pub future: FutureChain,
     pub delays: DelayChains,
     pub retry: Retry,
+    pub linked: UserChains,
 }
 
 // What a state keeps of blocks, of entities and of transactions.
@@ -36,6 +37,7 @@ impl State {
         self.current.share()?;
         self.delays.share()?;
         self.retry.share()?;
+        self.linked.share()?;
         self.future.share()?;
         self.entities.share()?;
         self.parameters.share()
@@ -57,6 +59,7 @@ impl State {
             future: chains.future,
             delays: chains.delays,
             retry: chains.retry,
+            linked: chains.linked,
             counts: kept.counts,
             entities: kept.entities,
             parameters: kept.parameters,
@@ -69,11 +72,13 @@ impl State {
         let current = self.current.copy()?;
         let future = self.future.copy()?;
         let delays = self.delays.copy()?;
+        let retry = self.retry.copy()?;
         Ok(Chains {
             current,
             future,
             delays,
-            retry: self.retry.copy()?,
+            retry,
+            linked: self.linked.copy()?,
         })
     }
 

@@ -46,3 +46,14 @@ pub fn enter_doing(id: StatementId, key: Key, deed: Deed) -> Move
         fate: Fate::Active,
     }
 }
+
+// It brings others.
+pub fn enter_bringing(id: StatementId, change: Change) -> Move
+    ensures { result ≡ moves.Enter id change fates.Active }
+{
+    Move::Enter {
+        id,
+        change,
+        fate: Fate::Active,
+    }
+}

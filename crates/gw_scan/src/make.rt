@@ -1,16 +1,16 @@
 // The one place where a state changes: a move is made. All that grows is reserved first, so where memory is refused
 // nothing changes.
-ghost use Rattle.std.specs.Prelude.{◌≡◌, ◌<◌, ◌-◌, ◌≤◌, ◌+◌, length, OnOk, OnErr};
+ghost use Rattle.std.specs.Prelude.{◌≡◌, ◌<◌, ◌-◌, ◌≤◌, ◌+◌, Some, OnOk, OnErr};
 ghost use Rattle.gw_chains.specs.Chains.{delays_of};
 ghost use Rattle.gw_meaning.specs.declared.moves.Move.TheVariants as moves;
 ghost use Rattle.gw_meaning.specs.Changes.{moved, placed, own_marked, marked, own_held, held_by, fated, changed, written, woken};
 ghost use Rattle.gw_meaning.specs.Entities.{touched};
 ghost use Rattle.gw_meaning.specs.Machine.{Machine};
 ghost use Rattle.gw_parts.specs.Parts.{entities_of};
-ghost use Rattle.gw_scan.specs.Making.{IsMade, IsAlone, HasRoom, brought, kept_by};
+ghost use Rattle.gw_scan.specs.Making.{IsMade, IsAlone, HasRoom, active_behind, StandsWithin, brought, given, kept_by, linked_by};
 
 use crate::state::State;
-use gw_chains::{Counts, DelayChains, FutureChain, PriorityChain};
+use gw_chains::{Counts, DelayChains, FutureChain, PriorityChain, UserChains};
 use gw_entities::Parameters;
 use gw_expr::Row;
 use gw_meaning::{
@@ -19,7 +19,7 @@ use gw_meaning::{
 };
 use gw_names::Key;
 use gw_nums::Clock;
-use gw_parts::{Active, Entities, Progress, admit, make, make_all, reserve_to_admit};
+use gw_parts::{Active, Entities, Progress, admit, copy_all, make, make_all, reserve_to_admit};
 use std::alloc::{AllocError, Global};
 
 impl State {
@@ -36,7 +36,7 @@ impl State {
                 self.progress.count_command();
                 Ok(())
             }
-            Move::Enter { id, change, fate } => self.enter(alloc, id, &change, fate),
+            Move::Enter { id, change, fate } => self.enter(alloc, id, &change, &fate),
             Move::Refuse { id, key, units } => self.refuse(id, &key, units),
             Move::Watch { read } => self.watch(read),
             Move::Pick => {
@@ -118,11 +118,11 @@ impl State {
         alloc: Global,
         id: StatementId,
         change: &Change,
-        fate: Fate,
+        fate: &Fate,
     ) -> Result<(), AllocError>
-        requires { IsAlone change.now fate }
-        ensures ok { OnOk result (self.new ≡ woken (written self.old (moves.Enter id change.now fate))
-            (moved self.old (moves.Enter id change.now fate))) }
+        requires { IsAlone change.now fate.now }
+        ensures ok { OnOk result (self.new ≡ woken (written self.old (moves.Enter id change.now fate.now))
+            (moved self.old (moves.Enter id change.now fate.now))) }
         ensures err { OnErr result (self.new ≡ self.old) }
     {
         let Some(x) = self.active.as_ref() else {
@@ -130,7 +130,8 @@ impl State {
         };
         let x = *x;
         let clock = self.clocks.clock();
-        let written = self.to_wake(alloc, &x, id, change)?;
+        let next = self.next;
+        let written = self.to_wake(alloc, &x, id, change, fate)?;
         let count = self.retry.reserve(written.as_slice())?;
         let Some(others) = count.checked_add(1) else {
             return Err(AllocError);
@@ -146,14 +147,18 @@ impl State {
         )?;
         // The last that may be refused.
         keep(
+            alloc,
             change,
             fate,
             &mut self.entities,
             &mut self.parameters,
+            &mut self.linked,
             clock,
-            x.number,
+            next,
+            &x,
+            id,
         )?;
-        self.counts.cross(x.current, id, &fate);
+        self.counts.cross(x.current, id, fate);
         settle(
             &mut self.active,
             &mut self.current,
@@ -164,8 +169,10 @@ impl State {
         );
         bring(
             change,
+            &self.active,
             &mut self.next,
             &mut self.delays,
+            &mut self.linked,
             &mut self.current,
             &mut self.future,
             &mut self.counts,
@@ -205,29 +212,81 @@ fn reserve(
             current.reserve(others)?;
             counts.reserve(arrival.id)
         }
-        _ => current.reserve(others),
+        Change::Split { count, .. } | Change::Unlink { count, .. } => {
+            reserve_for(current, *count, others)
+        }
+        Change::Nothing | Change::Generate { next: None } | Change::Transaction(_) => {
+            current.reserve(others)
+        }
     }
 }
 
-// Changes what is kept of entities and of the transaction with a number, or nothing where memory is refused.
+// Makes room on the current chain for so many who come, and for so many others.
+fn reserve_for(current: &mut PriorityChain, count: u64, others: usize) -> Result<(), AllocError>
+    ensures ok { OnOk result (count ≤ current.new.room - others) }
+    ensures others { OnOk result (others ≤ current.new.room) }
+    ensures current { current.new.items ≡ current.old.items }
+{
+    let Some(all) = others.checked_add(count as usize) else {
+        return Err(AllocError);
+    };
+    current.reserve(all)
+}
+
+// Changes what is kept of entities and of transactions where one enters a block, or nothing where memory is refused. The
+// next one to be made has this number.
 fn keep(
+    alloc: Global,
     change: &Change,
-    fate: Fate,
+    fate: &Fate,
+    entities: &mut Entities,
+    parameters: &mut Parameters,
+    linked: &mut UserChains,
+    clock: Clock,
+    next: u64,
+    x: &Transaction,
+    id: StatementId,
+) -> Result<(), AllocError>
+    requires { IsAlone change.now fate.now }
+    ensures entities { OnOk result
+        (entities_of entities.new ≡ touched change.now clock x.now.number (entities_of entities.old)) }
+    ensures parameters { OnOk result (parameters.new ≡ given change.now (active_behind fate.now x.now) next
+        (kept_by fate.now x.now.number (held_by change.now x.now.number parameters.old))) }
+    ensures linked { OnOk result (linked.new ≡ linked_by fate.now (placed x.now id) linked.old) }
+    ensures err_entities { OnErr result (entities_of entities.new ≡ entities_of entities.old) }
+    ensures err_parameters { OnErr result (parameters.new ≡ parameters.old) }
+    ensures err_linked { OnErr result (linked.new ≡ linked.old) }
+{
+    match fate {
+        Fate::Active => change_own(alloc, change, entities, parameters, clock, next, x),
+        Fate::Current | Fate::Delayed { .. } => Ok(()),
+        Fate::Linked { key, discipline } => linked.link(key, placed(*x, id), *discipline),
+        Fate::Destroyed { .. } => parameters.forget(x.number),
+    }
+}
+
+// The same, where the transaction stays active.
+fn change_own(
+    alloc: Global,
+    change: &Change,
     entities: &mut Entities,
     parameters: &mut Parameters,
     clock: Clock,
-    number: u64,
+    next: u64,
+    x: &Transaction,
 ) -> Result<(), AllocError>
-    requires { IsAlone change.now fate }
-    ensures entities { OnOk result (entities_of entities.new ≡ touched change.now clock number (entities_of entities.old)) }
-    ensures parameters { OnOk result (parameters.new ≡ kept_by fate number (held_by change.now number parameters.old)) }
+    ensures entities { OnOk result
+        (entities_of entities.new ≡ touched change.now clock x.now.number (entities_of entities.old)) }
+    ensures parameters { OnOk result (parameters.new ≡ given change.now (Some x.now) next
+        (held_by change.now x.now.number parameters.old)) }
     ensures err_entities { OnErr result (entities_of entities.new ≡ entities_of entities.old) }
     ensures err_parameters { OnErr result (parameters.new ≡ parameters.old) }
 {
     match change {
-        Change::Entity(EntityChange { key, deed }) => entities.make(key, deed, clock, number),
-        Change::Transaction(change) => assign(parameters, number, change),
-        Change::Nothing | Change::Generate { .. } => forget(parameters, number, fate),
+        Change::Entity(EntityChange { key, deed }) => entities.make(key, deed, clock, x.number),
+        Change::Transaction(change) => assign(parameters, x.number, change),
+        Change::Split { count, .. } => parameters.inherit(alloc, x.number, next, *count),
+        Change::Nothing | Change::Generate { .. } | Change::Unlink { .. } => Ok(()),
     }
 }
 
@@ -244,17 +303,6 @@ fn assign(
         TransactionChange::Assign { key, to } => parameters.assign(number, key, *to),
         TransactionChange::Loop { key, left, .. } => parameters.assign(number, key, *left),
         _ => Ok(()),
-    }
-}
-
-// Forgets the parameters of a transaction that is destroyed.
-fn forget(parameters: &mut Parameters, number: u64, fate: Fate) -> Result<(), AllocError>
-    ensures ok { OnOk result (parameters.new ≡ kept_by fate number parameters.old) }
-    ensures err { OnErr result (parameters.new ≡ parameters.old) }
-{
-    match fate {
-        Fate::Destroyed { .. } => parameters.forget(number),
-        Fate::Active | Fate::Current | Fate::Delayed { .. } => Ok(()),
     }
 }
 
@@ -277,7 +325,7 @@ fn marked(change: &Change, clock: Clock, x: Transaction) -> Transaction
     match change {
         Change::Generate { .. } => own_marked(&TransactionChange::Mark, clock, x),
         Change::Transaction(change) => own_marked(change, clock, x),
-        Change::Nothing | Change::Entity(_) => x,
+        Change::Nothing | Change::Split { .. } | Change::Unlink { .. } | Change::Entity(_) => x,
     }
 }
 
@@ -298,14 +346,14 @@ fn own_marked(change: &TransactionChange, clock: Clock, x: Transaction) -> Trans
     }
 }
 
-// What becomes of the transaction that entered a block, but for its parameters.
+// What becomes of the transaction that entered a block, but for its parameters and its user chain.
 fn settle(
     active: &mut Active,
     current: &mut PriorityChain,
     future: &mut FutureChain,
     progress: &mut Progress,
     x: Transaction,
-    fate: Fate,
+    fate: &Fate,
 )
     requires current { 0 < current.old.room }
     requires future { 0 < future.old.room }
@@ -316,13 +364,15 @@ fn settle(
           future = future.new.items;
           remaining = progress.new.remaining;
           complete = progress.new.complete;
-          parameters = kept_by fate x.number s.parameters;
-        } ≡ fated fate x (record s {
+          linked = linked_by fate.now x s.linked;
+          parameters = kept_by fate.now x.number s.parameters;
+        } ≡ fated fate.now x (record s {
           current = current.old.items;
           future = future.old.items;
           remaining = progress.old.remaining;
           complete = progress.old.complete;
         }) }
+    ensures active { active.new ≡ active_behind fate.now x }
     ensures commands { (progress.new.commands ≡ progress.old.commands) × (progress.new.primed ≡ progress.old.primed) }
     ensures current_room { current.old.room ≤ current.new.room + 1 }
     ensures future_room { future.old.room ≤ future.new.room + 1 }
@@ -336,48 +386,64 @@ fn settle(
         Fate::Delayed { until } => {
             active.clear();
             future.put(Event {
-                time: until,
+                time: *until,
                 transaction: x,
             });
         }
+        Fate::Linked { .. } => active.clear(),
         Fate::Destroyed { count } => {
             active.clear();
-            progress.count_down(count);
+            progress.count_down(*count);
         }
     }
 }
 
-// Whom a change brings: a GENERATE the next transaction, a RELEASE and a LEAVE those whom they let in.
+// Whom a change brings: a GENERATE the next transaction, a SPLIT copies of the active one, whose parameters are given
+// already, an UNLINK those who leave its user chain, a RELEASE and a LEAVE those whom they let in.
 fn bring(
     change: &Change,
+    active: &Active,
     next: &mut u64,
     delays: &mut DelayChains,
+    linked: &mut UserChains,
     current: &mut PriorityChain,
     future: &mut FutureChain,
     counts: &mut Counts,
 )
-    requires { HasRoom change.now delays.old current.old.room future.old.room counts.old.limit }
+    requires room { HasRoom change.now delays.old current.old.room future.old.room counts.old.limit }
+    requires block { StandsWithin active.now counts.old.limit }
     ensures brought { (s : Machine) →
         record s {
           next = next.new;
+          active = active.now;
           delays = delays_of delays.new;
+          linked = linked.new;
           current = current.new.items;
           future = future.new.items;
           counts = counts.new.entries;
+          parameters = given change.now active.now next.old s.parameters;
         } ≡ changed change.now (record s {
           next = next.old;
+          active = active.now;
           delays = delays_of delays.old;
+          linked = linked.old;
           current = current.old.items;
           future = future.old.items;
           counts = counts.old.entries;
         }) }
-    ensures room { current.old.room ≤ current.new.room + length (brought change.now delays.old) }
+    ensures room { current.old.room ≤ current.new.room + brought change.now delays.old }
 {
     match change {
         Change::Entity(EntityChange { key, deed }) => admit(delays, current, counts, key, deed),
         Change::Generate {
             next: Some(arrival),
         } => make(next, future, counts, *arrival),
-        _ => (),
+        Change::Split { count, to } => {
+            if let Some(x) = active.as_ref() {
+                copy_all(next, current, counts, x, *count, *to);
+            }
+        }
+        Change::Unlink { key, count, to } => linked.unlink(key, *count, *to, current),
+        Change::Nothing | Change::Generate { next: None } | Change::Transaction(_) => (),
     }
 }

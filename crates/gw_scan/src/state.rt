@@ -3,7 +3,7 @@ ghost use Rattle.gw_meaning.specs.Machine.{zero_state, count_at};
 ghost use Rattle.gw_chains.specs.Chains.{delays_of};
 ghost use Rattle.gw_parts.specs.Parts.{entities_of};
 
-use gw_chains::{Counts, DelayChains, FutureChain, PriorityChain};
+use gw_chains::{Counts, DelayChains, FutureChain, PriorityChain, UserChains};
 use gw_entities::Parameters;
 use gw_meaning::{Count, StatementId, Transaction};
 use gw_nums::{Clock, Time};
@@ -25,6 +25,7 @@ pub struct State {
     pub(crate) future: FutureChain,
     pub(crate) delays: DelayChains,
     pub(crate) retry: Retry,
+    pub(crate) linked: UserChains,
     pub(crate) counts: Counts,
     pub(crate) entities: Entities,
     pub(crate) parameters: Parameters,
@@ -51,6 +52,7 @@ impl Model for State {
       future = s.future.items;
       delays = delays_of s.delays;
       retry = s.retry.waiters;
+      linked = s.linked;
       counts = s.counts.entries;
       entities = entities_of s.entities;
       parameters = s.parameters;
@@ -72,6 +74,7 @@ impl State {
             future: FutureChain::new(alloc),
             delays: DelayChains::new(alloc),
             retry: Retry::new(alloc),
+            linked: UserChains::new(alloc),
             counts: Counts::new(alloc),
             entities: Entities::new(alloc),
             parameters: Parameters::new(alloc),

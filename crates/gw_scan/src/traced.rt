@@ -94,6 +94,7 @@ fn watched(
         Class::Qm | Class::Qz => entity_watched(case, notes, EntityKind::Queue, of),
         Class::X => entity_watched(case, notes, EntityKind::Savevalue, of),
         Class::Ls => entity_watched(case, notes, EntityKind::Switch, of),
+        Class::Ch | Class::Cc => entity_watched(case, notes, EntityKind::UserChain, of),
         Class::S | Class::R => storage_watched(case, notes, of),
         Class::Sc | Class::Sm => storage_watched(case, notes, of),
         Class::N | Class::W => counts_watched(case, notes, of),

@@ -1,15 +1,15 @@
 // What a block that is entered writes, for those who wait for a change.
 ghost use Rattle.std.specs.Prelude.{◌≡◌, ◌++◌, Some, IfOk, OnOk, option_copied};
 ghost use Rattle.gw_chains.specs.Chains.{items_of};
-ghost use Rattle.gw_meaning.specs.Changes.{crossing, crossings, deed_shares, written_by, woken};
+ghost use Rattle.gw_meaning.specs.Changes.{crossing, crossings, deed_shares, written_by, written_in, woken};
 ghost use Rattle.gw_meaning.specs.Machine.{Machine};
 ghost use Rattle.gw_meaning.specs.Watching.{kind_of};
 
 use crate::state::State;
 use gw_chains::{PriorityChain, has_share};
 use gw_meaning::{
-    Change, Deed, EntityChange, EntityKind, FacilityDeed, StatementId, StorageDeed, Transaction,
-    Watched,
+    Change, Deed, EntityChange, EntityKind, FacilityDeed, Fate, StatementId, StorageDeed,
+    Transaction, Watched,
 };
 use std::alloc::{AllocError, Global};
 
@@ -21,17 +21,22 @@ impl State {
         x: &Transaction,
         id: StatementId,
         change: &Change,
+        fate: &Fate,
     ) -> Result<Vec<Watched>, AllocError>
-        ensures { IfOk result (λ list. (s : Machine) → s.retry ≡ self.now.retry →
-            woken list.items s ≡ woken (crossing x.now (Some id) ++ written_by change.now self.now) s) }
+        ensures { IfOk result (λ list. (s : Machine) → s.retry ≡ self.now.retry → woken list.items s ≡
+            woken (crossing x.now (Some id) ++ (written_by change.now self.now ++ written_in fate.now)) s) }
     {
         if self.retry.is_empty() {
             return Ok(Vec::new(alloc));
         }
-        self.written(alloc, x, id, change)
+        let mut written = self.written(alloc, x, id, change)?;
+        if let Fate::Linked { key, .. } = fate {
+            written.push(Watched::Entity(EntityKind::UserChain, key.clone()?))?;
+        }
+        Ok(written)
     }
 
-    // What is written there.
+    // What is written there, but for the user chain to which the transaction is linked.
     fn written(
         &self,
         alloc: Global,
@@ -44,10 +49,19 @@ impl State {
     {
         let mut written = Vec::new(alloc);
         push_crossing(&mut written, x, Some(id))?;
-        if let Change::Entity(EntityChange { key, deed }) = change {
-            written.push(Watched::Entity(kind_of(deed), key.clone()?))?;
-            let chain = self.delays.chain(key);
-            push_admitted(&mut written, deed, chain)?;
+        match change {
+            Change::Entity(EntityChange { key, deed }) => {
+                written.push(Watched::Entity(kind_of(deed), key.clone()?))?;
+                let chain = self.delays.chain(key);
+                push_admitted(&mut written, deed, chain)?;
+            }
+            Change::Unlink { key, .. } => {
+                written.push(Watched::Entity(EntityKind::UserChain, key.clone()?))?;
+            }
+            Change::Nothing
+            | Change::Generate { .. }
+            | Change::Transaction(_)
+            | Change::Split { .. } => (),
         }
         Ok(written)
     }

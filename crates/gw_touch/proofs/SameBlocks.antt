@@ -24,7 +24,9 @@ use Rattle.gw_expr.specs.declared.atom.Atom.TheVariants as atoms
 use Rattle.gw_expr.specs.declared.token.Token.TheVariants as tokens
 use Rattle.gw_expr.specs.declared.attribute.Subject.TheVariants as subjects
 use Rattle.gw_names.specs.declared.verb.BlockVerb.{BlockVerb}
-use Rattle.gw_expr.specs.Term.{Term, Value, Computed, Named, Label, Fraction, Defined}
+use Rattle.gw_expr.specs.declared.expr.Discipline.{Discipline}
+use Rattle.gw_expr.specs.declared.expr.Discipline.TheVariants as disciplines
+use Rattle.gw_expr.specs.Term.{Term, Value, Computed, Named, Label, Fraction, Defined, Order}
 use Rattle.gw_expr.specs.declared.atom.Atom.{Atom}
 use Rattle.gw_expr.specs.declared.token.Token.{Token}
 use Rattle.gw_meaning.specs.declared.statement.Statement.{Statement}
@@ -32,6 +34,11 @@ use Rattle.gw_meaning.specs.declared.statement.Block.{Block}
 use Rattle.gw_meaning.specs.declared.statement.Body.{Body}
 use Rattle.gw_meaning.specs.declared.statement.Body.TheVariants as bodies
 use Rattle.gw_touch.specs.Same.{same_atom, same_value, same_part, same_parts, same_type, same_point, same_points, same_function, kind_of, atom_of, parts_of, number_of, bytes_of, same_term, same_operand, same_operands, same_verb, auxiliary_number, same_auxiliary, same_block, same_body, same_statement, same_label}
+
+-- the queue discipline with a number
+abbrev discipline_with : ℕ → Discipline
+discipline_with zero = disciplines.Fifo
+discipline_with (suc n) = disciplines.Lifo
 
 -- the operand that is told so
 abbrev told : ℕ → Option Atom → List Token → ℕ → List ℕ → Term
@@ -41,7 +48,8 @@ told (suc zero) atom parts n bytes = Computed parts
 told (suc (suc zero)) atom parts n bytes = Named bytes
 told (suc (suc (suc zero))) atom parts n bytes = Label bytes
 told (suc (suc (suc (suc zero)))) atom parts n bytes = Fraction n
-told (suc (suc (suc (suc (suc k))))) atom parts n bytes = Defined bytes
+told (suc (suc (suc (suc (suc zero))))) atom parts n bytes = Defined bytes
+told (suc (suc (suc (suc (suc (suc k)))))) atom parts n bytes = Order (discipline_with n)
 
 told_back : (a : Term) → told (kind_of a) (atom_of a) (parts_of a) (number_of a) (bytes_of a) ≡ a
 told_back (Value atom) = refl
@@ -50,6 +58,8 @@ told_back (Named name) = refl
 told_back (Label name) = refl
 told_back (Fraction part) = refl
 told_back (Defined name) = refl
+told_back (Order disciplines.Fifo) = refl
+told_back (Order disciplines.Lifo) = refl
 
 class_same : (c d : Class) → sameb classes.the_type c d ≡ true → c ≡ d
 class_same c d h = same_true classes.the_type (search rules) c d h

@@ -15,7 +15,9 @@ use Rattle.gw_expr.specs.contracts.token.TokenPartialEq.TheImpl as token_compari
 use Rattle.gw_expr.specs.declared.atom.Atom.{Atom}
 use Rattle.gw_expr.specs.declared.token.Token.{Token}
 use Rattle.gw_names.specs.declared.verb.BlockVerb.{BlockVerb}
-use Rattle.gw_expr.specs.Term.{Term, Value, Computed, Named, Label, Fraction, Defined}
+use Rattle.gw_expr.specs.declared.expr.Discipline.{Discipline}
+use Rattle.gw_expr.specs.declared.expr.Discipline.TheVariants as disciplines
+use Rattle.gw_expr.specs.Term.{Term, Value, Computed, Named, Label, Fraction, Defined, Order}
 use Rattle.gw_meaning.specs.declared.statement.Statement.{Statement}
 use Rattle.gw_meaning.specs.declared.auxiliary.Auxiliary.{Auxiliary}
 use Rattle.gw_meaning.specs.declared.auxiliary.Auxiliary.TheVariants as auxiliaries
@@ -34,6 +36,7 @@ kind_of (Named name) = 2
 kind_of (Label name) = 3
 kind_of (Fraction part) = 4
 kind_of (Defined name) = 5
+kind_of (Order discipline) = 6
 
 abbrev pub atom_of : Term → Option Atom
 atom_of (Value atom) = Some atom
@@ -43,8 +46,13 @@ abbrev pub parts_of : Term → List Token
 parts_of (Computed ts) = ts
 parts_of term = []
 
+abbrev pub order_number : Discipline → ℕ
+order_number disciplines.Fifo = 0
+order_number disciplines.Lifo = 1
+
 abbrev pub number_of : Term → ℕ
 number_of (Fraction part) = part
+number_of (Order discipline) = order_number discipline
 number_of term = 0
 
 abbrev pub bytes_of : Term → List ℕ

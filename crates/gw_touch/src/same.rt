@@ -1,8 +1,8 @@
 ghost use Rattle.std.specs.Prelude.{◌≡◌, option_copied};
-ghost use Rattle.gw_touch.specs.Same.{same_term, same_operand, same_operands, same_verb, auxiliary_number, same_auxiliary, same_block, same_body, same_statement, same_label, same_atom, same_value, same_part, same_parts, same_type, same_points, same_function, kind_of, atom_of, parts_of, number_of, bytes_of};
+ghost use Rattle.gw_touch.specs.Same.{same_term, same_operand, same_operands, same_verb, auxiliary_number, same_auxiliary, same_block, same_body, same_statement, same_label, same_atom, same_value, same_part, same_parts, same_type, same_points, same_function, kind_of, atom_of, parts_of, order_number, number_of, bytes_of};
 ghost use Rattle.gw_expr.specs.Term.{term_of};
 
-use gw_expr::{Atom, Expr, Function, FunctionType, Node, Point, Token};
+use gw_expr::{Atom, Discipline, Expr, Function, FunctionType, Node, Point, Token};
 use gw_meaning::{Auxiliary, Block, Body, Condition, Statement, Switching};
 use gw_names::{BlockVerb, Name};
 
@@ -116,6 +116,7 @@ fn kind(node: &Node) -> u8
         Node::Label(_) => 3,
         Node::Fraction(_) => 4,
         Node::Defined(_) => 5,
+        Node::Order(_) => 6,
     }
 }
 
@@ -142,7 +143,18 @@ fn number(node: &Node) -> u32
 {
     match node {
         Node::Fraction(part) => *part,
+        Node::Order(discipline) => order_number(*discipline),
         _ => 0,
+    }
+}
+
+// The number that a queue discipline has alone.
+fn order_number(discipline: Discipline) -> u32
+    ensures { result ≡ order_number discipline }
+{
+    match discipline {
+        Discipline::Fifo => 0,
+        Discipline::Lifo => 1,
     }
 }
 

@@ -1,4 +1,4 @@
-use Rattle.std.proofs.Common.{ap, ◌∙◌, rules}
+use Rattle.std.proofs.Common.{ap, ◌∙◌}
 use Rattle.std.specs.List.{zip}
 use Rattle.gw_entities.proofs.Beside.{set_beside, none_beside}
 use Rattle.gw_entities.proofs.by_key.ByKey.put.Goals as goal

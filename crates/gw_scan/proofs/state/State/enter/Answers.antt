@@ -7,23 +7,24 @@ use Rattle.gw_meaning.specs.Watching.{transactions_of}
 use Rattle.gw_meaning.specs.Changes.{placed, marked, held_by, fated, crossed, changed, entering, all_lined_up, is_woken, woken}
 use Rattle.gw_meaning.specs.Entities.{touched}
 use Rattle.gw_parts.specs.Parts.{entities_of}
-use Rattle.gw_scan.specs.Making.{kept_by}
+use Rattle.gw_scan.specs.Making.{active_behind, given, kept_by, linked_by}
 use Rattle.gw_scan.proofs.Quiet.{nobody_enters}
-use Rattle.gw_scan.proofs.Kept.{number_kept, entered_is}
+use Rattle.gw_scan.proofs.Kept.{number_kept, given_same, linked_same, entered_is}
 use Rattle.gw_scan.proofs.state.State.enter.Goals as goal
 
 pub returns-in_default-clause-ok : goal.returns-in_default-clause-ok
 returns-in_default-clause-ok c =
     let s = c.args.self.now in
     let none : s.active ≡ None = search rules in
-    nobody_enters s s.active c.args.id c.args.change.now (λ x. entering s x c.args.id c.args.change.now c.args.fate) none
+    nobody_enters s s.active c.args.id c.args.change.now c.args.fate.now
+    (λ x. entering s x c.args.id c.args.change.now c.args.fate.now) none
 
 pub returns-clause-ok : goal.returns-clause-ok
 returns-clause-ok c =
     let s = c.args.self.now in
     let id = c.args.id in
     let change = c.args.change.now in
-    let fate = c.args.fate in
+    let fate = c.args.fate.now in
     let x = c.in-Some.x.now in
     let active : s.active ≡ Some x = search rules in
     let list : List Watched = c.in_ok-written.written.items in
@@ -36,11 +37,17 @@ returns-clause-ok c =
     let delays : delays_of c.reserve-3.new.delays ≡ s.delays = search rules in
     let counts : c.cross.new.self.entries ≡ crossed fate s.counts x.current id = search rules in
     let entities : entities_of c.keep.new.entities ≡ touched change s.clock number s.entities = search rules in
-    let kept : c.keep.new.parameters ≡ kept_by fate number (held_by change number s.parameters) = search rules in
+    let held = held_by change number s.parameters in
+    let kept : c.keep.new.parameters ≡ given change (active_behind fate x) s.next (kept_by fate number held) = search rules in
     let same_number : c.marked.result.number ≡ number =
     ap (λ (z : Transaction). z.number) is_y ∙ number_kept change s.clock (placed x id) in
-    let parameters : c.keep.new.parameters ≡ kept_by fate c.marked.result.number (held_by change number s.parameters) =
-    kept ∙ ap (λ n. kept_by fate n (held_by change number s.parameters)) (sym same_number) in
+    let parameters : kept_by fate number held ≡ kept_by fate c.marked.result.number held = ap (λ n. kept_by fate n held) (sym same_number) in
+    let given_is : c.keep.new.parameters ≡ given change c.settle.new.active c.self.inside.next (kept_by fate number held) =
+    kept ∙ (given_same change fate x c.marked.result s.next (kept_by fate number held) same_number ∙
+    ap₂ (λ a n. given change a n (kept_by fate number held)) (sym c.settle.ensures.active) (sym next)) in
+    let joined : c.keep.new.linked ≡ linked_by fate (placed x id) s.linked = search rules in
+    let linked : c.keep.new.linked ≡ linked_by fate c.marked.result s.linked =
+    joined ∙ linked_same change fate s.clock (placed x id) c.marked.result s.linked c.requires is_y in
     let commands : progress.commands ≡ s.commands = search rules in
     let primed : progress.primed ≡ s.primed = search rules in
     -- behind what becomes of the transaction
@@ -63,11 +70,12 @@ returns-clause-ok c =
       commands = progress.commands;
       primed = progress.primed;
       entities = entities_of c.keep.new.entities;
-      parameters = c.keep.new.parameters;
+      parameters = kept_by fate number held;
     } in
     let start : Machine = record rest {
       next = c.self.inside.next;
       delays = delays_of c.reserve-3.new.delays;
+      linked = c.keep.new.linked;
       current = c.settle.new.current.items;
       future = c.settle.new.future.items;
       counts = c.cross.new.self.entries;
@@ -78,10 +86,12 @@ returns-clause-ok c =
       future = c.settle.new.future.items;
       remaining = progress.remaining;
       complete = progress.complete;
+      linked = linked_by fate c.marked.result base.linked;
       parameters = kept_by fate c.marked.result.number base.parameters;
     } = λ i. record start {
       next = next i;
       delays = delays i;
+      linked = linked i;
       counts = counts i;
       entities = entities i;
       parameters = parameters i;
@@ -93,6 +103,8 @@ returns-clause-ok c =
     let brought : Machine = record rest {
       next = c.bring.new.next;
       delays = delays_of c.bring.new.delays;
+      linked = c.bring.new.linked;
+      parameters = given change c.settle.new.active c.self.inside.next rest.parameters;
       current = c.bring.new.current.items;
       future = c.bring.new.future.items;
       counts = c.bring.new.counts.entries;
@@ -102,7 +114,7 @@ returns-clause-ok c =
     let current : c.wake.new.current.items ≡
     all_lined_up (transactions_of (filter (is_woken list) s.retry)) c.bring.new.current.items = search rules in
     let retry : c.wake.new.self.waiters ≡ filter (λ w. not (is_woken list w)) s.retry = search rules in
-    let after : Machine = record brought { current = c.wake.new.current.items; retry = c.wake.new.self.waiters } in
-    let woke : after ≡ woken list brought = λ i. record brought { current = current i; retry = retry i } in
+    let after : Machine = record brought { parameters = c.keep.new.parameters; current = c.wake.new.current.items; retry = c.wake.new.self.waiters } in
+    let woke : after ≡ woken list brought = λ i. record brought { parameters = given_is i; current = current i; retry = retry i } in
     let view = ap (λ (t : Machine). record after { clock = t.clock; since = t.since; streams = t.streams }) c.self.view_is in
     view ∙ entered_is s after x id change fate list active c.in_ok-written.ensures (woke ∙ ap (woken list) entered)
