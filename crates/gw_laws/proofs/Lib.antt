@@ -40,5 +40,6 @@ pub mod GateLaws
 pub mod UserChainLaws
 pub mod CopyLaws
 pub mod InheritLaws
+pub mod CopyComings
 pub mod WaitingTests
 pub mod WakingLaws

@@ -1,7 +1,8 @@
 -- The copies that a SPLIT makes, over every run from zero. (Manual: SPLIT. Our own: the order of their numbers. Within the
 -- step limit, since numbers tell transactions apart there.)
-use Rattle.std.specs.Prelude.{◌≡◌, ◌≢◌, ℕ, zero, suc, ◌+◌, ◌<◌, ◌≤◌, List, [], ◌∷◌, ◌++◌, Option, Some, Ok, Contains}
+use Rattle.std.specs.Prelude.{◌≡◌, ◌≢◌, ℕ, zero, suc, ◌+◌, ◌<◌, ◌≤◌, false, List, [], ◌∷◌, ◌++◌, Option, Some, Ok, Contains}
 use Rattle.gw_names.specs.declared.key.Key.{Key}
+use Rattle.gw_entities.specs.Comings.{came}
 use Rattle.gw_entities.specs.Parameters.{parameter_at}
 use Rattle.gw_streams.specs.declared.stream.Stream.{Stream}
 use Rattle.gw_meaning.specs.declared.transaction.Transaction.{Transaction}
@@ -58,6 +59,12 @@ CopiesInherit =
     (t : Listing) (seed : ℕ) (s v : Machine) (id count : ℕ) (to : Option ℕ) → IsSplit t seed s v id count to →
     (x : Transaction) (number : ℕ) (key : Key) → v.active ≡ Some x → s.next ≤ number → number < v.next →
     parameter_at v.parameters number key ≡ parameter_at v.parameters x.number key
+
+-- but it came to no queue
+abbrev pub CopiesCameToNoQueue : Type 0
+CopiesCameToNoQueue =
+    (t : Listing) (seed : ℕ) (s v : Machine) (id count : ℕ) (to : Option ℕ) → IsSplit t seed s v id count to →
+    (number : ℕ) (queue : Key) → s.next ≤ number → came v.entities.comings queue number ≡ false
 
 -- so many numbers, from this one on
 abbrev pub numbers_from : ℕ → ℕ → List ℕ

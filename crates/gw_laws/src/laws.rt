@@ -6,7 +6,8 @@ ghost use Rattle.gw_laws.specs.Clock.{ClockNeverGoesBack, ClockStaysWithin, Noth
 ghost use Rattle.gw_laws.specs.Clock.{ClockMovesOnlyWhenItMust, ClockMovesWhenItMust};
 ghost use Rattle.gw_laws.specs.Contents.{ContentsAreCounts};
 ghost use Rattle.gw_laws.specs.Copies.{TheParentStaysActive, EachCopyHasANumber, CopiesAreAlike, CopiesInherit};
-ghost use Rattle.gw_laws.specs.Copies.{CopiesLineUpInOrder, CopiesAreNoEntries, CopiesStandInTheBlock};
+ghost use Rattle.gw_laws.specs.Copies.{CopiesCameToNoQueue, CopiesLineUpInOrder, CopiesAreNoEntries};
+ghost use Rattle.gw_laws.specs.Copies.{CopiesStandInTheBlock};
 ghost use Rattle.gw_laws.specs.Delays.{DelaysAreInOrder, DelaysAreFirstInFirstOut, WhoWaitsKeepsHisPlace};
 ghost use Rattle.gw_laws.specs.Delays.{WhoWaitsIsBound, WhoLeavesIsLetIn, FirstTakesOver, NobodyWaitsAtAFreeFacility};
 ghost use Rattle.gw_laws.specs.Destinations.{GoesToItsDestination, OthersStayInTheirBlocks};
@@ -85,13 +86,15 @@ pub fn user_chains_in_order()
 
 /// A transaction that enters a SPLIT stays active, and stands in its block. Each copy has a number of its own, in their
 /// order: so many are given as copies are made. It has the priority, the mark time, the block and the parameters of that
-/// transaction, and goes to the block of the SPLIT's label, or on from its own. The copies stand on the current chain in
-/// the order of their numbers, behind all of their priority. A copy stands in its block and is no entry of it.
+/// transaction, and goes to the block of the SPLIT's label, or on from its own. It came to no queue. The copies stand on
+/// the current chain in the order of their numbers, behind all of their priority. A copy stands in its block and is no
+/// entry of it.
 pub fn copies_are_made()
     ensures parent { TheParentStaysActive }
     ensures numbers { EachCopyHasANumber }
     ensures alike { CopiesAreAlike }
     ensures parameters { CopiesInherit }
+    ensures queues { CopiesCameToNoQueue }
     ensures order { CopiesLineUpInOrder }
     ensures entries { CopiesAreNoEntries }
     ensures content { CopiesStandInTheBlock }

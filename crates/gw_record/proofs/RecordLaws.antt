@@ -1,5 +1,5 @@
 -- What stays the record of a run: when a state is kept, when a step is made, when first uses are forgotten.
-use Rattle.std.proofs.Common.{◌≡◌, ◌⊎◌, ℕ, zero, suc, ◌+◌, ◌-◌, ◌<◌, ◌≤◌, Bool, true, false, cond, nat_eq, nat_lt, List, [], ◌∷◌, ◌++◌, length, get_or, slice_get, Option, Some, None, Ok, Bor, option_copied, inl, inr, ⊎_elim, refl, sym, ap, subst, ◌∙◌, arith}
+use Rattle.std.proofs.Common.{◌≡◌, ◌⊎◌, ℕ, zero, suc, ℤ, ◌+◌, ◌-◌, ◌<◌, ◌≤◌, Bool, true, false, cond, nat_eq, nat_lt, List, [], ◌∷◌, ◌++◌, length, get_or, slice_get, Option, Some, None, Ok, Bor, option_copied, inl, inr, ⊎_elim, refl, sym, ap, subst, ◌∙◌, arith}
 use Rattle.std.specs.List.{list_any}
 use Rattle.std.proofs.lemmas.Bool.Decides.{nat_tests}
 use Rattle.std.proofs.lemmas.List.{length_push}
@@ -10,7 +10,8 @@ use Rattle.gw_meaning.specs.declared.moves.Move.{Move}
 use Rattle.gw_meaning.specs.declared.moves.Move.TheVariants as moves
 use Rattle.gw_meaning.specs.declared.transaction.Transaction.{Transaction}
 use Rattle.gw_meaning.specs.Listing.{Listing}
-use Rattle.gw_meaning.specs.Machine.{Machine, raised, delay_at}
+use Rattle.gw_entities.specs.Parameters.{values_at}
+use Rattle.gw_meaning.specs.Machine.{Machine, raised, delay_at, user_chain_at}
 use Rattle.gw_streams.specs.declared.stream.Stream.{Stream}
 use Rattle.gw_names.specs.declared.key.Key.{Key}
 use Rattle.gw_meaning.specs.declared.entity_change.Deed.{Deed}
@@ -18,7 +19,7 @@ use Rattle.gw_meaning.specs.declared.moves.Change.{Change}
 use Rattle.gw_meaning.specs.declared.moves.Change.TheVariants as changes
 use Rattle.gw_meaning.specs.declared.moves.Fate.{Fate}
 use Rattle.gw_meaning.specs.declared.moves.Fate.TheVariants as fates
-use Rattle.gw_meaning.specs.Changes.{deed_shares, moved, decided, fated, let_in, one_let_in, some_let_in, admitted, changed, with_active, picked}
+use Rattle.gw_meaning.specs.Changes.{deed_shares, moved, decided, fated, let_in, one_let_in, some_let_in, admitted, all_copied, one_copied, some_unlinked, one_unlinked, changed, with_active, picked}
 use Rattle.gw_meaning.specs.Step.{decide, step, step_items, run}
 use Rattle.gw_meaning.specs.Questions.{result_of}
 use Rattle.gw_meaning.specs.declared.item.End.{End}
@@ -176,6 +177,7 @@ complete_fated : (fate : Fate) (x : Transaction) (s : Machine) → (fated fate x
 complete_fated fates.Active x s = omega arith
 complete_fated fates.Current x s = omega arith
 complete_fated (fates.Delayed until) x s = omega arith
+complete_fated (fates.Linked key discipline) x s = omega arith
 complete_fated (fates.Destroyed count) x s = complete_done _ s.complete
 
 complete_let_in : (x : Transaction) (destination : Option ℕ) (s : Machine) (n : ℕ) → s.complete ≤ n + 1 → (let_in x destination s).complete ≤ n + 1
@@ -194,10 +196,32 @@ complete_some key (Some units ∷ shares) passed (x ∷ xs) s n h =
 complete_admitted : (key : Key) (deed : Deed) (s : Machine) (n : ℕ) → s.complete ≤ n + 1 → (admitted key deed s).complete ≤ n + 1
 complete_admitted key deed s n h = complete_some key (deed_shares deed) [] (delay_at s.delays key) s n h
 
+complete_copied :
+    (count : ℕ) (to : Option ℕ) (x : Transaction) (values : List (Key × ℤ)) (s : Machine) (n : ℕ) → s.complete ≤ n + 1 →
+    (all_copied count to x values s).complete ≤ n + 1
+complete_copied zero to x values s n h = h
+complete_copied (suc k) to x values s n h = complete_copied k to x values (one_copied to x values s) n h
+
+complete_split :
+    (count : ℕ) (to : Option ℕ) (active : Option Transaction) (s : Machine) (n : ℕ) → s.complete ≤ n + 1 →
+    (with_active active (λ x. all_copied count to x (values_at s.parameters x.number) s) s).complete ≤ n + 1
+complete_split count to None s n h = h
+complete_split count to (Some x) s n h = complete_copied count to x (values_at s.parameters x.number) s n h
+
+complete_unlinked :
+    (count : ℕ) (key : Key) (to : Option ℕ) (chain : List Transaction) (s : Machine) (n : ℕ) → s.complete ≤ n + 1 →
+    (some_unlinked count key to chain s).complete ≤ n + 1
+complete_unlinked zero key to chain s n h = h
+complete_unlinked (suc k) key to [] s n h = h
+complete_unlinked (suc k) key to (x ∷ xs) s n h = complete_unlinked k key to xs (one_unlinked key to x xs s) n h
+
 complete_changed : (change : Change) (s : Machine) (n : ℕ) → s.complete ≤ n + 1 → (changed change s).complete ≤ n + 1
 complete_changed (changes.Generate next) s n h = h
 complete_changed (changes.Entity change) s n h = complete_admitted change.0 change.1 s n h
 complete_changed (changes.Transaction change) s n h = h
+complete_changed (changes.Split count to) s n h = complete_split count to s.active s n h
+complete_changed (changes.Unlink key count to) s n h =
+    complete_unlinked count key to (user_chain_at s.linked key).members s n h
 complete_changed changes.Nothing s n h = h
 
 pub complete_moved : (s : Machine) (m : Move) → (moved s m).complete ≤ s.complete + 1
