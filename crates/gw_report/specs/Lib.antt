@@ -9,6 +9,8 @@ pub mod Entities
 pub mod Facilities
 pub mod Queues
 pub mod Storages
+pub mod Moments
+pub mod Tables
 pub mod Report
 pub mod Renamed
 pub use Rattle.gw_meaning.specs.Listing

@@ -112,8 +112,8 @@ fn put_thousandths(
     }
 }
 
-// The three decimals of a number of thousandths, behind a point.
-fn fraction_of(number: u128) -> [u8; 4]
+/// The three decimals of a number of thousandths, behind a point.
+pub fn fraction_of(number: u128) -> [u8; 4]
     ensures { result ≡ fraction_of number }
 {
     [

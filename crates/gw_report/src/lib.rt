@@ -7,6 +7,7 @@
 #![tactic(auto)]
 
 mod blocks;
+mod classes;
 mod column;
 mod current;
 mod entity;
@@ -16,6 +17,7 @@ mod head;
 mod laid;
 mod laws;
 mod line;
+mod moments;
 mod names;
 mod position;
 mod queues;
@@ -23,6 +25,7 @@ mod report;
 mod section;
 mod sheet;
 mod storages;
+mod tables;
 mod title;
 
 pub use laws::renamed_text;

@@ -1,0 +1,137 @@
+ghost use Rattle.std.specs.Prelude.{◌≡◌, ◌<◌, ◌^◌, ◌++◌, OnOk, IfOk, length};
+ghost use Rattle.std.specs.List.{flat_map};
+ghost use Rattle.gw_report.specs.Layout.{row_of, rows_of, heading_of};
+ghost use Rattle.gw_report.specs.Moments.{AreValues};
+ghost use Rattle.gw_report.specs.Tables.{scale_at, table_columns, table_row, table_lines, tables_text};
+
+use crate::classes::put_classes;
+use crate::column::{Cell, Column, Side, put_row};
+use crate::entity::key_cell;
+use crate::moments::{deviation, mean_text, squares_of, sum_of};
+use crate::section::put_section;
+use crate::sheet::Sheet;
+use gw_entities::Values;
+use gw_meaning::{Classes, Definition, EntityKind, Watched};
+use gw_model::Version;
+use gw_names::Key;
+use gw_scan::State;
+use std::alloc::{AllocError, Global};
+
+/// The columns of the section. The first line of a table ends before the last two, which the lines of its classes have.
+pub const TABLE_COLUMNS: [Column; 7] = [
+    Column(10, Side::Left),
+    Column(14, Side::Right),
+    Column(14, Side::Right),
+    Column(25, Side::Right),
+    Column(5, Side::Right),
+    Column(9, Side::Right),
+    Column(7, Side::Right),
+];
+
+/// Appends the tables, in order of first touch, with the classes that the version gives them.
+pub fn put_tables(out: &mut Vec<u8>, version: &Version, state: &State) -> Result<(), AllocError>
+    ensures { OnOk result (out.new.items ≡ out.old.items ++ tables_text version.now state.now) }
+{
+    let lines = table_lines(*out.allocator(), version, state)?;
+    put_section(out, table_heading(), lines.as_slice())
+}
+
+// The heading of the section.
+#[tactic(auto, unfolding(crate::specs::Layout::heading_of, crate::specs::Layout::row_of))]
+fn table_heading() -> &'static [u8]
+    ensures { result.now ≡ heading_of table_columns }
+{
+    b"TABLE                MEAN       STD.DEV.                     RANGE RETRY FREQUENCY   CUM.%\n"
+}
+
+// The lines of the tables.
+fn table_lines(alloc: Global, version: &Version, state: &State) -> Result<Sheet, AllocError>
+    ensures { IfOk result (λ lines. lines ≡
+        rows_of table_columns (flat_map (table_lines version.now state.now) state.now.entities.tables)) }
+{
+    let tables = state.entities().tables();
+    let mut lines = Sheet::new(alloc);
+    for index in 0..tables.len() {
+        if let Some((key, values)) = tables.at(index) {
+            put_table(&mut lines, alloc, version, state, key, values)?;
+        }
+    }
+    Ok(lines)
+}
+
+// The lines of a table.
+fn put_table(
+    out: &mut Sheet,
+    alloc: Global,
+    version: &Version,
+    state: &State,
+    key: &Key,
+    values: &Values,
+) -> Result<(), AllocError>
+    ensures { OnOk result (out.new ≡ out.old ++
+        rows_of table_columns (table_lines version.now state.now (key.now, values.now))) }
+{
+    let watched = Watched::Entity(EntityKind::Table, key.clone()?);
+    let retry = state.retry().count(&watched) as u64;
+    let numbers = numbers_of(alloc, values)?;
+    put_first(out, alloc, retry, key, numbers.as_slice())?;
+    put_classes(out, alloc, classes_of(version, key), numbers.as_slice())
+}
+
+// The classes that a version gives a table.
+fn classes_of(version: &Version, key: &Key) -> Option<Classes>
+    ensures { result ≡ scale_at version.now key.now }
+{
+    let Key::Defined(name) = key else {
+        return None;
+    };
+    match version.definition(name) {
+        Some(Definition::Table(table)) => Some(table.classes),
+        _ => None,
+    }
+}
+
+// The values of a table in one piece. Where there are 2 ^ 32 or more, there is no memory for that.
+fn numbers_of(alloc: Global, values: &Values) -> Result<Vec<i32>, AllocError>
+    ensures numbers { IfOk result (λ numbers. numbers.items ≡ values.now) }
+    ensures values { IfOk result (λ numbers. AreValues numbers.items) }
+    ensures few { IfOk result (λ numbers. length numbers.items < 2 ^ 32) }
+{
+    let count = values.len();
+    if count > u32::MAX as usize {
+        return Err(AllocError);
+    }
+    let mut numbers = Vec::with_capacity(alloc, count)?;
+    while numbers.len() < count {
+        for value in values.run(numbers.len()) {
+            numbers.push(value.get() as i32)?;
+        }
+    }
+    Ok(numbers)
+}
+
+// The first line of a table.
+#[tactic(auto, unfolding(crate::specs::Layout::row_of))]
+fn put_first(
+    out: &mut Sheet,
+    alloc: Global,
+    retry: u64,
+    key: &Key,
+    numbers: &[i32],
+) -> Result<(), AllocError>
+    requires values { AreValues numbers.now }
+    requires few { length numbers.now < 2 ^ 32 }
+    ensures { OnOk result (out.new ≡ out.old ++ row_of table_columns (table_row retry key.now numbers.now)) }
+{
+    let count = numbers.len() as u64;
+    let sum = sum_of(numbers);
+    let mean = mean_text(alloc, sum, count)?;
+    let cells = [
+        key_cell(key),
+        Cell::Text(mean.as_slice()),
+        Cell::Thousandths(deviation(count, sum, squares_of(numbers))),
+        Cell::Text(b""),
+        Cell::Number(retry),
+    ];
+    put_row(out, &TABLE_COLUMNS, &cells)
+}
