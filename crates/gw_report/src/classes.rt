@@ -1,15 +1,15 @@
 // The lines of the classes of a table.
-ghost use Rattle.std.specs.Prelude.{◌≡◌, ◌<◌, ◌≤◌, ◌^◌, ◌++◌, Option, OnOk, IfOk, length};
+ghost use Rattle.std.specs.Prelude.{◌≡◌, ◌<◌, ◌≤◌, ◌^◌, ◌++◌, ◌∷◌, [], OnOk, IfOk, length, decimal};
 ghost use Rattle.gw_lanes.specs.Counts.{lower, upper, AreRising};
+ghost use Rattle.gw_report.specs.Cells.{decimals};
 ghost use Rattle.gw_report.specs.Layout.{row_of, rows_of};
 ghost use Rattle.gw_report.specs.Tables.{table_columns, limits_of, limit_text, range_text, class_line, class_lines, scale_lines};
 
-use crate::column::{Cell, put_row};
-use crate::entity::average_cell;
+use crate::column::{Side, put_thousandths};
 use crate::sheet::Sheet;
-use crate::tables::TABLE_COLUMNS;
 use gw_lanes::class_counts;
 use gw_meaning::Classes;
+use gw_nums::thousandths;
 use itoa::Buffer;
 use std::alloc::{AllocError, Global};
 
@@ -85,16 +85,25 @@ fn put_class(
     ensures { OnOk result (out.new ≡ out.old ++ row_of table_columns (class_line limits.now all i count so_far)) }
 {
     let range = range_text(alloc, lower(limits, i), limits.get(i).copied())?;
-    let cells = [
-        Cell::Text(b""),
-        Cell::Text(b""),
-        Cell::Text(b""),
-        Cell::Text(range.as_slice()),
-        Cell::Text(b""),
-        Cell::Number(u64::from(count)),
-        average_cell(100 * u128::from(so_far), u128::from(all)),
-    ];
-    put_row(out, &TABLE_COLUMNS, &cells)
+    let part = thousandths(100 * u128::from(so_far), u128::from(all));
+    put_class_row(out, range.as_slice(), count, part)
+}
+
+// The cells of that line.
+#[tactic(auto, unfolding(crate::specs::Layout::row_of))]
+fn put_class_row(out: &mut Sheet, range: &[u8], count: u32, part: u128) -> Result<(), AllocError>
+    ensures { OnOk result (out.new ≡ out.old ++ row_of table_columns
+        ([] ∷ [] ∷ [] ∷ range.now ∷ [] ∷ decimal count ∷ decimals part ∷ [])) }
+{
+    out.make_room()?;
+    out.put_text(0, 10, Side::Left, b"")?;
+    out.put_text(1, 14, Side::Right, b"")?;
+    out.put_text(1, 14, Side::Right, b"")?;
+    out.put_text(1, 25, Side::Right, range)?;
+    out.put_text(1, 5, Side::Right, b"")?;
+    out.put_number(1, 9, u64::from(count))?;
+    put_thousandths(out, 1, 7, Side::Right, part)?;
+    out.end_row()
 }
 
 // The limit of the class before one.

@@ -1,12 +1,14 @@
-ghost use Rattle.std.specs.Prelude.{◌≡◌, ◌<◌, ◌^◌, ◌++◌, OnOk, IfOk, length};
+ghost use Rattle.std.specs.Prelude.{◌≡◌, ◌<◌, ◌^◌, ◌++◌, ◌∷◌, [], OnOk, IfOk, length, decimal};
 ghost use Rattle.std.specs.List.{flat_map};
-ghost use Rattle.gw_report.specs.Layout.{row_of, rows_of, heading_of};
+ghost use Rattle.gw_report.specs.Layout.{fitted, row_of, rows_of, heading_of};
+ghost use Rattle.gw_report.specs.declared.column.Side.TheVariants.{Left};
+ghost use Rattle.gw_report.specs.Cells.{decimals};
+ghost use Rattle.gw_report.specs.Entities.{key_text};
 ghost use Rattle.gw_report.specs.Moments.{AreValues};
 ghost use Rattle.gw_report.specs.Tables.{scale_at, table_columns, table_row, table_lines, tables_text};
 
 use crate::classes::put_classes;
-use crate::column::{Cell, Column, Side, put_row};
-use crate::entity::key_cell;
+use crate::column::{Side, put_number, put_thousandths};
 use crate::moments::{deviation, mean_text, squares_of, sum_of};
 use crate::section::put_section;
 use crate::sheet::Sheet;
@@ -14,19 +16,9 @@ use gw_entities::Values;
 use gw_meaning::{Classes, Definition, EntityKind, Watched};
 use gw_model::Version;
 use gw_names::Key;
+use gw_nums::Val;
 use gw_scan::State;
 use std::alloc::{AllocError, Global};
-
-/// The columns of the section. The first line of a table ends before the last two, which the lines of its classes have.
-pub const TABLE_COLUMNS: [Column; 7] = [
-    Column(10, Side::Left),
-    Column(14, Side::Right),
-    Column(14, Side::Right),
-    Column(25, Side::Right),
-    Column(5, Side::Right),
-    Column(9, Side::Right),
-    Column(7, Side::Right),
-];
 
 /// Appends the tables, in order of first touch, with the classes that the version gives them.
 pub fn put_tables(out: &mut Vec<u8>, version: &Version, state: &State) -> Result<(), AllocError>
@@ -103,15 +95,24 @@ fn numbers_of(alloc: Global, values: &Values) -> Result<Vec<i32>, AllocError>
     }
     let mut numbers = Vec::with_capacity(alloc, count)?;
     while numbers.len() < count {
-        for value in values.run(numbers.len()) {
-            numbers.push(value.get() as i32)?;
-        }
+        let run = values.run(numbers.len());
+        put_run(&mut numbers, run)?;
     }
     Ok(numbers)
 }
 
+// Appends values that lie together.
+fn put_run(numbers: &mut Vec<i32>, run: &[Val]) -> Result<(), AllocError>
+    ensures items { OnOk result (numbers.new.items ≡ numbers.old.items ++ run.now) }
+    ensures values { OnOk result (AreValues run.now) }
+{
+    for value in run {
+        numbers.push(value.get() as i32)?;
+    }
+    Ok(())
+}
+
 // The first line of a table.
-#[tactic(auto, unfolding(crate::specs::Layout::row_of))]
 fn put_first(
     out: &mut Sheet,
     alloc: Global,
@@ -126,12 +127,37 @@ fn put_first(
     let count = numbers.len() as u64;
     let sum = sum_of(numbers);
     let mean = mean_text(alloc, sum, count)?;
-    let cells = [
-        key_cell(key),
-        Cell::Text(mean.as_slice()),
-        Cell::Thousandths(deviation(count, sum, squares_of(numbers))),
-        Cell::Text(b""),
-        Cell::Number(retry),
-    ];
-    put_row(out, &TABLE_COLUMNS, &cells)
+    let deviation = deviation(count, sum, squares_of(numbers));
+    put_head_row(out, key, mean.as_slice(), deviation, retry)
+}
+
+// The cells of that line.
+#[tactic(auto, unfolding(crate::specs::Layout::row_of))]
+fn put_head_row(
+    out: &mut Sheet,
+    key: &Key,
+    mean: &[u8],
+    deviation: u128,
+    retry: u64,
+) -> Result<(), AllocError>
+    ensures { OnOk result (out.new ≡ out.old ++ row_of table_columns
+        (key_text key.now ∷ mean.now ∷ decimals deviation ∷ [] ∷ decimal retry ∷ [])) }
+{
+    out.make_room()?;
+    put_key(out, key)?;
+    out.put_text(1, 14, Side::Right, mean)?;
+    put_thousandths(out, 1, 14, Side::Right, deviation)?;
+    out.put_text(1, 25, Side::Right, b"")?;
+    out.put_number(1, 5, retry)?;
+    out.end_row()
+}
+
+// What a table is called, in its column.
+fn put_key(out: &mut Sheet, key: &Key) -> Result<(), AllocError>
+    ensures { OnOk result (out.new ≡ out.old ++ fitted Left 10 (key_text key.now)) }
+{
+    match key {
+        Key::Num(number) => put_number(out, 0, 10, Side::Left, u64::from(*number)),
+        Key::Named(name) | Key::Defined(name) => out.put_text(0, 10, Side::Left, name.as_bytes()),
+    }
 }
