@@ -7,3 +7,4 @@ pub mod Renaming
 pub mod Averages
 pub mod Gathered
 pub mod Limits
+pub mod Counting

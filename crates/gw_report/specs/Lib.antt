@@ -11,6 +11,7 @@ pub mod Queues
 pub mod Storages
 pub mod Moments
 pub mod Tables
+pub mod Counted
 pub mod Report
 pub mod Renamed
 pub use Rattle.gw_meaning.specs.Listing

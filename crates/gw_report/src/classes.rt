@@ -86,12 +86,12 @@ fn put_class(
 {
     let range = range_text(alloc, lower(limits, i), limits.get(i).copied())?;
     let part = thousandths(100 * u128::from(so_far), u128::from(all));
-    put_class_row(out, range.as_slice(), count, part)
+    put_class_row(out, range.as_slice(), u64::from(count), part)
 }
 
 // The cells of that line.
 #[tactic(auto, unfolding(crate::specs::Layout::row_of))]
-fn put_class_row(out: &mut Sheet, range: &[u8], count: u32, part: u128) -> Result<(), AllocError>
+fn put_class_row(out: &mut Sheet, range: &[u8], count: u64, part: u128) -> Result<(), AllocError>
     ensures { OnOk result (out.new ≡ out.old ++ row_of table_columns
         ([] ∷ [] ∷ [] ∷ range.now ∷ [] ∷ decimal count ∷ decimals part ∷ [])) }
 {
@@ -101,7 +101,7 @@ fn put_class_row(out: &mut Sheet, range: &[u8], count: u32, part: u128) -> Resul
     out.put_text(1, 14, Side::Right, b"")?;
     out.put_text(1, 25, Side::Right, range)?;
     out.put_text(1, 5, Side::Right, b"")?;
-    out.put_number(1, 9, u64::from(count))?;
+    out.put_number(1, 9, count)?;
     put_thousandths(out, 1, 7, Side::Right, part)?;
     out.end_row()
 }
