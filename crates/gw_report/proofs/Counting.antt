@@ -1,5 +1,5 @@
 -- A value lies in the class whose limits are printed.
-use Rattle.std.proofs.Common.{◌≡◌, ℕ, ℤ, Bool, true, false, not, ◌&&◌, Option, Some, None, refl, sym, true≢false, arith}
+use Rattle.std.proofs.Common.{◌≡◌, ℤ, Bool, true, false, not, ◌&&◌, Option, Some, None, refl, sym, true≢false, arith}
 use Rattle.std.specs.Prelude.{◌<ℤ◌, ◌≤ℤ◌, int_le}
 use Rattle.std.proofs.lemmas.Int.{ints}
 use Rattle.gw_lanes.specs.Counts.{is_up_to, is_above, lower, upper}

@@ -4,7 +4,7 @@
 use Rattle.std.specs.Prelude.{ℕ, zero, suc, ℤ, pos, ◌+ℤ◌, ◌+◌, ◌-◌, ◌*◌, ◌/◌, ◌&&◌, not, ◌==◌, List, [], ◌∷◌, ◌++◌, Option, Some, None, map, length, decimal, codes, if◌then◌else◌}
 use Rattle.std.specs.List.{flat_map, fold, range_with_len, sum_by}
 use Rattle.gw_names.specs.declared.key.Key.{Key}
-use Rattle.gw_names.specs.declared.key.Key.TheVariants.{Num, Named, Defined}
+use Rattle.gw_names.specs.declared.key.Key.TheVariants.{Defined}
 use Rattle.gw_nums.specs.Range.{magnitude, is_negative}
 use Rattle.gw_nums.specs.Ratio.{thousandths_of}
 use Rattle.gw_nums.specs.Roots.{whole_root}

@@ -1,9 +1,10 @@
 //! The standard report of one START of one replication, as bytes.
 //!
-//! [`print`] is the only call, beside the laws that statement ids do not show and that classes count each value once. A section is a heading and a
-//! function that appends its lines; the definition of the whole text, `specs/Report.antt`, and `report.rt` name the
-//! sections in the same order. The lines of a section are written in place over blanks (`sheet.rt`): those of the
-//! blocks, the tables and the chains cell by cell, the others by a table of their columns (`column.rt`).
+//! [`print`] is the only call, beside the laws that statement ids do not show and that the classes of a table count
+//! each value once. A section is a heading and a function that appends its lines; the definition of the whole text,
+//! `specs/Report.antt`, and `report.rt` name the sections in the same order. The lines of a section are written in
+//! place over blanks (`sheet.rt`): those of the blocks, the tables and the chains cell by cell, the others by a table of
+//! their columns (`column.rt`).
 #![tactic(auto)]
 
 mod blocks;

@@ -3,7 +3,6 @@ use Rattle.std.specs.List.{range_with_len}
 use Rattle.std.proofs.lemmas.List.FromFn.{map-range_with_len_more}
 use Rattle.gw_lanes.specs.Counts.{AreRising}
 use Rattle.gw_meaning.specs.Classes.{limit_of}
-use Rattle.gw_report.specs.Tables.{limits_of}
 use Rattle.gw_report.proofs.Limits.{limits_length, limits_rising}
 use Rattle.gw_report.proofs.classes.limits_of.Goals as goal
 

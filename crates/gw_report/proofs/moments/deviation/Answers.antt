@@ -1,6 +1,5 @@
-use Rattle.std.proofs.Common.{◌≡◌, ℕ, ◌+◌, ◌-◌, ◌*◌, ◌/◌, ◌%◌, ◌^◌, ◌<◌, ◌≤◌, ap, ap₂, sym, ◌∙◌, refl, arith, rules}
+use Rattle.std.proofs.Common.{◌≡◌, ℕ, ◌-◌, ◌*◌, ◌/◌, ◌^◌, ◌≤◌, ap, ap₂, sym, ◌∙◌, arith, rules}
 use Rattle.std.proofs.lemmas.Nat.{mul-le, div-add-mod'}
-use Rattle.gw_nums.specs.Range.{magnitude}
 use Rattle.gw_nums.specs.Roots.{whole_root, root_up_to}
 use Rattle.gw_report.specs.Tables.{square, quotient, deviation}
 use Rattle.gw_report.proofs.Averages.{in_parts, quotient_within, rest_within}

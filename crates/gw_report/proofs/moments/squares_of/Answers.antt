@@ -1,4 +1,4 @@
-use Rattle.std.proofs.Common.{◌≡◌, ℤ, pos, ap, ◌∙◌, sym, get_or, arith, rules}
+use Rattle.std.proofs.Common.{◌≡◌, pos, get_or, arith, rules}
 use Rattle.std.proofs.lemmas.List.Sums.{sum_by_more}
 use Rattle.gw_report.specs.Tables.{square}
 use Rattle.gw_report.proofs.Averages.{square_within}

@@ -1,4 +1,4 @@
-use Rattle.std.proofs.Common.{◌≡◌, ◌≤◌, ◌+◌, ◌-◌, length, take}
+use Rattle.std.proofs.Common.{◌≡◌, ◌≤◌, ◌-◌, length, take}
 use Rattle.gw_report.specs.Moments.{AreValues}
 use Rattle.gw_report.proofs.tables.numbers_of.Given as goal
 
